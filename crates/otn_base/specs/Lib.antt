@@ -1,0 +1,2 @@
+pub mod SlotList
+pub mod TrailTrace
