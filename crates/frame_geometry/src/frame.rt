@@ -1,0 +1,102 @@
+// A frame: its bytes, row by row.
+ghost use Rattle.std.specs.Prelude.{◌≡◌, ℕ, ◌*◌, ◌≤◌, length, IfOk, slice_index, slice_set};
+
+use otn_base::Memory;
+use otn_base::limits::ROWS;
+use std::alloc::Global;
+use std::marker::Model;
+
+/// A frame of four rows of `COLS` columns (G.709 clause 11.1): 4,080 of them for an OTU2 frame with its
+/// FEC field, 3,824 for an ODU frame. It is seen as the list of its bytes, row by row. Rows and columns
+/// count from 1.
+#[derive(Drop)]
+pub struct Frame<const COLS: usize> {
+    pub(crate) bytes: Vec<u8>,
+}
+
+impl<const COLS: usize> Model for Frame<COLS> {
+    ghost use Rattle.std.specs.Prelude.{◌≡◌, ℕ, ◌*◌, List, length};
+    ghost use Rattle.frame_geometry.specs.Places.{IsWidth};
+
+    ghost Value = { List ℕ };
+
+    ghost view = { λ f. f.bytes.items };
+
+    ghost invariant = { λ f. (length f.bytes.items ≡ 4 * COLS) × IsWidth COLS };
+}
+
+impl<const COLS: usize> Frame<COLS> {
+    ghost use Rattle.std.specs.Borrow.{sem, Lends, Array, u8 as byte};
+    ghost use Rattle.frame_geometry.specs.Loans.{after_loan};
+    ghost use Rattle.frame_geometry.specs.contracts.frame.Frame.{the_row};
+    ghost use Rattle.frame_geometry.specs.Places.{IsWidth, place_of};
+
+    /// A frame of bytes that are all 0. Answers `Memory` where there is none for its bytes.
+    pub fn new(alloc: Global) -> Result<Self, Memory>
+        requires { IsWidth COLS }
+        ensures size { IfOk result (λ frame. length frame ≡ 4 * COLS) }
+        ensures zero { IfOk result (λ frame. (place : ℕ) → slice_index frame place ≡ 0) }
+    {
+        Ok(Frame {
+            bytes: vec![in alloc; 0u8; ROWS * COLS]?,
+        })
+    }
+
+    /// The byte in a row (1 to 4) and a column (1 to `COLS`).
+    pub fn get(&self, row: u32, col: u32) -> u8
+        requires row_low { 1 ≤ row }
+        requires row_high { row ≤ 4 }
+        requires col_low { 1 ≤ col }
+        requires col_high { col ≤ COLS }
+        ensures { result ≡ slice_index self.now (place_of COLS row col) }
+    {
+        let bytes = &self.bytes;
+        bytes[COLS * (row as usize - 1) + (col as usize - 1)]
+    }
+
+    /// Writes the byte in a row (1 to 4) and a column (1 to `COLS`); every other byte stays.
+    pub fn set(&mut self, row: u32, col: u32, byte: u8)
+        requires row_low { 1 ≤ row }
+        requires row_high { row ≤ 4 }
+        requires col_low { 1 ≤ col }
+        requires col_high { col ≤ COLS }
+        ensures { self.new ≡ slice_set self.old (place_of COLS row col) byte }
+    {
+        self.bytes[COLS * (row as usize - 1) + (col as usize - 1)] = byte;
+    }
+
+    /// Writes 0 into every byte.
+    pub fn clear(&mut self)
+        ensures size { length self.new ≡ 4 * COLS }
+        ensures zero { (place : ℕ) → slice_index self.new place ≡ 0 }
+    {
+        self.bytes.fill(0);
+    }
+
+    /// Takes over all bytes of a frame, row by row: 4 times `COLS` bytes.
+    pub fn fill_from(&mut self, bytes: &[u8])
+        requires { length bytes.now ≡ 4 * COLS }
+        ensures { self.new ≡ bytes.now }
+    {
+        self.bytes.copy_from_slice(bytes);
+    }
+
+    /// All bytes, row by row.
+    pub fn as_bytes(&self) -> &[u8]
+        ensures bytes { result.now ≡ self.now }
+        ensures size { length result.now ≡ 4 * COLS }
+        ensures width { IsWidth COLS }
+    {
+        &self.bytes
+    }
+
+    /// All bytes, row by row, to be written.
+    pub fn as_bytes_mut(&mut self) -> &mut [u8]
+        ensures* writes_back { sem 𝓛 (Lends (the_row COLS.row) (Array byte 0) self.entry result (after_loan COLS self.entry.now)) }
+        ensures bytes { result.now ≡ self.old }
+        ensures size { length result.now ≡ 4 * COLS }
+        ensures width { IsWidth COLS }
+    {
+        &mut self.bytes
+    }
+}

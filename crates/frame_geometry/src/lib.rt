@@ -1,0 +1,12 @@
+//! The frames of G.709: four rows of columns, one byte a place.
+//!
+//! - `frame`: `Frame<COLS>`, which is made, cleared, filled, and read and written byte by byte.
+//! - `payload`: the payload columns of a row, read and written as a whole.
+#![tactic(auto)]
+
+mod frame;
+mod payload;
+#[cfg(test)]
+mod tests;
+
+pub use frame::Frame;
