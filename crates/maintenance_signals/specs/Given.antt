@@ -1,0 +1,13 @@
+-- How far a signal's stream was given.
+use Rattle.std.specs.Prelude.{◌≡◌, ℕ, ◌%◌}
+use Rattle.maintenance_signals.specs.declared.signal.Signal.{Signal}
+
+-- a signal, and a place among the 3,915,776 bytes of its 256 different frames
+pub record Standing : Type 0 where
+  pub signal : Signal
+  pub place : ℕ
+
+-- So many bytes of this signal's stream were given: it stands at the next one. The stream comes again after 256 frames.
+pub record HasGiven (signal : Signal) (given : ℕ) (standing : Standing) : Type 0 where
+  pub signal_is : standing.signal ≡ signal
+  pub place_is : standing.place ≡ given % 3915776
