@@ -1,0 +1,4 @@
+pub mod Cycles
+pub mod GroupRows
+pub mod Rows
+pub mod WholeRows

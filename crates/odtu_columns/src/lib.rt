@@ -1,0 +1,16 @@
+//! The columns and the justification bytes of an ODTU in an OTU2 frame (G.709 clause 19).
+//!
+//! - `slot`: the bytes of one tributary slot.
+//! - `groups`: a byte of each of the slots that one ODTU takes, cycle by cycle.
+//! - `justification`: its justification bytes.
+#![tactic(auto)]
+
+mod groups;
+mod justification;
+mod slot;
+#[cfg(test)]
+mod tests;
+
+pub use groups::{group, row_groups};
+pub use justification::message;
+pub use slot::slot_row;

@@ -1,0 +1,116 @@
+// Worked values: where the payload byte in column c is (c - 17) mod 256.
+ghost use Rattle.std.specs.Prelude.{◌≤◌};
+
+use super::{group, message, row_groups, slot_row};
+use frame_geometry::Frame;
+use otn_base::Slots;
+use std::test::Fail;
+
+// Every payload byte of a row says its column.
+fn number_columns(frame: &mut Frame<4080>, row: u32)
+    requires row_low { 1 ≤ row }
+    requires row_high { row ≤ 4 }
+{
+    for (i, byte) in frame.payload_row_mut(row).iter_mut().enumerate() {
+        *byte = (i % 256) as u8;
+    }
+}
+
+#[test]
+fn slot_three(rt: HostRuntime) -> Result<(), Fail> {
+    let mut frame = Frame::<4080>::new(rt.alloc())?;
+    number_columns(&mut frame, 2);
+    let mut bytes = [255u8; 476];
+    slot_row(&frame, 3, 2, &mut bytes);
+    for (cycle, expected) in [
+        (0usize, 0x02u8),
+        (1, 0x0A),
+        (2, 0x12),
+        (31, 0xFA),
+        (32, 0x02),
+        (475, 0xDA),
+    ] {
+        assert_eq!(rt; bytes.get(cycle).copied(), Some(expected), "cycle {cycle}");
+    }
+    slot_row(&frame, 3, 3, &mut bytes);
+    assert_eq!(rt; bytes.iter().all(|byte| *byte == 0), true);
+    Ok(())
+}
+
+#[test]
+fn groups_of_three_slots(rt: HostRuntime) -> Result<(), Fail> {
+    let mut frame = Frame::<4080>::new(rt.alloc())?;
+    number_columns(&mut frame, 1);
+    number_columns(&mut frame, 4);
+    let slots = Slots::new(&[1, 3, 8]).ok_or("three slots that rise")?;
+    let mut bytes = [255u8; 3];
+    for (g, expected) in [
+        (1u32, [0x00u8, 0x02, 0x07]),
+        (33, [0x00, 0x02, 0x07]),
+        (476, [0xD8, 0xDA, 0xDF]),
+        (477, [0, 0, 0]),
+        (1430, [0x08, 0x0A, 0x0F]),
+        (1904, [0xD8, 0xDA, 0xDF]),
+    ] {
+        if slots.count() == 3 {
+            group(&frame, g, &slots, &mut bytes);
+        }
+        assert_eq!(rt; bytes, expected, "group {g}");
+    }
+    let mut row = [255u8; 1428];
+    if slots.count() == 3 {
+        row_groups(&frame, 4, &slots, &mut row);
+    }
+    for (i, expected) in [
+        (0usize, 0x00u8),
+        (1, 0x02),
+        (2, 0x07),
+        (3, 0x08),
+        (1425, 0xD8),
+        (1427, 0xDF),
+    ] {
+        assert_eq!(rt; row.get(i).copied(), Some(expected), "byte {i}");
+    }
+    Ok(())
+}
+
+#[test]
+fn groups_of_all_slots(rt: HostRuntime) -> Result<(), Fail> {
+    let mut frame = Frame::<4080>::new(rt.alloc())?;
+    number_columns(&mut frame, 2);
+    let slots = Slots::new(&[1, 2, 3, 4, 5, 6, 7, 8]).ok_or("eight slots that rise")?;
+    let mut row = [255u8; 3808];
+    if slots.count() == 8 {
+        row_groups(&frame, 2, &slots, &mut row);
+    }
+    for (i, expected) in [
+        (0usize, 0x00u8),
+        (7, 0x07),
+        (8, 0x08),
+        (255, 0xFF),
+        (256, 0x00),
+        (3807, 0xDF),
+    ] {
+        assert_eq!(rt; row.get(i).copied(), Some(expected), "byte {i}");
+    }
+    Ok(())
+}
+
+#[test]
+fn message_columns(rt: HostRuntime) -> Result<(), Fail> {
+    let mut frame = Frame::<4080>::new(rt.alloc())?;
+    for (row, col, byte) in [
+        (1, 16, 0xED),
+        (2, 16, 0x03),
+        (3, 16, 0x2E),
+        (1, 15, 4),
+        (2, 15, 5),
+        (3, 15, 6),
+        (4, 15, 7),
+        (4, 16, 8),
+    ] {
+        frame.set(row, col, byte);
+    }
+    assert_eq!(rt; message(&frame), [0xED, 0x03, 0x2E, 4, 5, 6]);
+    Ok(())
+}
