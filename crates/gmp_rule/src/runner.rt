@@ -1,0 +1,58 @@
+// The data rule over the groups of a multiframe in order.
+ghost use Rattle.std.specs.Prelude.{◌≡◌, ◌+◌, ◌*◌, ◌%◌, ◌<◌, ◌≤◌, ◌↔◌, IsTrue};
+ghost use Rattle.gmp_rule.specs.DataRule.{IsData};
+
+use crate::ALL;
+use std::marker::Model;
+
+/// The data rule over the groups in order, by a running remainder. It is seen as the number of data
+/// groups of the multiframe and the number of groups asked so far.
+#[derive(Drop)]
+pub struct Runner {
+    number: u32,
+    remainder: u32,
+    asked: u32,
+}
+
+impl Model for Runner {
+    ghost use Rattle.std.specs.Prelude.{◌≡◌, ◌*◌, ◌%◌, ◌≤◌};
+    ghost use Rattle.gmp_rule.specs.DataRule.{Progress};
+
+    ghost Value = { Progress };
+
+    ghost view = { λ r. record { number = r.number; asked = r.asked } };
+
+    ghost invariant = { λ r. (r.number ≤ 15232) × (r.asked ≤ 15232) × (r.remainder ≡ (r.asked * r.number) % 15232) };
+}
+
+impl Runner {
+    /// A runner before group 1 of a multiframe with `c` data groups.
+    pub fn start(c: u32) -> Self
+        requires { c ≤ 15232 }
+        ensures number { result.number ≡ c }
+        ensures asked { result.asked ≡ 0 }
+    {
+        Runner {
+            number: c,
+            remainder: 0,
+            asked: 0,
+        }
+    }
+
+    /// Whether the next group carries data: the first call answers for group 1. A multiframe has
+    /// 15,232 groups, and no more calls than that.
+    pub fn next(&mut self) -> bool
+        requires { self.old.asked < 15232 }
+        ensures answer { IsTrue result ↔ IsData self.old.number (self.old.asked + 1) }
+        ensures step { self.new ≡ record self.old { asked = self.old.asked + 1 } }
+    {
+        self.asked += 1;
+        self.remainder += self.number;
+        if self.remainder >= ALL {
+            self.remainder -= ALL;
+            true
+        } else {
+            false
+        }
+    }
+}

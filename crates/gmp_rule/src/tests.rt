@@ -1,0 +1,41 @@
+// The data rule at numbers whose groups are known by hand.
+ghost use Rattle.std.specs.Prelude.{◌≡◌, ◌≤◌};
+
+use crate::{ALL, Runner, data_groups, is_data};
+
+// At each number: the stuff groups are those that leave this remainder by this divisor, or all others
+// do, and there are so many data groups.
+const CASES: [(u32, u32, u32, bool, u32); 5] = [
+    // An ODU0 at its nominal rate: every 238th group is stuff, 64 in all.
+    (15_168, 238, 1, true, 15_168),
+    // One data group, the last.
+    (1, 15_232, 0, false, 1),
+    // One stuff group, the first.
+    (15_231, 15_232, 1, true, 15_231),
+    // No group is data, and all are.
+    (0, 1, 0, true, 0),
+    (15_232, 1, 0, false, 15_232),
+];
+
+#[test]
+fn groups_of_known_numbers(rt: HostRuntime) {
+    for (c, divisor, remainder, stuff, count) in CASES {
+        let mut runner = Runner::start(c.min(ALL));
+        let mut data = 0u64;
+        for j in 1..15_233u32 {
+            let listed = j % divisor.max(1) == remainder;
+            let here = is_data(j, c.min(ALL));
+            assert_eq!(rt; here, listed != stuff, "group {j} at {c}");
+            assert_eq!(rt; runner.next(), here, "call {j} at {c}");
+            if here {
+                data = data.saturating_add(1);
+            }
+            assert_eq!(rt;
+                data_groups(j, c.min(ALL)) as u64,
+                data,
+                "groups to {j} at {c}"
+            );
+        }
+        assert_eq!(rt; data, count as u64, "all groups at {c}");
+    }
+}
