@@ -1,0 +1,59 @@
+// The sender's side.
+ghost use Rattle.std.specs.Prelude.{◌≡◌, ℕ, ◌<◌, ◌++◌, ◌^◌, List, []};
+ghost use Rattle.gfp_scrambler.specs.BitList.{AreBytes, IsScrambled};
+ghost use Rattle.gfp_scrambler.specs.Register.{HasSent, last_bits, scrambled, shifted};
+
+use crate::register::BELOW_KEY;
+use std::marker::Model;
+
+/// A scrambler: contracts see its register, the last 43 bits that it sent, the latest the least
+/// significant.
+#[derive(Drop)]
+pub struct Scrambler {
+    register: u64,
+}
+
+impl Model for Scrambler {
+    ghost Value = { ℕ };
+
+    ghost view = { λ s. s.register };
+
+    ghost invariant = { λ s. s.register < 2 ^ 43 };
+}
+
+impl Scrambler {
+    /// A scrambler that has sent nothing: all bits before the first are 0.
+    pub fn new() -> Scrambler
+        ensures register { result ≡ 0 }
+        ensures nothing { HasSent [] [] result }
+    {
+        Scrambler { register: 0 }
+    }
+
+    /// Scrambles the next bytes in place.
+    pub fn scramble(&mut self, bytes: &mut [u8])
+        // All bytes since the scrambler was new are one list of bits.
+        ensures rule { (plain sent : List ℕ) → HasSent plain sent self.old →
+            HasSent (plain ++ bytes.old) (sent ++ bytes.new) self.new }
+        ensures bytes { bytes.new ≡ scrambled self.old bytes.old }
+        ensures register { self.new ≡ last_bits self.old bytes.new }
+    {
+        self.register = scramble_from(self.register, bytes);
+    }
+}
+
+// The register is a parameter, so that the loop keeps it in a processor's register.
+fn scramble_from(register: u64, bytes: &mut [u8]) -> u64
+    requires { register < 2 ^ 43 }
+    ensures bytes { bytes.new ≡ scrambled register bytes.old }
+    ensures register { result ≡ last_bits register bytes.new }
+    ensures small { result < 2 ^ 43 }
+    ensures came { AreBytes bytes.old }
+{
+    let mut last = register;
+    for byte in bytes.iter_mut() {
+        *byte ^= (last / BELOW_KEY) as u8;
+        last = last % BELOW_KEY * 256 + *byte as u64;
+    }
+    last
+}
