@@ -1,0 +1,6 @@
+pub mod Changes
+pub mod Header
+pub mod Inverted
+pub mod Linear
+pub mod LookUps
+pub mod Register

@@ -1,0 +1,6 @@
+use Rattle.std.proofs.Common.{arith}
+use Rattle.crc_small.proofs.LookUps.{looked_up_16}
+use Rattle.crc_small.proofs.steps.byte16.Goals as goal
+
+pub returns : goal.returns
+returns c = looked_up_16 c.args.register c.args.byte (omega arith) (omega arith)

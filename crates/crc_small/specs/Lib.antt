@@ -1,0 +1,4 @@
+pub mod Changes
+pub mod Header
+pub mod LongDivision
+pub mod Shifted
