@@ -1,0 +1,4 @@
+pub mod HeardBack
+pub mod Hears
+pub mod OneRow
+pub mod Turned
