@@ -1,0 +1,5 @@
+pub mod BaysLaws
+pub mod GivenLaws
+pub mod Lists
+pub mod SameRack
+pub mod TakenTwice

@@ -1,0 +1,15 @@
+use Rattle.std.proofs.Common.{length, ◌-◌, ◌≡◌, ◌≤◌, take}
+use Rattle.otn_ports.specs.Bytes.{after}
+use Rattle.otn_ports.proofs.drain.drain.Given as goal
+
+abbrev pub invariant-loop-done : goal.invariant-loop-done
+invariant-loop-done g l = record {
+  within : l.done ≤ length l.bytes;
+  bytes : g.K.Sink.got l.sink ≡ after (g.K.Sink.got l.fn.sink) (take l.done l.bytes);
+  same : g.K.Sink.boxed l.sink ≡ g.K.Sink.boxed l.fn.sink;
+  later : g.K.Sink.faults l.fn.sink ≤ g.K.Sink.faults l.sink;
+  keeps : g.K.Sink.keeps l.sink ≡ g.K.Sink.keeps l.fn.sink;
+}
+
+abbrev pub decreases-loop-done : goal.decreases-loop-done
+decreases-loop-done g l = length l.initial.bytes - l.done

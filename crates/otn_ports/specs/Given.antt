@@ -1,0 +1,75 @@
+-- What a place gave, and what went to it, between two moments.
+use Rattle.std.specs.Prelude.{◌≡◌, ◌≢◌, ◌<◌, ◌⊎◌, ℕ, List, [], ◌++◌, length, take, Option, Some}
+use Rattle.otn_ports.specs.Bytes.{HasFailed}
+use Rattle.otn_ports.specs.Reads.{Takes}
+use Rattle.otn_ports.specs.Writes.{Sends}
+use Rattle.otn_ports.specs.Views.{State, Empty, Live, Dead, InView, OutView}
+use Rattle.otn_ports.specs.declared.drain.Written.{Written}
+use Rattle.otn_ports.specs.declared.drain.Written.TheVariants as written
+use Rattle.otn_ports.specs.declared.in_place.Reading.{Reading}
+use Rattle.otn_ports.specs.declared.in_place.Reading.TheVariants.{Full, End, Lost}
+
+-- a source that tells its bytes gave these, and still has the rest
+pub record Took (first now : Option (List ℕ)) (bytes : List ℕ) : Type 0 where
+  pub rest : List ℕ
+  pub had : first ≡ Some (bytes ++ rest)
+  pub has : now ≡ Some rest
+
+abbrev pub given_between : State → State → Option (List ℕ) → Option (List ℕ) → List ℕ → Type 0
+-- where it died, what was taken
+given_between Live Dead first now bytes = Took first now bytes
+-- where it did not, all that it had
+given_between Live state first now bytes = first ≡ Some bytes
+-- where it was not live, nothing
+given_between other state first now bytes = bytes ≡ []
+
+-- Given: these are the bytes that an input place gave from its opening view to its closing one,
+-- which is said of a source that tells its bytes
+abbrev pub IsGiven : InView → InView → List ℕ → Type 0
+IsGiven first now bytes = given_between first.state now.state first.left now.left bytes
+
+-- what a sink got, where it tells its bytes, grew by these
+pub record Grew (first now : Option (List ℕ)) (bytes : List ℕ) : Type 0 where
+  pub before : List ℕ
+  pub had : first ≡ Some before
+  pub has : now ≡ Some (before ++ bytes)
+
+abbrev pub gone_between : State → State → Option (List ℕ) → Option (List ℕ) → List ℕ → Type 0
+-- where its port is no more in the place, what that got is not told
+gone_between Live Empty first now bytes = ⊥
+-- where it was live, by so much what it got grew
+gone_between Live state first now bytes = Grew first now bytes
+-- where it was not live, by nothing
+gone_between other state first now bytes = bytes ≡ []
+
+-- Gone: these are the bytes by which what an output place got grew from its opening view to its
+-- closing one, which is said of a sink that tells its bytes
+abbrev pub IsGone : OutView → OutView → List ℕ → Type 0
+IsGone first now bytes = gone_between first.state now.state first.got now.got bytes
+
+-- a place is as live as it was, or it was live and died by its own port's fault
+abbrev pub Lives : State → State → ℕ → ℕ → Type 0
+Lives first now old_faults new_faults = (now ≡ first) ⊎ ((first ≡ Live) × (now ≡ Dead) × HasFailed old_faults new_faults)
+
+-- an input place from one moment to a later one, in which these bytes were taken of its port
+pub record Gave (first : InView) (bytes : List ℕ) (now : InView) : Type 0 where
+  pub takes : Takes first bytes now
+  pub state : Lives first.state now.state first.faults now.faults
+  pub idle : first.state ≢ Live → (now ≡ first) × (bytes ≡ [])
+
+-- an output place from one moment to a later one, in which its port took these bytes
+pub record Gained (first : OutView) (bytes : List ℕ) (now : OutView) : Type 0 where
+  pub sends : Sends first bytes now
+  pub state : Lives first.state now.state first.faults now.faults
+  pub idle : first.state ≢ Live → (now ≡ first) × (bytes ≡ [])
+
+-- what the answer of a read says of what a place gave in it, live or not, with the slice as it was left
+abbrev pub GaveBy : Reading → InView → List ℕ → InView → Type 0
+GaveBy Full old into new = Gave old into new
+GaveBy (End n) old into new = Gave old (take n into) new
+GaveBy Lost old into new = (n : ℕ) × (n < length into) × Gave old (take n into) new
+
+-- what the answer of a write says of what went to a place in it: to one that is not live nothing goes
+abbrev pub GainedBy : Written → OutView → List ℕ → OutView → Type 0
+GainedBy written.Whole old bytes new = (went : List ℕ) × Gained old went new × (old.state ≡ Live → went ≡ bytes)
+GainedBy written.Lost old bytes new = (n : ℕ) × (n < length bytes) × Gained old (take n bytes) new

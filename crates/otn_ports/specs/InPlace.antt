@@ -1,0 +1,15 @@
+-- What is seen of a place for an input.
+use Rattle.std.specs.Prelude.{ℕ}
+use Rattle.otn_ports.specs.Views.{InView, no_input, Live, Dead}
+use Rattle.otn_ports.specs.declared.source.Source.{Ghosts}
+use Rattle.otn_ports.specs.declared.in_place.InPlaceOf.{InPlaceOf}
+use Rattle.otn_ports.specs.declared.in_place.InPlaceOf.TheVariants as place
+
+-- a live place with this port and this number
+abbrev pub live_in : {P : Type 0} → Ghosts P → P → ℕ → InView
+live_in source port n = record { state = Live; boxed = source.boxed port; left = source.left port; faults = source.faults port; number = n }
+
+abbrev pub in_view : {P : Type 0} → Ghosts P → InPlaceOf P → InView
+in_view source place.Empty = no_input
+in_view source (place.Live port n) = live_in source port n
+in_view source (place.Dead port n) = record (live_in source port n) { state = Dead }

@@ -1,0 +1,13 @@
+pub mod Adapters
+pub mod Bytes
+pub mod Choosing
+pub mod Given
+pub mod InPlace
+pub mod Memory
+pub mod OnePlace
+pub mod OutPlace
+pub mod Ports
+pub mod Racks
+pub mod Reads
+pub mod Views
+pub mod Writes

@@ -1,0 +1,15 @@
+-- What is seen of a place for an output.
+use Rattle.std.specs.Prelude.{ℕ}
+use Rattle.otn_ports.specs.Views.{OutView, no_output, Live, Dead}
+use Rattle.otn_ports.specs.declared.sink.Sink.{Ghosts}
+use Rattle.otn_ports.specs.declared.out_place.OutPlaceOf.{OutPlaceOf}
+use Rattle.otn_ports.specs.declared.out_place.OutPlaceOf.TheVariants as place
+
+-- a live place with this port and this number
+abbrev pub live_out : {K : Type 0} → Ghosts K → K → ℕ → OutView
+live_out sink port n = record { state = Live; boxed = sink.boxed port; got = sink.got port; keeps = sink.keeps port; faults = sink.faults port; number = n }
+
+abbrev pub out_view : {K : Type 0} → Ghosts K → OutPlaceOf K → OutView
+out_view sink place.Empty = no_output
+out_view sink (place.Live port n) = live_out sink port n
+out_view sink (place.Dead port n) = record (live_out sink port n) { state = Dead }

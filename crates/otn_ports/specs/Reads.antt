@@ -1,0 +1,39 @@
+-- What the answer of a place for an input says.
+use Rattle.std.specs.Prelude.{◌≡◌, ◌<◌, ◌≤◌, ℕ, zero, suc, List, [], length, take, Option, IfSome}
+use Rattle.otn_ports.specs.Bytes.{before, HasFailed, raised}
+use Rattle.otn_ports.specs.Views.{State, Live, Dead, InView}
+use Rattle.otn_ports.specs.declared.in_place.Reading.{Reading}
+use Rattle.otn_ports.specs.declared.in_place.Reading.TheVariants.{Full, End, Lost}
+
+-- a place's port, which is the same port, gave these bytes, and they were counted
+pub record Takes (old : InView) (bytes : List ℕ) (new : InView) : Type 0 where
+  pub boxed : new.boxed ≡ old.boxed
+  pub left : old.left ≡ before bytes new.left
+  pub faults : old.faults ≤ new.faults
+  pub number : new.number ≡ raised old.number (length bytes)
+
+-- how a source has ended: nothing is left, where it tells what is left
+abbrev pub HasEnded : Option (List ℕ) → Type 0
+HasEnded left = IfSome left (λ bytes. bytes ≡ [])
+
+-- what the answer of a live place says, with the slice as it was left
+abbrev pub Reads : Reading → InView → List ℕ → InView → Type 0
+Reads Full old into new = Takes old into new
+Reads (End n) old into new = (n < length into) × Takes old (take n into) new × HasEnded new.left
+Reads Lost old into new = (n : ℕ) × (n < length into) × Takes old (take n into) new × HasFailed old.faults new.faults
+
+-- a live place dies exactly where a read is lost
+abbrev pub state_after : State → Reading → State
+state_after Live Lost = Dead
+state_after state reading = state
+
+-- what a place that is not live answers to so much room
+abbrev pub idle_reading : ℕ → Reading
+idle_reading zero = Full
+idle_reading (suc n) = End 0
+
+-- what so many bytes that came into so much room make of an answer
+abbrev pub IsReading : Reading → ℕ → ℕ → Option (List ℕ) → Type 0
+IsReading Full came room left = came ≡ room
+IsReading (End n) came room left = (n ≡ came) × (came < room) × HasEnded left
+IsReading Lost came room left = came < room

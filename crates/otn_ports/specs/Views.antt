@@ -1,0 +1,64 @@
+-- What is seen of a place, and of all places.
+use Rattle.std.specs.Prelude.{ℕ, Bool, false, List, [], Option, Some, get_or, replicate}
+
+-- how a place stands
+pub data State : Type 0 where
+  Empty : State
+  Live : State
+  Dead : State
+
+-- a place for an input: how it stands, whether its port is behind a box, the bytes still to come
+-- where its port tells them, its port's count of faults, and the place's number of bytes taken
+pub record InView : Type 0 where
+  pub state : State
+  pub boxed : Bool
+  pub left : Option (List ℕ)
+  pub faults : ℕ
+  pub number : ℕ
+
+-- a place for an output: how it stands, whether its port is behind a box, the bytes that it got
+-- where its port tells them, whether it gives them back, its port's count of faults, and the
+-- place's number of bytes sent
+pub record OutView : Type 0 where
+  pub state : State
+  pub boxed : Bool
+  pub got : Option (List ℕ)
+  pub keeps : Bool
+  pub faults : ℕ
+  pub number : ℕ
+
+-- a place with no port
+abbrev pub no_input : InView
+no_input = record { state = Empty; boxed = false; left = Some []; faults = 0; number = 0 }
+
+abbrev pub no_output : OutView
+no_output = record { state = Empty; boxed = false; got = Some []; keeps = false; faults = 0; number = 0 }
+
+-- all places of a device
+pub record BaysView : Type 0 where
+  pub line_in : List InView
+  pub line_out : List OutView
+  pub client_in : List InView
+  pub client_out : List OutView
+
+-- line input n, and so on
+abbrev pub line_in_at : BaysView → ℕ → InView
+line_in_at bays n = get_or bays.line_in n no_input
+
+abbrev pub line_out_at : BaysView → ℕ → OutView
+line_out_at bays n = get_or bays.line_out n no_output
+
+abbrev pub client_in_at : BaysView → ℕ → InView
+client_in_at bays n = get_or bays.client_in n no_input
+
+abbrev pub client_out_at : BaysView → ℕ → OutView
+client_out_at bays n = get_or bays.client_out n no_output
+
+-- all places empty
+abbrev pub no_places : BaysView
+no_places = record {
+  line_in = replicate 4 no_input;
+  line_out = replicate 4 no_output;
+  client_in = replicate 16 no_input;
+  client_out = replicate 16 no_output;
+}

@@ -1,0 +1,34 @@
+-- What the answer of a place for an output, or of a whole write, says.
+use Rattle.std.specs.Prelude.{◌≡◌, ◌<◌, ◌≤◌, ℕ, List, length, take, Option}
+use Rattle.otn_ports.specs.Bytes.{after, HasFailed, raised}
+use Rattle.otn_ports.specs.Views.{State, Live, Dead, OutView}
+use Rattle.otn_ports.specs.declared.drain.Written.{Written}
+use Rattle.otn_ports.specs.declared.drain.Written.TheVariants.{Whole, Lost}
+
+-- a place's port, which is the same port, took these bytes, and they were counted
+pub record Sends (old : OutView) (bytes : List ℕ) (new : OutView) : Type 0 where
+  pub boxed : new.boxed ≡ old.boxed
+  pub got : new.got ≡ after old.got bytes
+  pub keeps : new.keeps ≡ old.keeps
+  pub faults : old.faults ≤ new.faults
+  pub number : new.number ≡ raised old.number (length bytes)
+
+-- what the answer of a live place says of the bytes that it was given
+abbrev pub Writes : Written → OutView → List ℕ → OutView → Type 0
+Writes Whole old bytes new = Sends old bytes new
+Writes Lost old bytes new = (n : ℕ) × (n < length bytes) × Sends old (take n bytes) new × HasFailed old.faults new.faults
+
+-- a live place dies exactly where a write is lost
+abbrev pub state_after_write : State → Written → State
+state_after_write Live Lost = Dead
+state_after_write state written = state
+
+-- what the answer of a whole write says of what a sink had got and has got
+abbrev pub Gains : Written → Option (List ℕ) → List ℕ → Option (List ℕ) → Type 0
+Gains Whole old bytes new = new ≡ after old bytes
+Gains Lost old bytes new = (n : ℕ) × (n < length bytes) × (new ≡ after old (take n bytes))
+
+-- what so many bytes that went out of so many make of an answer
+abbrev pub IsWriting : Written → ℕ → ℕ → Type 0
+IsWriting Whole went all = went ≡ all
+IsWriting Lost went all = went < all

@@ -1,0 +1,59 @@
+// Writing a whole slice.
+ghost use Rattle.std.specs.Prelude.{◌≡◌, ◌<◌, ◌≤◌, length, take};
+ghost use Rattle.otn_ports.specs.Bytes.{after, HasFailed};
+ghost use Rattle.otn_ports.specs.OutPlace.{live_out};
+ghost use Rattle.otn_ports.specs.Writes.{Gains, Writes, IsWriting};
+
+use crate::{Failed, Sink};
+
+/// How a whole write ended: all bytes went out, or a call failed.
+#[derive(Clone, Copy, Debug, PartialEq, Eq)]
+pub enum Written {
+    Whole,
+    Lost,
+}
+
+/// Writes all bytes to a sink that stands in no place. After Lost a part of them went out, from
+/// the front, and the sink's count of faults rose or stands at its end. No bytes: no call.
+pub fn write_whole<K: Sink>(sink: &mut K, bytes: &[u8]) -> Written
+    ensures got { Gains result (K.got sink.old) bytes.now (K.got sink.new) }
+    ensures cause { result ≡ Written.Lost → HasFailed (K.faults sink.old) (K.faults sink.new) }
+    ensures later { K.faults sink.old ≤ K.faults sink.new }
+    ensures keeps { K.keeps sink.new ≡ K.keeps sink.old }
+    ensures same { K.boxed sink.new ≡ K.boxed sink.old }
+    ensures empty { length bytes.now ≡ 0 → (sink.new ≡ sink.old) × (result ≡ Written.Whole) }
+{
+    if bytes.is_empty() {
+        return Written::Whole;
+    }
+    drain(sink, bytes).0
+}
+
+/// Writes until all bytes are out or a call fails, and says how many went.
+fn drain<K: Sink>(sink: &mut K, bytes: &[u8]) -> (Written, usize)
+    ensures within { result.1 ≤ length bytes.now }
+    ensures bytes { K.got sink.new ≡ after (K.got sink.old) (take result.1 bytes.now) }
+    ensures writing { IsWriting result.0 result.1 (length bytes.now) }
+    ensures later { K.faults sink.old ≤ K.faults sink.new }
+    ensures cause { result.0 ≡ Written.Lost → HasFailed (K.faults sink.old) (K.faults sink.new) }
+    ensures keeps { K.keeps sink.new ≡ K.keeps sink.old }
+    ensures same { K.boxed sink.new ≡ K.boxed sink.old }
+{
+    let mut done = 0;
+    while done < bytes.len() {
+        match sink.write(&bytes[done..]) {
+            Ok(n) => done += n,
+            Err(Failed) => return (Written::Lost, done),
+        }
+    }
+    (Written::Whole, done)
+}
+
+/// Writes to the port of a live place until all bytes are out or a call fails, and counts them.
+pub(crate) fn drain_counted<K: Sink>(port: &mut K, number: &mut u64, bytes: &[u8]) -> Written
+    ensures { Writes result (live_out K.Sink port.old number.old) bytes.now (live_out K.Sink port.new number.new) }
+{
+    let (written, went) = drain(port, bytes);
+    *number = number.saturating_add(went as u64);
+    written
+}

@@ -1,0 +1,69 @@
+// A place for an input: it is empty, its port is live, or its port has failed and is called no more.
+ghost use Rattle.std.specs.Prelude.{◌≡◌, ◌≢◌, length};
+ghost use Rattle.otn_ports.specs.Reads.{Reads, state_after, idle_reading};
+ghost use Rattle.otn_ports.specs.Views.{Live, Dead};
+
+use crate::fill::fill_counted;
+use crate::{InPort, Source};
+use std::mem;
+
+/// How a read of a whole slice ended: the slice is full, the input ended after so many bytes and
+/// fewer than the slice has, or a call failed.
+#[derive(Clone, Copy, Debug, PartialEq, Eq)]
+pub enum Reading {
+    Full,
+    End(usize),
+    Lost,
+}
+
+/// A place for a source. The number counts the bytes taken of it, and stops at 2^64-1.
+#[derive(Drop)]
+pub enum InPlaceOf<P> {
+    Empty,
+    Live(P, u64),
+    Dead(P, u64),
+}
+
+/// A place for a source behind a box or in memory.
+pub type InPlace = InPlaceOf<InPort>;
+
+impl<P: Source> InPlaceOf<P> {
+    ghost use Rattle.otn_ports.specs.InPlace.{in_view};
+
+    /// Reads until the slice is full. After Full the slice is the bytes taken; after End(n) they
+    /// stand at its front; after Lost its content is open. The place dies exactly where the
+    /// answer is Lost, and then its port's count of faults rose in this call or stands at its
+    /// end. A place that is not live calls nothing, and acts as one that ended.
+    pub fn read_full(&mut self, into: &mut [u8]) -> Reading
+        ensures state { (in_view P.Source self.new).state ≡ state_after (in_view P.Source self.old).state result }
+        ensures live { (in_view P.Source self.old).state ≡ Live
+            → Reads result (in_view P.Source self.old) into.new (in_view P.Source self.new) }
+        ensures idle { (in_view P.Source self.old).state ≢ Live
+            → (self.new ≡ self.old) × (into.new ≡ into.old) × (result ≡ idle_reading (length into.old)) }
+        ensures empty { length into.old ≡ 0 → (self.new ≡ self.old) × (result ≡ Reading.Full) }
+    {
+        if into.is_empty() {
+            return Reading::Full;
+        }
+        let reading = match self {
+            InPlaceOf::Live(port, number) => fill_counted(port, number, into),
+            InPlaceOf::Empty => return Reading::End(0),
+            InPlaceOf::Dead(..) => return Reading::End(0),
+        };
+        if reading == Reading::Lost {
+            self.die();
+        }
+        reading
+    }
+
+    // A live place becomes dead.
+    fn die(&mut self)
+        ensures { (in_view P.Source self.old).state ≡ Live
+            → in_view P.Source self.new ≡ record (in_view P.Source self.old) { state = Dead } }
+    {
+        match mem::replace(self, InPlaceOf::Empty) {
+            InPlaceOf::Live(port, number) => *self = InPlaceOf::Dead(port, number),
+            place => *self = place,
+        }
+    }
+}

@@ -1,0 +1,37 @@
+// A source behind a box, or one in memory.
+ghost use Rattle.std.specs.Prelude.{◌≡◌, ◌<◌, ◌≤◌, Ok, false, IfOk, OnErr, length, min};
+ghost use Rattle.otn_ports.specs.Bytes.{before, taken, HasFailed};
+ghost use Rattle.otn_ports.specs.Ports.{in_left, in_faults, is_in_boxed, held_left};
+ghost use Rattle.otn_ports.specs.Reads.{HasEnded};
+
+use crate::{Failed, MemSource, Source};
+
+/// What an input place holds. Each call on it, and each of its meanings, is that of what it holds.
+#[derive(Drop)]
+pub enum InPort {
+    Boxed(Box<dyn Source>),
+    Held(MemSource),
+}
+
+impl Source for InPort {
+    ghost left = { in_left (λ b. (Source-box b).left b.value) };
+
+    ghost faults = { in_faults (λ b. (Source-box b).faults b.value) };
+
+    ghost boxed = { is_in_boxed };
+
+    fn read(&mut self, into: &mut [u8]) -> Result<usize, Failed>
+        ensures bound { IfOk result (λ n. n ≤ length into.old) }
+        ensures bytes { in_left left self.old ≡ before (taken result into.new) (in_left left self.new) }
+        ensures end { result ≡ Ok 0 → 0 < length into.old → HasEnded (in_left left self.new) }
+        ensures later { in_faults faults self.old ≤ in_faults faults self.new }
+        ensures cause { OnErr result (HasFailed (in_faults faults self.old) (in_faults faults self.new)) }
+        ensures same { is_in_boxed self.new ≡ is_in_boxed self.old }
+        ensures held { is_in_boxed self.old ≡ false → result ≡ Ok (min (length (held_left self.old)) (length into.old)) }
+    {
+        match self {
+            InPort::Boxed(source) => source.read(into),
+            InPort::Held(source) => source.read(into),
+        }
+    }
+}

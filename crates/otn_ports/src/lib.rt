@@ -1,0 +1,45 @@
+//! Ports that may fail at any call, the places that hold them, and the bays of all places.
+//!
+//! - `source`, `sink`: what a port is, with its meanings; `Failed`.
+//! - `mem_source`, `mem_sink`: ports in memory.
+//! - `file_source`, `file_sink`, `stdout_sink`: ports over the system's files and output.
+//! - `in_port`, `out_port`: a port behind a box, or one in memory.
+//! - `in_place`, `out_place`: a place with its port, which reads and writes whole slices.
+//! - `drain`: a whole write to a sink that stands in no place.
+//! - `bays`: all places of a device.
+//! - `chooser`: what settles a free choice.
+#![tactic(auto)]
+
+mod bays;
+mod chooser;
+mod drain;
+mod file_sink;
+mod file_source;
+mod fill;
+mod in_place;
+mod in_port;
+mod mem_sink;
+mod mem_source;
+mod out_place;
+mod out_port;
+mod sink;
+mod source;
+mod stdout_sink;
+mod system;
+#[cfg(test)]
+mod tests;
+
+pub use bays::{Bays, Rack};
+pub use chooser::{Chooser, FirstReady};
+pub use drain::{Written, write_whole};
+pub use file_sink::FileSink;
+pub use file_source::FileSource;
+pub use in_place::{InPlace, InPlaceOf, Reading};
+pub use in_port::InPort;
+pub use mem_sink::MemSink;
+pub use mem_source::MemSource;
+pub use out_place::{OutPlace, OutPlaceOf};
+pub use out_port::OutPort;
+pub use sink::Sink;
+pub use source::{Failed, Source};
+pub use stdout_sink::StdoutSink;

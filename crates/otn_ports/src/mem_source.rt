@@ -1,0 +1,44 @@
+// A source in memory.
+ghost use Rattle.std.specs.Prelude.{◌≡◌, ◌≤◌, Some, Ok, length, drop, vec_len, min};
+ghost use Rattle.otn_ports.specs.Bytes.{before, taken};
+
+use crate::{Failed, Source};
+
+/// Bytes in memory. It tells them, and never fails.
+#[derive(Drop)]
+pub struct MemSource {
+    bytes: Vec<u8>,
+    at: usize,
+    ghost within: { at ≤ vec_len bytes },
+}
+
+impl MemSource {
+    ghost use Rattle.otn_ports.specs.Memory.{memory_left};
+
+    /// Gives these bytes.
+    pub fn new(bytes: Vec<u8>) -> MemSource
+        ensures { memory_left result ≡ bytes.items }
+    {
+        MemSource { bytes, at: 0 }
+    }
+}
+
+impl Source for MemSource {
+    ghost use Rattle.otn_ports.specs.Memory.{memory_left};
+
+    ghost left = { λ m. Some (memory_left m) };
+
+    ghost faults = { λ _. 0 };
+
+    /// Gives as many as there are and as the slice has room for.
+    fn read(&mut self, into: &mut [u8]) -> Result<usize, Failed>
+        ensures answer { result ≡ Ok (min (length (memory_left self.old)) (length into.old)) }
+        ensures bytes { Some (memory_left self.old) ≡ before (taken result into.new) (Some (memory_left self.new)) }
+    {
+        let rest = &self.bytes[self.at..];
+        let n = rest.len().min(into.len());
+        into[..n].copy_from_slice(&rest[..n]);
+        self.at += n;
+        Ok(n)
+    }
+}

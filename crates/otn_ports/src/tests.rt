@@ -1,0 +1,206 @@
+// What proofs can't see: that calls succeed, and what the system does.
+ghost use Rattle.std.specs.Prelude.{◌≤◌, IfOk};
+
+use super::system::{read_some, write_some};
+use super::*;
+use std::alloc::Global;
+use std::fs::File;
+use std::io::{Error, ErrorKind, Read, Write};
+use std::test::Fail;
+use std::{env, fs, io, process};
+
+// Ten bytes, from 1.
+fn ten(alloc: Global) -> Result<Vec<u8>, Fail> {
+    Ok([1, 2, 3, 4, 5, 6, 7, 8, 9, 10].to_vec(alloc)?)
+}
+
+// The number that an input place or an output place counts.
+fn taken<P>(place: &InPlaceOf<P>) -> u64 {
+    match place {
+        InPlaceOf::Empty => 0,
+        InPlaceOf::Live(_, number) => *number,
+        InPlaceOf::Dead(_, number) => *number,
+    }
+}
+
+fn went<K>(place: &OutPlaceOf<K>) -> u64 {
+    match place {
+        OutPlaceOf::Empty => 0,
+        OutPlaceOf::Live(_, number) => *number,
+        OutPlaceOf::Dead(_, number) => *number,
+    }
+}
+
+fn kept<K: Sink>(place: &OutPlaceOf<K>) -> &[u8] {
+    match place {
+        OutPlaceOf::Empty => &[],
+        OutPlaceOf::Live(sink, _) => sink.kept().unwrap_or(&[]),
+        OutPlaceOf::Dead(sink, _) => sink.kept().unwrap_or(&[]),
+    }
+}
+
+fn is_dead<K>(place: &OutPlaceOf<K>) -> bool {
+    matches!(place, OutPlaceOf::Dead(..))
+}
+
+#[test]
+fn a_source_is_read_across_its_end(rt: HostRuntime) -> Result<(), Fail> {
+    let mut place = InPlaceOf::Live(MemSource::new(ten(rt.alloc())?), 100);
+    let mut into = [0u8; 4];
+    for (reading, front, number) in [
+        (Reading::Full, [1, 2, 3, 4], 104),
+        (Reading::Full, [5, 6, 7, 8], 108),
+        (Reading::End(2), [9, 10, 7, 8], 110),
+        (Reading::End(0), [9, 10, 7, 8], 110),
+    ] {
+        assert_eq!(rt; place.read_full(&mut into), reading);
+        assert_eq!(rt; into, front);
+        assert_eq!(rt; taken(&place), number);
+    }
+    assert_eq!(rt; place.read_full(&mut []), Reading::Full);
+    Ok(())
+}
+
+#[test]
+fn a_sink_runs_out_of_room_in_mid_write(rt: HostRuntime) -> Result<(), Fail> {
+    let alloc = rt.alloc();
+    let mut place = OutPlaceOf::Live(MemSink::with_room(alloc, 10)?, 0);
+    for (written, number, dead) in [
+        (Written::Whole, 4, false),
+        (Written::Whole, 8, false),
+        (Written::Lost, 10, true),
+        (Written::Whole, 10, true),
+    ] {
+        assert_eq!(rt; place.write_all(&[1, 2, 3, 4]), written);
+        assert_eq!(rt; went(&place), number);
+        assert_eq!(rt; is_dead(&place), dead);
+    }
+    assert_eq!(rt; kept(&place), [1, 2, 3, 4, 1, 2, 3, 4, 1, 2].as_slice());
+    let mut report = MemSink::with_room(alloc, 3)?;
+    assert_eq!(rt; write_whole(&mut report, &[7, 8]), Written::Whole);
+    assert_eq!(rt; write_whole(&mut report, &[9, 10]), Written::Lost);
+    assert_eq!(rt; report.into_bytes().as_slice(), [7, 8, 9].as_slice());
+    Ok(())
+}
+
+#[test]
+fn each_of_all_places_is_its_own(rt: HostRuntime) -> Result<(), Fail> {
+    let alloc = rt.alloc();
+    let mut bays = Bays::new(alloc)?;
+    for n in 0..16_u8 {
+        let source: Box<dyn Source> = Box::new(alloc, MemSource::new(ten(alloc)?))?;
+        let sink: Box<dyn Sink> = Box::new(alloc, MemSink::with_room(alloc, 99)?)?;
+        bays.set_client_in(n, InPlace::Live(InPort::Boxed(source), n as u64 + 1));
+        bays.set_client_out(n, OutPlace::Live(OutPort::Boxed(sink), n as u64 + 21));
+        if n < 4 {
+            let source = InPort::Held(MemSource::new(ten(alloc)?));
+            let sink = OutPort::Held(MemSink::with_room(alloc, 99)?);
+            bays.set_line_in(n, InPlace::Live(source, n as u64 + 41));
+            bays.set_line_out(n, OutPlace::Live(sink, n as u64 + 61));
+        }
+    }
+    let mut into = [0u8; 5];
+    assert_eq!(rt; bays.line_in_mut(3).read_full(&mut into), Reading::Full);
+    assert_eq!(rt; bays.client_in_mut(15).read_full(&mut into), Reading::Full);
+    assert_eq!(rt; bays.line_out_mut(0).write_all(&into), Written::Whole);
+    assert_eq!(rt; bays.client_out_mut(7).write_all(&into), Written::Whole);
+    for n in 0..16_u8 {
+        let (read, wrote) = (n == 15, n == 7);
+        let more = if read { 5 } else { 0 };
+        assert_eq!(rt; taken(bays.client_in(n)), n as u64 + 1 + more);
+        let more = if wrote { 5 } else { 0 };
+        assert_eq!(rt; went(bays.client_out(n)), n as u64 + 21 + more);
+    }
+    for n in 0..4_u8 {
+        let more = if n == 3 { 5 } else { 0 };
+        assert_eq!(rt; taken(bays.line_in(n)), n as u64 + 41 + more);
+        let more = if n == 0 { 5 } else { 0 };
+        assert_eq!(rt; went(bays.line_out(n)), n as u64 + 61 + more);
+    }
+    Ok(())
+}
+
+#[test]
+fn a_port_with_no_file_fails(rt: HostRuntime) -> Result<(), Fail> {
+    let mut source = FileSource::of(None);
+    assert_eq!(rt; source.read(&mut []), Ok(0));
+    assert_eq!(rt; source.read(&mut [0; 3]), Err(Failed));
+    let mut sink = FileSink::of(None);
+    assert_eq!(rt; sink.write(&[]), Ok(0));
+    assert_eq!(rt; sink.write(&[1, 2, 3]), Err(Failed));
+    assert_eq!(rt; sink.kept(), None);
+    let mut place = InPlaceOf::Live(source, 0);
+    assert_eq!(rt; place.read_full(&mut [0; 3]), Reading::Lost);
+    assert_eq!(rt; place.read_full(&mut [0; 3]), Reading::End(0));
+    let mut out = StdoutSink::of(rt.stdout());
+    assert_eq!(rt; write_whole(&mut out, b"ports\n"), Written::Whole);
+    assert_eq!(rt; FirstReady::new().pick(3), 0);
+    Ok(())
+}
+
+// The system, where it interrupts so many calls and then moves one byte, or fails.
+#[derive(Drop)]
+struct Interrupting {
+    calls: u8,
+    fails: bool,
+}
+
+impl Interrupting {
+    fn call(&mut self, len: usize) -> io::Result<usize>
+        ensures { IfOk result (λ n. n ≤ len) }
+    {
+        if self.calls > 0 {
+            self.calls -= 1;
+            return Err(Error::from(ErrorKind::Interrupted));
+        }
+        if self.fails {
+            return Err(Error::from(ErrorKind::Other));
+        }
+        Ok(len.min(1))
+    }
+}
+
+impl Read for Interrupting {
+    fn read(&mut self, into: &mut [u8]) -> io::Result<usize> {
+        self.call(into.len())
+    }
+}
+
+impl Write for Interrupting {
+    fn write(&mut self, bytes: &[u8]) -> io::Result<usize> {
+        self.call(bytes.len())
+    }
+
+    fn flush(&mut self) -> io::Result<()> {
+        Ok(())
+    }
+}
+
+#[test]
+fn an_interrupted_call_is_tried_again(rt: HostRuntime) {
+    for (fails, answer) in [(false, Ok(1)), (true, Err(Failed))] {
+        let mut system = Interrupting { calls: 3, fails };
+        assert_eq!(rt; read_some(&mut system, &mut [0; 2]), answer);
+        let mut system = Interrupting { calls: 3, fails };
+        assert_eq!(rt; write_some(&mut system, &[1, 2]), answer);
+    }
+}
+
+#[test]
+fn a_file_comes_back_as_it_was_written(rt: HostRuntime) -> Result<(), Fail> {
+    let alloc = rt.alloc();
+    let name = format!(in alloc; "otn-ports-{}", process::id(rt.process()))?;
+    let mut path = env::temp_dir(&rt)?;
+    path.push(name.as_str())?;
+    let mut sink = OutPlaceOf::Live(FileSink::of(Some(File::create(&rt, &path)?)), 0);
+    assert_eq!(rt; sink.write_all(ten(alloc)?.as_slice()), Written::Whole);
+    drop(sink);
+    let mut source = InPlaceOf::Live(FileSource::of(Some(File::open(&rt, &path)?)), 0);
+    fs::remove_file(&rt, &path)?;
+    let mut into = [0u8; 8];
+    assert_eq!(rt; source.read_full(&mut into), Reading::Full);
+    assert_eq!(rt; into, [1, 2, 3, 4, 5, 6, 7, 8]);
+    assert_eq!(rt; source.read_full(&mut into), Reading::End(2));
+    assert_eq!(rt; &into[..2], [9, 10].as_slice());
+    Ok(())
+}
