@@ -1,0 +1,142 @@
+-- The loop of `slot` over the frames of a line.
+use Rattle.std.proofs.Common.{◌≡◌, ◌≢◌, ◌<◌, ◌≤◌, ◌+◌, ◌*◌, ◌∙◌, ℕ, List, [], ◌++◌, Option, Some, None, length, take, refl, sym, ap, subst, inl, inr, arith, append-nil, length-append, lit≤}
+use Rattle.std.proofs.Math.Seq.{take-append-add}
+use Rattle.otn_ports.proofs.GivenLaws.{gave_none, gave_twice}
+use Rattle.otn_ports.proofs.TakenTwice.{after-after}
+use Rattle.otn_ports.specs.Bytes.{after}
+use Rattle.otn_ports.specs.Given.{Gave}
+use Rattle.otn_ports.specs.Views.{Dead, InView}
+use Rattle.line_tool.specs.SlotReport.{slot_bytes, slot_report, used_frames}
+use Rattle.line_tool.specs.SlotRuns.{SlotRun, SlotStep, GainsPart, ByteRun}
+use Rattle.line_tool.specs.declared.status.Status.{Status}
+use Rattle.line_tool.specs.declared.status.Status.TheVariants.{Done, Unfinished, Words, ReportFault, Cut, Memory}
+use Rattle.line_tool.proofs.LineFrames.{slots_of, slots_of-none, slots_of-more, used_frames-at, slot_report-at, slot_report-whole}
+
+-- after i whole frames
+pub record SoFar (slot i : ℕ) (first now : InView) (old new : Option (List ℕ)) : Type 0 where
+  pub taken : List ℕ
+  pub gave : Gave first taken now
+  pub size : length taken ≡ i * 16320
+  pub state : now.state ≡ first.state
+  pub report : new ≡ after old (slots_of slot taken i)
+
+after-none : (got : Option (List ℕ)) → got ≡ after got []
+after-none None = refl
+after-none (Some got) = ap Some (sym (append-nil got))
+
+pub so_far_none : (slot : ℕ) (first : InView) (old : Option (List ℕ)) → SoFar slot 0 first first old old
+so_far_none slot first old = record {
+  taken = [];
+  gave = gave_none first;
+  size = refl;
+  state = refl;
+  report = after-none old ∙ ap (after old) (sym (slots_of-none slot));
+}
+
+pub so_far_more : (slot i : ℕ) (first mid now : InView) (old gained new : Option (List ℕ)) → SoFar slot i first mid old gained
+    → SlotStep slot mid now gained new None → SoFar slot (i + 1) first now old new
+so_far_more slot i first mid now old gained new h step = record {
+  taken = h.taken ++ step.taken;
+  gave = gave_twice first mid now h.taken step.taken h.gave step.gave;
+  size = omega (arith, length-append h.taken step.taken, h.size, step.ends.0);
+  state = step.ends.1 ∙ h.state;
+  report = step.ends.2 ∙ ap (λ r. after r (slot_bytes slot step.taken)) h.report ∙ after-after old (slots_of slot h.taken i) (slot_bytes slot step.taken)
+      ∙ ap (after old) (sym (slots_of-more slot h.taken step.taken i h.size step.ends.0));
+}
+
+-- what a part of the last frame's bytes is of the whole report
+part_after : (old gained new : Option (List ℕ)) (before bytes : List ℕ) → gained ≡ after old before → GainsPart gained new bytes → GainsPart old new (before ++ bytes)
+part_after old gained new before bytes e h = record {
+  went = length before + h.went;
+  part = omega (arith, length-append before bytes, h.part);
+  gained = h.gained ∙ ap (λ r. after r (take h.went bytes)) e ∙ after-after old before (take h.went bytes) ∙ ap (after old) (sym (take-append-add before bytes h.went));
+}
+
+-- the taken bytes end with a part of a frame
+record Ended (slot i : ℕ) (first mid now : InView) (old new : Option (List ℕ)) (more : List ℕ) : Type 0 where
+  pub taken : List ℕ
+  pub gave : Gave first (taken ++ more) now
+  pub size : length (taken ++ more) ≡ i * 16320 + length more
+  pub report : new ≡ after old (slot_report slot (taken ++ more))
+  pub used : used_frames (length (taken ++ more)) ≡ i
+
+ended : (slot i : ℕ) (first mid now : InView) (old gained new : Option (List ℕ)) (more : List ℕ) → i ≤ 131072 → SoFar slot i first mid old gained
+    → Gave mid more now → length more < 16320 → new ≡ gained → Ended slot i first mid now old new more
+ended slot i first mid now old gained new more few h gave part same =
+    let size : length (h.taken ++ more) ≡ i * 16320 + length more = length-append h.taken more ∙ ap (λ n. n + length more) h.size in
+    record {
+      taken = h.taken;
+      gave = gave_twice first mid now h.taken more h.gave gave;
+      size = size;
+      report = same ∙ h.report ∙ ap (after old) (sym (slot_report-at slot h.taken more i h.size part few));
+      used = ap used_frames size ∙ used_frames-at i (length more) part few;
+    }
+
+-- how the command ends with a step
+pub ends_with : (status : Status) (slot i : ℕ) (first mid now : InView) (old gained new : Option (List ℕ)) → first.state ≢ Dead → i < 131072
+    → SoFar slot i first mid old gained → SlotStep slot mid now gained new (Some status) → SlotRun slot first now old new status
+ends_with Done slot i first mid now old gained new alive few h step =
+    let none : length step.taken ≡ 0 = ap length step.ends.0 in
+    let e = ended slot i first mid now old gained new step.taken (omega arith) h step.gave (omega arith) step.ends.3 in
+    record {
+      taken = e.taken ++ step.taken;
+      gave = e.gave;
+      ends = (e.report, λ dead. alive (sym h.state ∙ sym step.ends.1 ∙ dead), step.ends.2, omega (arith, e.size, e.used, none));
+    }
+ends_with Unfinished slot i first mid now old gained new alive few h step =
+    let some = step.ends.0 in
+    let e = ended slot i first mid now old gained new step.taken (omega arith) h step.gave step.ends.1 step.ends.4 in
+    record {
+      taken = e.taken ++ step.taken;
+      gave = e.gave;
+      ends = (e.report, λ dead. alive (sym h.state ∙ sym step.ends.2 ∙ dead), omega (arith, e.size, e.used, some), inl step.ends.3);
+    }
+ends_with Cut slot i first mid now old gained new alive few h step =
+    let e = ended slot i first mid now old gained new step.taken (omega arith) h step.gave step.ends.0 step.ends.2 in
+    record { taken = e.taken ++ step.taken; gave = e.gave; ends = (e.report, step.ends.1) }
+ends_with ReportFault slot i first mid now old gained new alive few h step =
+    let size : length (h.taken ++ step.taken) ≡ (i + 1) * 16320 = omega (arith, length-append h.taken step.taken, h.size, step.ends.0) in
+    let whole = slot_report-whole slot (h.taken ++ step.taken) (i + 1) size (omega arith) ∙ slots_of-more slot h.taken step.taken i h.size step.ends.0 in
+    record {
+      taken = h.taken ++ step.taken;
+      gave = gave_twice first mid now h.taken step.taken h.gave step.gave;
+      ends = (subst (GainsPart old new) (sym whole) (part_after old gained new (slots_of slot h.taken i) (slot_bytes slot step.taken) h.report step.ends.2), step.ends.1 ∙ h.state);
+    }
+ends_with Words slot i first mid now old gained new alive few h step = absurd step.ends
+ends_with Memory slot i first mid now old gained new alive few h step = absurd step.ends
+
+-- how it ends once the most frames are written and a further byte was asked for
+pub ends_after : (status : Status) (slot : ℕ) (first mid now : InView) (old new : Option (List ℕ)) → first.state ≢ Dead
+    → SoFar slot 131072 first mid old new → ByteRun mid now status → SlotRun slot first now old new status
+ends_after Done slot first mid now old new alive h byte =
+    let none : length byte.taken ≡ 0 = ap length byte.ends.0 in
+    let e = ended slot 131072 first mid now old new new byte.taken (lit≤ tt) h byte.gave (omega arith) refl in
+    record {
+      taken = e.taken ++ byte.taken;
+      gave = e.gave;
+      ends = (e.report, λ dead. alive (sym h.state ∙ sym byte.ends.1 ∙ dead), byte.ends.2, omega (arith, e.size, e.used, none));
+    }
+ends_after Unfinished slot first mid now old new alive h byte =
+    let one = byte.ends.0 in
+    let e = ended slot 131072 first mid now old new new byte.taken (lit≤ tt) h byte.gave (omega arith) refl in
+    let size : length (e.taken ++ byte.taken) ≡ 131072 * 16320 + 1 = e.size ∙ ap (λ n. 131072 * 16320 + n) one in
+    record {
+      taken = e.taken ++ byte.taken;
+      gave = e.gave;
+      ends = (e.report, λ dead. alive (sym h.state ∙ sym byte.ends.1 ∙ dead), omega (arith, e.size, e.used, one), inr size);
+    }
+ends_after Cut slot first mid now old new alive h byte =
+    let none : length byte.taken ≡ 0 = ap length byte.ends.0 in
+    let e = ended slot 131072 first mid now old new new byte.taken (lit≤ tt) h byte.gave (omega arith) refl in
+    record { taken = e.taken ++ byte.taken; gave = e.gave; ends = (e.report, byte.ends.1) }
+ends_after ReportFault slot first mid now old new alive h byte = absurd byte.ends
+ends_after Words slot first mid now old new alive h byte = absurd byte.ends
+ends_after Memory slot first mid now old new alive h byte = absurd byte.ends
+
+-- a line that is dead gives nothing
+pub dead_run : (slot : ℕ) (line : InView) (report : Option (List ℕ)) → line.state ≡ Dead → SlotRun slot line line report report Cut
+dead_run slot line report dead = record {
+  taken = [];
+  gave = gave_none line;
+  ends = (after-none report ∙ ap (after report) (sym (slot_report-whole slot [] 0 refl (lit≤ tt) ∙ slots_of-none slot)), dead);
+}

@@ -1,0 +1,11 @@
+-- A list of words, from its length and its words.
+use Rattle.std.proofs.Common.{◌≡◌, List, [], ◌∷◌, length, get_or, refl, arith, string_bytes, String}
+use Rattle.std.specs.declared.alloc.Global.{Global}
+use Rattle.line_tool.specs.Words.{texts}
+
+-- two words
+pub two_texts : (words : List (String Global)) (a b : String Global) → length words ≡ 2 → a ≡ get_or words 0 a → b ≡ get_or words 1 b → texts words ≡ string_bytes a ∷ string_bytes b ∷ []
+two_texts [] a b n e f = absurd (omega arith)
+two_texts (x ∷ []) a b n e f = absurd (omega arith)
+two_texts (x ∷ y ∷ []) a b n e f = rw (e, f) refl
+two_texts (x ∷ y ∷ z ∷ rest) a b n e f = absurd (omega arith)

@@ -1,0 +1,11 @@
+use Rattle.std.proofs.Common.{◌≡◌, ap}
+use Rattle.otn_ports.specs.InPlace.{in_view}
+use Rattle.otn_ports.specs.Views.{Dead}
+use Rattle.line_tool.proofs.SlotLoop.{dead_run}
+use Rattle.line_tool.proofs.slot.write_slot.Goals as goal
+
+pub returns-in-Dead-clause-run : goal.returns-in-Dead-clause-run
+returns-in-Dead-clause-run g c =
+    let line = in_view g.I.Source c.args.line.now in
+    let dead : line.state ≡ Dead = ap (λ place. (in_view g.I.Source place).state) c.in-Dead.is in
+    λ _. dead_run c.args.slot line (g.K.Sink.got c.args.report.now) dead

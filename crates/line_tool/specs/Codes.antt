@@ -1,0 +1,13 @@
+-- The numbers that the program ends with.
+use Rattle.std.specs.Prelude.{ℕ}
+use Rattle.line_tool.specs.declared.status.Status.{Status}
+use Rattle.line_tool.specs.declared.status.Status.TheVariants.{Done, Unfinished, Words, ReportFault, Cut, Memory}
+
+-- the exit status of each answer; 3 and 4 are kept for refused plans
+abbrev pub code_of : Status → ℕ
+code_of Done = 0
+code_of Unfinished = 1
+code_of Words = 2
+code_of ReportFault = 5
+code_of Cut = 6
+code_of Memory = 7

@@ -1,0 +1,5 @@
+pub mod Codes
+pub mod Runs
+pub mod SlotReport
+pub mod SlotRuns
+pub mod Words

@@ -1,0 +1,24 @@
+-- What `slot` writes.
+use Rattle.std.specs.Prelude.{ℕ, ◌*◌, ◌/◌, min, List, length, take, drop, map}
+use Rattle.std.specs.List.{flat_map, range_with_len}
+use Rattle.odtu_columns.specs.Columns.{slot_row_of}
+
+-- G.709 clause 11.1: frame f, from 0, of the bytes of a line, of 16,320 bytes
+abbrev pub frame_at : List ℕ → (f : ℕ) → List ℕ
+frame_at bytes f = take 16320 (drop (f * 16320) bytes)
+
+-- the first n frames of the bytes of a line
+unfoldable pub first_frames : List ℕ → (n : ℕ) → List (List ℕ)
+first_frames bytes n = map (frame_at bytes) (range_with_len 0 n)
+
+-- of so many bytes, how many frames are whole, and of these how many are used: 131,072 at most
+unfoldable pub used_frames : ℕ → ℕ
+used_frames n = min 131072 (n / 16320)
+
+-- the payload bytes of a slot in a frame, row by row
+unfoldable pub slot_bytes : (slot : ℕ) → List ℕ → List ℕ
+slot_bytes slot frame = flat_map (λ row. slot_row_of 8 slot row frame) (range_with_len 1 4)
+
+-- what `slot` writes where a line gives these bytes: the slot's payload bytes of each whole frame that is used, in order
+unfoldable pub slot_report : (slot : ℕ) → List ℕ → List ℕ
+slot_report slot bytes = flat_map (slot_bytes slot) (first_frames bytes (used_frames (length bytes)))

@@ -1,0 +1,37 @@
+// How a run of the program ended.
+ghost use Rattle.std.specs.Prelude.{◌≡◌};
+ghost use Rattle.line_tool.specs.Codes.{code_of};
+
+/// How a command ended. The answers are tried in the order of `Words`, `Memory`, `ReportFault`,
+/// `Cut`, `Unfinished`, `Done`.
+#[derive(Clone, Copy, Debug, PartialEq, Eq)]
+pub enum Status {
+    /// Everything was carried.
+    Done,
+    /// The line had bytes after its last whole frame, or more frames than are read.
+    Unfinished,
+    /// The words are no command.
+    Words,
+    /// A write of the report failed, and ended the command.
+    ReportFault,
+    /// The line input is dead: a read of it failed.
+    Cut,
+    /// There was no memory, and nothing was done.
+    Memory,
+}
+
+impl Status {
+    /// The number that the program ends with.
+    pub fn code(&self) -> u8
+        ensures { result ≡ code_of self.now }
+    {
+        match self {
+            Status::Done => 0,
+            Status::Unfinished => 1,
+            Status::Words => 2,
+            Status::ReportFault => 5,
+            Status::Cut => 6,
+            Status::Memory => 7,
+        }
+    }
+}
