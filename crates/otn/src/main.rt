@@ -1,0 +1,127 @@
+//! `otn`, an ODU2 multiplexer and cross-connect: hands its words, the files of the current folder and
+//! standard output to the one call that does all the work, and ends with the code of its answer.
+#![tactic(auto)]
+
+ghost use Rattle.std.specs.Prelude.{◌≤◌, IfSome, length};
+
+use line_tool::{Status, run};
+use otn_base::Memory;
+use otn_base::limits::LINES;
+use otn_ports::{Bays, FileSource, FirstReady, InPlace, InPort, MemSource, Source, StdoutSink};
+use std::alloc::{AllocError, Global};
+use std::env::FillError;
+use std::io::ErrorKind;
+use std::process::ExitCode;
+use std::rt::Env;
+use std::{fs, str};
+
+const HELP: &str = "\
+otn, an ODU2 multiplexer and cross-connect (ITU-T G.709)
+
+usage: otn slot K     the payload bytes of tributary slot K, 1 to 8, of each whole frame of line-0.in
+       otn --help
+       otn --version
+
+It reads the files of the current folder and writes to standard output. It ends with
+0 done  1 unfinished  2 words  5 report fault  6 cut  7 memory
+";
+
+const VERSION: &str = "otn 0.1.0";
+
+// The longest word that is looked at, in bytes; no command has one as long.
+const LONGEST_WORD: usize = 4096;
+
+fn main(rt: HostRuntime) -> ExitCode {
+    let status = serve(&rt).unwrap_or(Status::Memory);
+    if let Some(complaint) = complaint(status) {
+        let _ = eprintln!(rt; "otn: {complaint}");
+    }
+    ExitCode::from(status.code())
+}
+
+// What is said of an answer on standard error.
+fn complaint(status: Status) -> Option<&'static str> {
+    match status {
+        Status::Done => None,
+        Status::Unfinished => Some("unfinished"),
+        Status::Words => Some("words"),
+        Status::ReportFault => Some("report fault"),
+        Status::Cut => Some("cut"),
+        Status::Memory => Some("memory"),
+    }
+}
+
+// Answers `--help` and `--version`, and hands all other words to the top call.
+fn serve(rt: &HostRuntime) -> Result<Status, Memory> {
+    let alloc = rt.alloc();
+    let words = words(rt)?;
+    if let [word] = words.as_slice() {
+        if let Some(text) = page(word.as_str()) {
+            let _ = println!(rt; "{text}");
+            return Ok(Status::Done);
+        }
+    }
+    let mut bays = Bays::new(alloc)?;
+    for n in 0..LINES as u8 {
+        let path = format!(in alloc; "line-{n}.in")?;
+        let source = match fs::open(rt, path.as_str()) {
+            Ok(file) => FileSource::of(Some(file)),
+            Err(error) if error.kind() == ErrorKind::NotFound => continue,
+            Err(_) => FileSource::of(None),
+        };
+        let port: Box<dyn Source> = Box::new(alloc, source)?;
+        bays.set_line_in(n, InPlace::Live(InPort::Boxed(port), 0));
+    }
+    let mut plan = MemSource::new(Vec::new(alloc));
+    let mut report = StdoutSink::of(rt.stdout());
+    let mut chooser = FirstReady::new();
+    Ok(run(
+        alloc,
+        &words,
+        &mut plan,
+        &mut bays,
+        &mut chooser,
+        &mut report,
+    ))
+}
+
+// The pages that are no command.
+fn page(word: &str) -> Option<&'static str> {
+    match word {
+        "--help" => Some(HELP.trim_end()),
+        "--version" => Some(VERSION),
+        _ => None,
+    }
+}
+
+// The words after the program's name. One that is no text, or too long for any command, is handed in
+// as the empty text.
+fn words(rt: &HostRuntime) -> Result<Vec<String>, Memory> {
+    let alloc = rt.alloc();
+    let mut words = Vec::new(alloc);
+    let mut buffer = [0; LONGEST_WORD];
+    for i in 1..usize::MAX {
+        let Some(length) = word_length(rt, i, &mut buffer) else {
+            break;
+        };
+        words.push(text_of(alloc, &buffer[..length])?)?;
+    }
+    Ok(words)
+}
+
+// Puts word number `i` into the buffer, and says how long it is: 0 where it is too long. None where
+// there is no such word.
+fn word_length(rt: &HostRuntime, i: usize, buffer: &mut [u8]) -> Option<usize>
+    ensures { IfSome result (λ n. n ≤ length buffer.old) }
+{
+    match rt.arg(i, buffer) {
+        Ok(length) => Some(length),
+        Err(FillError::TooLong) => Some(0),
+        Err(FillError::NotPresent) => None,
+    }
+}
+
+// The bytes as text, or the empty text where they are none.
+fn text_of(alloc: Global, bytes: &[u8]) -> Result<String, AllocError> {
+    String::from_str(alloc, str::from_utf8(bytes).unwrap_or(""))
+}
