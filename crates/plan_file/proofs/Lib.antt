@@ -1,0 +1,9 @@
+pub mod Lists
+pub mod Steps
+pub mod Faults
+pub mod Texts
+pub mod Fitting
+pub mod Filled
+pub mod SlotNumbers
+pub mod Sounds
+mod Examples

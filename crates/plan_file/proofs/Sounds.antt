@@ -1,0 +1,212 @@
+-- An outline without a fault is one that a plan can have, and comes back from its plan.
+use Rattle.std.proofs.Common.{◌≡◌, ℕ, ◌+◌, ◌≤◌, ℤ, pos, negsuc, Bool, true, false, not, ◌&&◌, ◌||◌, cond, List, [], ◌∷◌, length, map, Option, Some, None, option_map, slice_get, refl, ap, sym, ◌∙◌, arith, zero, suc}
+use Rattle.std.proofs.lemmas.Bool.{and_parts, not-false}
+use Rattle.std.proofs.lemmas.Bool.Decides.{nat_tests}
+use Rattle.std.proofs.lemmas.Int.{ints}
+use Rattle.std.proofs.lemmas.Option.{slice_get-map}
+use Rattle.std.specs.List.{list_all}
+use Rattle.std.specs.Option.{option_map_or, option_or}
+use Rattle.std.specs.Prelude.{codes, int_le, nat_le, ◌≢◌, Result, Ok, Err, IfOk}
+use Rattle.std.proofs.lemmas.Simd.{map-map}
+use Rattle.otn_base.specs.declared.kind.Kind.{Kind}
+use Rattle.otn_base.specs.declared.kind.Kind.TheVariants.{Odu0, Flex}
+use Rattle.toml.specs.Data.{Data, Members, get}
+use Rattle.toml.specs.View.{view}
+use Rattle.toml.specs.declared.value.Value.{Value}
+use Rattle.plan_file.specs.declared.error.PlanError.{PlanError}
+use Rattle.plan_file.specs.declared.error.PlanError.TheVariants.{Turns, BadName, BadPlace, BadSlots, BadPace, BadSpan}
+use Rattle.plan_file.specs.declared.error.NoPlan.{NoPlan}
+use Rattle.plan_file.specs.declared.error.NoPlan.TheVariants.{Memory}
+use Rattle.plan_file.specs.declared.plan.Plan.{Plan}
+use Rattle.plan_file.specs.Answer.{fault_of, fault_in, plan_places, plan_rules, table_places, table_rules, accepted_or, refusal_of}
+use Rattle.plan_file.specs.Entry.{End, at_line, at_client, of_signal, is_line, slot_count, slots_between, Entry, Outline, natural, from_seen, to_seen, seen, outline, from_of, to_of, connection_of, plan_of}
+use Rattle.plan_file.specs.Keys.{has}
+use Rattle.plan_file.specs.Places.{broken_or, first_broken, places_from, top_place}
+use Rattle.plan_file.specs.Rules.{is_within, is_name, is_sapi, is_placed, is_slot_list, has_slots, has_equal_counts, suits, least_pace, most_pace, is_span, can_retire, breaks_name, breaks_place, breaks_slots, breaks_pace, breaks_span}
+use Rattle.plan_file.specs.Sound.{has_slot_list, is_no_signal, IsSoundEnd, IsSound, AreSound}
+use Rattle.plan_file.specs.Table.{entry_at, to_at, no_end, turns_at, connections_at, outline_at}
+use Rattle.plan_file.proofs.Fitting.{within, list_all-wider, pos-natural}
+use Rattle.plan_file.proofs.SlotNumbers.{slot_parts, is_slot_list-short}
+
+-- ---- no rule is broken
+
+broken_or_none : (rule : PlanError) (broken : List ℕ) (later : Option (PlanError × ℕ)) → broken_or rule broken later ≡ None → (broken ≡ []) × (later ≡ None)
+broken_or_none rule [] later e = (refl, e)
+broken_or_none rule (place ∷ more) later e = cc
+
+none_at : (broken : PlanError → List ℕ) (rules : List PlanError) (i : ℕ) (rule : PlanError) → first_broken broken rules ≡ None → slice_get rules i ≡ Some rule → broken rule ≡ []
+none_at broken [] i rule e known = cc
+none_at broken (r ∷ rules) zero rule e known =
+    let here = (broken_or_none r (broken r) (first_broken broken rules) e).0 in
+    let same : r ≡ rule = cc in rw same at here
+none_at broken (r ∷ rules) (suc i) rule e known = none_at broken rules i rule (broken_or_none r (broken r) (first_broken broken rules) e).1 known
+
+top_none : (b : Bool) → top_place b ≡ [] → b ≡ false
+top_none true e = cc
+top_none false e = refl
+
+place_none : (b : Bool) (place : ℕ) (after without : List ℕ) → cond b (place ∷ after) without ≡ [] → (b ≡ false) × (without ≡ [])
+place_none true place after without e = cc
+place_none false place after without e = (refl, e)
+
+places_none : {A : Type 0} (test : A → Bool) (place : ℕ) (xs : List A) (i : ℕ) (x : A) → places_from place test xs ≡ [] → slice_get xs i ≡ Some x → test x ≡ false
+places_none test place [] i x e known = cc
+places_none test place (y ∷ ys) zero x e known =
+    let fails = (place_none (test y) place (places_from (place + 1) test ys) (places_from (place + 1) test ys) e).0 in
+    let same : y ≡ x = cc in rw same at fails
+places_none test place (y ∷ ys) (suc i) x e known =
+    places_none test (place + 1) ys i x (place_none (test y) place (places_from (place + 1) test ys) (places_from (place + 1) test ys) e).1 known
+
+-- ---- a connection that breaks no rule
+
+listed_of : (kind : Kind) (end : End) → has_slots kind end ≡ true → has_slot_list end ≡ true
+listed_of kind (at_line line port slots) h = (and_parts (is_slot_list slots) (suits kind (length slots)) h).0
+listed_of kind (at_client client) h = refl
+listed_of kind (of_signal signal) h = refl
+
+count_short : (end : End) → has_slot_list end ≡ true → slot_count end ≤ 8
+count_short (at_line line port slots) h = is_slot_list-short slots h
+count_short (at_client client) h = omega arith
+count_short (of_signal signal) h = omega arith
+
+either_short : (b : Bool) (m n : ℕ) → m ≤ 8 → n ≤ 8 → cond b m n ≤ 8
+either_short true m n one other = one
+either_short false m n one other = other
+
+most_fits : (kind : Kind) (m : ℕ) → m ≤ 8 → most_pace kind m ≤ 4294967295
+most_fits Odu0 m h = omega arith
+most_fits Flex m h = omega arith
+
+int_le_trans : (x y z : ℤ) → int_le x y ≡ true → int_le y z ≡ true → int_le x z ≡ true
+int_le_trans x y z h k = grind (arith, ints)
+
+span_within : (z turns : ℤ) → int_le (pos 1) z ≡ true → int_le z turns ≡ true → is_within 1 16384 turns ≡ true → is_within 1 16384 z ≡ true
+span_within (pos n) (pos t) low high in_range = grind (arith, nat_tests)
+span_within (pos n) (negsuc t) low high in_range = cc
+span_within (negsuc n) turns low high in_range = cc
+
+sound_of : (turns : ℤ) (e : Entry) → is_within 1 16384 turns ≡ true → breaks_name e ≡ false → breaks_place e ≡ false → breaks_slots e ≡ false → breaks_pace e ≡ false → breaks_span turns e ≡ false
+    → is_no_signal e.to ≡ true → IsSound e
+sound_of turns e in_range name place slots pace span no_signal =
+    let names = and_parts (is_name e.name) (is_sapi e.trace) (not-false (is_name e.name && is_sapi e.trace) name) in
+    let ends = and_parts (is_placed e.from && is_placed e.to) (is_line e.from || is_line e.to) (not-false _ place) in
+    let placed = and_parts (is_placed e.from) (is_placed e.to) ends.0 in
+    let lists = and_parts (has_slots e.kind e.from && has_slots e.kind e.to) (has_equal_counts e.from e.to) (not-false _ slots) in
+    let listed = and_parts (has_slots e.kind e.from) (has_slots e.kind e.to) lists.0 in
+    let from_listed = listed_of e.kind e.from listed.0 in
+    let to_listed = listed_of e.kind e.to listed.1 in
+    let m = slots_between e.from e.to in
+    let few : m ≤ 8 = either_short (is_line e.from) (slot_count e.from) (slot_count e.to) (count_short e.from from_listed) (count_short e.to to_listed) in
+    let paces = and_parts (nat_le 1 (length e.pace) && nat_le (length e.pace) 64) (list_all (is_within (least_pace e.kind m) (most_pace e.kind m)) e.pace) (not-false _ pace) in
+    let spans = and_parts (is_span turns e) (can_retire e) (not-false _ span) in
+    let steps = and_parts (int_le (pos 1) e.start && int_le e.start e.stop) (int_le e.stop turns) spans.0 in
+    let start = and_parts (int_le (pos 1) e.start) (int_le e.start e.stop) steps.0 in
+    record {
+      sapi = names.1;
+      from = record { placed = placed.0; slots = from_listed };
+      to = record { placed = placed.1; slots = to_listed };
+      no_signal = no_signal;
+      pace = list_all-wider (least_pace e.kind m) (most_pace e.kind m) 0 4294967295 e.pace paces.1 (omega arith) (most_fits e.kind m few);
+      few = few;
+      start = span_within e.start turns start.0 (int_le_trans e.start e.stop turns start.1 steps.1) in_range;
+      stop = span_within e.stop turns (int_le_trans (pos 1) e.start e.stop start.0 start.1) steps.1 in_range;
+    }
+
+-- ---- the connections of a table
+
+client_or_line : (b : Bool) (client line : End) → is_no_signal client ≡ true → is_no_signal line ≡ true → is_no_signal (cond b client line) ≡ true
+client_or_line true client line c l = c
+client_or_line false client line c l = l
+
+no_signal_at : (to : Option Data) → is_no_signal (option_map_or to_at to no_end) ≡ true
+no_signal_at None = refl
+no_signal_at (Some to) = client_or_line (has (codes "client") to) _ _ refl refl
+
+mapped_at : {A B : Type 0} (f : A → B) (o : Option A) (y : B) → option_map f o ≡ Some y → (x : A) × (y ≡ f x)
+mapped_at f None y e = cc
+mapped_at f (Some x) y e = (x, cc)
+
+no_signal_in : (turns : ℤ) (connections : List Data) (i : ℕ) (e : Entry) → slice_get (map (entry_at turns) connections) i ≡ Some e → is_no_signal e.to ≡ true
+no_signal_in turns connections i e known =
+    let (connection, is) = mapped_at (entry_at turns) (slice_get connections i) e (sym (slice_get-map (entry_at turns) connections i) ∙ known) in
+    rw is (no_signal_at (get (codes "to") connection))
+
+pub turns_within : (o : Outline) → fault_of o ≡ None → is_within 1 16384 o.turns ≡ true
+turns_within o none = not-false _ (top_none (not (is_within 1 16384 o.turns)) (none_at (plan_places o) plan_rules 0 Turns none refl))
+
+pub are_sound : (turns : ℤ) (connections : List Data) → fault_of (record { turns = turns; entries = map (entry_at turns) connections }) ≡ None → AreSound (map (entry_at turns) connections)
+are_sound turns connections none = record {
+  each = λ i e known.
+      let o : Outline = record { turns = turns; entries = map (entry_at turns) connections } in
+      sound_of turns e (turns_within o none)
+      (places_none breaks_name 1 o.entries i e (none_at (plan_places o) plan_rules 2 BadName none refl) known)
+      (places_none breaks_place 1 o.entries i e (none_at (plan_places o) plan_rules 4 BadPlace none refl) known)
+      (places_none breaks_slots 1 o.entries i e (none_at (plan_places o) plan_rules 5 BadSlots none refl) known)
+      (places_none breaks_pace 1 o.entries i e (none_at (plan_places o) plan_rules 9 BadPace none refl) known)
+      (places_none (breaks_span turns) 1 o.entries i e (none_at (plan_places o) plan_rules 10 BadSpan none refl) known)
+      (no_signal_in turns connections i e known);
+}
+
+-- ---- back from the plan
+
+slots_back : (slots : List ℤ) → is_slot_list slots ≡ true → map pos (map natural slots) ≡ slots
+slots_back slots h = pos-natural 1 8 slots (slot_parts slots h).all
+
+from_back : (end : End) → IsSoundEnd end → from_seen (from_of end) ≡ end
+from_back (at_line line port slots) sound =
+    let (l, p) = and_parts (is_within 0 3 line) (is_within 1 8 port) sound.placed in
+    rw ((within 0 3 line l).same, (within 1 8 port p).same, slots_back slots sound.slots)
+from_back (at_client client) sound = rw (within 0 15 client sound.placed).same
+from_back (of_signal signal) sound = refl
+
+to_back : (end : End) → IsSoundEnd end → is_no_signal end ≡ true → to_seen (to_of end) ≡ end
+to_back (at_line line port slots) sound no_signal =
+    let (l, p) = and_parts (is_within 0 3 line) (is_within 1 8 port) sound.placed in
+    rw ((within 0 3 line l).same, (within 1 8 port p).same, slots_back slots sound.slots)
+to_back (at_client client) sound no_signal = rw (within 0 15 client sound.placed).same
+to_back (of_signal signal) sound no_signal = cc
+
+entry_back : (e : Entry) → IsSound e → seen (connection_of e) ≡ e
+entry_back e sound =
+    rw (from_back e.from sound.from, to_back e.to sound.to sound.no_signal, pos-natural 0 4294967295 e.pace sound.pace, (within 1 16384 e.start sound.start).same, (within 1 16384 e.stop sound.stop).same)
+
+tail_sound : (e : Entry) (es : List Entry) → AreSound (e ∷ es) → AreSound es
+tail_sound e es sound = record { each = λ i f known. sound.each (suc i) f known }
+
+entries_back : (es : List Entry) → AreSound es → map seen (map connection_of es) ≡ es
+entries_back [] sound = refl
+entries_back (e ∷ es) sound = rw (entry_back e (sound.each 0 e refl), entries_back es (tail_sound e es sound))
+
+pub outline_back : (o : Outline) → is_within 1 16384 o.turns ≡ true → AreSound o.entries → outline (plan_of o) ≡ o
+outline_back o turns sound = rw ((within 1 16384 o.turns turns).same, entries_back o.entries sound)
+
+-- ---- the outline of a table
+
+pub outline_is : (top : Members) (turns : ℤ) (entries : List Entry) → turns ≡ turns_at top → entries ≡ map (entry_at (turns_at top)) (connections_at top)
+    → ◌≡◌ {A = Outline} (record { turns = turns; entries = entries }) (outline_at top)
+outline_is top turns entries same same' = rw (same, same')
+
+-- the connections that the code sees
+pub entries_seen : (turns : ℤ) (connections : List Data) (values : List Value) → map view values ≡ connections → map (λ value. entry_at turns (view value)) values ≡ map (entry_at turns) connections
+entries_seen turns connections values same = sym (map-map (entry_at turns) view values) ∙ ap (map (entry_at turns)) same
+
+-- ---- an accepted plan
+
+accepted_none : (plan accepted : Plan) (broken : Option (PlanError × ℕ)) → Ok plan ≡ accepted_or accepted broken → (broken ≡ None) × (plan ≡ accepted)
+accepted_none plan accepted None e = (refl, cc)
+accepted_none plan accepted (Some broken) e = cc
+
+later_none : (one other : Option (PlanError × ℕ)) → option_or one other ≡ None → other ≡ None
+later_none None other e = e
+later_none (Some broken) other e = cc
+
+back_without_fault : (top : Members) → fault_of (outline_at top) ≡ None → fault_in (plan_of (outline_at top)) ≡ None
+unfolding fault_in
+back_without_fault top none =
+    ap fault_of (outline_back (outline_at top) (turns_within (outline_at top) none) (are_sound (turns_at top) (connections_at top) none)) ∙ none
+
+pub accepted_without_fault : (top : Members) (answer : Result Plan NoPlan) → (answer ≢ Err Memory → answer ≡ accepted_or (plan_of (outline_at top)) (refusal_of top)) → IfOk answer (λ plan. fault_in plan ≡ None)
+accepted_without_fault top (Ok plan) h =
+    let (none, same) = accepted_none plan (plan_of (outline_at top)) (refusal_of top) (h (λ bad. cc)) in
+    rw same (back_without_fault top (later_none (first_broken (table_places top) table_rules) (fault_of (outline_at top)) none))
+accepted_without_fault top (Err refused) h = tt

@@ -1,0 +1,116 @@
+-- A plan as its rules see it: the number of turns, and for each connection what its keys say, each number as wide as a text can write it.
+use Rattle.std.specs.Prelude.{ℕ, ℤ, pos, negsuc, List, map, length, Bool, true, false, if◌then◌else◌}
+use Rattle.maintenance_signals.specs.declared.signal.Signal.{Signal}
+use Rattle.otn_base.specs.declared.kind.Kind.{Kind}
+use Rattle.plan_file.specs.declared.connection.Connection.{Connection}
+use Rattle.plan_file.specs.declared.connection.FromEnd.{FromEnd}
+use Rattle.plan_file.specs.declared.connection.FromEnd.TheVariants as from_end
+use Rattle.plan_file.specs.declared.connection.ToEnd.{ToEnd}
+use Rattle.plan_file.specs.declared.connection.ToEnd.TheVariants as to_end
+use Rattle.plan_file.specs.declared.plan.Plan.{Plan}
+
+-- one end: a line with its tributary port and slots, a client, or a maintenance signal
+pub data End : Type 0 where
+  at_line : ℤ → ℤ → List ℤ → End
+  at_client : ℤ → End
+  of_signal : Signal → End
+
+-- one connection
+pub record Entry : Type 0 where
+  pub name : List ℕ
+  pub kind : Kind
+  pub from : End
+  pub to : End
+  pub pace : List ℤ
+  pub fcs : Bool
+  pub trace : List ℕ
+  pub start : ℤ
+  pub stop : ℤ
+  pub retire : Bool
+
+-- the whole
+pub record Outline : Type 0 where
+  pub turns : ℤ
+  pub entries : List Entry
+
+-- ---- of an end
+
+abbrev pub is_line : End → Bool
+is_line (at_line line port slots) = true
+is_line _ = false
+
+abbrev pub is_client : End → Bool
+is_client (at_client client) = true
+is_client _ = false
+
+-- how many slots the end has
+abbrev pub slot_count : End → ℕ
+slot_count (at_line line port slots) = length slots
+slot_count _ = 0
+
+-- M: how many slots the line end has, or both have
+abbrev pub slots_between : End → End → ℕ
+slots_between from to = if is_line from then slot_count from else slot_count to
+
+-- ---- the outline of a plan
+
+abbrev pub from_seen : FromEnd → End
+from_seen (from_end.Line line port slots) = at_line (pos line) (pos port) (map pos slots)
+from_seen (from_end.Client client) = at_client (pos client)
+from_seen (from_end.Signal signal) = of_signal signal
+
+abbrev pub to_seen : ToEnd → End
+to_seen (to_end.Line line port slots) = at_line (pos line) (pos port) (map pos slots)
+to_seen (to_end.Client client) = at_client (pos client)
+
+abbrev pub seen : Connection → Entry
+seen c = record {
+  name = c.name;
+  kind = c.kind;
+  from = from_seen c.from;
+  to = to_seen c.to;
+  pace = map pos c.pace;
+  fcs = c.fcs;
+  trace = c.trace;
+  start = pos c.start;
+  stop = pos c.stop;
+  retire = c.retire;
+}
+
+abbrev pub outline : Plan → Outline
+outline plan = record { turns = pos plan.turns; entries = map seen plan.connections }
+
+-- ---- the plan of an outline, where each number fits
+
+-- the number, or 0 for one below it
+abbrev pub natural : ℤ → ℕ
+natural (pos n) = n
+natural (negsuc n) = 0
+
+abbrev pub from_of : End → FromEnd
+from_of (at_line line port slots) = from_end.Line (natural line) (natural port) (map natural slots)
+from_of (at_client client) = from_end.Client (natural client)
+from_of (of_signal signal) = from_end.Signal signal
+
+-- no outline has a signal here
+abbrev pub to_of : End → ToEnd
+to_of (at_line line port slots) = to_end.Line (natural line) (natural port) (map natural slots)
+to_of (at_client client) = to_end.Client (natural client)
+to_of (of_signal signal) = to_end.Client 0
+
+abbrev pub connection_of : Entry → Connection
+connection_of e = record {
+  name = e.name;
+  kind = e.kind;
+  from = from_of e.from;
+  to = to_of e.to;
+  pace = map natural e.pace;
+  fcs = e.fcs;
+  trace = e.trace;
+  start = natural e.start;
+  stop = natural e.stop;
+  retire = e.retire;
+}
+
+abbrev pub plan_of : Outline → Plan
+plan_of o = record { turns = natural o.turns; connections = map connection_of o.entries }

@@ -1,0 +1,117 @@
+-- The keys of a plan's tables: which a table may have, and which it must have.
+use Rattle.std.specs.Prelude.{ℕ, List, [], ◌∷◌, ◌++◌, Bool, true, false, not, ◌&&◌, ◌||◌, if◌then◌else◌, is_some, codes}
+use Rattle.std.specs.List.{list_any}
+use Rattle.std.specs.Option.{option_map_or}
+use Rattle.std.specs.Str.{bytes_eq}
+use Rattle.toml.specs.Data.{Data, Members, no_members, member, get, as_table}
+
+-- ---- the lists of keys
+
+-- the keys of the top
+abbrev pub top_keys : List (List ℕ)
+top_keys = codes "version" ∷ codes "turns" ∷ codes "connection" ∷ []
+
+-- the keys of an end at a client, of one that is a signal, and of one at a line
+abbrev pub client_keys : List (List ℕ)
+client_keys = codes "client" ∷ []
+
+abbrev pub signal_keys : List (List ℕ)
+signal_keys = codes "signal" ∷ []
+
+abbrev pub line_keys : List (List ℕ)
+line_keys = codes "line" ∷ codes "port" ∷ codes "slots" ∷ []
+
+-- the keys of a connection, where it may have a pace, and where it may have what belongs to a client input
+abbrev pub connection_keys : Bool → Bool → List (List ℕ)
+connection_keys paced from_client = (codes "name" ∷ codes "kind" ∷ codes "from" ∷ codes "to" ∷ codes "start" ∷ codes "stop" ∷ [])
+    ++ ((if paced then codes "pace" ∷ [] else [])
+    ++ (if from_client then codes "fcs" ∷ codes "trace" ∷ [] else []))
+
+-- ---- which list a table has
+
+abbrev pub is_table : Data → Bool
+is_table value = is_some (as_table value)
+
+-- the value is a table with the key
+abbrev pub has : List ℕ → Data → Bool
+has key value = is_some (get key value)
+
+-- the list of a table `from`: an end at a client where it has the key `client`, else a signal where it has the key `signal`
+abbrev pub from_keys : Data → List (List ℕ)
+from_keys from = if has (codes "client") from then client_keys else if has (codes "signal") from then signal_keys else line_keys
+
+-- the list of a table `to`
+abbrev pub to_keys : Data → List (List ℕ)
+to_keys to = if has (codes "client") to then client_keys else line_keys
+
+-- a connection with this `from` may have a pace: where it is a table, only with a client or a signal
+abbrev pub may_have_pace : Data → Bool
+may_have_pace from = not (is_table from) || (has (codes "client") from || has (codes "signal") from)
+
+-- a connection with this `from` may have what belongs to a client input: where it is a table, only with a client
+abbrev pub may_have_client_keys : Data → Bool
+may_have_client_keys from = not (is_table from) || has (codes "client") from
+
+-- the list of a connection
+abbrev pub keys_of_connection : Data → List (List ℕ)
+keys_of_connection connection =
+    let from = get (codes "from") connection in
+    connection_keys (option_map_or may_have_pace from true) (option_map_or may_have_client_keys from true)
+
+-- ---- a key that is not known
+
+-- the list has the key
+abbrev pub lists : List (List ℕ) → List ℕ → Bool
+lists keys key = list_any (bytes_eq key) keys
+
+-- each key of the table is in the list
+abbrev pub knows_all : List (List ℕ) → Members → Bool
+knows_all keys no_members = true
+knows_all keys (member key value rest) = lists keys key && knows_all keys rest
+
+-- the value is a table with a key that is not in the list
+abbrev pub has_other : List (List ℕ) → Data → Bool
+has_other keys value = option_map_or (λ members. not (knows_all keys members)) (as_table value) false
+
+abbrev pub from_has_other : Data → Bool
+from_has_other from = has_other (from_keys from) from
+
+abbrev pub to_has_other : Data → Bool
+to_has_other to = has_other (to_keys to) to
+
+-- the connection, its `from` or its `to` is a table with a key that is not in its list
+abbrev pub has_unknown_key : Data → Bool
+has_unknown_key connection =
+    (has_other (keys_of_connection connection) connection
+    || option_map_or from_has_other (get (codes "from") connection) false)
+    || option_map_or to_has_other (get (codes "to") connection) false
+
+-- ---- a key that is missing
+
+-- the value is a table without the key
+abbrev pub lacks : List ℕ → Data → Bool
+lacks key value = is_table value && not (has key value)
+
+-- the value is a table without a key of an end at a line
+abbrev pub lacks_line_key : Data → Bool
+lacks_line_key end = (lacks (codes "line") end || lacks (codes "port") end) || lacks (codes "slots") end
+
+-- the table `from`, or `to`, has no short form and lacks a key
+abbrev pub from_lacks_key : Data → Bool
+from_lacks_key from = not (has (codes "client") from || has (codes "signal") from) && lacks_line_key from
+
+abbrev pub to_lacks_key : Data → Bool
+to_lacks_key to = not (has (codes "client") to) && lacks_line_key to
+
+-- the connection is a table and lacks a key of its own
+abbrev pub lacks_own_key : Data → Bool
+lacks_own_key connection =
+    (lacks (codes "name") connection || lacks (codes "kind") connection)
+    || (lacks (codes "from") connection || lacks (codes "to") connection)
+
+-- the connection, its `from` or its `to` is a table and lacks a key
+abbrev pub lacks_key : Data → Bool
+lacks_key connection =
+    (lacks_own_key connection
+    || option_map_or from_lacks_key (get (codes "from") connection) false)
+    || option_map_or to_lacks_key (get (codes "to") connection) false

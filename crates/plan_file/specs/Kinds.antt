@@ -1,0 +1,85 @@
+-- The kinds of a plan's values: what each key's value has to be.
+use Rattle.std.specs.Prelude.{ℕ, pos, List, Bool, true, false, ◌&&◌, ◌||◌, if◌then◌else◌, is_some, codes}
+use Rattle.std.specs.Option.{option_map_or}
+use Rattle.std.specs.Ordering.{int_eq}
+use Rattle.std.specs.Str.{bytes_eq}
+use Rattle.toml.specs.Data.{Data, Items, no_items, item, get, get_member, Members, as_str, as_integer, as_bool, as_array}
+use Rattle.plan_file.specs.Keys.{has, is_table}
+
+-- a number, a truth value, a text
+abbrev pub is_number : Data → Bool
+is_number value = is_some (as_integer value)
+
+abbrev pub is_truth : Data → Bool
+is_truth value = is_some (as_bool value)
+
+abbrev pub is_text : Data → Bool
+is_text value = is_some (as_str value)
+
+-- each item passes the test
+abbrev pub each_item : (Data → Bool) → Items → Bool
+each_item test no_items = true
+each_item test (item value rest) = test value && each_item test rest
+
+-- a list of numbers, a list of tables
+abbrev pub is_number_list : Data → Bool
+is_number_list value = option_map_or (each_item is_number) (as_array value) false
+
+abbrev pub is_table_list : Data → Bool
+is_table_list value = option_map_or (each_item is_table) (as_array value) false
+
+-- one of two texts
+abbrev pub is_either : List ℕ → List ℕ → Data → Bool
+is_either one other value = option_map_or (λ text. bytes_eq text one || bytes_eq text other) (as_str value) false
+
+-- the number 1, the one version
+abbrev pub is_version : Data → Bool
+is_version value = option_map_or (λ number. int_eq number (pos 1)) (as_integer value) false
+
+-- the value of `kind`, and that of `signal`
+abbrev pub is_kind : Data → Bool
+is_kind = is_either (codes "odu0") (codes "flex")
+
+abbrev pub is_signal : Data → Bool
+is_signal = is_either (codes "oci") (codes "lck")
+
+-- what the value has at the key, if anything, passes the test
+abbrev pub each_at : List ℕ → (Data → Bool) → Data → Bool
+each_at key test value = option_map_or test (get key value) true
+
+-- an end at a line
+abbrev pub is_line_end : Data → Bool
+is_line_end end = (each_at (codes "line") is_number end && each_at (codes "port") is_number end) && each_at (codes "slots") is_number_list end
+
+-- the value of `from`, and that of `to`: a table of one of the forms
+abbrev pub is_from : Data → Bool
+is_from from = is_table from
+    && (if has (codes "client") from then each_at (codes "client") is_number from
+    else if has (codes "signal") from then each_at (codes "signal") is_signal from
+    else is_line_end from)
+
+abbrev pub is_to : Data → Bool
+is_to to = is_table to && (if has (codes "client") to then each_at (codes "client") is_number to else is_line_end to)
+
+-- the keys that each connection has, and those of a pace, of a client input and of a span
+abbrev pub has_plain_kinds : Data → Bool
+has_plain_kinds connection =
+    (each_at (codes "name") is_text connection && each_at (codes "kind") is_kind connection)
+    && (each_at (codes "from") is_from connection && each_at (codes "to") is_to connection)
+
+abbrev pub has_other_kinds : Data → Bool
+has_other_kinds connection =
+    ((each_at (codes "pace") is_number_list connection && each_at (codes "fcs") is_truth connection)
+    && each_at (codes "trace") is_text connection)
+    && (each_at (codes "start") is_number connection && each_at (codes "stop") is_number connection)
+
+-- each value of a connection is of its key's kind
+abbrev pub has_kinds : Data → Bool
+has_kinds connection = has_plain_kinds connection && has_other_kinds connection
+
+-- each value of the top is of its key's kind
+abbrev pub has_top_kinds : Members → Bool
+has_top_kinds top =
+    (option_map_or is_version (get_member (codes "version") top) true
+    && option_map_or is_number (get_member (codes "turns") top) true)
+    && option_map_or is_table_list (get_member (codes "connection") top) true

@@ -1,0 +1,12 @@
+pub mod Code
+pub mod Keys
+pub mod KeyList
+pub mod Kinds
+pub mod Entry
+pub mod Table
+pub mod Seen
+pub mod Rules
+pub mod Places
+pub mod ByRule
+pub mod Sound
+pub mod Answer

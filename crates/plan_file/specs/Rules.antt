@@ -1,0 +1,149 @@
+-- The rules of a plan's values: of the number of turns, of each connection, and of two connections.
+use Rattle.std.specs.Prelude.{ℕ, ◌*◌, ℤ, pos, negsuc, int_lt, int_le, nat_le, ◌==◌, List, [], ◌∷◌, length, Bool, true, false, not, ◌&&◌, ◌||◌}
+use Rattle.std.specs.Int.{is_in_range, int_max, int_min}
+use Rattle.std.specs.List.{list_all, list_any}
+use Rattle.std.specs.Ordering.{int_eq}
+use Rattle.std.specs.Str.{bytes_eq}
+use Rattle.otn_base.specs.declared.kind.Kind.{Kind}
+use Rattle.otn_base.specs.declared.kind.Kind.TheVariants.{Odu0, Flex}
+use Rattle.plan_file.specs.Entry.{End, at_line, at_client, of_signal, is_line, is_client, slots_between, Entry}
+
+-- the number is from the one bound to the other
+abbrev pub is_within : ℕ → ℕ → ℤ → Bool
+is_within least most (pos n) = nat_le least n && nat_le n most
+is_within least most (negsuc n) = false
+
+-- ---- names
+
+-- a to z, 0 to 9 and -
+abbrev pub is_name_byte : ℕ → Bool
+is_name_byte byte = (is_in_range 97 122 byte || is_in_range 48 57 byte) || byte == 45
+
+abbrev pub is_name : List ℕ → Bool
+is_name name = (nat_le 1 (length name) && nat_le (length name) 32) && list_all is_name_byte name
+
+-- a SAPI
+abbrev pub is_sapi : List ℕ → Bool
+is_sapi bytes = nat_le (length bytes) 15 && list_all (is_in_range 0x20 0x7E) bytes
+
+abbrev pub breaks_name : Entry → Bool
+breaks_name e = not (is_name e.name && is_sapi e.trace)
+
+-- ---- places
+
+abbrev pub is_placed : End → Bool
+is_placed (at_line line port slots) = is_within 0 3 line && is_within 1 8 port
+is_placed (at_client client) = is_within 0 15 client
+is_placed (of_signal signal) = true
+
+abbrev pub breaks_place : Entry → Bool
+breaks_place e = not ((is_placed e.from && is_placed e.to) && (is_line e.from || is_line e.to))
+
+-- ---- slots
+
+abbrev pub rises : List ℤ → Bool
+rises [] = true
+rises (first ∷ []) = true
+rises (first ∷ second ∷ rest) = int_lt first second && rises (second ∷ rest)
+
+abbrev pub is_slot_list : List ℤ → Bool
+is_slot_list slots = (nat_le 1 (length slots) && list_all (is_within 1 8) slots) && rises slots
+
+-- an odu0 has exactly one slot
+abbrev pub suits : Kind → ℕ → Bool
+suits Odu0 count = count == 1
+suits Flex count = true
+
+abbrev pub has_slots : Kind → End → Bool
+has_slots kind (at_line line port slots) = is_slot_list slots && suits kind (length slots)
+has_slots kind _ = true
+
+-- where it is at a line, the end has so many slots
+abbrev pub has_count : ℕ → End → Bool
+has_count count (at_line line port slots) = count == length slots
+has_count count _ = true
+
+-- where both ends are at lines, they have as many slots
+abbrev pub has_equal_counts : End → End → Bool
+has_equal_counts (at_line line port slots) to = has_count (length slots) to
+has_equal_counts _ to = true
+
+abbrev pub breaks_slots : Entry → Bool
+breaks_slots e = not ((has_slots e.kind e.from && has_slots e.kind e.to) && has_equal_counts e.from e.to)
+
+-- ---- the pace
+
+-- the least and the greatest number of bytes in a turn, on M slots
+abbrev pub least_pace : Kind → ℕ → ℕ
+least_pace Odu0 m = 15167
+least_pace Flex m = m
+
+abbrev pub most_pace : Kind → ℕ → ℕ
+most_pace Odu0 m = 15169
+most_pace Flex m = m * 15232
+
+abbrev pub is_pace : Kind → ℕ → List ℤ → Bool
+is_pace kind m pace = (nat_le 1 (length pace) && nat_le (length pace) 64) && list_all (is_within (least_pace kind m) (most_pace kind m)) pace
+
+abbrev pub breaks_pace : Entry → Bool
+breaks_pace e = not (is_pace e.kind (slots_between e.from e.to) e.pace)
+
+-- ---- the span
+
+abbrev pub is_span : ℤ → Entry → Bool
+is_span turns e = (int_le (pos 1) e.start && int_le e.start e.stop) && int_le e.stop turns
+
+-- only a client can be retired
+abbrev pub can_retire : Entry → Bool
+can_retire e = not e.retire || (is_client e.from || is_client e.to)
+
+abbrev pub breaks_span : ℤ → Entry → Bool
+breaks_span turns e = not (is_span turns e && can_retire e)
+
+-- ---- two connections, the earlier one first
+
+abbrev pub have_one_name : Entry → Entry → Bool
+have_one_name e f = bytes_eq e.name f.name
+
+-- the greater start is at most the lesser stop
+abbrev pub meet : Entry → Entry → Bool
+meet e f = int_le (int_max e.start f.start) (int_min e.stop f.stop)
+
+-- it is at this line, and has one of these slots
+abbrev pub is_line_with_slot : ℤ → List ℤ → End → Bool
+is_line_with_slot number wanted (at_line line port slots) = int_eq number line && list_any (λ slot. list_any (int_eq slot) slots) wanted
+is_line_with_slot number wanted _ = false
+
+-- it is at this line, and has this tributary port
+abbrev pub is_line_with_port : ℤ → ℤ → End → Bool
+is_line_with_port number wanted (at_line line port slots) = int_eq number line && int_eq wanted port
+is_line_with_port number wanted _ = false
+
+abbrev pub is_this_client : ℤ → End → Bool
+is_this_client number (at_client client) = int_eq number client
+is_this_client number _ = false
+
+-- at one line, with a slot of both
+abbrev pub share_slot : End → End → Bool
+share_slot (at_line line port slots) other = is_line_with_slot line slots other
+share_slot _ other = false
+
+-- at one line, with one tributary port
+abbrev pub share_port : End → End → Bool
+share_port (at_line line port slots) other = is_line_with_port line port other
+share_port _ other = false
+
+-- at one client
+abbrev pub share_client : End → End → Bool
+share_client (at_client client) other = is_this_client client other
+share_client _ other = false
+
+abbrev pub have_one_slot : Entry → Entry → Bool
+have_one_slot e f = share_slot e.to f.to && meet e f
+
+abbrev pub have_one_port : Entry → Entry → Bool
+have_one_port e f = share_port e.to f.to && meet e f
+
+-- from one client, or to one client
+abbrev pub have_one_client : Entry → Entry → Bool
+have_one_client e f = share_client e.from f.from || share_client e.to f.to

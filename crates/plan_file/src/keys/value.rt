@@ -1,0 +1,31 @@
+// What a value has at a key.
+ghost use Rattle.std.specs.Prelude.{◌≡◌, option_map};
+ghost use Rattle.toml.specs.Data.{get_member};
+ghost use Rattle.toml.specs.View.{table_view, view};
+ghost use Rattle.plan_file.specs.Keys.{has, is_table};
+
+use toml::{Table, Value};
+
+/// The value that the top has at the key.
+pub(crate) fn top_value<'a>(top: &'a Table, key: &str) -> Option<&'a Value>
+    ensures { option_map (λ v. view v.now) result ≡ get_member key.now (table_view top.now) }
+{
+    top.get(key)
+}
+
+/// Whether the value is a table with the key.
+pub(crate) fn has(value: &Value, key: &str) -> bool
+    ensures { result ≡ has key.now (view value.now) }
+{
+    match value.get(key) {
+        Some(_) => true,
+        None => false,
+    }
+}
+
+/// Whether the value is a table.
+pub(crate) fn is_table(value: &Value) -> bool
+    ensures { result ≡ is_table (view value.now) }
+{
+    value.is_table()
+}

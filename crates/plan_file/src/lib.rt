@@ -1,0 +1,31 @@
+//! The plan of a node, as the file `plan.toml` says it: read from TOML, and judged by fifteen rules.
+//!
+//! - `plan`: a plan, how it is read, and the first rule of its values that it breaks.
+//! - `connection`, `connections`, `name`, `pace`: what a plan is made of.
+//! - `error`: the rules by name and number, and why there is no plan.
+//! - `keys`, `kinds`: the rules of the text's table, of its keys and of the kinds of its values.
+//! - `outline`, `rules`: a plan as the rules of its values see it, and these rules.
+//! - `read`: from the text to the table, the first broken rule, and the plan.
+#![tactic(auto)]
+
+mod connection;
+mod connections;
+mod error;
+mod keys;
+mod kinds;
+mod name;
+mod outline;
+mod pace;
+mod plan;
+mod read;
+mod rules;
+
+pub use connection::{Connection, FromEnd, ToEnd};
+pub use connections::Connections;
+pub use error::{NoPlan, PlanError};
+pub use name::Name;
+pub use pace::Pace;
+pub use plan::Plan;
+
+#[cfg(test)]
+mod tests;

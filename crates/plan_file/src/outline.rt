@@ -1,0 +1,12 @@
+// A plan as its rules see it: views of a table that is being read, and of a plan that stands.
+mod end;
+mod entries;
+mod entry;
+mod field;
+mod numbers;
+
+pub(crate) use end::End;
+pub(crate) use entries::Entries;
+pub(crate) use entry::Entry;
+pub(crate) use field::{item, list_or_empty, number_or};
+pub(crate) use numbers::Numbers;

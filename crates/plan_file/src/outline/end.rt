@@ -1,0 +1,108 @@
+// An end of a connection.
+ghost use Rattle.std.specs.Prelude.{◌≡◌, codes};
+ghost use Rattle.toml.specs.Data.{get};
+ghost use Rattle.toml.specs.View.{view};
+ghost use Rattle.plan_file.specs.Entry.{from_seen, to_seen};
+ghost use Rattle.plan_file.specs.Table.{line_at, client_at, from_at, to_at, signal_of};
+ghost use Rattle.plan_file.specs.Seen.{end_in};
+
+use crate::connection::{FromEnd, ToEnd};
+use crate::keys::has;
+use crate::outline::field::{list_or_empty, number_or, text_or_empty};
+use crate::outline::numbers::Numbers;
+use maintenance_signals::Signal;
+use toml::Value;
+
+/// An end of a connection: a line with its tributary port and slots, a client, or a signal.
+#[derive(Clone, Copy)]
+pub(crate) enum End<'a> {
+    Line(i64, i64, Numbers<'a>),
+    Client(i64),
+    Signal(Signal),
+}
+
+impl<'a> End<'a> {
+    /// The end that the value of `from` says.
+    pub(crate) fn of_from(from: &'a Value) -> End<'a>
+        ensures { end_in result ≡ from_at (view from.now) }
+    {
+        if has(from, "client") {
+            End::of_client(from)
+        } else if has(from, "signal") {
+            End::Signal(signal_at(from))
+        } else {
+            End::of_line(from)
+        }
+    }
+
+    /// The end that the value of `to` says.
+    pub(crate) fn of_to(to: &'a Value) -> End<'a>
+        ensures { end_in result ≡ to_at (view to.now) }
+    {
+        if has(to, "client") {
+            End::of_client(to)
+        } else {
+            End::of_line(to)
+        }
+    }
+
+    fn of_client(end: &'a Value) -> End<'a>
+        ensures { end_in result ≡ client_at (view end.now) }
+    {
+        End::Client(number_or(end.get("client"), 0))
+    }
+
+    fn of_line(end: &'a Value) -> End<'a>
+        ensures { end_in result ≡ line_at (view end.now) }
+    {
+        let slots = list_or_empty(end.get("slots"));
+        End::Line(
+            number_or(end.get("line"), 0),
+            number_or(end.get("port"), 0),
+            Numbers::Values(slots),
+        )
+    }
+
+    /// The end that a plan's connection comes from.
+    pub(crate) fn from_plan(from: &'a FromEnd) -> End<'a>
+        ensures { end_in result ≡ from_seen from.now }
+    {
+        match from {
+            FromEnd::Line(line, port, slots) => {
+                End::Line(
+                    i64::from(*line),
+                    i64::from(*port),
+                    Numbers::Bytes(slots.as_slice()),
+                )
+            }
+            FromEnd::Client(client) => End::Client(i64::from(*client)),
+            FromEnd::Signal(signal) => End::Signal(*signal),
+        }
+    }
+
+    /// The end that a plan's connection goes to.
+    pub(crate) fn to_plan(to: &'a ToEnd) -> End<'a>
+        ensures { end_in result ≡ to_seen to.now }
+    {
+        match to {
+            ToEnd::Line(line, port, slots) => {
+                End::Line(
+                    i64::from(*line),
+                    i64::from(*port),
+                    Numbers::Bytes(slots.as_slice()),
+                )
+            }
+            ToEnd::Client(client) => End::Client(i64::from(*client)),
+        }
+    }
+}
+
+fn signal_at(from: &Value) -> Signal
+    ensures { result ≡ signal_of (get (codes "signal") (view from.now)) }
+{
+    if text_or_empty(from.get("signal")) == "oci" {
+        Signal::Oci
+    } else {
+        Signal::Lck
+    }
+}

@@ -1,0 +1,153 @@
+// A connection as the rules see it.
+ghost use Rattle.std.specs.Prelude.{◌≡◌, ℕ, codes};
+ghost use Rattle.std.specs.Option.{option_map_or};
+ghost use Rattle.toml.specs.Data.{get};
+ghost use Rattle.toml.specs.View.{view};
+ghost use Rattle.plan_file.specs.Entry.{slots_between};
+ghost use Rattle.plan_file.specs.Table.{kind_of, from_at, to_at, no_end, pace_at};
+ghost use Rattle.plan_file.specs.Seen.{end_in, entry_in, pace_in};
+
+use crate::connection::Connection;
+use crate::outline::end::End;
+use crate::outline::field::{list_or_empty, number_or, text_or_empty, truth_or};
+use crate::outline::numbers::Numbers;
+use otn_base::Kind;
+use toml::Value;
+
+/// A connection: that of a table in a plan of so many turns, or that of a plan.
+#[derive(Clone, Copy)]
+pub(crate) enum Entry<'a> {
+    Read(&'a Value, i64),
+    Planned(&'a Connection),
+}
+
+impl<'a> Entry<'a> {
+    pub(crate) fn name(&self) -> &'a str
+        ensures { result.now ≡ (entry_in self.now).name }
+    {
+        match *self {
+            Entry::Read(table, _) => text_or_empty(table.get("name")),
+            Entry::Planned(connection) => connection.name.as_str(),
+        }
+    }
+
+    pub(crate) fn kind(&self) -> Kind
+        ensures { result ≡ (entry_in self.now).kind }
+    {
+        match *self {
+            Entry::Read(table, _) => kind_at(table),
+            Entry::Planned(connection) => connection.kind,
+        }
+    }
+
+    pub(crate) fn from(&self) -> End<'a>
+        ensures { end_in result ≡ (entry_in self.now).from }
+    {
+        match *self {
+            Entry::Read(table, _) => from_at(table),
+            Entry::Planned(connection) => End::from_plan(&connection.from),
+        }
+    }
+
+    pub(crate) fn to(&self) -> End<'a>
+        ensures { end_in result ≡ (entry_in self.now).to }
+    {
+        match *self {
+            Entry::Read(table, _) => to_at(table),
+            Entry::Planned(connection) => End::to_plan(&connection.to),
+        }
+    }
+
+    /// The pace. None where it is the nominal one.
+    pub(crate) fn pace(&self) -> Option<Numbers<'a>>
+        ensures { pace_in result (slots_between (entry_in self.now).from (entry_in self.now).to) ≡ (entry_in self.now).pace }
+    {
+        match *self {
+            Entry::Read(table, _) => pace_at(table),
+            Entry::Planned(connection) => Some(Numbers::Words(connection.pace.as_slice())),
+        }
+    }
+
+    pub(crate) fn fcs(&self) -> bool
+        ensures { result ≡ (entry_in self.now).fcs }
+    {
+        match *self {
+            Entry::Read(table, _) => truth_or(table.get("fcs"), true),
+            Entry::Planned(connection) => connection.fcs,
+        }
+    }
+
+    /// The bytes of the SAPI.
+    pub(crate) fn trace(&self) -> &'a [u8]
+        ensures { result.now ≡ (entry_in self.now).trace }
+    {
+        match *self {
+            Entry::Read(table, _) => text_or_empty(table.get("trace")).as_bytes(),
+            Entry::Planned(connection) => connection.trace.as_slice(),
+        }
+    }
+
+    pub(crate) fn start(&self) -> i64
+        ensures { result ≡ (entry_in self.now).start }
+    {
+        match *self {
+            Entry::Read(table, _) => number_or(table.get("start"), 1),
+            Entry::Planned(connection) => i64::from(connection.start),
+        }
+    }
+
+    pub(crate) fn stop(&self) -> i64
+        ensures { result ≡ (entry_in self.now).stop }
+    {
+        match *self {
+            Entry::Read(table, turns) => number_or(table.get("stop"), turns),
+            Entry::Planned(connection) => i64::from(connection.stop),
+        }
+    }
+
+    pub(crate) fn retire(&self) -> bool
+        ensures { result ≡ (entry_in self.now).retire }
+    {
+        match *self {
+            Entry::Read(_, _) => false,
+            Entry::Planned(connection) => connection.retire,
+        }
+    }
+}
+
+fn kind_at(table: &Value) -> Kind
+    ensures { result ≡ kind_of (get (codes "kind") (view table.now)) }
+{
+    if text_or_empty(table.get("kind")) == "odu0" {
+        Kind::Odu0
+    } else {
+        Kind::Flex
+    }
+}
+
+fn from_at<'a>(table: &'a Value) -> End<'a>
+    ensures { end_in result ≡ option_map_or from_at (get (codes "from") (view table.now)) no_end }
+{
+    match table.get("from") {
+        Some(from) => End::of_from(from),
+        None => End::Line(0, 0, Numbers::Bytes(&[])),
+    }
+}
+
+fn to_at<'a>(table: &'a Value) -> End<'a>
+    ensures { end_in result ≡ option_map_or to_at (get (codes "to") (view table.now)) no_end }
+{
+    match table.get("to") {
+        Some(to) => End::of_to(to),
+        None => End::Line(0, 0, Numbers::Bytes(&[])),
+    }
+}
+
+fn pace_at<'a>(table: &'a Value) -> Option<Numbers<'a>>
+    ensures { (m : ℕ) → pace_in result m ≡ pace_at m (get (codes "pace") (view table.now)) }
+{
+    match table.get("pace") {
+        Some(pace) => Some(Numbers::Values(list_or_empty(Some(pace)))),
+        None => None,
+    }
+}

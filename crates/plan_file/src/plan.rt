@@ -1,0 +1,44 @@
+// A plan.
+ghost use Rattle.std.specs.Prelude.{◌≡◌, ◌≢◌, Err, IfOk, None};
+ghost use Rattle.plan_file.specs.Answer.{fault_in, plan_of_text};
+
+use crate::connections::Connections;
+use crate::error::{NoPlan, PlanError};
+use crate::outline::Entries;
+use crate::{read, rules};
+use std::alloc::Global;
+
+/// What a node carries: for how many turns, and on which connections.
+#[derive(Debug, Drop)]
+pub struct Plan {
+    /// The number of turns, each of one multiframe.
+    pub turns: u32,
+    /// The connections, in the order of the file.
+    pub connections: Connections,
+}
+
+impl Plan {
+    /// The plan that the text says (TOML of at most 1,048,576 bytes), or the first rule that it breaks.
+    pub fn read(alloc: Global, text: &[u8]) -> Result<Plan, NoPlan>
+        ensures plan { result ≢ Err NoPlan.Memory → result ≡ plan_of_text text.now }
+        ensures accepted { IfOk result (λ plan. fault_in plan ≡ None) }
+    {
+        match read::table_of(alloc, text) {
+            Ok(Some(top)) => read::plan(alloc, &top),
+            Ok(None) => Err(NoPlan::Refused(PlanError::NotToml, 0)),
+            Err(_) => Err(NoPlan::Memory),
+        }
+    }
+
+    /// The first rule of its values that the plan breaks, with its place: 0 for the top, else the number
+    /// of the connection, from 1. None exactly where the plan keeps all of them.
+    #[tactic(auto, unfolding(crate::specs::Answer::fault_in))]
+    pub fn fault(&self) -> Option<(PlanError, u32)>
+        ensures { result ≡ fault_in self.now }
+    {
+        rules::fault(
+            i64::from(self.turns),
+            &Entries::Planned(self.connections.as_slice()),
+        )
+    }
+}

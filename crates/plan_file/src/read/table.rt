@@ -1,0 +1,106 @@
+// The rules of a table, tried one after another.
+ghost use Rattle.std.specs.Prelude.{◌≡◌, map};
+ghost use Rattle.toml.specs.View.{table_view, view};
+ghost use Rattle.plan_file.specs.Answer.{table_places, table_rules};
+ghost use Rattle.plan_file.specs.ByRule.{breaks_top, breaks_in_table, places_in_table};
+ghost use Rattle.plan_file.specs.Places.{first, first_broken, places};
+ghost use Rattle.plan_file.specs.Seen.{entries_in};
+ghost use Rattle.plan_file.specs.Table.{turns_at, connections_at, entry_at};
+
+use crate::error::PlanError;
+use crate::keys::{has_unknown_key, has_unknown_top_key, lacks_key, lacks_turns, top_value};
+use crate::kinds::{has_kinds, has_top_kinds};
+use crate::outline::{Entries, item, list_or_empty, number_or};
+use toml::{Table, Value};
+
+// The rules of keys and kinds, by number.
+const TABLE_RULES: [PlanError; 3] = [
+    PlanError::UnknownKey,
+    PlanError::MissingKey,
+    PlanError::WrongKind,
+];
+
+/// The number of turns.
+pub(crate) fn turns(top: &Table) -> i64
+    ensures { result ≡ turns_at (table_view top.now) }
+{
+    number_or(top_value(top, "turns"), 0)
+}
+
+// The connections, in order.
+fn connections(top: &Table) -> &[Value]
+    ensures { map view result.now ≡ connections_at (table_view top.now) }
+{
+    list_or_empty(top_value(top, "connection"))
+}
+
+/// The connections as the rules of values see them.
+pub(crate) fn entries(top: &Table) -> Entries<'_>
+    ensures { entries_in result ≡ map (entry_at (turns_at (table_view top.now))) (connections_at (table_view top.now)) }
+{
+    Entries::Read(connections(top), turns(top))
+}
+
+/// The first rule of keys and kinds that the table breaks, with its place.
+pub(crate) fn table_fault(top: &Table) -> Option<(PlanError, usize)>
+    ensures { result ≡ first_broken (table_places (table_view top.now)) table_rules }
+{
+    first_of(&TABLE_RULES, top)
+}
+
+// The first of the rules that is broken, with its place.
+fn first_of(rules: &[PlanError], top: &Table) -> Option<(PlanError, usize)>
+    ensures { result ≡ first_broken (places_in_table (table_view top.now)) rules.now }
+{
+    for rule in rules {
+        if let Some(place) = place_of(*rule, top) {
+            return Some((*rule, place));
+        }
+    }
+    None
+}
+
+// The first place where the rule is broken.
+fn place_of(rule: PlanError, top: &Table) -> Option<usize>
+    ensures { result ≡ first (places_in_table (table_view top.now) rule) }
+{
+    if breaks_top(rule, top) {
+        Some(0)
+    } else {
+        first_place(rule, connections(top))
+    }
+}
+
+#[tactic(auto, using(crate::proofs::Steps::singles, crate::proofs::Lists::slice_get_known))]
+fn first_place(rule: PlanError, connections: &[Value]) -> Option<usize>
+    ensures { result ≡ first (places (breaks_in_table rule) (map view connections.now)) }
+{
+    for i in 0..connections.len() {
+        if breaks_in_table(rule, item(connections, i)) {
+            return Some(i + 1);
+        }
+    }
+    None
+}
+
+fn breaks_top(rule: PlanError, top: &Table) -> bool
+    ensures { result ≡ breaks_top rule (table_view top.now) }
+{
+    match rule {
+        PlanError::UnknownKey => has_unknown_top_key(top),
+        PlanError::MissingKey => lacks_turns(top),
+        PlanError::WrongKind => !has_top_kinds(top),
+        _ => false,
+    }
+}
+
+fn breaks_in_table(rule: PlanError, connection: &Value) -> bool
+    ensures { result ≡ breaks_in_table rule (view connection.now) }
+{
+    match rule {
+        PlanError::UnknownKey => has_unknown_key(connection),
+        PlanError::MissingKey => lacks_key(connection),
+        PlanError::WrongKind => !has_kinds(connection),
+        _ => false,
+    }
+}

@@ -1,0 +1,13 @@
+// The rules of a plan's values, tried one after another.
+mod ends;
+mod fault;
+mod first;
+mod names;
+mod pace;
+mod pairs;
+mod range;
+mod slots;
+mod span;
+
+pub(crate) use fault::fault;
+pub(crate) use pace::slots_between;
