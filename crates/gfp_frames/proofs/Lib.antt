@@ -1,0 +1,10 @@
+pub mod Worked
+pub mod Lists
+pub mod Texts
+pub mod Delineating
+pub mod Reading
+pub mod Near
+pub mod Arrives
+pub mod Streams
+pub mod PlaceRuns
+pub mod BitLists

@@ -1,0 +1,72 @@
+use Rattle.std.proofs.Common.{◌≡◌, ◌≤◌, [], ◌∷◌, ◌++◌, true, false, length, ap, sym, subst, refl, ◌∙◌, arith}
+use Rattle.gfp_frames.specs.CoreHeader.{header_in, right_pli, near_pli}
+use Rattle.gfp_frames.specs.Reader.{ReaderState, may_want, Goes}
+use Rattle.gfp_frames.proofs.Reading.{goes_kept, goes_in_hunt, goes_in_presync, goes_in_sync, goes_past_presync, goes_past_area, held_size, full_size, four_in_hunt, four_in_presync, four_in_sync, big_in_area}
+use Rattle.gfp_frames.proofs.reader.GfpReader.advance.Goals as goal
+
+pub returns-then-self : goal.returns-then-self
+returns-then-self c =
+    let old = c.args.self.now in
+    let in_view = c.self.inside in
+    let May : ReaderState → Type 0 = λ s. may_want s.phase s.wanted ≡ true in
+    let New : ReaderState → Type 0 = λ s. Goes old c.args.byte false s in
+    let size : length old.held ≡ in_view.held = held_size in_view.phase in_view.held in_view.wanted in_view.buffer.items old.held c.self.invariant.3 (ap (λ s. s.held) c.self.view_is) c.self.invariant.1 (omega arith) in
+    let wanted : in_view.wanted ≡ old.wanted = ap (λ s. s.wanted) c.self.view_is in
+    subst New (sym c.keep.ensures) (goes_kept old c.args.byte (subst May c.self.view_is c.self.invariant.3) (omega arith))
+
+pub returns-in-Hunt : goal.returns-in-Hunt
+returns-in-Hunt c =
+    let old = c.args.self.now in
+    let in_view = c.self.inside in
+    let New : ReaderState → Type 0 = λ s. Goes old c.args.byte false s in
+    let size : length old.held ≡ in_view.held = held_size in_view.phase in_view.held in_view.wanted in_view.buffer.items old.held c.self.invariant.3 (ap (λ s. s.held) c.self.view_is) c.self.invariant.1 (omega arith) in
+    let full : length (old.held ++ c.args.byte ∷ []) ≡ in_view.wanted = full_size c.args.byte in_view.held in_view.wanted old.held size c.self.invariant.1 c.if-self.false in
+    let four : in_view.wanted ≡ 4 = four_in_hunt in_view.phase in_view.wanted c.in-Hunt.is c.self.invariant.3 in
+    subst New (sym c.end_hunt_header.ensures)
+    (goes_in_hunt old c.args.byte (right_pli (header_in (old.held ++ c.args.byte ∷ []))) (sym (ap (λ s. s.phase) c.self.view_is) ∙ c.in-Hunt.is) (full ∙ four) refl)
+
+pub returns-in-Presync : goal.returns-in-Presync
+returns-in-Presync c =
+    let old = c.args.self.now in
+    let in_view = c.self.inside in
+    let New : ReaderState → Type 0 = λ s. Goes old c.args.byte false s in
+    let size : length old.held ≡ in_view.held = held_size in_view.phase in_view.held in_view.wanted in_view.buffer.items old.held c.self.invariant.3 (ap (λ s. s.held) c.self.view_is) c.self.invariant.1 (omega arith) in
+    let full : length (old.held ++ c.args.byte ∷ []) ≡ in_view.wanted = full_size c.args.byte in_view.held in_view.wanted old.held size c.self.invariant.1 c.if-self.false in
+    let four : in_view.wanted ≡ 4 = four_in_presync in_view.phase in_view.wanted c.in-Presync.is c.self.invariant.3 in
+    subst New (sym c.end_presync_header.ensures)
+    (goes_in_presync old c.args.byte (right_pli (header_in (old.held ++ c.args.byte ∷ []))) (sym (ap (λ s. s.phase) c.self.view_is) ∙ c.in-Presync.is) (full ∙ four) refl)
+
+pub returns-in-Sync : goal.returns-in-Sync
+returns-in-Sync c =
+    let old = c.args.self.now in
+    let in_view = c.self.inside in
+    let New : ReaderState → Type 0 = λ s. Goes old c.args.byte false s in
+    let size : length old.held ≡ in_view.held = held_size in_view.phase in_view.held in_view.wanted in_view.buffer.items old.held c.self.invariant.3 (ap (λ s. s.held) c.self.view_is) c.self.invariant.1 (omega arith) in
+    let full : length (old.held ++ c.args.byte ∷ []) ≡ in_view.wanted = full_size c.args.byte in_view.held in_view.wanted old.held size c.self.invariant.1 c.if-self.false in
+    let four : in_view.wanted ≡ 4 = four_in_sync in_view.phase in_view.wanted c.in-Sync.is c.self.invariant.3 in
+    subst New (sym c.end_sync_header.ensures)
+    (goes_in_sync old c.args.byte (near_pli (header_in (old.held ++ c.args.byte ∷ []))) (sym (ap (λ s. s.phase) c.self.view_is) ∙ c.in-Sync.is) (full ∙ four) refl)
+
+pub returns-in-PresyncArea : goal.returns-in-PresyncArea
+returns-in-PresyncArea c =
+    let old = c.args.self.now in
+    let in_view = c.self.inside in
+    let New : ReaderState → Type 0 = λ s. Goes old c.args.byte false s in
+    let size : length old.held ≡ in_view.held = held_size in_view.phase in_view.held in_view.wanted in_view.buffer.items old.held c.self.invariant.3 (ap (λ s. s.held) c.self.view_is) c.self.invariant.1 (omega arith) in
+    let full : length (old.held ++ c.args.byte ∷ []) ≡ in_view.wanted = full_size c.args.byte in_view.held in_view.wanted old.held size c.self.invariant.1 c.if-self.false in
+    subst New (sym c.await_next.ensures)
+    (goes_past_presync old c.args.byte (sym (ap (λ s. s.phase) c.self.view_is) ∙ c.in-PresyncArea.is) (full ∙ ap (λ s. s.wanted) c.self.view_is))
+
+pub returns-in-SyncArea : goal.returns-in-SyncArea
+returns-in-SyncArea c =
+    let old = c.args.self.now in
+    let in_view = c.self.inside in
+    let new = c.end_area.new.self in
+    let found = c.end_area.result in
+    let New : ReaderState → Type 0 = λ s. Goes old c.args.byte found s in
+    let size : length old.held ≡ in_view.held = held_size in_view.phase in_view.held in_view.wanted in_view.buffer.items old.held c.self.invariant.3 (ap (λ s. s.held) c.self.view_is) c.self.invariant.1 (omega arith) in
+    let full : length (old.held ++ c.args.byte ∷ []) ≡ in_view.wanted = full_size c.args.byte in_view.held in_view.wanted old.held size c.self.invariant.1 c.if-self.false in
+    let big : 4 ≤ in_view.wanted = big_in_area in_view.phase in_view.wanted c.in-SyncArea.is c.self.invariant.3 in
+    let wanted : in_view.wanted ≡ old.wanted = ap (λ s. s.wanted) c.self.view_is in
+    subst New (sym c.end_area.ensures.state)
+    (goes_past_area old c.args.byte found new.packet (sym (ap (λ s. s.phase) c.self.view_is) ∙ c.in-SyncArea.is) (full ∙ wanted) (omega arith) c.end_area.ensures.packet)

@@ -1,0 +1,25 @@
+-- The packets that a list of bytes delivers.
+use Rattle.std.specs.Prelude.{ℕ, List, [], ◌∷◌, length, take, drop, flat_map, option_to_list}
+use Rattle.gfp_scrambler.specs.Register.{descrambled}
+use Rattle.gfp_frames.specs.Area.{packet_in}
+use Rattle.gfp_frames.specs.Delineation.{sync_areas}
+
+abbrev pub joined : List (List ℕ) → List ℕ
+joined areas = flat_map (λ area. area) areas
+
+-- a list cut into pieces as long as these areas
+abbrev pub cut_as : (areas : List (List ℕ)) → List ℕ → List (List ℕ)
+cut_as [] plain = []
+cut_as (area ∷ areas) plain = take (length area) plain ∷ cut_as areas (drop (length area) plain)
+
+-- the plain areas: all areas joined are one list of bits, descrambled after these last 43 bits
+unfoldable pub plain_areas : (register : ℕ) → List (List ℕ) → List (List ℕ)
+plain_areas register areas = cut_as areas (descrambled register (joined areas))
+
+-- the packets of the areas that pass the checks, in order
+abbrev pub packets_in : List (List ℕ) → List (List ℕ)
+packets_in areas = flat_map (λ area. option_to_list (packet_in area)) areas
+
+-- what a list of bytes delivers: bits before the first area in sync are 0
+unfoldable pub delivered : List ℕ → List (List ℕ)
+delivered bytes = packets_in (plain_areas 0 (sync_areas bytes))

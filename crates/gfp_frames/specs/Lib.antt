@@ -1,0 +1,14 @@
+pub mod CoreHeader
+pub mod Area
+pub mod GfpText
+pub mod Delineation
+pub mod Places
+pub mod Delivered
+pub mod Within
+pub mod Maker
+pub mod Reader
+pub mod Lending
+pub use Rattle.crc_small.specs.LongDivision
+pub use Rattle.crc_small.specs.Header
+pub use Rattle.gfp_scrambler.specs.BitList
+pub use Rattle.gfp_scrambler.specs.Register

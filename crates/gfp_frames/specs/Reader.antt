@@ -1,0 +1,84 @@
+-- A reader of GFP frames, as contracts see it.
+use Rattle.std.specs.Prelude.{◌≡◌, ℕ, ◌==◌, nat_lt, nat_le, ◌&&◌, Bool, if◌then◌else◌, List, [], ◌∷◌, ◌++◌, drop}
+use Rattle.gfp_scrambler.specs.Register.{last_bits}
+use Rattle.gfp_frames.specs.Delineation.{whole_area, from_hunt, from_presync, from_sync}
+use Rattle.gfp_frames.specs.Delivered.{plain_areas, packets_in, delivered}
+use Rattle.gfp_frames.specs.declared.phase.Phase.{Phase}
+use Rattle.gfp_frames.specs.declared.phase.Phase.TheVariants.{Hunt, PresyncArea, Presync, SyncArea, Sync}
+
+-- What the reader waits for, how many bytes it is, and which of them came; the last 43 bits of the areas in sync so far;
+-- and the packet that was delivered with the last byte, or nothing.
+pub record ReaderState : Type 0 where
+  pub phase : Phase
+  pub wanted : ℕ
+  pub held : List ℕ
+  pub register : ℕ
+  pub packet : List ℕ
+
+-- how many bytes a phase may wait for: the four of a header, or an area
+abbrev pub may_want : Phase → ℕ → Bool
+may_want Hunt n = n == 4
+may_want PresyncArea n = nat_le 4 n && nat_le n 65535
+may_want Presync n = n == 4
+may_want SyncArea n = nat_le 4 n && nat_le n 65535
+may_want Sync n = n == 4
+
+-- the areas in sync of these bytes, which begin with what the reader holds
+abbrev pub areas_from : Phase → (wanted : ℕ) → List ℕ → List (List ℕ)
+areas_from Hunt wanted bytes = from_hunt bytes
+areas_from PresyncArea wanted bytes = from_presync (drop wanted bytes)
+areas_from Presync wanted bytes = from_presync bytes
+areas_from SyncArea wanted bytes = whole_area wanted bytes ++ from_sync (drop wanted bytes)
+areas_from Sync wanted bytes = from_sync bytes
+
+-- what the reader has yet to deliver, if these bytes come
+abbrev pub to_come : ReaderState → List ℕ → List (List ℕ)
+to_come reader more = packets_in (plain_areas reader.register (areas_from reader.phase reader.wanted (reader.held ++ more)))
+
+-- The reader took these bytes since its start: whatever comes, the whole list delivers what these did and what the reader has yet to deliver.
+pub record HasRead (taken : List ℕ) (reader : ReaderState) : Type 0 where
+  pub whole : (more : List ℕ) → delivered (taken ++ more) ≡ delivered taken ++ to_come reader more
+
+-- ---- steps of the reader
+
+-- a reader after its start
+abbrev pub hunts : ReaderState
+hunts = record { phase = Hunt; wanted = 4; held = []; register = 0; packet = [] }
+
+-- one byte more, and no more news
+abbrev pub kept : ReaderState → ℕ → ReaderState
+kept reader byte = record reader { held = reader.held ++ byte ∷ []; packet = [] }
+
+-- no header here: the hunt goes on one byte further
+abbrev pub slid : ReaderState → ℕ → ReaderState
+slid reader byte = record { phase = Hunt; wanted = 4; held = drop 1 (reader.held ++ byte ∷ []); register = reader.register; packet = [] }
+
+-- a header was found: its area comes, or where it has none the next header
+abbrev pub after_header : ReaderState → (pli : ℕ) → (next area : Phase) → ReaderState
+after_header reader pli next area = record {
+  phase = if nat_lt pli 4 then next else area;
+  wanted = if nat_lt pli 4 then 4 else pli;
+  held = [];
+  register = reader.register;
+  packet = [];
+}
+
+abbrev pub presync_after : ReaderState → (pli : ℕ) → ReaderState
+presync_after reader pli = after_header reader pli Presync PresyncArea
+
+abbrev pub sync_after : ReaderState → (pli : ℕ) → ReaderState
+sync_after reader pli = after_header reader pli Sync SyncArea
+
+-- a whole area came
+abbrev pub area_after : ReaderState → ℕ → (packet : List ℕ) → ReaderState
+area_after reader byte packet =
+    record { phase = Sync; wanted = 4; held = []; register = last_bits reader.register (reader.held ++ byte ∷ []); packet = packet }
+
+-- the packets that a step gives
+abbrev pub news : Bool → ReaderState → List (List ℕ)
+news found reader = if found then reader.packet ∷ [] else []
+
+-- what was to come with this byte came, or is to come still; and nothing comes of itself
+pub record Goes (old : ReaderState) (byte : ℕ) (found : Bool) (new : ReaderState) : Type 0 where
+  pub each : (more : List ℕ) → to_come old (byte ∷ more) ≡ news found new ++ to_come new more
+  pub none : to_come new [] ≡ []

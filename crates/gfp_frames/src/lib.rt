@@ -1,0 +1,19 @@
+//! Frame-mapped GFP (G.7041): packets into frames, and packets out of any list of bytes.
+#![tactic(auto)]
+
+mod area;
+mod buffer;
+mod core_header;
+mod laws;
+mod maker;
+mod phase;
+mod reader;
+#[cfg(test)]
+mod tests;
+
+pub use laws::{
+    areas_are_one_list_of_bits, frames_stand_by_place, made_is_the_stream,
+    one_wrong_bit_is_corrected, packets_arrive,
+};
+pub use maker::GfpMaker;
+pub use reader::GfpReader;

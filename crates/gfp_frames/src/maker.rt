@@ -1,0 +1,149 @@
+// Packets into frames.
+ghost use Rattle.std.specs.Prelude.{◌≡◌, ◌≢◌, ℕ, ◌+◌, ◌≤◌, List, [], ◌∷◌, ◌++◌, ◌↔◌, IsTrue, IfOk, length, take, drop, vec_len};
+ghost use Rattle.std.specs.Vec.{vec_capacity};
+ghost use Rattle.gfp_scrambler.specs.Register.{last_bits, scrambled};
+ghost use Rattle.gfp_frames.specs.CoreHeader.{core_header};
+ghost use Rattle.gfp_frames.specs.Area.{client_area};
+ghost use Rattle.gfp_frames.specs.GfpText.{Frame, Idle, Client};
+ghost use Rattle.gfp_frames.specs.Maker.{MakerState, HasMade, begun, made_frame, in_hand, fresh};
+
+use crate::area::append_client_area;
+use crate::buffer::append;
+use crate::core_header::header_bytes;
+use gfp_scrambler::Scrambler;
+use otn_base::Memory;
+use std::alloc::Global;
+use std::marker::Model;
+
+/// Bytes of a frame at most: a core header and an area of 65,535 bytes.
+const MOST_FRAME: usize = 65_539;
+
+/// Makes the bytes of a stream of GFP frames, one after another. Contracts see what is left of the
+/// frame in hand, and the scrambler's register.
+#[derive(Drop)]
+pub struct GfpMaker {
+    scrambler: Scrambler,
+    // The frame in hand, and how many of its bytes were given.
+    frame: Vec<u8>,
+    given: usize,
+}
+
+impl Model for GfpMaker {
+    ghost use Rattle.std.specs.Prelude.{◌≤◌, drop, vec_len};
+    ghost use Rattle.std.specs.Vec.{vec_capacity};
+    ghost use Rattle.gfp_frames.specs.Maker.{MakerState};
+
+    ghost Value = { MakerState };
+
+    ghost view = { λ m. record { hand = drop m.given m.frame.items; register = m.scrambler } };
+
+    ghost invariant = { λ m. (m.given ≤ vec_len m.frame) × (65539 ≤ vec_capacity m.frame) };
+}
+
+impl GfpMaker {
+    /// A maker with the first idle frame in hand. All memory is taken here.
+    pub fn new(alloc: Global) -> Result<GfpMaker, Memory>
+        ensures made { IfOk result (HasMade (Idle ∷ []) []) }
+        ensures fresh { IfOk result (λ maker. maker ≡ fresh) }
+    {
+        let mut maker = GfpMaker {
+            scrambler: Scrambler::new(),
+            frame: Vec::with_capacity(alloc, MOST_FRAME)?,
+            given: 0,
+        };
+        maker.put_idle();
+        Ok(maker)
+    }
+
+    /// Begins anew, with the first idle frame in hand.
+    pub fn restart(&mut self)
+        ensures made { HasMade (Idle ∷ []) [] self.new }
+        ensures fresh { self.new ≡ fresh }
+    {
+        self.scrambler = Scrambler::new();
+        self.put_idle();
+    }
+
+    /// Whether no frame is in hand.
+    pub fn idle(&self) -> bool
+        ensures { IsTrue result ↔ (self.now.hand ≡ []) }
+    {
+        self.given >= self.frame.len()
+    }
+
+    /// Takes the frame of a packet of 1 to 65,527 bytes in hand, with or without FCS.
+    pub fn offer(&mut self, packet: &[u8], fcs: bool)
+        requires idle { self.old.hand ≡ [] }
+        requires packet { (1 ≤ length packet.now) × (length packet.now ≤ 65527) }
+        ensures made { (frames : List Frame) (given : List ℕ) → HasMade frames given self.old →
+            HasMade (frames ++ Client packet.now fcs ∷ []) given self.new }
+        ensures frame { self.new ≡ made_frame (client_area packet.now fcs) self.old.register }
+    {
+        self.put_frame(packet, fcs);
+    }
+
+    /// The next byte of the stream. Where no frame is in hand an idle frame begins.
+    pub fn next_byte(&mut self) -> u8
+        ensures made { (frames : List Frame) (given : List ℕ) → HasMade frames given self.old →
+            HasMade (frames ++ begun self.old.hand) (given ++ result ∷ []) self.new }
+        ensures byte { result ∷ self.new.hand ≡ in_hand self.old.hand }
+        ensures register { self.new.register ≡ self.old.register }
+    {
+        self.take_up();
+        self.give()
+    }
+}
+
+impl GfpMaker {
+    // Where no frame is in hand an idle frame is.
+    fn take_up(&mut self)
+        ensures hand { self.new.hand ≡ in_hand self.old.hand }
+        ensures register { self.new.register ≡ self.old.register }
+    {
+        if self.idle() {
+            self.put_idle();
+        }
+    }
+
+    // The frame in hand becomes an idle frame.
+    fn put_idle(&mut self)
+        ensures { self.new ≡ record self.old { hand = core_header 0 } }
+    {
+        self.given = 0;
+        self.frame.clear();
+        append(&mut self.frame, &header_bytes(0));
+    }
+
+    // The frame in hand becomes that of a packet.
+    fn put_frame(&mut self, packet: &[u8], fcs: bool)
+        requires { (1 ≤ length packet.now) × (length packet.now ≤ 65527) }
+        ensures { self.new ≡ made_frame (client_area packet.now fcs) self.old.register }
+    {
+        let rest = if fcs { 8 } else { 4 };
+        self.given = 0;
+        self.frame.clear();
+        append(&mut self.frame, &header_bytes((packet.len() + rest) as u16));
+        append_client_area(&mut self.frame, packet, fcs);
+        scramble_area(&mut self.scrambler, &mut self.frame);
+    }
+
+    fn give(&mut self) -> u8
+        requires { self.old.hand ≢ [] }
+        ensures byte { self.old.hand ≡ result ∷ self.new.hand }
+        ensures register { self.new.register ≡ self.old.register }
+    {
+        let byte = self.frame[self.given];
+        self.given += 1;
+        byte
+    }
+}
+
+// The bytes after the core header are scrambled.
+fn scramble_area(scrambler: &mut Scrambler, frame: &mut Vec<u8>)
+    requires { 4 ≤ vec_len frame.old }
+    ensures bytes { frame.new.items ≡ take 4 frame.old.items ++ scrambled scrambler.old (drop 4 frame.old.items) }
+    ensures register { scrambler.new ≡ last_bits scrambler.old (scrambled scrambler.old (drop 4 frame.old.items)) }
+    ensures capacity { vec_capacity frame.new ≡ vec_capacity frame.old }
+{
+    scrambler.scramble(&mut frame[4..]);
+}

@@ -1,0 +1,285 @@
+// Packets out of any list of bytes.
+ghost use Rattle.std.specs.Prelude.{◌≡◌, ℕ, ◌+◌, ◌≤◌, ◌<◌, List, [], ◌∷◌, ◌++◌, IfOk, IfSome, IsTrue, length, take, drop, vec_len, option_copied, option_map, option_to_list};
+ghost use Rattle.std.specs.Option.{option_map_or};
+ghost use Rattle.gfp_scrambler.specs.Register.{last_bits, descrambled};
+ghost use Rattle.gfp_frames.specs.CoreHeader.{header_in, right_pli, near_pli};
+ghost use Rattle.gfp_frames.specs.Area.{packet_in};
+ghost use Rattle.gfp_frames.specs.Delivered.{delivered};
+ghost use Rattle.gfp_frames.specs.Reader.{ReaderState, may_want, HasRead, kept, slid, after_header, presync_after, sync_after, area_after, news, Goes};
+
+use crate::area::packet_size;
+use crate::core_header::{PATTERN, near, right};
+use crate::phase::Phase;
+use gfp_scrambler::Descrambler;
+use otn_base::Memory;
+use std::alloc::Global;
+use std::marker::Model;
+
+/// Bytes of a payload area at most.
+const MOST_AREA: usize = 65_535;
+
+/// Bytes of a core header.
+const HEADER: usize = 4;
+
+/// Finds the frames of a stream of bytes and delivers their packets. Contracts see how far it is in the
+/// frame at hand.
+#[derive(Drop)]
+pub struct GfpReader {
+    phase: Phase,
+    // Bytes of the header or area that is awaited, and how many of them came; these begin the buffer.
+    wanted: usize,
+    held: usize,
+    buffer: Vec<u8>,
+    descrambler: Descrambler,
+    // Bytes of the packet that was delivered with the last byte, or 0. It stands after the tHEC.
+    packet: usize,
+}
+
+impl Model for GfpReader {
+    ghost use Rattle.std.specs.Prelude.{◌≡◌, ◌+◌, ◌<◌, ◌≤◌, IsTrue, take, drop, vec_len};
+    ghost use Rattle.gfp_frames.specs.Reader.{ReaderState, may_want};
+
+    ghost Value = { ReaderState };
+
+    ghost view = { λ r. record {
+      phase = r.phase;
+      wanted = r.wanted;
+      held = take r.held r.buffer.items;
+      register = r.descrambler;
+      packet = take r.packet (drop 4 r.buffer.items);
+    } };
+
+    ghost invariant = { λ r. (vec_len r.buffer ≡ 65535) × (r.held < r.wanted) × (r.packet + 4 ≤ 65535) × IsTrue (may_want r.phase r.wanted) };
+}
+
+impl GfpReader {
+    ghost use Rattle.std.specs.Borrow.{sem};
+    ghost use Rattle.gfp_frames.specs.Lending.{EndsHavingRead};
+
+    /// A reader that hunts. All memory is taken here.
+    pub fn new(alloc: Global) -> Result<GfpReader, Memory>
+        ensures read { IfOk result (HasRead []) }
+    {
+        Ok(GfpReader {
+            phase: Phase::Hunt,
+            wanted: HEADER,
+            held: 0,
+            buffer: zeros(alloc, MOST_AREA)?,
+            descrambler: Descrambler::new(),
+            packet: 0,
+        })
+    }
+
+    /// Begins anew: hunts, with a new descrambler.
+    pub fn restart(&mut self)
+        ensures read { HasRead [] self.new }
+    {
+        self.descrambler = Descrambler::new();
+        self.await_next(Phase::Hunt);
+    }
+
+    /// Takes the next byte, and gives the packet that is delivered with it.
+    pub fn take(&mut self, byte: u8) -> Option<&[u8]>
+        // Of every list of bytes since the start the packets are those that the list delivers.
+        ensures* read { sem 𝓛 (EndsHavingRead self.entry byte) }
+        ensures packets { (taken : List ℕ) → HasRead taken self.old →
+            delivered (taken ++ byte ∷ []) ≡ delivered taken ++ option_to_list (option_copied result) }
+    {
+        if self.advance(byte) {
+            Some(&self.buffer[HEADER..HEADER + self.packet])
+        } else {
+            None
+        }
+    }
+}
+
+impl GfpReader {
+    // Whether a packet is delivered with this byte.
+    fn advance(&mut self, byte: u8) -> bool
+        ensures { Goes self.old byte result self.new }
+    {
+        if self.held + 1 < self.wanted {
+            self.keep(byte);
+            return false;
+        }
+        match self.phase {
+            Phase::Hunt => {
+                self.end_hunt_header(byte);
+                false
+            }
+            Phase::PresyncArea => {
+                self.await_next(Phase::Presync);
+                false
+            }
+            Phase::Presync => {
+                self.end_presync_header(byte);
+                false
+            }
+            Phase::SyncArea => self.end_area(byte),
+            Phase::Sync => {
+                self.end_sync_header(byte);
+                false
+            }
+        }
+    }
+
+    fn keep(&mut self, byte: u8)
+        requires { length self.old.held + 1 < self.old.wanted }
+        ensures { self.new ≡ kept self.old byte }
+    {
+        self.packet = 0;
+        self.buffer[self.held] = byte;
+        self.held += 1;
+    }
+}
+
+impl GfpReader {
+    // A header ends in HUNT: any right one is the PRESYNC frame's.
+    fn end_hunt_header(&mut self, byte: u8)
+        requires wanted { self.old.wanted ≡ 4 }
+        requires last { length self.old.held ≡ 3 }
+        ensures { self.new ≡ option_map_or (presync_after self.old) (right_pli (header_in (self.old.held ++ byte ∷ []))) (slid self.old byte) }
+    {
+        let header = self.header(byte);
+        match right(header) {
+            Some(pli) => self.await_frame(pli as usize, Phase::Presync, Phase::PresyncArea),
+            None => self.slide(byte),
+        }
+    }
+
+    // A header ends after a PRESYNC frame.
+    fn end_presync_header(&mut self, byte: u8)
+        requires wanted { self.old.wanted ≡ 4 }
+        requires last { length self.old.held ≡ 3 }
+        ensures { self.new ≡ option_map_or (sync_after self.old) (right_pli (header_in (self.old.held ++ byte ∷ []))) (slid self.old byte) }
+    {
+        let confirming = self.header(byte);
+        match right(confirming) {
+            Some(pli) => self.await_frame(pli as usize, Phase::Sync, Phase::SyncArea),
+            None => self.slide(byte),
+        }
+    }
+
+    // A header ends in SYNC, where one wrong bit is corrected.
+    fn end_sync_header(&mut self, byte: u8)
+        requires wanted { self.old.wanted ≡ 4 }
+        requires last { length self.old.held ≡ 3 }
+        ensures { self.new ≡ option_map_or (sync_after self.old) (near_pli (header_in (self.old.held ++ byte ∷ []))) (slid self.old byte) }
+    {
+        match near(self.header(byte)) {
+            Some(pli) => self.await_frame(pli as usize, Phase::Sync, Phase::SyncArea),
+            None => self.slide(byte),
+        }
+    }
+
+    // The header that this byte ends, without the pattern.
+    fn header(&self, byte: u8) -> u32
+        requires { length self.now.held ≡ 3 }
+        ensures { result ≡ header_in (self.now.held ++ byte ∷ []) }
+    {
+        let sent = u32::from_be_bytes([self.buffer[0], self.buffer[1], self.buffer[2], byte]);
+        sent ^ PATTERN
+    }
+
+    // No header stands here: the hunt goes on one byte further.
+    fn slide(&mut self, byte: u8)
+        requires { length self.old.held ≡ 3 }
+        ensures { self.new ≡ slid self.old byte }
+    {
+        self.buffer[0] = self.buffer[1];
+        self.buffer[1] = self.buffer[2];
+        self.buffer[2] = byte;
+        self.phase = Phase::Hunt;
+        self.wanted = HEADER;
+        self.packet = 0;
+    }
+
+    // A header was found: its area comes, or where it has none the next header.
+    fn await_frame(&mut self, pli: usize, next: Phase, area: Phase)
+        requires pli { pli < 65536 }
+        requires next { IsTrue (may_want next 4) }
+        requires area { 4 ≤ pli → IsTrue (may_want area pli) }
+        ensures { self.new ≡ after_header self.old pli next area }
+    {
+        if pli < HEADER {
+            self.await_next(next);
+        } else {
+            self.await_area(area, pli);
+        }
+    }
+
+    // A header is to come.
+    fn await_next(&mut self, phase: Phase)
+        requires { IsTrue (may_want phase 4) }
+        ensures { self.new ≡ record { phase = phase; wanted = 4; held = []; register = self.old.register; packet = [] } }
+    {
+        self.phase = phase;
+        self.wanted = HEADER;
+        self.held = 0;
+        self.packet = 0;
+    }
+
+    // An area of this many bytes is to come.
+    fn await_area(&mut self, phase: Phase, pli: usize)
+        requires { IsTrue (may_want phase pli) }
+        ensures { self.new ≡ record { phase = phase; wanted = pli; held = []; register = self.old.register; packet = [] } }
+    {
+        self.phase = phase;
+        self.wanted = pli;
+        self.held = 0;
+        self.packet = 0;
+    }
+
+    // An area in sync ends with this byte: whether it holds a packet to deliver.
+    fn end_area(&mut self, byte: u8) -> bool
+        requires phase { self.old.phase ≡ Phase.SyncArea }
+        requires last { length self.old.held + 1 ≡ self.old.wanted }
+        ensures state { self.new ≡ area_after self.old byte self.new.packet }
+        ensures packet { option_to_list (packet_in (descrambled self.old.register (self.old.held ++ byte ∷ []))) ≡ news result self.new }
+    {
+        let size = self.wanted;
+        self.buffer[self.held] = byte;
+        self.phase = Phase::Sync;
+        self.wanted = HEADER;
+        self.held = 0;
+        match open_area(&mut self.descrambler, &mut self.buffer, size) {
+            Some(packet) => {
+                self.packet = packet;
+                true
+            }
+            None => {
+                self.packet = 0;
+                false
+            }
+        }
+    }
+}
+
+// Descrambles the area at the front of the buffer, and gives the size of the packet in it.
+fn open_area(descrambler: &mut Descrambler, buffer: &mut Vec<u8>, size: usize) -> Option<usize>
+    requires area { 4 ≤ size }
+    requires here { size ≤ vec_len buffer.old }
+    ensures packet { packet_in (descrambled descrambler.old (take size buffer.old.items)) ≡ option_map (λ n. take n (drop 4 buffer.new.items)) result }
+    ensures within { IfSome result (λ n. n + 4 ≤ size) }
+    ensures register { descrambler.new ≡ last_bits descrambler.old (take size buffer.old.items) }
+    ensures len { vec_len buffer.new ≡ vec_len buffer.old }
+{
+    descramble_front(descrambler, buffer, size);
+    packet_size(&buffer[..size])
+}
+
+// Descrambles the area at the front of the buffer.
+fn descramble_front(descrambler: &mut Descrambler, buffer: &mut [u8], size: usize)
+    requires { size ≤ length buffer.old }
+    ensures bytes { buffer.new ≡ descrambled descrambler.old (take size buffer.old) ++ drop size buffer.old }
+    ensures register { descrambler.new ≡ last_bits descrambler.old (take size buffer.old) }
+{
+    let (area, _) = buffer.split_at_mut(size);
+    descrambler.descramble(area);
+}
+
+fn zeros(alloc: Global, n: usize) -> Result<Vec<u8>, Memory>
+    ensures { IfOk result (λ v. vec_len v ≡ n) }
+{
+    Ok(vec![in alloc; 0u8; n]?)
+}

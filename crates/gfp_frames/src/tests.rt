@@ -1,0 +1,135 @@
+// Fixed streams both ways.
+use crate::{GfpMaker, GfpReader};
+use gfp_scrambler::Descrambler;
+use std::test::Fail;
+
+// The packets 1111, 2222, 3333 and 4444, and their stream without FCS, with one more idle frame.
+static PACKETS: [u8; 8] = [0x11, 0x11, 0x22, 0x22, 0x33, 0x33, 0x44, 0x44];
+
+static STREAM: [u8; 48] = [
+    0xB6, 0xAB, 0x31, 0xE0, 0xB6, 0xAD, 0x51, 0x26, 0x00, 0x01, 0x10, 0x21, 0x11, 0x11, 0xB6, 0xAD,
+    0x51, 0x26, 0x00, 0x23, 0x14, 0x03, 0x00, 0x02, 0xB6, 0xAD, 0x51, 0x26, 0x04, 0x63, 0x90, 0x41,
+    0x33, 0x73, 0xB6, 0xAD, 0x51, 0x26, 0x8C, 0x73, 0x18, 0x07, 0x2A, 0x35, 0xB6, 0xAB, 0x31, 0xE0,
+];
+
+#[test]
+fn stream_of_four_packets_is_made(rt: HostRuntime) -> Result<(), Fail> {
+    let mut maker = GfpMaker::new(rt.alloc())?;
+    let mut packets = PACKETS.as_slice();
+    for byte in &STREAM {
+        if maker.idle() && packets.len() >= 2 {
+            let (packet, rest) = packets.split_at(2);
+            maker.offer(packet, false);
+            packets = rest;
+        }
+        assert_eq!(rt; maker.next_byte(), *byte);
+    }
+    assert!(rt; maker.idle());
+    Ok(())
+}
+
+// Puts the packets that these bytes deliver one after another.
+fn read(reader: &mut GfpReader, bytes: &[u8], packets: &mut Vec<u8>) -> Result<(), Fail> {
+    for byte in bytes {
+        if let Some(packet) = reader.take(*byte) {
+            packets.extend_from_slice(packet)?;
+        }
+    }
+    Ok(())
+}
+
+#[test]
+fn stream_is_read_with_wrong_bits(rt: HostRuntime) -> Result<(), Fail> {
+    let mut reader = GfpReader::new(rt.alloc())?;
+    // The first byte of the second client header, and how many bytes of packets are delivered: right,
+    // with one wrong bit, and with two.
+    let rows = [(0xB6u8, 8usize), (0xB7, 8), (0xB5, 2)];
+    for (first, count) in &rows {
+        let mut stream = STREAM;
+        stream[14] = *first;
+        reader.restart();
+        let mut packets = Vec::new(rt.alloc());
+        read(&mut reader, &stream, &mut packets)?;
+        assert!(rt; packets.as_slice() == &PACKETS[..(*count).min(8)]);
+    }
+    Ok(())
+}
+
+// A header of an area of 8 bytes stands before the stream and hides its first two headers. The frame of
+// 2222 is then the PRESYNC frame, 3333 is descrambled after bits 0, and 4444 after 3333.
+#[test]
+fn false_header_hides_true_ones(rt: HostRuntime) -> Result<(), Fail> {
+    let mut reader = GfpReader::new(rt.alloc())?;
+    let mut packets = Vec::new(rt.alloc());
+    read(&mut reader, &[0xB6, 0xA3, 0xB0, 0xE8], &mut packets)?;
+    read(&mut reader, &STREAM, &mut packets)?;
+    assert!(rt; packets.as_slice() == &PACKETS[6..]);
+    Ok(())
+}
+
+// The plain area of the packet "123456789" with FCS: the CRC-32 is the one that bzip2 writes for it.
+#[test]
+fn frame_check_sequence(rt: HostRuntime) -> Result<(), Fail> {
+    let mut maker = GfpMaker::new(rt.alloc())?;
+    for byte in &[0xB6u8, 0xAB, 0x31, 0xE0] {
+        assert_eq!(rt; maker.next_byte(), *byte);
+    }
+    assert!(rt; maker.idle());
+    if maker.idle() {
+        maker.offer(b"123456789", true);
+    }
+    let mut header = [0u8; 4];
+    for byte in header.iter_mut() {
+        *byte = maker.next_byte();
+    }
+    let mut area = [0u8; 17];
+    for byte in area.iter_mut() {
+        *byte = maker.next_byte();
+    }
+    Descrambler::new().descramble(&mut area);
+    assert!(rt; area.as_slice() == b"\x10\x01\x13\x52123456789\xFC\x89\x19\x18".as_slice());
+    Ok(())
+}
+
+#[test]
+fn header_of_sixty_bytes(rt: HostRuntime) -> Result<(), Fail> {
+    let mut maker = GfpMaker::new(rt.alloc())?;
+    let packet = [0x5Au8; 60];
+    let start = [
+        0xB6u8, 0xAB, 0x31, 0xE0, 0xB6, 0xEF, 0x39, 0xA0, 0x10, 0x01, 0x13, 0x52,
+    ];
+    for byte in &start {
+        let next = maker.next_byte();
+        if maker.idle() {
+            maker.offer(&packet, true);
+        }
+        assert_eq!(rt; next, *byte);
+    }
+    Ok(())
+}
+
+// A packet of the greatest size, with FCS and without.
+#[test]
+fn greatest_packet_arrives(rt: HostRuntime) -> Result<(), Fail> {
+    let mut maker = GfpMaker::new(rt.alloc())?;
+    let mut reader = GfpReader::new(rt.alloc())?;
+    let mut packet = Vec::new(rt.alloc());
+    for n in 0..65_527u32 {
+        packet.push((n % 251) as u8)?;
+    }
+    for fcs in &[true, false] {
+        let mut arrived = false;
+        for _ in 0..65_543u32 {
+            if maker.idle() && packet.len() == 65_527 {
+                maker.offer(packet.as_slice(), *fcs);
+            }
+            let byte = maker.next_byte();
+            if let Some(got) = reader.take(byte) {
+                assert!(rt; got == packet.as_slice());
+                arrived = true;
+            }
+        }
+        assert!(rt; arrived);
+    }
+    Ok(())
+}
