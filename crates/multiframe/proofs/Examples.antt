@@ -1,5 +1,6 @@
 -- Worked lines, against the definition of a line's turns.
-use Rattle.std.proofs.Common.{◌≡◌, ℕ, zero, suc, ◌+◌, ◌%◌, List, [], ◌∷◌, ◌++◌, Some, None, refl}
+use Rattle.std.proofs.Common.{◌≡◌, ℕ, zero, suc, ◌+◌, ◌%◌, List, [], ◌∷◌, ◌++◌, Some, None, true, false, refl}
+use Rattle.multiframe.specs.TurnPieces.{in_hand, lead_in_so_far, ended_in}
 use Rattle.multiframe.specs.LineTurns.{Hunting, Locked, Ended, least_start, standing, multiframe, lead_in, lost_count, wanted, used_in, took, lock_of}
 
 -- the MFAS bytes of n frames from e on
@@ -35,10 +36,11 @@ five_before : (multiframe 8 (from_to 3 69) 0 ≡ Some (record { frame = 5; expec
     × (standing 8 (from_to 3 69) 9 ≡ Ended)
     × (lead_in 8 (from_to 3 69) 9 ≡ 5)
     × (lost_count 8 (from_to 3 69) 9 ≡ 0)
+    × (used_in 8 (from_to 3 69) (standing 8 (from_to 3 69) 9) 0 ≡ 69)
     × (took 16320 1126180 (from_to 3 69) (wanted 8 (from_to 3 69) 8) ≡ 1126080)
     × (took 16320 1126180 (from_to 3 69) (wanted 8 (from_to 3 69) 9) ≡ 1126180)
 unfolding least_start standing lead_in lost_count wanted
-five_before = (refl, refl, refl, refl, refl, refl, refl, refl)
+five_before = (refl, refl, refl, refl, refl, refl, refl, refl, refl)
 
 -- an empty line ends in its first turn, which asks for a frame
 empty : (multiframe 8 [] 0 ≡ None) × (standing 8 [] 1 ≡ Ended) × (lead_in 8 [] 1 ≡ 0) × (wanted 8 [] 1 ≡ 8)
@@ -83,3 +85,24 @@ hunts = (refl, refl, refl, refl, refl, refl, refl, refl, refl, refl)
 round : (multiframe 8 (from_to 248 16) 1 ≡ Some (record { frame = 8; expected = 0 }))
 unfolding least_start standing
 round = refl
+
+-- multiframes of 32 frames: sixteen wrong MFAS bytes keep one, seventeen lose it
+of_32 : (multiframe 32 (from_to 62 2 ++ from_to 64 16 ++ from_to 0 16 ++ from_to 96 32) 0 ≡ Some (record { frame = 2; expected = 64 }))
+    × (multiframe 32 (from_to 62 2 ++ from_to 64 16 ++ from_to 0 16 ++ from_to 96 32) 1 ≡ Some (record { frame = 34; expected = 96 }))
+    × (multiframe 32 (from_to 62 2 ++ from_to 64 15 ++ from_to 0 17 ++ from_to 96 32) 0 ≡ None)
+    × (multiframe 32 (from_to 62 2 ++ from_to 64 15 ++ from_to 0 17 ++ from_to 96 32) 1 ≡ Some (record { frame = 34; expected = 96 }))
+    × (standing 32 (from_to 62 2 ++ from_to 64 15 ++ from_to 0 17 ++ from_to 96 32) 3 ≡ Ended)
+unfolding least_start standing
+of_32 = (refl, refl, refl, refl, refl)
+
+-- the pieces of a turn: the frame in hand with its expected MFAS, the lead-in, and that the line ends
+pieces : (in_hand 8 (from_to 253 12) (standing 8 (from_to 253 12) 0) 1 ≡ Some (record { frame = 3; expected = 0 }))
+    × (in_hand 8 (from_to 253 12) (standing 8 (from_to 253 12) 0) 8 ≡ Some (record { frame = 10; expected = 7 }))
+    × (lead_in_so_far 8 (from_to 253 12) 0 0 ≡ 0)
+    × (lead_in_so_far 8 (from_to 253 12) 0 1 ≡ 3)
+    × (in_hand 8 (from_to 253 12) (standing 8 (from_to 253 12) 1) 1 ≡ Some (record { frame = 11; expected = 8 }))
+    × (in_hand 8 (from_to 253 12) (standing 8 (from_to 253 12) 1) 2 ≡ None)
+    × (ended_in 8 (from_to 253 12) (standing 8 (from_to 253 12) 1) 1 ≡ false)
+    × (ended_in 8 (from_to 253 12) (standing 8 (from_to 253 12) 1) 2 ≡ true)
+unfolding least_start standing lead_in
+pieces = (refl, refl, refl, refl, refl, refl, refl, refl)

@@ -1,2 +1,3 @@
 pub mod LineTurns
 pub mod Alignment
+pub mod TurnPieces
