@@ -1,0 +1,114 @@
+-- Where a multiframe may begin, by the frame in hand and the next one.
+use Rattle.std.proofs.Common.{◌≡◌, ◌≢◌, ◌≤◌, ◌+◌, ◌%◌, max, ℕ, Bool, true, false, eqb, ltb, List, [], ◌++◌, Option, Some, None, length, arith, refl, sym, ap, ◌∙◌, append-nil, subst}
+use Rattle.std.specs.Prelude.{slice_index, ◌&&◌, IfSome}
+use Rattle.std.proofs.lemmas.Bool.Decides.{nat_tests}
+use Rattle.otn_ports.specs.Views.{InView}
+use Rattle.otn_ports.proofs.GivenLaws.{gave_none}
+use Rattle.multiframe.specs.LineTurns.{one_if, looked_ahead, is_start, begins}
+use Rattle.line_side.specs.declared.ending.Ending.{Ending}
+use Rattle.line_side.specs.declared.ending.Ending.TheVariants.{Open, Seen, Died}
+use Rattle.line_side.specs.LineFile.{frame_at, frame_mfas, whole_frames, mfas_of}
+use Rattle.line_side.specs.Reader.{ReaderView, HasRead, LookedAhead, LooksAhead, Began, Begins, count_of}
+use Rattle.line_side.proofs.Mfas.{length_mfas, index_mfas}
+
+-- what is wanted covers what is used
+pub covers : (given : List ℕ) (n u w : ℕ) (r : ReaderView) → HasRead given n u w r → u + count_of r.ahead ≤ w
+covers given n u w r h = by_ending r.ending refl
+  where
+    closed : r.ending ≢ Open → u + count_of r.ahead ≤ w
+    closed other = let o = h.over other in let x = h.within in omega arith
+
+    by_ending : (e : Ending) → r.ending ≡ e → u + count_of r.ahead ≤ w
+    by_ending Open e = let s = h.still e in omega arith
+    by_ending Seen e = closed (λ f. cc)
+    by_ending Died e = closed (λ f. cc)
+
+pub same_wanted : (given : List ℕ) (n u w w' : ℕ) (r : ReaderView) → w ≡ w' → HasRead given n u w r → HasRead given n u w' r
+same_wanted given n u w w' r e h = let P : ℕ → Type 0 = λ w. HasRead given n u w r in subst P e h
+
+pub same_used : (given : List ℕ) (n u u' w : ℕ) (r : ReaderView) → u ≡ u' → HasRead given n u w r → HasRead given n u' w r
+same_used given n u u' w r e h = let P : ℕ → Type 0 = λ u. HasRead given n u w r in subst P e h
+
+and_false : (a : Bool) → (a && false) ≡ false
+and_false true = refl
+and_false false = refl
+
+-- the frame in hand has no MFAS with which a multiframe may begin
+no_look : (given : List ℕ) (n u w : ℕ) (r : ReaderView) → r.ahead ≡ None → eqb (frame_mfas (frame_at given u) % 8) 0 ≡ false → HasRead given n (u + 1) w r → Began given n u w false r
+no_look given n u w r alone other h =
+    let zero : count_of r.ahead ≡ 0 = ap count_of alone in
+    let within = h.within in
+    let cover = covers given n (u + 1) w r h in
+    let mf = index_mfas given u (omega arith) in
+    let test : eqb (slice_index (mfas_of given) u % 8) 0 ≡ false = ap (λ m. eqb (m % 8) 0) mf ∙ other in
+    let looked : looked_ahead 8 (mfas_of given) u ≡ false = ap (λ b. ltb u (length (mfas_of given)) && b) test ∙ and_false (ltb u (length (mfas_of given))) in
+    let one : one_if (looked_ahead 8 (mfas_of given) u) ≡ 0 = ap one_if looked in
+    record {
+      read = same_wanted given n (u + 1) w (max w (u + 1 + one_if (looked_ahead 8 (mfas_of given) u))) r (omega arith) h;
+      start = ap (λ b. ltb (u + 1) (length (mfas_of given)) && (b && eqb (slice_index (mfas_of given) (u + 1)) (slice_index (mfas_of given) u + 1))) test
+          ∙ and_false (ltb (u + 1) (length (mfas_of given)));
+    }
+
+pub begins_not : (old : ReaderView) (was : InView) → old.ahead ≡ None → eqb (frame_mfas old.hand % 8) 0 ≡ false → Begins false old was old was
+begins_not old was alone other = record {
+  came = [];
+  gave = gave_none was;
+  hand = refl;
+  told = λ given taken u w step h hand. rw (append-nil taken) (no_look given (length taken) u w old alone (ap (λ frame. eqb (frame_mfas frame % 8) 0) (sym hand) ∙ other) h);
+}
+
+-- it has, and the next frame was looked at
+looked : (given : List ℕ) (n' u w : ℕ) (result said : Bool) (r : ReaderView) → eqb (frame_mfas (frame_at given u) % 8) 0 ≡ true → u + 1 ≤ whole_frames given
+    → LookedAhead given n' (u + 1) (max w (u + 1 + 1)) result r
+    → (result ≡ false → said ≡ false) → (result ≡ true → IfSome r.ahead (λ frame. said ≡ begins 8 (frame_mfas (frame_at given u)) (frame_mfas frame)))
+    → Began given n' u w said r
+looked given n' u w result said r fits within look none some =
+    let size = length_mfas given in
+    let mf = index_mfas given u (omega arith) in
+    let test : eqb (slice_index (mfas_of given) u % 8) 0 ≡ true = ap (λ m. eqb (m % 8) 0) mf ∙ fits in
+    let there : ltb u (length (mfas_of given)) ≡ true = grind (arith, nat_tests) in
+    let ahead : looked_ahead 8 (mfas_of given) u ≡ true = rw (there, test) refl in
+    let one : one_if (looked_ahead 8 (mfas_of given) u) ≡ 1 = ap one_if ahead in
+    record {
+      read = same_wanted given n' (u + 1) (max w (u + 1 + 1)) (max w (u + 1 + one_if (looked_ahead 8 (mfas_of given) u))) r (omega arith) look.read;
+      start = by_result result refl;
+    }
+  where
+    mf : slice_index (mfas_of given) u ≡ frame_mfas (frame_at given u)
+    mf = index_mfas given u (omega arith)
+
+    by_result : (b : Bool) → result ≡ b → is_start 8 (mfas_of given) u ≡ said
+    by_result false e =
+        let end = (look.none e).0 in
+        let past : ltb (u + 1) (length (mfas_of given)) ≡ false = (let size = length_mfas given in grind (arith, nat_tests)) in
+        rw past (sym (none e))
+    by_result true e =
+        let f = look.frame e in
+        let inside : ltb (u + 1) (length (mfas_of given)) ≡ true = (let l = f.0 in let size = length_mfas given in grind (arith, nat_tests)) in
+        let next : slice_index (mfas_of given) (u + 1) ≡ frame_mfas (frame_at given (u + 1)) = index_mfas given (u + 1) f.0 in
+        let P : Option (List ℕ) → Type 0 = λ a. IfSome a (λ frame. said ≡ begins 8 (frame_mfas (frame_at given u)) (frame_mfas frame)) in
+        let s : said ≡ begins 8 (frame_mfas (frame_at given u)) (frame_mfas (frame_at given (u + 1))) = subst P f.1 (some e) in
+        ap (λ b. b && begins 8 (slice_index (mfas_of given) u) (slice_index (mfas_of given) (u + 1))) inside
+        ∙ ap (λ m. begins 8 m (slice_index (mfas_of given) (u + 1))) mf
+        ∙ ap (λ m. begins 8 (frame_mfas (frame_at given u)) m) next
+        ∙ sym s
+
+pub begins_by : (result said : Bool) (old : ReaderView) (was : InView) (new : ReaderView) (is : InView) → old.ahead ≡ None → eqb (frame_mfas old.hand % 8) 0 ≡ true → LooksAhead result old was new is
+    → (result ≡ false → said ≡ false) → (result ≡ true → IfSome new.ahead (λ frame. said ≡ begins 8 (frame_mfas old.hand) (frame_mfas frame))) → Begins said old was new is
+begins_by result said old was new is alone fits look none some = record {
+  came = look.came;
+  gave = look.gave;
+  hand = look.hand;
+  told = λ given taken u w step h hand.
+      let within = h.within in
+      let zero : count_of old.ahead ≡ 0 = ap count_of alone in
+      looked given (length (taken ++ look.came)) u w result said new
+      (ap (λ frame. eqb (frame_mfas frame % 8) 0) (sym hand) ∙ fits) (omega arith) (look.told given taken (u + 1) w step h) none
+      (λ e. let P : List ℕ → Type 0 = λ hand. IfSome new.ahead (λ frame. said ≡ begins 8 (frame_mfas hand) (frame_mfas frame)) in subst P hand (some e));
+}
+
+-- what is said of the frame in hand and of the next MFAS
+pub some_said : (ahead : Option (List ℕ)) (first hand next : ℕ) (said : Bool) → said ≡ begins 8 first next → first ≡ hand → IfSome ahead (λ frame. next ≡ frame_mfas frame)
+    → IfSome ahead (λ frame. said ≡ begins 8 hand (frame_mfas frame))
+some_said None first hand next said e f h = tt
+some_said (Some frame) first hand next said e f h = e ∙ ap (λ m. begins 8 m next) f ∙ ap (begins 8 hand) h

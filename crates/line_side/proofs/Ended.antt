@@ -1,0 +1,88 @@
+-- Between two turns a line knows that it has ended exactly where it has; and the MFAS that is expected in hand.
+use Rattle.std.proofs.Common.{◌≡◌, ◌≤◌, ◌+◌, ◌-◌, ◌/◌, ◌%◌, ℕ, zero, suc, Bool, true, false, cond, ltb, leb, List, Option, Some, None, length, take, drop, arith, refl, sym, ap, ◌∙◌, subst}
+use Rattle.std.specs.Prelude.{IfSome, ◌↔◌, ⊤}
+use Rattle.std.proofs.lemmas.Bool.{ltb-false, le-ltb}
+use Rattle.otn_ports.specs.Views.{InView}
+use Rattle.multiframe.specs.LineTurns.{Lock, Standing, Hunting, Locked, Ended, CutShort, Lost, Whole, lock_of, outcome_of, after_outcome, after_hunt, after_turn, standing, wrong_count}
+use Rattle.multiframe.specs.Alignment.{Alignment, taken_of}
+use Rattle.multiframe.specs.TurnPieces.{AlignedIn, aligned_by, ended_in, in_hand, hand_at}
+use Rattle.line_side.specs.LineFile.{mfas_of}
+use Rattle.line_side.specs.MayGive.{MayGive}
+use Rattle.line_side.specs.LineStands.{LineView, LineStands}
+use Rattle.line_side.proofs.TurnEnds.{standing_suc, standing_none}
+
+-- a line is locked on a frame only where all frames before it are whole
+abbrev Within : List ℕ → Standing → Type 0
+Within ms (Hunting i) = ⊤
+Within ms (Locked lock) = lock.frame ≤ length ms
+Within ms Ended = ⊤
+
+outcome_within : (ms : List ℕ) (lock : Lock) → Within ms (after_outcome 8 lock (outcome_of 8 ms lock))
+outcome_within ms lock = by_tests (ltb (length ms) (lock.frame + 8)) (ltb (8 / 2) (wrong_count lock.expected (take 8 (drop lock.frame ms)))) refl
+  where
+    by_tests : (cut wrong : Bool) → ltb (length ms) (lock.frame + 8) ≡ cut → Within ms (after_outcome 8 lock (cond cut CutShort (cond wrong Lost Whole)))
+    by_tests true wrong e = tt
+    by_tests false true e = tt
+    by_tests false false e = ltb-false _ _ e
+
+hunt_within : (ms : List ℕ) (i : ℕ) (lock : Option Lock) → Within ms (after_hunt 8 ms i lock)
+hunt_within ms i (Some lock) = outcome_within ms lock
+hunt_within ms i None = by_test (leb (i + 8) (length ms))
+  where
+    by_test : (b : Bool) → Within ms (cond b (Hunting (i + 8)) Ended)
+    by_test true = tt
+    by_test false = tt
+
+turn_within : (ms : List ℕ) (st : Standing) → Within ms (after_turn 8 ms st)
+turn_within ms (Hunting i) = hunt_within ms i (lock_of 8 ms (Hunting i))
+turn_within ms (Locked lock) = outcome_within ms lock
+turn_within ms Ended = tt
+
+standing_within : (ms : List ℕ) (t : ℕ) → Within ms (standing 8 ms t)
+standing_within ms zero = subst (Within ms) (sym (standing_none ms)) tt
+standing_within ms (suc t) = subst (Within ms) (sym (standing_suc ms t)) (turn_within ms (standing 8 ms t))
+
+ended_now : (ms : List ℕ) (st : Standing) → Within ms st → (ended_in 8 ms st 0 ≡ true) ↔ (st ≡ Ended)
+ended_now ms (Hunting i) h = (λ e. cc, λ e. cc)
+ended_now ms (Locked lock) h = let no_more = le-ltb (length ms) (lock.frame + 0) (omega arith) in (λ e. absurd (let x : false ≡ true = sym no_more ∙ e in cc), λ e. cc)
+ended_now ms Ended h = (λ e. refl, λ e. refl)
+
+-- a line that stands before turn t + 1 knows whether it has ended
+pub ended_is : (first now : InView) (t : ℕ) (given : List ℕ) (line : LineView) → line.pieces ≡ 0 → LineStands first now t line → MayGive first now given
+    → (line.ended ≡ true) ↔ (standing 8 (mfas_of given) t ≡ Ended)
+ended_is first now t given line none h may =
+    let said : line.ended ≡ ended_in 8 (mfas_of given) (standing 8 (mfas_of given) t) 0 = (h.told given may).ended ∙ ap (ended_in 8 (mfas_of given) (standing 8 (mfas_of given) t)) none in
+    let x = ended_now (mfas_of given) (standing 8 (mfas_of given) t) (standing_within (mfas_of given) t) in
+    (λ e. x.0 (sym said ∙ e), λ e. said ∙ x.1 e)
+
+-- the alignment of a turn that is locked
+aligned : (ms : List ℕ) (st : Standing) (k : ℕ) (alignment : Option Alignment) → AlignedIn 8 ms st (suc k) alignment → IfSome (lock_of 8 ms st) (λ lock. alignment ≡ Some (taken_of (suc k) ms lock))
+aligned ms (Hunting i) k alignment h = by_lock (lock_of 8 ms (Hunting i)) h
+  where
+    by_lock : (lock : Option Lock) → aligned_by ms lock (suc k) alignment → IfSome lock (λ lock. alignment ≡ Some (taken_of (suc k) ms lock))
+    by_lock None h = tt
+    by_lock (Some lock) h = h
+aligned ms (Locked lock) k alignment h = h
+aligned ms Ended k alignment h = tt
+
+expected_by : (ms : List ℕ) (lock : Option Lock) (k result : ℕ) (alignment : Option Alignment) → IfSome lock (λ lock. alignment ≡ Some (taken_of (suc k) ms lock))
+    → IfSome alignment (λ a. result ≡ (a.expected + k) % 256) → IfSome (hand_at ms lock k) (λ member. result ≡ member.expected)
+expected_by ms None k result alignment h e = tt
+expected_by ms (Some lock) k result alignment h e =
+    let P : Option Alignment → Type 0 = λ a. IfSome a (λ a. result ≡ (a.expected + k) % 256) in
+    by_test (ltb (lock.frame + k) (length ms)) (subst P h e)
+  where
+    by_test : (b : Bool) → result ≡ (lock.expected + k) % 256 → IfSome {T = Lock} (cond b (Some (record { frame = lock.frame + k; expected = (lock.expected + k) % 256 })) None) (λ member. result ≡ member.expected)
+    by_test true e = e
+    by_test false e = tt
+
+-- the MFAS that is expected in hand is that of the alignment
+pub expected_is : (first now : InView) (t k result : ℕ) (given : List ℕ) (line : LineView) → line.pieces ≡ suc k → LineStands first now t line → MayGive first now given
+    → IfSome line.alignment (λ a. result ≡ (a.expected + (line.pieces - 1)) % 256) → IfSome (in_hand 8 (mfas_of given) (standing 8 (mfas_of given) t) line.pieces) (λ member. result ≡ member.expected)
+expected_is first now t k result given line some h may e =
+    let P : ℕ → Type 0 = λ k. AlignedIn 8 (mfas_of given) (standing 8 (mfas_of given) t) k line.alignment in
+    let Q : ℕ → Type 0 = λ k. IfSome (in_hand 8 (mfas_of given) (standing 8 (mfas_of given) t) k) (λ member. result ≡ member.expected) in
+    let R : ℕ → Type 0 = λ p. IfSome line.alignment (λ a. result ≡ (a.expected + p) % 256) in
+    let one : line.pieces - 1 ≡ k = omega arith in
+    subst Q (sym some) (expected_by (mfas_of given) (lock_of 8 (mfas_of given) (standing 8 (mfas_of given) t)) k result line.alignment
+    (aligned (mfas_of given) (standing 8 (mfas_of given) t) k line.alignment (subst P some (h.told given may).alignment)) (subst R one e))

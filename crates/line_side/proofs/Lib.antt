@@ -1,0 +1,16 @@
+pub mod Giving
+pub mod Reading
+pub mod Frames
+pub mod Steps
+pub mod Mfas
+pub mod Beginnings
+pub mod Moves
+pub mod Hunting
+pub mod LockedTurns
+pub mod Turns
+pub mod TurnEnds
+pub mod Hands
+pub mod Standing
+pub mod Ended
+pub mod Exits
+pub mod Members

@@ -1,0 +1,127 @@
+-- The moves of an input line, over plain views.
+use Rattle.std.proofs.Common.{◌≡◌, ◌<◌, ◌+◌, ◌-◌, ◌%◌, ◌^◌, min, max, ℕ, Bool, true, false, eqb, ltb, List, ◌++◌, Some, length, arith, refl, sym, ap, ◌∙◌, append_assoc}
+use Rattle.std.specs.Prelude.{slice_index, option_map, ◌&&◌}
+use Rattle.std.proofs.lemmas.Bool.{ltb-true, lt-ltb}
+use Rattle.otn_ports.specs.Views.{InView}
+use Rattle.otn_ports.proofs.GivenLaws.{gave_twice}
+use Rattle.multiframe.specs.LineTurns.{one_if, looked_ahead, is_start}
+use Rattle.multiframe.specs.Alignment.{aligned_at, with_frame}
+use Rattle.line_side.specs.LineFile.{frame_at, frame_mfas, mfas_of}
+use Rattle.line_side.specs.Reader.{ReaderView, Advances, Begins, stopped}
+use Rattle.line_side.specs.LineStands.{LineView}
+use Rattle.line_side.specs.LineMoves.{TakesNext, Tries}
+use Rattle.line_side.specs.declared.tried.Tried.TheVariants.{Locks, Passes, Ends}
+use Rattle.line_side.proofs.Giving.{step_first, step_second}
+use Rattle.line_side.proofs.Beginnings.{same_wanted}
+use Rattle.line_side.proofs.Mfas.{index_mfas}
+
+pub takes_none : (old : LineView) (was is : InView) (r : ReaderView) → Advances false old.reader was r is → TakesNext false old was (record old { reader = r; ended = true }) is
+takes_none old was is r a = record {
+  came = a.came;
+  gave = a.gave;
+  keeps = record { pieces = refl; lost = refl };
+  lead_in = refl;
+  frame = λ t. absurd (cc);
+  none = λ _ given taken u w step h. let x = (a.told given taken u w step h).none refl in
+      record { read = x.0; end = x.1; alignment = refl; ended = refl };
+}
+
+pub takes_frame : (old : LineView) (was is : InView) (r : ReaderView) (m : ℕ) → Advances true old.reader was r is → m ≡ frame_mfas r.hand
+    → TakesNext true old was (record old { reader = r; alignment = option_map (with_frame m) old.alignment }) is
+takes_frame old was is r m a e = record {
+  came = a.came;
+  gave = a.gave;
+  keeps = record { pieces = refl; lost = refl };
+  lead_in = refl;
+  frame = λ _ given taken u w step h. let x = (a.told given taken u w step h).frame refl in
+      record {
+        read = x.0;
+        there = x.1;
+        hand = x.2;
+        alignment = ap (λ k. option_map (with_frame k) old.alignment) (e ∙ ap frame_mfas x.2 ∙ sym (index_mfas given u x.1));
+        ended = refl;
+      };
+  none = λ f. absurd (cc);
+}
+
+-- a turn that takes no lead-in frame
+none_passed : (lead : ℕ) (before : ℕ) → lead ≡ stopped before → lead ≡ stopped (before + 0)
+none_passed lead before e = omega arith
+
+one_passed : (lead : ℕ) (before : ℕ) → lead ≡ stopped before → min (lead + 1) (2 ^ 64 - 1) ≡ stopped (before + 1)
+one_passed lead before e = omega arith
+
+pub tries_ends : (old : LineView) (was is : InView) (r : ReaderView) → Advances false old.reader was r is → Tries Ends old was (record old { reader = r; ended = true }) is
+tries_ends old was is r a = record {
+  came = a.came;
+  gave = a.gave;
+  keeps = record { pieces = refl; lost = refl };
+  passes_over = none_passed old.lead_in;
+  passed = λ t. absurd (cc);
+  locks = λ t. absurd (cc);
+  passes = λ t. absurd (cc);
+  ends = λ _ given taken u w step h. let x = (a.told given taken u w step h).none refl in
+      record { read = x.0; end = x.1; alignment = refl; ended = refl };
+}
+
+twice_wanted : (w u x : ℕ) → max (max w (u + 1)) (u + 1 + x) ≡ max w (u + 1 + x)
+twice_wanted w u x = omega arith
+
+pub tries_passes : (old : LineView) (was mid is : InView) (r s : ReaderView) → Advances true old.reader was r mid → Begins false r mid s is
+    → Tries Passes old was (record old { reader = s; lead_in = min (old.lead_in + 1) (2 ^ 64 - 1) }) is
+tries_passes old was mid is r s a b = record {
+  came = a.came ++ b.came;
+  gave = gave_twice was mid is a.came b.came a.gave b.gave;
+  keeps = record { pieces = refl; lost = refl };
+  passes_over = one_passed old.lead_in;
+  passed = λ _. (refl, refl);
+  locks = λ t. absurd (cc);
+  passes = λ _ given taken u w step h.
+      let x = (a.told given taken u w (step_first was mid is a.came b.came given taken a.gave b.gave step) h).frame refl in
+      let y = b.told given (taken ++ a.came) u (max w (u + 1)) (step_second was mid is a.came b.came given taken a.gave step) x.0 x.2 in
+      record {
+        read = rw (← append_assoc taken a.came b.came) (same_wanted given _ (u + 1) _ _ s (twice_wanted w u (one_if (looked_ahead 8 (mfas_of given) u))) y.read);
+        start = y.start;
+      };
+  ends = λ t. absurd (cc);
+}
+
+and_first : (a b : Bool) → (a && b) ≡ true → a ≡ true
+and_first true b e = refl
+and_first false b e = absurd (cc)
+
+and_second : (a b : Bool) → (a && b) ≡ true → b ≡ true
+and_second true b e = e
+and_second false b e = absurd (cc)
+
+-- a frame at which a multiframe begins is one of those after which the next one is looked at
+pub start_looked : (ms : List ℕ) (u : ℕ) → is_start 8 ms u ≡ true → (u + 1 < length ms) × (looked_ahead 8 ms u ≡ true)
+start_looked ms u e =
+    let inside = ltb-true (u + 1) (length ms) (and_first _ _ e) in
+    let here : ltb u (length ms) ≡ true = lt-ltb u (length ms) (omega arith) in
+    let fits : eqb (slice_index ms u % 8) 0 ≡ true = and_first (eqb (slice_index ms u % 8) 0) _ (and_second (ltb (u + 1) (length ms)) _ e) in
+    (inside, ap (λ b. b && eqb (slice_index ms u % 8) 0) here ∙ fits)
+
+pub tries_locks : (old : LineView) (was mid is : InView) (r s : ReaderView) (m : ℕ) → Advances true old.reader was r mid → Begins true r mid s is → m ≡ frame_mfas s.hand
+    → Tries Locks old was (record old { reader = s; alignment = Some (with_frame m (aligned_at m)) }) is
+tries_locks old was mid is r s m a b e = record {
+  came = a.came ++ b.came;
+  gave = gave_twice was mid is a.came b.came a.gave b.gave;
+  keeps = record { pieces = refl; lost = refl };
+  passes_over = none_passed old.lead_in;
+  passed = λ t. absurd (cc);
+  locks = λ _ given taken u w step h.
+      let x = (a.told given taken u w (step_first was mid is a.came b.came given taken a.gave b.gave step) h).frame refl in
+      let y = b.told given (taken ++ a.came) u (max w (u + 1)) (step_second was mid is a.came b.came given taken a.gave step) x.0 x.2 in
+      let hand : s.hand ≡ frame_at given u = b.hand ∙ x.2 in
+      let looked : one_if (looked_ahead 8 (mfas_of given) u) ≡ 1 = ap one_if (start_looked (mfas_of given) u y.start).1 in
+      record {
+        read = rw (← append_assoc taken a.came b.came) (same_wanted given _ (u + 1) _ _ s (twice_wanted w u (one_if (looked_ahead 8 (mfas_of given) u)) ∙ ap (λ k. max w (u + 1 + k)) looked) y.read);
+        start = y.start;
+        hand = hand;
+        alignment = ap (λ k. Some (with_frame k (aligned_at k))) (e ∙ ap frame_mfas hand ∙ sym (index_mfas given u x.1));
+        ended = refl;
+      };
+  passes = λ t. absurd (cc);
+  ends = λ t. absurd (cc);
+}

@@ -1,0 +1,127 @@
+-- What a read of a frame says.
+use Rattle.std.proofs.Common.{◌≡◌, ◌≢◌, ◌<◌, ℕ, List, [], ◌∷◌, ◌++◌, Option, Some, None, length, take, arith, refl, sym, ap, ◌∙◌}
+use Rattle.std.proofs.lemmas.List.{length-take-le}
+use Rattle.otn_ports.specs.Views.{State, Empty, Live, Dead, InView}
+use Rattle.otn_ports.specs.Reads.{Reads, HasEnded, state_after}
+use Rattle.otn_ports.specs.Given.{Gave, GaveBy}
+use Rattle.otn_ports.proofs.GivenLaws.{read_gave}
+use Rattle.otn_ports.specs.declared.in_place.Reading.{Reading}
+use Rattle.otn_ports.specs.declared.in_place.Reading.TheVariants.{Full, End, Lost}
+use Rattle.otn_ports.specs.InPlace.{in_view}
+use Rattle.otn_ports.specs.declared.source.Source.{Ghosts}
+use Rattle.otn_ports.specs.declared.in_place.InPlaceOf.{InPlaceOf}
+use Rattle.otn_ports.specs.declared.in_place.InPlaceOf.TheVariants as place
+use Rattle.line_side.specs.MayGive.{Tells, MayLeave}
+use Rattle.line_side.specs.Reader.{FrameRead}
+use Rattle.line_side.proofs.Giving.{tells_after, dead_not_live, empty_not_live}
+
+-- what the answer of a read into a frame says, before the place is looked at
+pub record FrameCame (reading : Reading) (was : InView) (frame : List ℕ) (is : InView) : Type 0 where
+  pub came : List ℕ
+  pub gave : Gave was came is
+  pub whole : reading ≡ Full → (came ≡ frame) × (length came ≡ 16320) × (is.state ≢ Dead)
+  pub short : reading ≢ Full → (length came < 16320) × ((rest : List ℕ) → Tells was → MayLeave is rest → rest ≡ [])
+  pub end : (k : ℕ) → reading ≡ End k → k ≡ length came
+
+-- nothing is left of a source that tells its bytes and has ended
+none_left : (left : Option (List ℕ)) (rest tail bytes : List ℕ) → left ≡ Some bytes → HasEnded left → left ≡ Some (rest ++ tail) → rest ≡ []
+none_left None rest tail bytes e ended f = absurd (cc)
+none_left (Some x) [] tail bytes e ended f = refl
+none_left (Some x) (r ∷ rest) tail bytes e ended f = absurd (cc)
+
+live_came : (reading : Reading) (was is : InView) (into : List ℕ) → length into ≡ 16320 → was.state ≡ Live → is.state ≡ state_after Live reading → Reads reading was into is → GaveBy reading was into is → FrameCame reading was into is
+live_came Full was is into len live state reads gave = record {
+  came = into;
+  gave = gave;
+  whole = λ _. (refl, len, λ dead. dead_not_live (sym dead ∙ state));
+  short = λ other. absurd (other refl);
+  end = λ k e. cc;
+}
+live_came (End n) was is into len live state reads gave =
+    let size : length (take n into) ≡ n = length-take-le n into (let b = reads.0 in omega arith) in
+    record {
+      came = take n into;
+      gave = gave;
+      whole = λ e. absurd (cc);
+      short = λ _. (
+        let b = reads.0 in omega arith,
+        λ rest tells may.
+            let t = tells_after was is (take n into) tells live gave in
+            let (tail, left) = may.live state in
+            none_left is.left rest tail t.tail t.has reads.2 left,
+      );
+      end = λ k e. (let same : n ≡ k = cc in omega arith);
+    }
+live_came Lost was is into len live state reads (n, less, gave) =
+    let size : length (take n into) ≡ n = length-take-le n into (omega arith) in
+    record {
+      came = take n into;
+      gave = gave;
+      whole = λ e. absurd (cc);
+      short = λ _. (omega arith, λ rest tells may. may.idle (λ now. dead_not_live (sym state ∙ now)));
+      end = λ k e. absurd (cc);
+    }
+
+idle_came : (reading : Reading) (was is : InView) (into : List ℕ) → was.state ≢ Live → is ≡ was → reading ≡ End 0 → GaveBy (End 0) was into is → FrameCame reading was into is
+idle_came reading was is into idle same answer gave = record {
+  came = [];
+  gave = gave;
+  whole = λ e. absurd (cc);
+  short = λ _. (omega arith, λ rest tells may. may.idle (λ live. idle (sym (ap (λ place. place.state) same) ∙ live)));
+  end = λ k e. (let zero : 0 ≡ k = cc in omega arith);
+}
+
+pub frame_came : (reading : Reading) (was is : InView) (into : List ℕ) → length into ≡ 16320 → is.state ≡ state_after was.state reading → (was.state ≡ Live → Reads reading was into is)
+    → (was.state ≢ Live → (is ≡ was) × (reading ≡ End 0)) → FrameCame reading was into is
+frame_came reading was is into len state live idle = by_state was.state refl
+  where
+    dull : was.state ≢ Live → FrameCame reading was into is
+    dull rests =
+        let h = idle rests in
+        let gave : GaveBy reading was into is = read_gave reading was is into 16320 len state live idle in
+        idle_came reading was is into rests h.0 h.1 (rw h.1 at gave)
+
+    by_state : (s : State) → was.state ≡ s → FrameCame reading was into is
+    by_state Live e = live_came reading was is into len e (state ∙ ap (λ s. state_after s reading) e) (live e) (read_gave reading was is into 16320 len state live idle)
+    by_state Empty e = dull (λ l. empty_not_live (sym e ∙ l))
+    by_state Dead e = dull (λ l. dead_not_live (sym e ∙ l))
+
+-- the place is not dead
+pub frame_alive : (reading : Reading) (was is : InView) (into : List ℕ) → is.state ≢ Dead → FrameCame reading was into is → (reading ≡ Lost → is.state ≡ Dead) → FrameRead reading was into is
+frame_alive reading was is into alive h lost = record {
+  came = h.came;
+  gave = h.gave;
+  whole = λ e. let w = h.whole e in (w.0, w.1);
+  short = h.short;
+  end = λ k e. (h.end k e, alive);
+  lost = lost;
+}
+
+-- the place is dead
+pub frame_dead : (reading : Reading) (was is : InView) (into : List ℕ) → is.state ≡ Dead → FrameCame reading was into is → FrameRead Lost was into is
+frame_dead reading was is into dead h = record {
+  came = h.came;
+  gave = h.gave;
+  whole = λ e. absurd (cc);
+  short = λ _. h.short (λ full. (h.whole full).2 dead);
+  end = λ k e. absurd (cc);
+  lost = λ _. dead;
+}
+
+-- a read is lost only where the place dies
+pub lost_dead : (reading : Reading) (was is : InView) → is.state ≡ state_after was.state reading → (was.state ≢ Live → reading ≡ End 0) → reading ≡ Lost → is.state ≡ Dead
+lost_dead reading was is state idle lost = by_state was.state refl
+  where
+    other : was.state ≢ Live → is.state ≡ Dead
+    other rests = absurd (let e = idle rests in cc)
+
+    by_state : (s : State) → was.state ≡ s → is.state ≡ Dead
+    by_state Live e = state ∙ ap (λ s. state_after s reading) e ∙ ap (state_after Live) lost
+    by_state Empty e = other (λ l. empty_not_live (sym e ∙ l))
+    by_state Dead e = other (λ l. dead_not_live (sym e ∙ l))
+
+-- a place that is no dead one is seen so
+pub not_dead : {P : Type 0} (source : Ghosts P) (is : InPlaceOf P) → ((port : P) (n : ℕ) → is ≡ place.Dead port n → ⊥) → (in_view source is).state ≢ Dead
+not_dead source place.Empty other e = cc
+not_dead source (place.Live port n) other e = cc
+not_dead source (place.Dead port n) other e = other port n refl

@@ -1,0 +1,255 @@
+-- What a step of the reader does, over plain views.
+use Rattle.std.proofs.Common.{◌≡◌, ◌≢◌, ◌<◌, ◌+◌, ◌-◌, ◌*◌, ◌%◌, ◌^◌, min, max, ℕ, Bool, true, false, List, [], ◌++◌, Option, Some, None, length, arith, refl, sym, ap, ◌∙◌, length-append, append-nil, subst}
+use Rattle.std.specs.Prelude.{IfSome, IsTrue, ◌↔◌, if◌then◌else◌}
+use Rattle.otn_ports.specs.Views.{InView}
+use Rattle.otn_ports.proofs.GivenLaws.{gave_none}
+use Rattle.otn_ports.specs.declared.in_place.Reading.{Reading}
+use Rattle.otn_ports.specs.declared.in_place.Reading.TheVariants.{Full, End, Lost}
+use Rattle.line_side.specs.declared.ending.Ending.{Ending}
+use Rattle.line_side.specs.declared.ending.Ending.TheVariants.{Open}
+use Rattle.line_side.specs.LineFile.{frame_at, whole_frames}
+use Rattle.line_side.specs.Reader.{ReaderView, HasRead, FrameRead, Advanced, LookedAhead, Advances, LooksAhead, with_ahead, taking, with_reading, ending_after, left_after, stopped, count_of, rest_of}
+use Rattle.line_side.proofs.Frames.{frame_here, whole_here, short_here}
+
+stopped_twice : (u f : ℕ) → f ≡ stopped u → min (f + 1) (2 ^ 64 - 1) ≡ stopped (u + 1)
+stopped_twice u f e = omega arith
+
+-- nothing was taken, and the frame that was looked ahead at is in hand
+took_ahead : (given frame : List ℕ) (n u w : ℕ) (old : ReaderView) → old.ahead ≡ Some frame → HasRead given n u w old → Advanced given n u (max w (u + 1)) true (taking (Some frame) old)
+took_ahead given frame n u w old e h =
+    let one : count_of old.ahead ≡ 1 = ap count_of e in
+    let here : frame ≡ frame_at given u = (let P : Option (List ℕ) → Type 0 = λ a. IfSome a (λ frame. frame ≡ frame_at given u) in subst P e h.ahead) in
+    let within = h.within in
+    record {
+      alone = refl;
+      frame = λ _. (
+        record {
+          within = omega arith;
+          ahead = tt;
+          still = λ opened. (let s = h.still opened in (omega arith, omega arith));
+          over = λ closed. (let o = h.over closed in (omega arith, o.1, omega arith));
+          frames = stopped_twice u old.frames h.frames;
+          rest = h.rest;
+        },
+        omega arith,
+        here,
+      );
+      none = λ f. absurd (cc);
+    }
+
+-- the bytes have ended, and nothing was looked ahead at
+ended_already : (given : List ℕ) (n u w : ℕ) (old : ReaderView) → old.ahead ≡ None → old.ending ≢ Open → HasRead given n u w old → HasRead given n u (max w (u + 1)) old × (u ≡ whole_frames given)
+ended_already given n u w old e closed h =
+    let zero : count_of old.ahead ≡ 0 = ap count_of e in
+    let o = h.over closed in
+    (record { within = h.within; ahead = h.ahead; still = λ opened. absurd (closed opened); over = λ _. (o.0, o.1, omega arith); frames = h.frames; rest = h.rest }, omega arith)
+
+-- a read gave no whole frame
+short_read : (taken came rest : List ℕ) (u w : ℕ) (old new : ReaderView) → HasRead (taken ++ (came ++ rest)) (length taken) u w old
+    → old.ahead ≡ None → old.ending ≡ Open → length came < 16320 → rest ≡ []
+    → new.ahead ≡ None → new.ending ≢ Open → new.frames ≡ old.frames → new.rest ≡ rest_of new.ending (taken ++ (came ++ rest))
+    → HasRead (taken ++ (came ++ rest)) (length (taken ++ came)) u (max w (u + 1)) new × (u ≡ whole_frames (taken ++ (came ++ rest)))
+short_read taken came rest u w old new h e opened less none f closed frames left =
+    let zero : count_of old.ahead ≡ 0 = ap count_of e in
+    let zero' : count_of new.ahead ≡ 0 = ap count_of f in
+    let s = h.still opened in
+    let here = short_here taken came rest u (omega arith) less none in (
+      record {
+        within = omega (arith, here.0);
+        ahead = (let P : Option (List ℕ) → Type 0 = λ a. IfSome a (λ frame. frame ≡ frame_at (taken ++ (came ++ rest)) u) in subst P (sym f) tt);
+        still = λ o. absurd (closed o);
+        over = λ _. (omega (arith, here.0), here.1, omega (arith, here.0));
+        frames = frames ∙ h.frames;
+        rest = left;
+      },
+      here.0,
+    )
+
+-- how the bytes ended where no whole frame came
+rest_after : (reading : Reading) (given came : List ℕ) (r : ReaderView) → r.rest ≡ 0 → reading ≢ Full → ((k : ℕ) → reading ≡ End k → k ≡ length came) → length given % 16320 ≡ length came
+    → ((with_reading reading r).ending ≢ Open) × ((with_reading reading r).rest ≡ rest_of (with_reading reading r).ending given)
+rest_after Full given came r zero other end e = absurd (other refl)
+rest_after (End k) given came r zero other end e = (λ o. cc, end k refl ∙ sym e)
+rest_after Lost given came r zero other end e = (λ o. cc, zero)
+
+with_reading_ahead : (reading : Reading) (r : ReaderView) → ((with_reading reading r).ahead ≡ r.ahead) × ((with_reading reading r).frames ≡ r.frames) × ((with_reading reading r).hand ≡ r.hand)
+with_reading_ahead Full r = (refl, refl, refl)
+with_reading_ahead (End k) r = (refl, refl, refl)
+with_reading_ahead Lost r = (refl, refl, refl)
+
+pub closed_rest : (given : List ℕ) (n u w : ℕ) (r : ReaderView) → r.ending ≡ Open → HasRead given n u w r → r.rest ≡ 0
+closed_rest given n u w r opened h = h.rest ∙ ap (λ e. rest_of e given) opened
+
+-- ---- the steps as the reader's calls make them
+
+pub advance_ahead : (old : ReaderView) (was : InView) (frame : List ℕ) → old.ahead ≡ Some frame → Advances true old was (with_ahead old) was
+advance_ahead old was frame e = rw (ap (λ a. taking a old) e) (record {
+  came = [];
+  gave = gave_none was;
+  told = λ given taken u w step h.
+      let P : List ℕ → Type 0 = λ g. HasRead g (length taken) u w old → Advanced g (length (taken ++ [])) u (max w (u + 1)) true (taking (Some frame) old) in
+      subst P (sym step.parts) (λ h. rw (append-nil taken) (took_ahead (taken ++ step.rest) frame (length taken) u w old e h)) h;
+})
+
+pub advance_over : (old : ReaderView) (was : InView) → old.ahead ≡ None → old.ending ≢ Open → Advances false old was old was
+advance_over old was e closed = record {
+  came = [];
+  gave = gave_none was;
+  told = λ given taken u w step h.
+      let P : List ℕ → Type 0 = λ g. HasRead g (length taken) u w old → Advanced g (length (taken ++ [])) u (max w (u + 1)) false old in
+      subst P (sym step.parts) (λ h. rw (append-nil taken) (let o = ended_already (taken ++ step.rest) (length taken) u w old e closed h in
+      record { alone = e; frame = λ t. absurd (cc); none = λ _. (o.0, o.1, closed) })) h;
+}
+
+pub advance_short : (reading : Reading) (old : ReaderView) (was is : InView) (frame : List ℕ) (new : ReaderView) → old.ahead ≡ None → old.ending ≡ Open → reading ≢ Full → FrameRead reading was frame is
+    → new ≡ with_reading reading (record old { hand = frame }) → Advances false old was new is
+advance_short reading old was is frame new e opened other f same = rw same (record {
+  came = f.came;
+  gave = f.gave;
+  told = λ given taken u w step h.
+      let P : List ℕ → Type 0 = λ g. HasRead g (length taken) u w old → Advanced g (length (taken ++ f.came)) u (max w (u + 1)) false (with_reading reading (record old { hand = frame })) in
+      subst P (sym step.parts) (λ h.
+      let short = f.short other in
+      let none = short.1 step.rest step.tells step.may in
+      let zero = closed_rest (taken ++ (f.came ++ step.rest)) (length taken) u w old opened h in
+      let size = h.still opened in
+      let zero' : count_of old.ahead ≡ 0 = ap count_of e in
+      let here = short_here taken f.came step.rest u (omega arith) short.0 none in
+      let r = record old { hand = frame } in
+      let kept = with_reading_ahead reading r in
+      let after = rest_after reading (taken ++ (f.came ++ step.rest)) f.came r zero other (λ k q. (f.end k q).0) here.2 in
+      let read = short_read taken f.came step.rest u w old (with_reading reading r) h e opened short.0 none (kept.0 ∙ e) after.0 kept.1 after.1 in
+      record { alone = kept.0 ∙ e; frame = λ t. absurd (cc); none = λ _. (read.0, read.1, after.0) }) h;
+})
+
+pub advance_whole : (reading : Reading) (old : ReaderView) (was is : InView) (frame : List ℕ) (new : ReaderView) → old.ahead ≡ None → old.ending ≡ Open → reading ≡ Full → FrameRead reading was frame is
+    → new ≡ record { hand = frame; ahead = None; ending = old.ending; frames = stopped (old.frames + 1); rest = old.rest } → Advances true old was new is
+advance_whole reading old was is frame new e opened full f same = rw same (record {
+  came = f.came;
+  gave = f.gave;
+  told = λ given taken u w step h.
+      let P : List ℕ → Type 0 = λ g. HasRead g (length taken) u w old → Advanced g (length (taken ++ f.came)) u (max w (u + 1)) true (record { hand = frame; ahead = None; ending = old.ending; frames = stopped (old.frames + 1); rest = old.rest }) in
+      subst P (sym step.parts) (λ h.
+      let whole = f.whole full in
+      let size = h.still opened in
+      let zero : count_of old.ahead ≡ 0 = ap count_of e in
+      let n : length taken ≡ 16320 * u = omega arith in
+      let here = frame_here taken f.came step.rest u n whole.1 in
+      let there = whole_here taken f.came step.rest u n whole.1 in
+      let m = length-append taken f.came in
+      record {
+        alone = refl;
+        frame = λ _. (
+          record {
+            within = omega arith;
+            ahead = tt;
+            still = λ o. (omega (arith, whole.1), omega arith);
+            over = λ closed. absurd (closed opened);
+            frames = stopped_twice u old.frames h.frames;
+            rest = h.rest;
+          },
+          there,
+          sym (here ∙ whole.0),
+        );
+        none = λ t. absurd (cc);
+      }) h;
+})
+
+pub look_over : (old : ReaderView) (was : InView) → old.ahead ≡ None → old.ending ≢ Open → LooksAhead false old was old was
+look_over old was e closed = record {
+  came = [];
+  gave = gave_none was;
+  hand = refl;
+  told = λ given taken u w step h.
+      let P : List ℕ → Type 0 = λ g. HasRead g (length taken) u w old → LookedAhead g (length (taken ++ [])) u (max w (u + 1)) false old in
+      subst P (sym step.parts) (λ h. rw (append-nil taken) (let o = ended_already (taken ++ step.rest) (length taken) u w old e closed h in
+      record { read = o.0; frame = λ t. absurd (cc); none = λ _. (o.1, e) })) h;
+}
+
+pub look_short : (reading : Reading) (old : ReaderView) (was is : InView) (frame : List ℕ) (new : ReaderView) → old.ahead ≡ None → old.ending ≡ Open → reading ≢ Full → FrameRead reading was frame is
+    → new ≡ with_reading reading old → LooksAhead false old was new is
+look_short reading old was is frame new e opened other f same = rw same (record {
+  came = f.came;
+  gave = f.gave;
+  hand = (with_reading_ahead reading old).2;
+  told = λ given taken u w step h.
+      let P : List ℕ → Type 0 = λ g. HasRead g (length taken) u w old → LookedAhead g (length (taken ++ f.came)) u (max w (u + 1)) false (with_reading reading old) in
+      subst P (sym step.parts) (λ h.
+      let short = f.short other in
+      let none = short.1 step.rest step.tells step.may in
+      let zero = closed_rest (taken ++ (f.came ++ step.rest)) (length taken) u w old opened h in
+      let size = h.still opened in
+      let zero' : count_of old.ahead ≡ 0 = ap count_of e in
+      let here = short_here taken f.came step.rest u (omega arith) short.0 none in
+      let kept = with_reading_ahead reading old in
+      let after = rest_after reading (taken ++ (f.came ++ step.rest)) f.came old zero other (λ k q. (f.end k q).0) here.2 in
+      let read = short_read taken f.came step.rest u w old (with_reading reading old) h e opened short.0 none (kept.0 ∙ e) after.0 kept.1 after.1 in
+      record { read = read.0; frame = λ t. absurd (cc); none = λ _. (read.1, kept.0 ∙ e) }) h;
+})
+
+pub look_whole : (reading : Reading) (old : ReaderView) (was is : InView) (frame : List ℕ) (new : ReaderView) → old.ahead ≡ None → old.ending ≡ Open → reading ≡ Full → FrameRead reading was frame is
+    → new ≡ record old { ahead = Some frame } → LooksAhead true old was new is
+look_whole reading old was is frame new e opened full f same = rw same (record {
+  came = f.came;
+  gave = f.gave;
+  hand = refl;
+  told = λ given taken u w step h.
+      let P : List ℕ → Type 0 = λ g. HasRead g (length taken) u w old → LookedAhead g (length (taken ++ f.came)) u (max w (u + 1)) true (record old { ahead = Some frame }) in
+      subst P (sym step.parts) (λ h.
+      let whole = f.whole full in
+      let size = h.still opened in
+      let zero : count_of old.ahead ≡ 0 = ap count_of e in
+      let n : length taken ≡ 16320 * u = omega arith in
+      let here = frame_here taken f.came step.rest u n whole.1 in
+      let there = whole_here taken f.came step.rest u n whole.1 in
+      let m = length-append taken f.came in
+      record {
+        read = record {
+          within = omega arith;
+          ahead = sym (here ∙ whole.0);
+          still = λ o. (omega (arith, whole.1), omega arith);
+          over = λ closed. absurd (closed opened);
+          frames = h.frames;
+          rest = h.rest;
+        };
+        frame = λ _. (there, ap Some (sym (here ∙ whole.0)));
+        none = λ t. absurd (cc);
+      }) h;
+})
+
+-- two views are equal where their fields are
+pub same_view : (r s : ReaderView) → r.hand ≡ s.hand → r.ahead ≡ s.ahead → r.ending ≡ s.ending → r.frames ≡ s.frames → r.rest ≡ s.rest → r ≡ s
+same_view r s a b c d e =
+    ap (λ x. record { hand = x; ahead = r.ahead; ending = r.ending; frames = r.frames; rest = r.rest }) a
+    ∙ ap (λ x. record { hand = s.hand; ahead = x; ending = r.ending; frames = r.frames; rest = r.rest }) b
+    ∙ ap (λ x. record { hand = s.hand; ahead = s.ahead; ending = x; frames = r.frames; rest = r.rest }) c
+    ∙ ap (λ x. record { hand = s.hand; ahead = s.ahead; ending = s.ending; frames = x; rest = r.rest }) d
+    ∙ ap (λ x. record { hand = s.hand; ahead = s.ahead; ending = s.ending; frames = s.frames; rest = x }) e
+
+false_not_true : false ≢ true
+false_not_true e = cc
+
+pub not_full : (reading : Reading) (b : Bool) → b ≡ false → (IsTrue b ↔ (reading ≡ Full)) → reading ≢ Full
+not_full reading true e h f = cc
+not_full reading false e h f = false_not_true (h.1 f)
+
+pub is_full : (reading : Reading) (b : Bool) → b ≡ true → (IsTrue b ↔ (reading ≡ Full)) → reading ≡ Full
+is_full reading true e h = h.0 refl
+is_full reading false e h = absurd (cc)
+
+pub not_open : (ending : Ending) (b : Bool) → b ≡ false → (IsTrue b ↔ (ending ≡ Open)) → ending ≢ Open
+not_open ending true e h f = cc
+not_open ending false e h f = false_not_true (h.1 f)
+
+pub is_opened : (ending : Ending) (b : Bool) → b ≡ true → (IsTrue b ↔ (ending ≡ Open)) → ending ≡ Open
+is_opened ending true e h = h.0 refl
+is_opened ending false e h = absurd (cc)
+
+-- the reading says whether there is a frame
+pub look_by : (reading : Reading) (result : Bool) (old : ReaderView) (was is : InView) (frame : List ℕ) (new : ReaderView) → (IsTrue result ↔ (reading ≡ Full)) → old.ahead ≡ None → old.ending ≡ Open → FrameRead reading was frame is
+    → new.hand ≡ old.hand → new.ahead ≡ (if result then Some frame else None) → new.ending ≡ ending_after reading old.ending → new.frames ≡ old.frames → new.rest ≡ left_after reading old.rest → LooksAhead result old was new is
+look_by reading true old was is frame new said e opened f hand ahead ending frames rest =
+    let full = said.0 refl in
+    look_whole reading old was is frame new e opened full f (same_view new (record old { ahead = Some frame }) hand ahead (ending ∙ ap (λ r. ending_after r old.ending) full) frames (rest ∙ ap (λ r. left_after r old.rest) full))
+look_by reading false old was is frame new said e opened f hand ahead ending frames rest =
+    look_short reading old was is frame new e opened (λ full. false_not_true (said.1 full)) f (same_view new (with_reading reading old) hand (ahead ∙ sym e) ending frames rest)

@@ -1,0 +1,5 @@
+pub mod LineFile
+pub mod MayGive
+pub mod Reader
+pub mod LineStands
+pub mod LineMoves

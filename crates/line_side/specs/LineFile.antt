@@ -1,0 +1,24 @@
+-- The frames of a line, in the order in which their bytes come.
+use Rattle.std.specs.Prelude.{ℕ, zero, suc, ◌*◌, ◌/◌, List, [], ◌∷◌, ◌++◌, length, take, drop, slice_index}
+use Rattle.frame_geometry.specs.Places.{place_of}
+
+-- frame f, from 0: 16,320 bytes (G.709 clause 11.1)
+unfoldable pub frame_at : List ℕ → ℕ → List ℕ
+frame_at bytes f = take 16320 (drop (16320 * f) bytes)
+
+-- the MFAS of a frame: row 1, column 7 (G.709 clause 15.6)
+abbrev pub frame_mfas : List ℕ → ℕ
+frame_mfas frame = slice_index frame (place_of 4080 1 7)
+
+-- how many whole frames these bytes have
+abbrev pub whole_frames : List ℕ → ℕ
+whole_frames bytes = length bytes / 16320
+
+-- the MFAS bytes of the first n frames
+unfoldable pub first_mfas : List ℕ → ℕ → List ℕ
+first_mfas bytes zero = []
+first_mfas bytes (suc n) = first_mfas bytes n ++ frame_mfas (frame_at bytes n) ∷ []
+
+-- the MFAS bytes of all whole frames
+abbrev pub mfas_of : List ℕ → List ℕ
+mfas_of bytes = first_mfas bytes (whole_frames bytes)

@@ -1,0 +1,40 @@
+-- Where an input line stands in its turns.
+use Rattle.std.specs.Prelude.{◌≡◌, ℕ, Bool, List, length, Option, IfSome, is_some}
+use Rattle.otn_ports.specs.Views.{InView}
+use Rattle.otn_ports.specs.Given.{Gave}
+use Rattle.multiframe.specs.LineTurns.{standing, used_in, wanted_so_far, lost_count}
+use Rattle.multiframe.specs.Alignment.{Alignment}
+use Rattle.line_side.specs.LineFile.{frame_at, mfas_of}
+use Rattle.line_side.specs.MayGive.{MayGive}
+use Rattle.line_side.specs.Reader.{ReaderView, HasRead, EndedAs, stopped}
+use Rattle.multiframe.specs.TurnPieces.{AlignedIn, in_hand, ended_in, lead_in_so_far}
+
+-- what is seen of an input line: its alignment, its reader, how many pieces of the turn are done, whether the last one
+-- came to a frame of a multiframe, whether the line has ended, and how many frames were lead-in and multiframes lost
+pub record LineView : Type 0 where
+  pub alignment : Option Alignment
+  pub reader : ReaderView
+  pub pieces : ℕ
+  pub member : Bool
+  pub ended : Bool
+  pub lead_in : ℕ
+  pub lost : ℕ
+
+-- The line is in turn t + 1 of the line that these bytes are, after line.pieces of its pieces. Of the bytes n were read:
+-- so many frames as the turns so far want, or all where they want one that is not whole.
+pub record IsLine (given : List ℕ) (n t : ℕ) (line : LineView) : Type 0 where
+  pub read : HasRead given n (used_in 8 (mfas_of given) (standing 8 (mfas_of given) t) line.pieces) (wanted_so_far 8 (mfas_of given) t line.pieces) line.reader
+  pub alignment : AlignedIn 8 (mfas_of given) (standing 8 (mfas_of given) t) line.pieces line.alignment
+  pub member : line.member ≡ is_some (in_hand 8 (mfas_of given) (standing 8 (mfas_of given) t) line.pieces)
+  pub hand : IfSome (in_hand 8 (mfas_of given) (standing 8 (mfas_of given) t) line.pieces) (λ member. line.reader.hand ≡ frame_at given member.frame)
+  pub ended : line.ended ≡ ended_in 8 (mfas_of given) (standing 8 (mfas_of given) t) line.pieces
+  pub lead_in : line.lead_in ≡ stopped (lead_in_so_far 8 (mfas_of given) t line.pieces)
+  pub lost : line.lost ≡ stopped (lost_count 8 (mfas_of given) t)
+
+-- The line stands in turn t + 1 after line.pieces of its pieces, on a place that was so at first and is so now: for
+-- whatever the place may give in the whole run, it is a line of these bytes.
+pub record LineStands (first now : InView) (t : ℕ) (line : LineView) : Type 0 where
+  pub taken : List ℕ
+  pub gave : Gave first taken now
+  pub ending : EndedAs line.reader.ending now
+  pub told : (given : List ℕ) → MayGive first now given → IsLine given (length taken) t line

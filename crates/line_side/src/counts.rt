@@ -1,0 +1,14 @@
+// The numbers of a line, for its report.
+
+/// The numbers of an input line. Each stops at 2^64-1.
+#[derive(Clone, Copy, Debug, PartialEq, Eq)]
+pub struct LineCounts {
+    /// Whole frames used, lead-in among them.
+    pub frames: u64,
+    /// Frames passed over in search of a multiframe.
+    pub lead_in: u64,
+    /// Multiframes with five or more wrong MFAS bytes.
+    pub lost: u64,
+    /// Bytes after the last whole frame, where the end was seen.
+    pub rest: u64,
+}

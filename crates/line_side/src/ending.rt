@@ -1,0 +1,9 @@
+// Whether and how the bytes of a line have ended.
+
+/// Whether the bytes of a line have ended: they have not, their end was seen, or their place died.
+#[derive(Clone, Copy, Debug, PartialEq, Eq)]
+pub enum Ending {
+    Open,
+    Seen,
+    Died,
+}

@@ -1,0 +1,257 @@
+// An input line: it finds multiframes in the frames that come, one in each turn.
+ghost use Rattle.std.specs.Prelude.{◌≡◌, ◌≢◌, ◌↔◌, ◌+◌, ◌-◌, ◌%◌, ◌<◌, ◌≤◌, ℕ, List, true, false, None, Some, IfOk, IfSome, IsSome, IsSomeAnd, IsTrue, is_some, length};
+ghost use Rattle.std.specs.Option.{ForSome};
+ghost use Rattle.otn_ports.specs.InPlace.{in_view};
+ghost use Rattle.otn_ports.specs.Views.{InView};
+
+use crate::LineCounts;
+use crate::reader::LineReader;
+use crate::tried::Tried;
+use frame_geometry::Frame;
+use multiframe::Phase;
+use otn_base::Memory;
+use otn_base::limits::{LINE_COLUMNS, MULTIFRAME};
+use otn_ports::{InPlaceOf, Source};
+use std::alloc::Global;
+use std::marker::Model;
+
+/// An input line of a node. Each of its turns is one multiframe, done in eight pieces of one frame each. It hunts for
+/// a multiframe, and passes over the frames before it as lead-in, which takes no turn; it is locked while at most four
+/// of the eight MFAS bytes of each multiframe differ from the expected ones (G.709 clause 15.6).
+#[derive(Drop)]
+pub struct LineIn {
+    phase: Phase,
+    reader: LineReader,
+    pieces: u8,
+    member: bool,
+    ended: bool,
+    lead_in: u64,
+    lost: u64,
+}
+
+impl Model for LineIn {
+    ghost use Rattle.std.specs.Prelude.{◌≡◌, ◌≤◌, true, IsSome, length};
+    ghost use Rattle.std.specs.Option.{ForSome};
+    ghost use Rattle.line_side.specs.LineStands.{LineView};
+
+    ghost Value = { LineView };
+
+    ghost view = { λ l. record { alignment = l.phase; reader = l.reader; pieces = l.pieces; member = l.member; ended = l.ended; lead_in = l.lead_in; lost = l.lost } };
+
+    ghost invariant = { λ l. record {
+      pieces : l.pieces ≤ 8;
+      taken : ForSome l.phase (λ a. length a.taken ≤ l.pieces);
+      member : l.member ≡ true → (1 ≤ l.pieces) × IsSome l.phase;
+    } };
+}
+
+impl LineIn {
+    ghost use Rattle.line_side.specs.LineStands.{LineStands};
+    ghost use Rattle.line_side.specs.LineMoves.{TakesNext, Tries, Hunts, StepMoves, EndMoves};
+    ghost use Rattle.line_side.specs.Reader.{EndedAs};
+    ghost use Rattle.line_side.specs.MayGive.{MayGive};
+    ghost use Rattle.line_side.specs.LineFile.{mfas_of};
+    ghost use Rattle.multiframe.specs.LineTurns.{Ended, standing, multiframe};
+    ghost use Rattle.multiframe.specs.TurnPieces.{in_hand};
+    ghost use Rattle.line_side.specs.declared.ending.Ending.TheVariants.{Open, Seen};
+
+    /// A line before its first turn, of which nothing was read.
+    pub fn new(alloc: Global) -> Result<LineIn, Memory>
+        ensures stands { IfOk result (λ line. (first : InView) → LineStands first first 0 line) }
+        ensures pieces { IfOk result (λ line. line.pieces ≡ 0) }
+    {
+        Ok(LineIn {
+            phase: Phase::new(),
+            reader: LineReader::new(alloc)?,
+            pieces: 0,
+            member: false,
+            ended: false,
+            lead_in: 0,
+            lost: 0,
+        })
+    }
+
+    /// Does the next piece of the turn, and says whether a frame of the turn's multiframe is now in hand. The first
+    /// piece of a turn that hunts reads up to nine frames. A line that has ended, or that found no multiframe in this
+    /// turn, reads nothing.
+    pub fn piece<P: Source>(&mut self, place: &mut InPlaceOf<P>) -> bool
+        requires { self.old.pieces < 8 }
+        ensures stands { (first : InView) (t : ℕ) → LineStands first (in_view P.Source place.old) t self.old
+            → LineStands first (in_view P.Source place.new) t self.new }
+        ensures pieces { self.new.pieces ≡ self.old.pieces + 1 }
+        ensures member { result ≡ self.new.member }
+
+        // what the place may give in the whole run after this piece, it could give before it
+        ensures earlier { (first : InView) (t : ℕ) (given : List ℕ) → LineStands first (in_view P.Source place.old) t self.old
+            → MayGive first (in_view P.Source place.new) given → MayGive first (in_view P.Source place.old) given }
+
+        // once the end was seen, the place died or the line has ended, the place is asked nothing more
+        ensures quiet { self.old.reader.ending ≢ Open → place.new ≡ place.old }
+        ensures ended { self.old.ended ≡ true → place.new ≡ place.old }
+    {
+        let first = self.pieces == 0;
+        self.pieces += 1;
+        self.member = false;
+        self.member = self.step(place, first);
+        self.member
+    }
+
+    /// The frame in hand: one of the turn's multiframe. The last piece has said that there is one.
+    pub fn frame(&self) -> &Frame<LINE_COLUMNS>
+        requires { self.now.member ≡ true }
+        ensures { result.now ≡ self.now.reader.hand }
+    {
+        self.reader.frame()
+    }
+
+    /// The MFAS that is expected in the frame in hand. The last piece has said that there is one.
+    pub fn expected(&self) -> u8
+        requires { self.now.member ≡ true }
+        ensures alignment { IfSome self.now.alignment (λ a. result ≡ (a.expected + (self.now.pieces - 1)) % 256) }
+        ensures line { (first now : InView) (t : ℕ) (given : List ℕ) → LineStands first now t self.now → MayGive first now given
+            → IfSome (in_hand 8 (mfas_of given) (standing 8 (mfas_of given) t) self.now.pieces) (λ member. result ≡ member.expected) }
+    {
+        let _ = &self.member;
+        self.phase.expected(self.pieces - 1)
+    }
+
+    /// Ends the turn, and says whether it has a multiframe.
+    pub fn end_turn(&mut self) -> bool
+        requires { self.old.pieces ≡ 8 }
+        ensures stands { (first now : InView) (t : ℕ) → LineStands first now t self.old → LineStands first now (t + 1) self.new }
+        ensures multiframe { (first now : InView) (t : ℕ) (given : List ℕ) → LineStands first now t self.old → MayGive first now given
+            → result ≡ is_some (multiframe 8 (mfas_of given) t) }
+        ensures ended { (first now : InView) (t : ℕ) (given : List ℕ) → LineStands first now t self.old → MayGive first now given
+            → (self.new.ended ≡ true) ↔ (standing 8 (mfas_of given) (t + 1) ≡ Ended) }
+        ensures pieces { self.new.pieces ≡ 0 }
+    {
+        self.close()
+    }
+
+    fn close(&mut self) -> bool
+        ensures { EndMoves result self.old self.new }
+    {
+        let hunted = self.phase.hunting();
+        let whole = self.phase.end_turn();
+        self.pieces = 0;
+        self.member = false;
+        if self.ended || hunted {
+            return false;
+        }
+        if !whole {
+            self.lost = self.lost.saturating_add(1);
+        }
+        whole
+    }
+
+    /// Whether the line has ended: no later turn has a multiframe.
+    pub fn ended(&self) -> bool
+        ensures { result ≡ self.now.ended }
+    {
+        self.ended
+    }
+
+    /// Whether a read of this line came to the end of its place, which was not dead.
+    pub fn end_seen(&self) -> bool
+        ensures { IsTrue result ↔ (self.now.reader.ending ≡ Seen) }
+    {
+        self.reader.end_seen()
+    }
+
+    /// The numbers of the line so far.
+    pub fn counts(&self) -> LineCounts
+        ensures frames { result.frames ≡ self.now.reader.frames }
+        ensures lead_in { result.lead_in ≡ self.now.lead_in }
+        ensures lost { result.lost ≡ self.now.lost }
+        ensures rest { result.rest ≡ self.now.reader.rest }
+    {
+        LineCounts {
+            frames: self.reader.frames(),
+            lead_in: self.lead_in,
+            lost: self.lost,
+            rest: self.reader.rest(),
+        }
+    }
+
+    // A piece of a line that has not ended takes the next frame of the turn, or hunts for the first one.
+    fn step<P: Source>(&mut self, place: &mut InPlaceOf<P>, first: bool) -> bool
+        requires room { ForSome self.old.alignment (λ a. length a.taken < self.old.pieces) }
+        requires pieces { 1 ≤ self.old.pieces }
+        requires most { self.old.pieces ≤ 8 }
+        requires fresh { self.old.member ≡ false }
+        ensures moves { StepMoves first result self.old (in_view P.Source place.old) self.new (in_view P.Source place.new) }
+        ensures pieces { self.new.pieces ≡ self.old.pieces }
+        ensures aligned { result ≡ true → IsSome self.new.alignment }
+        ensures ending { EndedAs self.old.reader.ending (in_view P.Source place.old) → EndedAs self.new.reader.ending (in_view P.Source place.new) }
+        ensures rests { self.old.ended ≡ true → place.new ≡ place.old }
+        ensures quiet { self.old.reader.ending ≢ Open → (place.new ≡ place.old) × (self.new.reader.ending ≢ Open) }
+    {
+        if self.ended {
+            return false;
+        }
+        if !self.phase.hunting() {
+            return self.take_next(place);
+        }
+        first && self.hunt(place)
+    }
+
+    // Takes the next frame of a turn that is locked. The line ends where it isn't whole.
+    fn take_next<P: Source>(&mut self, place: &mut InPlaceOf<P>) -> bool
+        requires room { IsSomeAnd self.old.alignment (λ a. length a.taken < self.old.pieces) }
+        requires most { self.old.pieces ≤ 8 }
+        ensures takes { TakesNext result self.old (in_view P.Source place.old) self.new (in_view P.Source place.new) }
+        ensures aligned { result ≡ true → IsSome self.new.alignment }
+        ensures ending { EndedAs self.old.reader.ending (in_view P.Source place.old) → EndedAs self.new.reader.ending (in_view P.Source place.new) }
+        ensures quiet { self.old.reader.ending ≢ Open → (place.new ≡ place.old) × (self.new.reader.ending ≢ Open) }
+    {
+        if !self.reader.advance(place) {
+            self.ended = true;
+            return false;
+        }
+        self.phase.take(self.reader.mfas());
+        true
+    }
+
+    // Hunts for the first frame of a multiframe. It passes over eight frames at most.
+    fn hunt<P: Source>(&mut self, place: &mut InPlaceOf<P>) -> bool
+        requires hunting { self.old.alignment ≡ None }
+        requires pieces { 1 ≤ self.old.pieces }
+        requires going { self.old.ended ≡ false }
+        ensures hunts { Hunts result self.old (in_view P.Source place.old) self.new (in_view P.Source place.new) }
+        ensures aligned { result ≡ true → IsSome self.new.alignment }
+        ensures ending { EndedAs self.old.reader.ending (in_view P.Source place.old) → EndedAs self.new.reader.ending (in_view P.Source place.new) }
+        ensures quiet { self.old.reader.ending ≢ Open → (place.new ≡ place.old) × (self.new.reader.ending ≢ Open) }
+    {
+        for _ in 0..MULTIFRAME {
+            match self.try_frame(place) {
+                Tried::Locks => return true,
+                Tried::Passes => {}
+                Tried::Ends => return false,
+            }
+        }
+        false
+    }
+
+    // Locks on the multiframe that begins with the next frame, or passes over it. The line ends where it isn't whole.
+    fn try_frame<P: Source>(&mut self, place: &mut InPlaceOf<P>) -> Tried
+        requires hunting { self.old.alignment ≡ None }
+        requires pieces { 1 ≤ self.old.pieces }
+        ensures tries { Tries result self.old (in_view P.Source place.old) self.new (in_view P.Source place.new) }
+        ensures aligned { result ≡ Tried.Locks → IsSome self.new.alignment }
+        ensures ending { EndedAs self.old.reader.ending (in_view P.Source place.old) → EndedAs self.new.reader.ending (in_view P.Source place.new) }
+        ensures quiet { self.old.reader.ending ≢ Open → (place.new ≡ place.old) × (self.new.reader.ending ≢ Open) }
+    {
+        if !self.reader.advance(place) {
+            self.ended = true;
+            return Tried::Ends;
+        }
+        if !self.reader.begins(place) {
+            self.lead_in = self.lead_in.saturating_add(1);
+            return Tried::Passes;
+        }
+        let mfas = self.reader.mfas();
+        self.phase.lock(mfas);
+        self.phase.take(mfas);
+        Tried::Locks
+    }
+}

@@ -1,0 +1,227 @@
+// The frames of a line, one after the other, with one frame looked ahead at.
+ghost use Rattle.std.specs.Prelude.{◌≡◌, ◌≢◌, ◌%◌, true, IfOk, IfSome, IsTrue, ◌↔◌, None};
+ghost use Rattle.otn_ports.specs.InPlace.{in_view};
+
+use crate::ending::Ending;
+use frame_geometry::Frame;
+use multiframe::starts;
+use otn_base::Memory;
+use otn_base::limits::{LINE_COLUMNS, MULTIFRAME};
+use otn_ports::{InPlaceOf, Reading, Source};
+use std::alloc::Global;
+use std::marker::Model;
+use std::mem;
+
+// The place of the MFAS in a frame (G.709 clause 15.6).
+const MFAS_ROW: u32 = 1;
+
+const MFAS_COLUMN: u32 = 7;
+
+/// A reader of a line's frames.
+#[derive(Drop)]
+pub(crate) struct LineReader {
+    hand: Frame<LINE_COLUMNS>,
+    next: Frame<LINE_COLUMNS>,
+    is_ahead: bool,
+    ending: Ending,
+    frames: u64,
+    rest: u64,
+}
+
+impl Model for LineReader {
+    ghost use Rattle.std.specs.Prelude.{if◌then◌else◌, Some, None};
+    ghost use Rattle.line_side.specs.Reader.{ReaderView};
+
+    ghost Value = { ReaderView };
+
+    ghost view = { λ r. record { hand = r.hand; ahead = if r.is_ahead then Some r.next else None; ending = r.ending; frames = r.frames; rest = r.rest } };
+}
+
+ghost use Rattle.line_side.specs.Reader.{FrameRead};
+
+// Reads a frame. `End` says how many bytes came of one that isn't whole, and `Lost` that the place is dead.
+fn read_frame<P: Source>(place: &mut InPlaceOf<P>, frame: &mut Frame<LINE_COLUMNS>) -> Reading
+    ensures { FrameRead result (in_view P.Source place.old) frame.new (in_view P.Source place.new) }
+{
+    let reading = place.read_full(frame.as_bytes_mut());
+    match place {
+        InPlaceOf::Dead(..) => Reading::Lost,
+        _ => reading,
+    }
+}
+
+ghost use Rattle.line_side.specs.Reader.{Advances, LooksAhead, Begins, EndedAs, with_ahead, ending_after, left_after};
+ghost use Rattle.line_side.specs.LineFile.{frame_mfas};
+ghost use Rattle.line_side.specs.declared.ending.Ending.TheVariants.{Open, Seen};
+
+impl LineReader {
+    /// A reader that has read nothing.
+    pub(crate) fn new(alloc: Global) -> Result<LineReader, Memory>
+        ensures ahead { IfOk result (λ r. r.ahead ≡ None) }
+        ensures ending { IfOk result (λ r. r.ending ≡ Open) }
+        ensures frames { IfOk result (λ r. r.frames ≡ 0) }
+        ensures rest { IfOk result (λ r. r.rest ≡ 0) }
+    {
+        Ok(LineReader {
+            hand: Frame::new(alloc)?,
+            next: Frame::new(alloc)?,
+            is_ahead: false,
+            ending: Ending::Open,
+            frames: 0,
+            rest: 0,
+        })
+    }
+
+    /// Takes the next frame into the hand, and says whether there is one. The frame that was looked ahead at comes
+    /// first.
+    pub(crate) fn advance<P: Source>(&mut self, place: &mut InPlaceOf<P>) -> bool
+        ensures advances { Advances result self.old (in_view P.Source place.old) self.new (in_view P.Source place.new) }
+        ensures ending { EndedAs self.old.ending (in_view P.Source place.old) → EndedAs self.new.ending (in_view P.Source place.new) }
+        ensures quiet { self.old.ending ≢ Open → (place.new ≡ place.old) × (self.new.ending ≢ Open) }
+        ensures alone { self.new.ahead ≡ None }
+    {
+        if self.is_ahead {
+            self.take_ahead();
+            return true;
+        }
+        self.read_next(place)
+    }
+
+    /// Looks ahead at the frame after the one in hand, and says whether there is one.
+    pub(crate) fn look_ahead<P: Source>(&mut self, place: &mut InPlaceOf<P>) -> bool
+        requires { self.old.ahead ≡ None }
+        ensures looks { LooksAhead result self.old (in_view P.Source place.old) self.new (in_view P.Source place.new) }
+        ensures ending { EndedAs self.old.ending (in_view P.Source place.old) → EndedAs self.new.ending (in_view P.Source place.new) }
+        ensures quiet { self.old.ending ≢ Open → (place.new ≡ place.old) × (self.new.ending ≢ Open) }
+    {
+        if !self.is_open() {
+            return false;
+        }
+        let reading = read_frame(place, &mut self.next);
+        self.is_ahead = has_come(reading, &mut self.ending, &mut self.rest);
+        self.is_ahead
+    }
+
+    /// Whether a multiframe may begin with the frame in hand. It looks ahead at the next frame only where one might
+    /// begin by the frame in hand.
+    pub(crate) fn begins<P: Source>(&mut self, place: &mut InPlaceOf<P>) -> bool
+        requires { self.old.ahead ≡ None }
+        ensures begins { Begins result self.old (in_view P.Source place.old) self.new (in_view P.Source place.new) }
+        ensures ending { EndedAs self.old.ending (in_view P.Source place.old) → EndedAs self.new.ending (in_view P.Source place.new) }
+        ensures quiet { self.old.ending ≢ Open → (place.new ≡ place.old) × (self.new.ending ≢ Open) }
+        ensures first { result ≡ true → frame_mfas self.new.hand % 8 ≡ 0 }
+    {
+        let mfas = self.mfas();
+        if mfas as usize % MULTIFRAME != 0 {
+            return false;
+        }
+        self.look_ahead(place) && starts(mfas, self.next_mfas())
+    }
+
+    /// The MFAS of the frame in hand.
+    pub(crate) fn mfas(&self) -> u8
+        ensures { result ≡ frame_mfas self.now.hand }
+    {
+        self.hand.get(MFAS_ROW, MFAS_COLUMN)
+    }
+
+    /// The frame in hand.
+    pub(crate) fn frame(&self) -> &Frame<LINE_COLUMNS>
+        ensures { result.now ≡ self.now.hand }
+    {
+        &self.hand
+    }
+
+    /// Whether the end of the bytes was seen.
+    pub(crate) fn end_seen(&self) -> bool
+        ensures { IsTrue result ↔ (self.now.ending ≡ Seen) }
+    {
+        match self.ending {
+            Ending::Open => false,
+            Ending::Seen => true,
+            Ending::Died => false,
+        }
+    }
+
+    /// How many frames were taken into the hand.
+    pub(crate) fn frames(&self) -> u64
+        ensures { result ≡ self.now.frames }
+    {
+        self.frames
+    }
+
+    /// How many bytes came after the last whole frame.
+    pub(crate) fn rest(&self) -> u64
+        ensures { result ≡ self.now.rest }
+    {
+        self.rest
+    }
+
+    // The MFAS of the frame that was looked ahead at.
+    fn next_mfas(&self) -> u8
+        ensures { IfSome self.now.ahead (λ frame. result ≡ frame_mfas frame) }
+    {
+        self.next.get(MFAS_ROW, MFAS_COLUMN)
+    }
+
+    // Takes the frame that was looked ahead at into the hand.
+    fn take_ahead(&mut self)
+        ensures { self.new ≡ with_ahead self.old }
+    {
+        if self.is_ahead {
+            mem::swap(&mut self.hand, &mut self.next);
+            self.is_ahead = false;
+            self.frames = self.frames.saturating_add(1);
+        }
+    }
+
+    // Reads the next frame into the hand.
+    fn read_next<P: Source>(&mut self, place: &mut InPlaceOf<P>) -> bool
+        requires { self.old.ahead ≡ None }
+        ensures advances { Advances result self.old (in_view P.Source place.old) self.new (in_view P.Source place.new) }
+        ensures ending { EndedAs self.old.ending (in_view P.Source place.old) → EndedAs self.new.ending (in_view P.Source place.new) }
+        ensures quiet { self.old.ending ≢ Open → (place.new ≡ place.old) × (self.new.ending ≢ Open) }
+        ensures alone { self.new.ahead ≡ None }
+    {
+        if !self.is_open() {
+            return false;
+        }
+        let reading = read_frame(place, &mut self.hand);
+        if !has_come(reading, &mut self.ending, &mut self.rest) {
+            return false;
+        }
+        self.frames = self.frames.saturating_add(1);
+        true
+    }
+
+    // Whether the bytes have not ended.
+    fn is_open(&self) -> bool
+        ensures { IsTrue result ↔ (self.now.ending ≡ Open) }
+    {
+        match self.ending {
+            Ending::Open => true,
+            Ending::Seen => false,
+            Ending::Died => false,
+        }
+    }
+}
+
+// Says whether a whole frame came. If none did, the bytes have ended.
+fn has_come(reading: Reading, ending: &mut Ending, rest: &mut u64) -> bool
+    ensures whole { IsTrue result ↔ (reading ≡ Reading.Full) }
+    ensures ending { ending.new ≡ ending_after reading ending.old }
+    ensures rest { rest.new ≡ left_after reading rest.old }
+{
+    match reading {
+        Reading::Full => true,
+        Reading::End(n) => {
+            *ending = Ending::Seen;
+            *rest = n as u64;
+            false
+        }
+        Reading::Lost => {
+            *ending = Ending::Died;
+            false
+        }
+    }
+}

@@ -1,0 +1,171 @@
+// Whole lines, piece by piece.
+ghost use Rattle.std.specs.Prelude.{None};
+
+use crate::{LineCounts, LineIn};
+use otn_base::limits::LINE_FRAME_BYTES;
+use otn_ports::{Failed, InPlaceOf, MemSource, Source};
+use std::alloc::{AllocError, Global};
+use std::test::Fail;
+
+// A source that fails at the read after so many.
+#[derive(Drop)]
+struct FailsAfter {
+    source: MemSource,
+    reads: u32,
+    failed: u64,
+}
+
+impl Source for FailsAfter {
+    ghost left = { λ _. None };
+
+    ghost faults = { λ s. s.failed };
+
+    fn read(&mut self, into: &mut [u8]) -> Result<usize, Failed> {
+        if self.reads == 0 {
+            self.failed = self.failed.saturating_add(1);
+            return Err(Failed);
+        }
+        self.reads -= 1;
+        self.source.read(into)
+    }
+}
+
+// The bytes of frames with these MFAS bytes, and others behind them. Byte 20 of a frame is its number.
+fn line(alloc: Global, mfas: &[u8], rest: usize) -> Result<Vec<u8>, AllocError> {
+    let mut bytes = Vec::new(alloc);
+    let mut number = 0_u8;
+    for first in mfas {
+        for place in 0..LINE_FRAME_BYTES {
+            bytes.push(match place {
+                6 => *first,
+                20 => number,
+                _ => 0,
+            })?;
+        }
+        number = number.wrapping_add(1);
+    }
+    for _ in 0..rest {
+        bytes.push(0)?;
+    }
+    Ok(bytes)
+}
+
+// The MFAS bytes of so many frames from one on.
+fn from(alloc: Global, first: u8, count: usize) -> Result<Vec<u8>, AllocError> {
+    let mut mfas = Vec::new(alloc);
+    let mut next = first;
+    for _ in 0..count {
+        mfas.push(next)?;
+        next = next.wrapping_add(1);
+    }
+    Ok(mfas)
+}
+
+// Does the turns of a line until it has ended, a hundred at most: for each turn the number of the first frame of its
+// multiframe, or 255 where it has none.
+fn turns<P: Source>(alloc: Global, source: P) -> Result<(Vec<u8>, LineCounts, bool), AllocError> {
+    let mut place = InPlaceOf::Live(source, 0);
+    let mut line = LineIn::new(alloc).map_err(|_memory| AllocError)?;
+    let mut firsts = Vec::new(alloc);
+    for _ in 0..100_u8 {
+        if line.ended() {
+            break;
+        }
+        let mut first = 255;
+        for n in 0..8_u8 {
+            if line.piece(&mut place) && n == 0 {
+                first = line.frame().get(1, 21);
+            }
+        }
+        firsts.push(if line.end_turn() { first } else { 255 })?;
+    }
+    Ok((firsts, line.counts(), line.end_seen()))
+}
+
+#[test]
+fn lead_in_and_rest(rt: HostRuntime) -> Result<(), Fail> {
+    let alloc = rt.alloc();
+    let mfas = from(alloc, 3, 69)?;
+    let (firsts, counts, end_seen) = turns(alloc, MemSource::new(line(alloc, &mfas, 100)?))?;
+    assert_eq!(rt;
+        firsts.as_slice(),
+        [5, 13, 21, 29, 37, 45, 53, 61, 255].as_slice()
+    );
+    assert_eq!(rt;
+        counts,
+        LineCounts {
+            frames: 69,
+            lead_in: 5,
+            lost: 0,
+            rest: 100
+        }
+    );
+    assert!(rt; end_seen);
+    Ok(())
+}
+
+#[test]
+fn short_lines(rt: HostRuntime) -> Result<(), Fail> {
+    let alloc = rt.alloc();
+    for count in [0, 7] {
+        let mfas = from(alloc, 0, count)?;
+        let (firsts, counts, end_seen) = turns(alloc, MemSource::new(line(alloc, &mfas, 0)?))?;
+        assert_eq!(rt; firsts.as_slice(), [255].as_slice());
+        assert_eq!(rt;
+            counts,
+            LineCounts {
+                frames: count as u64,
+                lead_in: 0,
+                lost: 0,
+                rest: 0
+            }
+        );
+        assert!(rt; end_seen);
+    }
+    Ok(())
+}
+
+#[test]
+fn lost_and_found(rt: HostRuntime) -> Result<(), Fail> {
+    let alloc = rt.alloc();
+    let mfas = [
+        0, 1, 2, 3, 4, 5, 6, 7, 8, 9, 10, 0, 0, 0, 0, 0, 16, 17, 18, 19, 0, 0, 0, 0, 24, 25, 26,
+        27, 28, 29, 30, 31,
+    ];
+    let (firsts, counts, _) = turns(alloc, MemSource::new(line(alloc, &mfas, 0)?))?;
+    assert_eq!(rt; firsts.as_slice(), [0, 255, 16, 24, 255].as_slice());
+    assert_eq!(rt;
+        counts,
+        LineCounts {
+            frames: 32,
+            lead_in: 0,
+            lost: 1,
+            rest: 0
+        }
+    );
+    Ok(())
+}
+
+#[test]
+fn dies_in_a_turn(rt: HostRuntime) -> Result<(), Fail> {
+    let alloc = rt.alloc();
+    let mfas = from(alloc, 0, 20)?;
+    let source = FailsAfter {
+        source: MemSource::new(line(alloc, &mfas, 0)?),
+        reads: 12,
+        failed: 0,
+    };
+    let (firsts, counts, end_seen) = turns(alloc, source)?;
+    assert_eq!(rt; firsts.as_slice(), [0, 255].as_slice());
+    assert_eq!(rt;
+        counts,
+        LineCounts {
+            frames: 12,
+            lead_in: 0,
+            lost: 0,
+            rest: 0
+        }
+    );
+    assert!(rt; !end_seen);
+    Ok(())
+}
