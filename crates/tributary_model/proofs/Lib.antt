@@ -1,0 +1,7 @@
+mod Examples
+pub mod Sizes
+pub mod Stretches
+pub mod Heard
+pub mod Law
+pub mod Groups
+pub mod Views

@@ -1,0 +1,64 @@
+-- What it is that a tributary carries a client's bytes.
+use Rattle.std.specs.Prelude.{◌≡◌, ◌⊎◌, ℕ, zero, suc, ◌+◌, ◌*◌, ◌/◌, ◌%◌, ◌-◌, ◌≤◌, List, [], ◌∷◌, ◌++◌, All, Option, Some, None, length, take, drop, map, sum, slice_get}
+use Rattle.gmp_rule.specs.DataRule.{IsData}
+use Rattle.jc_codec.specs.Message.{says}
+use Rattle.cnd_codec.specs.Remainder.{says_rest}
+use Rattle.tributary_model.specs.Places.{Tributary, View}
+use Rattle.tributary_model.specs.Stretches.{right_msi}
+
+-- how many bytes the first t turns bring, of which the list has the numbers
+abbrev pub sent : List ℕ → (t : ℕ) → ℕ
+sent p t = sum (take t p)
+
+-- C(t) and D(t) of turn t, from 0: the whole groups of m bytes that it completes, and the bytes left over
+abbrev pub number_in : (m : ℕ) → List ℕ → (t : ℕ) → ℕ
+number_in m p t = sent p (t + 1) / m - sent p t / m
+
+abbrev pub rest_in : (m : ℕ) → List ℕ → (t : ℕ) → ℕ
+rest_in m p t = sent p (t + 1) % m
+
+-- the number of the turn before, which is 0 at the first
+abbrev pub number_before : (m : ℕ) → List ℕ → (t : ℕ) → ℕ
+number_before m p zero = 0
+number_before m p (suc t) = number_in m p t
+
+-- the number that a message is said after: none at the first turn
+abbrev pub former_of : (m : ℕ) → List ℕ → (t : ℕ) → Option ℕ
+former_of m p zero = None
+former_of m p (suc t) = Some (number_in m p t)
+
+-- a message with bits 1 to 3 of JC4, JC5 and JC6 cleared
+abbrev pub cleared : List ℕ → List ℕ
+cleared bytes = take 3 bytes ++ map (λ b. b % 32) (drop 3 bytes)
+
+-- Group j, where it is data at the number of the turn before, is the m bytes of the list that stand after those of the turns up
+-- to two before, and after the data groups before it.
+abbrev pub CarriesGroups : (m : ℕ) → (bytes p : List ℕ) → (t : ℕ) → List (List ℕ) → Type 0
+CarriesGroups m bytes p t groups =
+    let c = number_before m p t in
+    (j : ℕ) → 1 ≤ j → j ≤ 15232 → IsData c j
+    → slice_get groups (j - 1) ≡ Some (take m (drop (m * (sent p (t - 1) / m + j * c / 15232 - 1)) bytes))
+
+-- the view of turn t, from 0, of a sender that takes the bytes by the numbers of p
+pub record CarriesTurn (own : Tributary) (bytes p : List ℕ) (t : ℕ) (view : View) : Type 0 where
+  pub message : cleared view.message ≡ says (former_of (length own.slots) p t) (number_in (length own.slots) p t) ++ says_rest (rest_in (length own.slots) p t)
+  pub msi : All (λ x. x.1 ≡ right_msi own) view.msi
+  pub groups : CarriesGroups (length own.slots) bytes p t view.groups
+
+-- The views of a line's turns carry the bytes by the numbers of p from turn b to turn u, where the sender began with turn s:
+-- from s on, where b is s.
+pub record Carries (own : Tributary) (bytes p : List ℕ) (views : ℕ → Option View) (s b u : ℕ) : Type 0 where
+  pub order : s ≤ b
+  pub numbers : u + 1 - s ≤ length p
+  pub enough : sent p (u + 1 - s) ≤ length bytes
+  pub each : (t : ℕ) → b ≤ t → t ≤ u → (view : View) × ((views t ≡ Some view) × CarriesTurn own bytes p (t - s) view)
+
+-- each number from the first on that is not 0 is at least m
+abbrev pub IsSteady : (m : ℕ) → List ℕ → Type 0
+IsSteady m [] = Unit {0}
+IsSteady m (n ∷ p) = ((n ≡ 0) × IsSteady m p) ⊎ All (λ x. m ≤ x) (n ∷ p)
+
+-- the views of n turns from turn s on, the last first
+abbrev pub past_of : (ℕ → Option View) → (s n : ℕ) → List (Option View)
+past_of views s zero = []
+past_of views s (suc n) = views (s + n) ∷ past_of views s n

@@ -1,0 +1,87 @@
+-- What a sink emits in each turn, by totals over its stretch. A stretch lists its turns with the last first.
+use Rattle.std.specs.Prelude.{ℕ, suc, ◌+◌, ◌*◌, max, min, List, [], ◌∷◌, ◌++◌, if◌then◌else◌, Option, length, map, ◌-◌}
+use Rattle.std.specs.List.{flat_map, enumerate_from, range_with_len, slice_range}
+use Rattle.gmp_rule.specs.DataRule.{is_data_at}
+use Rattle.tributary_model.specs.Places.{Tributary, View}
+use Rattle.tributary_model.specs.Stretches.{Member, Part, WaitingTurn, DownTurn, StretchTurn, EndingTurn, any_marked, next_part, course}
+
+-- the bytes of the data groups, at the number c (G.709 Annex D)
+unfoldable pub data_bytes : (c : ℕ) → List (List ℕ) → List ℕ
+data_bytes c groups = flat_map (λ p. if is_data_at c (p.0) then p.1 else []) (enumerate_from 1 groups)
+
+-- Ext: the bytes of the data groups of each turn after the first, by the number of the turn before it, in order
+unfoldable pub extracted : List Member → List ℕ
+extracted [] = []
+extracted (first ∷ []) = []
+extracted (turn ∷ before ∷ rest) = extracted (before ∷ rest) ++ data_bytes before.number turn.groups
+
+-- C(a) + .. + C(t)
+abbrev pub numbers_sum : List Member → ℕ
+numbers_sum [] = 0
+numbers_sum (turn ∷ rest) = numbers_sum rest + turn.number
+
+-- X(t) = M * (C(a) + .. + C(t - 1)): how many bytes are extracted up to the end of the last turn, t
+abbrev pub extracted_total : (m : ℕ) → List Member → ℕ
+extracted_total m [] = 0
+extracted_total m (turn ∷ rest) = m * numbers_sum rest
+
+-- Due(t) = M * (C(a) + .. + C(t - 2)) + D(t - 2) from t = a + 2 on, else 0: how many bytes the messages make due
+abbrev pub due_total : (m : ℕ) → List Member → ℕ
+due_total m [] = 0
+due_total m (first ∷ []) = 0
+due_total m (second ∷ first ∷ []) = 0
+due_total m (turn ∷ before ∷ two_before ∷ rest) = m * numbers_sum (two_before ∷ rest) + two_before.rest
+
+-- E(t) = max (E(t - 1), min (X(t), Due(t))), and 0 at the first turn: how many bytes are emitted up to the end of the last turn
+unfoldable pub emitted_total : (m : ℕ) → List Member → ℕ
+emitted_total m [] = 0
+emitted_total m (first ∷ []) = 0
+emitted_total m (turn ∷ before ∷ rest) =
+    max (emitted_total m (before ∷ rest)) (min (extracted_total m (turn ∷ before ∷ rest)) (due_total m (turn ∷ before ∷ rest)))
+
+-- a turn of a stretch emits Ext from E(t - 1) to E(t), and the one that began it nothing
+abbrev pub emits_in : (m : ℕ) → List Member → List ℕ
+emits_in m [] = []
+emits_in m (turn ∷ rest) = slice_range (extracted (turn ∷ rest)) (emitted_total m rest) (emitted_total m (turn ∷ rest))
+
+-- its ending turn e emits Ext from E(e - 1) to X(e - 1)
+abbrev pub emits_at_end : (m : ℕ) → List Member → List ℕ
+emits_at_end m stretch = slice_range (extracted stretch) (emitted_total m stretch) (extracted_total m stretch)
+
+-- how many Down turns without a break these turns end with
+abbrev pub down_run : List Part → ℕ
+down_run [] = 0
+down_run (DownTurn ∷ parts) = suc (down_run parts)
+down_run (WaitingTurn ∷ parts) = 0
+down_run (StretchTurn stretch ∷ parts) = 0
+down_run (EndingTurn stretch ∷ parts) = 0
+
+-- n bytes of a stream from a place on
+unfoldable pub stream_bytes : (ℕ → ℕ) → (place n : ℕ) → List ℕ
+stream_bytes stream place n = map stream (range_with_len place n)
+
+-- what a turn emits after these, where a Down turn emits the next bytes of a stream: the d-th of a run of them those from
+-- (d - 1) * M * 15168 on, M * 15168 in number
+abbrev pub emits : (m : ℕ) → (ais : ℕ → ℕ) → List Part → Part → List ℕ
+emits m ais parts WaitingTurn = []
+emits m ais parts DownTurn = stream_bytes ais (down_run parts * (m * 15168)) (m * 15168)
+emits m ais parts (StretchTurn stretch) = emits_in m stretch
+emits m ais parts (EndingTurn stretch) = emits_at_end m stretch
+
+-- The emission of the turn with this view after these, where AIS is this stream.
+abbrev pub emission : Tributary → (ais : ℕ → ℕ) → List (Option View) → Option View → List ℕ
+emission own ais past view = let parts = course own past in
+    emits (length own.slots) ais parts (next_part own (any_marked own (view ∷ past)) view parts)
+
+-- how many bytes a turn emits, by the totals alone
+abbrev pub amount_of : (m : ℕ) → Part → ℕ
+amount_of m WaitingTurn = 0
+amount_of m DownTurn = m * 15168
+amount_of m (StretchTurn []) = 0
+amount_of m (StretchTurn (turn ∷ rest)) = emitted_total m (turn ∷ rest) - emitted_total m rest
+amount_of m (EndingTurn stretch) = extracted_total m stretch - emitted_total m stretch
+
+-- how many bytes these turns emit in all
+unfoldable pub emitted_so_far : Tributary → (ais : ℕ → ℕ) → List (Option View) → ℕ
+emitted_so_far own ais [] = 0
+emitted_so_far own ais (view ∷ past) = emitted_so_far own ais past + length (emission own ais past view)

@@ -1,0 +1,126 @@
+-- The sink without totals: it keeps what its stretch said last, the bytes that it has not emitted, and its place in the AIS stream.
+use Rattle.std.specs.Prelude.{ℕ, ◌+◌, ◌*◌, nat_le, List, [], ◌∷◌, ◌++◌, Bool, true, false, if◌then◌else◌, Option, Some, None, length, take, drop}
+use Rattle.tributary_model.specs.declared.turns.Hearing.{Hearing}
+use Rattle.tributary_model.specs.declared.turns.Hearing.TheVariants.{Damaged, Lost, Pair}
+use Rattle.tributary_model.specs.declared.turns.Said.{Said}
+use Rattle.tributary_model.specs.declared.turns.Standing.{Standing}
+use Rattle.tributary_model.specs.declared.turns.Standing.TheVariants.{Waiting, Down, Up}
+use Rattle.tributary_model.specs.declared.turns.SinkState.{SinkState}
+use Rattle.tributary_model.specs.declared.turns.SinkState.TheVariants.{Waiting as StateWaiting, Up as StateUp, Down as StateDown}
+use Rattle.tributary_model.specs.Places.{Tributary, View}
+use Rattle.tributary_model.specs.Messages.{hears_message}
+use Rattle.tributary_model.specs.Stretches.{groups_of, any_marked}
+use Rattle.tributary_model.specs.Emission.{data_bytes, stream_bytes}
+
+pub record Machine : Type 0 where
+  pub standing : Standing
+  pub pending : List ℕ
+  pub place : ℕ
+
+abbrev pub start : Machine
+start = record { standing = Waiting 0; pending = []; place = 0 }
+
+-- the number that a message is heard after, and by which the turn's groups are data
+abbrev pub former_of : Standing → Option ℕ
+former_of (Waiting n) = None
+former_of Down = None
+former_of (Up said) = Some said.number
+
+abbrev pub number_of : Standing → ℕ
+number_of (Waiting n) = 0
+number_of Down = 0
+number_of (Up said) = said.number
+
+-- what is heard in a turn: nothing without a multiframe or where an own slot is marked
+abbrev pub heard_in : Option ℕ → (m : ℕ) → (marked : Bool) → Option View → Option Hearing
+heard_in former m true view = None
+heard_in former m false None = None
+heard_in former m false (Some view) = Some (hears_message former m view.message)
+
+-- what is said in the first turn of a stretch, where a message begins one
+abbrev pub first_said : Hearing → Option Said
+first_said (Pair number rest true) = Some (record { number = number; rest = rest; damaged = 0; former = None })
+first_said (Pair number rest false) = None
+first_said Damaged = None
+first_said Lost = None
+
+abbrev pub begins : Option Hearing → Option Said
+begins None = None
+begins (Some heard) = first_said heard
+
+-- what is said in the next turn, where the stretch goes on
+abbrev pub next_said : Said → Hearing → Option Said
+next_said said (Pair number rest equal) = Some (record { number = number; rest = rest; damaged = 0; former = Some said.rest })
+next_said said Lost = None
+next_said said Damaged =
+    if nat_le 2 said.damaged then None
+    else Some (record { number = said.number; rest = said.rest; damaged = said.damaged + 1; former = Some said.rest })
+
+abbrev pub stays : Option Hearing → Said → Option Said
+stays None said = None
+stays (Some heard) said = next_said said heard
+
+-- the first turn after the one that began a stretch emits nothing, and each later one all that is pending and as many of the
+-- bytes that it extracts as the remainder of two turns ago
+abbrev pub given_of : Option ℕ → (pending fresh : List ℕ) → List ℕ
+given_of None pending fresh = []
+given_of (Some due) pending fresh = pending ++ take due fresh
+
+abbrev pub kept_of : Option ℕ → (pending fresh : List ℕ) → List ℕ
+kept_of None pending fresh = pending ++ fresh
+kept_of (Some due) pending fresh = drop due fresh
+
+abbrev pub waits_on : ℕ → Machine
+waits_on n = if nat_le 2 n then record { standing = Down; pending = []; place = 0 } else record { standing = Waiting (n + 1); pending = []; place = 0 }
+
+abbrev pub opened : Option Said → Machine → Machine
+opened (Some said) other = record { standing = Up said; pending = []; place = 0 }
+opened None other = other
+
+abbrev pub went_on : Option Said → Said → (pending fresh : List ℕ) → Machine
+went_on (Some next) said pending fresh = record { standing = Up next; pending = kept_of said.former pending fresh; place = 0 }
+went_on None said pending fresh = record { standing = Down; pending = []; place = 0 }
+
+-- the machine after a turn in which this was heard, and these bytes extracted
+abbrev pub after_standing : (m : ℕ) → Option Hearing → (fresh : List ℕ) → Machine → Standing → Machine
+after_standing m heard fresh s (Waiting n) = opened (begins heard) (waits_on n)
+after_standing m heard fresh s Down = opened (begins heard) (record { standing = Down; pending = []; place = s.place + m * 15168 })
+after_standing m heard fresh s (Up said) = went_on (stays heard said) said s.pending fresh
+
+abbrev pub after_heard : (m : ℕ) → Option Hearing → (fresh : List ℕ) → Machine → Machine
+after_heard m heard fresh s = after_standing m heard fresh s s.standing
+
+-- what it emits in the turn
+abbrev pub down_gives : Option Said → List ℕ → List ℕ
+down_gives (Some said) signal = []
+down_gives None signal = signal
+
+abbrev pub up_gives : Option Said → Said → (pending fresh : List ℕ) → List ℕ
+up_gives (Some next) said pending fresh = given_of said.former pending fresh
+up_gives None said pending fresh = pending
+
+abbrev pub gives_standing : (m : ℕ) → (ais : ℕ → ℕ) → Option Hearing → (fresh : List ℕ) → Machine → Standing → List ℕ
+gives_standing m ais heard fresh s (Waiting n) = []
+gives_standing m ais heard fresh s Down = down_gives (begins heard) (stream_bytes ais s.place (m * 15168))
+gives_standing m ais heard fresh s (Up said) = up_gives (stays heard said) said s.pending fresh
+
+abbrev pub gives_heard : (m : ℕ) → (ais : ℕ → ℕ) → Option Hearing → (fresh : List ℕ) → Machine → List ℕ
+gives_heard m ais heard fresh s = gives_standing m ais heard fresh s s.standing
+
+-- the same of a turn with this view
+abbrev pub after : (m : ℕ) → (marked : Bool) → Option View → Machine → Machine
+after m marked view s = after_heard m (heard_in (former_of s.standing) m marked view) (data_bytes (number_of s.standing) (groups_of view)) s
+
+abbrev pub gives : (m : ℕ) → (ais : ℕ → ℕ) → (marked : Bool) → Option View → Machine → List ℕ
+gives m ais marked view s = gives_heard m ais (heard_in (former_of s.standing) m marked view) (data_bytes (number_of s.standing) (groups_of view)) s
+
+-- the machine after these turns, the last first
+unfoldable pub machine_after : Tributary → List (Option View) → Machine
+machine_after own [] = start
+machine_after own (view ∷ past) = after (length own.slots) (any_marked own (view ∷ past)) view (machine_after own past)
+
+-- how it stands, as a caller sees it
+abbrev pub state_of_standing : Standing → SinkState
+state_of_standing (Waiting n) = StateWaiting
+state_of_standing Down = StateDown
+state_of_standing (Up said) = StateUp

@@ -1,0 +1,101 @@
+-- The own places of a tributary in a multiframe of its line, and what stands there.
+use Rattle.std.specs.Prelude.{◌≡◌, ◌⊎◌, ℕ, ◌+◌, ◌*◌, ◌/◌, ◌%◌, ◌-◌, ◌≤◌, ◌==◌, max, List, [], ◌∷◌, if◌then◌else◌, Option, Some, None, slice_index, slice_get, map, option_map, length, All}
+use Rattle.std.specs.List.{flat_map, range_with_len, Contains}
+
+-- A tributary of a line: how many slots the line has, which of them are its own, rising, and its tributary port, from 1.
+pub record Tributary : Type 0 where
+  pub line_slots : ℕ
+  pub slots : List ℕ
+  pub port : ℕ
+
+-- G.709 clause 11.1: the byte in a row and a column, both from 1, of an OTU2 frame of 4 rows of 4,080 columns
+abbrev pub byte_at : List ℕ → (row column : ℕ) → ℕ
+byte_at frame row column = slice_index frame (4080 * (row - 1) + (column - 1))
+
+-- a frame of a multiframe: its bytes, and the MFAS number that is expected there
+pub record Taken : Type 0 where
+  pub frame : List ℕ
+  pub expected : ℕ
+
+-- the greatest of some slots
+abbrev pub greatest : List ℕ → ℕ
+greatest [] = 0
+greatest (k ∷ slots) = max k (greatest slots)
+
+-- ---- the own places, by row and column of frame n, from 0, of a multiframe
+
+-- G.709 clause 19.1: payload column c is of slot ((c - 17) mod S) + 1 of a line of S slots
+pub record IsOwnPayload (own : Tributary) (row column : ℕ) : Type 0 where
+  pub rows : (1 ≤ row) × (row ≤ 4)
+  pub columns : (17 ≤ column) × (column ≤ 3824)
+  pub slot : Contains own.slots ((column - 17) % own.line_slots + 1)
+
+-- G.709 clause 19.4: columns 15 and 16 of rows 1 to 3 in the frame of the greatest of the slots
+pub record IsOwnMessage (own : Tributary) (n row column : ℕ) : Type 0 where
+  pub frame : n + 1 ≡ greatest own.slots
+  pub rows : (1 ≤ row) × (row ≤ 3)
+  pub columns : (15 ≤ column) × (column ≤ 16)
+
+-- G.709 clause 19.4.1: the byte PSI[1 + k] of an own slot k, row 4 of column 15 where the number 1 + k is expected
+pub record IsOwnMsi (own : Tributary) (expected row column : ℕ) : Type 0 where
+  pub place : (row ≡ 4) × (column ≡ 15)
+  pub slot : (k : ℕ) × (Contains own.slots k × (expected ≡ 1 + k))
+
+abbrev pub IsOwn : Tributary → (n expected row column : ℕ) → Type 0
+IsOwn own n expected row column = IsOwnPayload own row column ⊎ IsOwnMessage own n row column ⊎ IsOwnMsi own expected row column
+
+-- ---- what stands there
+
+-- the bytes of the own slots in cycle x, from 0, of a row: in slot order, those of the x-th run of as many payload columns as the line has slots
+abbrev pub cycle_bytes : Tributary → List ℕ → (row x : ℕ) → List ℕ
+cycle_bytes own frame row x = map (λ k. byte_at frame row (16 + own.line_slots * x + k)) own.slots
+
+-- the groups of a row: its 3,808 payload columns in cycles
+unfoldable pub row_groups : Tributary → List ℕ → (row : ℕ) → List (List ℕ)
+row_groups own frame row = map (cycle_bytes own frame row) (range_with_len 0 (3808 / own.line_slots))
+
+-- the groups of a frame, row by row
+unfoldable pub frame_groups : Tributary → List ℕ → List (List ℕ)
+frame_groups own frame = flat_map (row_groups own frame) (1 ∷ 2 ∷ 3 ∷ 4 ∷ [])
+
+-- G.709 clause 19.4.3: JC1, JC2 and JC3 in column 16, JC4, JC5 and JC6 in column 15, of rows 1, 2 and 3
+abbrev pub message_in : Option Taken → List ℕ
+message_in None = []
+message_in (Some t) =
+    byte_at t.frame 1 16 ∷ byte_at t.frame 2 16 ∷ byte_at t.frame 3 16 ∷ byte_at t.frame 1 15 ∷ byte_at t.frame 2 15 ∷ byte_at t.frame 3 15 ∷ []
+
+-- the MSI byte of a frame with its slot, where that is an own one
+abbrev pub msi_in : Tributary → Taken → List (ℕ × ℕ)
+msi_in own t = flat_map (λ k. if t.expected == 1 + k then (k, byte_at t.frame 4 15) ∷ [] else []) own.slots
+
+-- The view of a turn with a multiframe, which has as many frames as the line has slots: its groups, the first being group 1, the
+-- message, and the MSI bytes that came, each with its slot.
+pub record View : Type 0 where
+  pub groups : List (List ℕ)
+  pub message : List ℕ
+  pub msi : List (ℕ × ℕ)
+
+unfoldable pub view_of : Tributary → List Taken → View
+view_of own frames = record {
+  groups = flat_map (λ t. frame_groups own t.frame) frames;
+  message = message_in (slice_get frames (greatest own.slots - 1));
+  msi = flat_map (msi_in own) frames;
+}
+
+-- the view of a turn: None where it has no multiframe, so that no byte of it counts
+abbrev pub turn_view : Tributary → Option (List Taken) → Option View
+turn_view own turn = option_map (view_of own) turn
+
+-- a view as a whole multiframe gives it: all 15,232 groups, each with a byte for each of m slots
+pub record IsWhole (m : ℕ) (view : View) : Type 0 where
+  pub many : length view.groups ≡ 15232
+  pub each : All (λ g. length g ≡ m) view.groups
+
+-- so is each turn that has a multiframe
+abbrev pub IsWholeTurn : (m : ℕ) → Option View → Type 0
+IsWholeTurn m None = Unit {0}
+IsWholeTurn m (Some view) = IsWhole m view
+
+abbrev pub AreWholeTurns : (m : ℕ) → List (Option View) → Type 0
+AreWholeTurns m [] = Unit {0}
+AreWholeTurns m (view ∷ past) = IsWholeTurn m view × AreWholeTurns m past

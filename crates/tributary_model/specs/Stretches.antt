@@ -1,0 +1,144 @@
+-- The stretches in which a sink follows its tributary. Turns are listed with the last first: a past is the views of the
+-- turns from the connection's start on.
+use Rattle.std.specs.Prelude.{ℕ, ◌+◌, ◌-◌, ◌==◌, nat_lt, List, [], ◌∷◌, ◌++◌, Bool, true, false, not, ◌&&◌, if◌then◌else◌, Option, Some, None, length, reverse, map, filter}
+use Rattle.std.specs.List.{list_any}
+use Rattle.tributary_model.specs.declared.turns.Hearing.{Hearing}
+use Rattle.tributary_model.specs.declared.turns.Hearing.TheVariants.{Damaged, Lost, Pair}
+use Rattle.tributary_model.specs.declared.turns.SinkState.{SinkState}
+use Rattle.tributary_model.specs.declared.turns.SinkState.TheVariants.{Waiting, Up, Down}
+use Rattle.tributary_model.specs.Places.{Tributary, View}
+use Rattle.tributary_model.specs.Messages.{hears_message}
+
+-- ---- marked slots
+
+abbrev pub groups_of : Option View → List (List ℕ)
+groups_of None = []
+groups_of (Some view) = view.groups
+
+-- the MSI bytes of slot k that came in a turn
+abbrev pub msi_of : (k : ℕ) → Option View → List ℕ
+msi_of k None = []
+msi_of k (Some view) = map (λ p. p.1) (filter (λ p. p.0 == k) view.msi)
+
+-- those that came in all turns so far, in the order in which they came
+unfoldable pub came : (k : ℕ) → List (Option View) → List ℕ
+came k [] = []
+came k (view ∷ past) = came k past ++ msi_of k view
+
+-- whether the first two of a list are both another byte
+abbrev pub both_wrong : (right : ℕ) → List ℕ → Bool
+both_wrong right [] = false
+both_wrong right (x ∷ []) = false
+both_wrong right (x ∷ y ∷ rest) = not (x == right) && not (y == right)
+
+-- the MSI byte of a slot that an ODTU of this port uses (G.709 clause 19.4.1)
+abbrev pub right_msi : Tributary → ℕ
+right_msi own = 0x80 + own.port - 1
+
+-- slot k is marked after these turns: the last two of its MSI bytes that came were both wrong
+abbrev pub is_marked : Tributary → List (Option View) → (k : ℕ) → Bool
+is_marked own past k = both_wrong (right_msi own) (reverse (came k past))
+
+abbrev pub any_marked : Tributary → List (Option View) → Bool
+any_marked own past = list_any (is_marked own past) own.slots
+
+-- ---- stretches
+
+-- a turn of a stretch: what its message was heard as, its pair C and D, and its groups
+pub record Member : Type 0 where
+  pub heard : Hearing
+  pub number : ℕ
+  pub rest : ℕ
+  pub groups : List (List ℕ)
+
+-- What a turn is: in no stretch, Waiting or Down; or in a stretch, whose turns so far are listed with this one first; or the
+-- ending turn of a stretch, whose turns before this one are listed.
+pub data Part : Type 0 where
+  WaitingTurn : Part
+  DownTurn : Part
+  StretchTurn : List Member → Part
+  EndingTurn : List Member → Part
+
+-- a turn is fit where it has a multiframe, its message, heard with no former number, gives a pair with equal indicators,
+-- and no own slot is marked
+abbrev pub fit_pair : View → Hearing → Option Member
+fit_pair view (Pair number rest true) = Some (record { heard = Pair number rest true; number = number; rest = rest; groups = view.groups })
+fit_pair view (Pair number rest false) = None
+fit_pair view Damaged = None
+fit_pair view Lost = None
+
+abbrev pub fit : Tributary → (marked : Bool) → Option View → Option Member
+fit own true view = None
+fit own false None = None
+fit own false (Some view) = fit_pair view (hears_message None (length own.slots) view.message)
+
+-- whether the last two messages of a stretch were damaged
+abbrev pub is_damaged : Hearing → Bool
+is_damaged Damaged = true
+is_damaged Lost = false
+is_damaged (Pair number rest equal) = false
+
+abbrev pub two_damaged : List Member → Bool
+two_damaged [] = false
+two_damaged (last ∷ []) = false
+two_damaged (last ∷ before ∷ rest) = is_damaged last.heard && is_damaged before.heard
+
+-- The next turn of a stretch: its pair is the one heard after the former number, or the former pair again where the message is
+-- damaged. The stretch ends where the turn has no multiframe, an own slot is marked, the message is lost, or it is the third
+-- damaged one in a row.
+abbrev pub goes_on_with : View → (two : Bool) → (last : Member) → Hearing → Option Member
+goes_on_with view two last (Pair number rest equal) = Some (record { heard = Pair number rest equal; number = number; rest = rest; groups = view.groups })
+goes_on_with view true last Damaged = None
+goes_on_with view false last Damaged = Some (record { heard = Damaged; number = last.number; rest = last.rest; groups = view.groups })
+goes_on_with view two last Lost = None
+
+abbrev pub goes_on : Tributary → (marked : Bool) → Option View → List Member → Option Member
+goes_on own true view stretch = None
+goes_on own false None stretch = None
+goes_on own false (Some view) [] = None
+goes_on own false (Some view) (last ∷ before) =
+    goes_on_with view (two_damaged (last ∷ before)) last (hears_message (Some last.number) (length own.slots) view.message)
+
+-- whether a stretch began in one of these turns
+abbrev pub is_of_stretch : Part → Bool
+is_of_stretch WaitingTurn = false
+is_of_stretch DownTurn = false
+is_of_stretch (StretchTurn stretch) = true
+is_of_stretch (EndingTurn stretch) = true
+
+-- a turn that is in no stretch and begins none: Waiting where no stretch began before it and it is one of the first three, else Down
+abbrev pub idle : List Part → Part
+idle parts = if nat_lt (length parts) 3 && not (list_any is_of_stretch parts) then WaitingTurn else DownTurn
+
+-- a fit turn that stands in no stretch begins one
+abbrev pub opens : List Part → Option Member → Part
+opens parts (Some first) = StretchTurn (first ∷ [])
+opens parts None = idle parts
+
+abbrev pub continues : List Member → Option Member → Part
+continues stretch (Some next) = StretchTurn (next ∷ stretch)
+continues stretch None = EndingTurn stretch
+
+-- what a turn is after these
+abbrev pub next_part : Tributary → (marked : Bool) → Option View → List Part → Part
+next_part own marked view [] = opens [] (fit own marked view)
+next_part own marked view (WaitingTurn ∷ parts) = opens (WaitingTurn ∷ parts) (fit own marked view)
+next_part own marked view (DownTurn ∷ parts) = opens (DownTurn ∷ parts) (fit own marked view)
+next_part own marked view (EndingTurn stretch ∷ parts) = opens (EndingTurn stretch ∷ parts) (fit own marked view)
+next_part own marked view (StretchTurn stretch ∷ parts) = continues stretch (goes_on own marked view stretch)
+
+-- The course of a connection: what each of its turns is, the last first.
+unfoldable pub course : Tributary → List (Option View) → List Part
+course own [] = []
+course own (view ∷ past) = let before = course own past in next_part own (any_marked own (view ∷ past)) view before ∷ before
+
+-- how the sink stands after these turns: Up within a stretch, Waiting after no turn, one or two where no stretch began, else Down
+abbrev pub state_of : List Part → SinkState
+state_of [] = Waiting
+state_of (StretchTurn stretch ∷ parts) = Up
+state_of (EndingTurn stretch ∷ parts) = Down
+state_of (DownTurn ∷ parts) = Down
+state_of (WaitingTurn ∷ parts) = if nat_lt (length parts) 2 then Waiting else Down
+
+abbrev pub state_after : Tributary → List (Option View) → SinkState
+state_after own past = state_of (course own past)
