@@ -1,4 +1,5 @@
 pub mod LineFrames
+pub mod PlanChecks
 pub mod Rows
 pub mod SlotBays
 pub mod SlotLoop

@@ -13,11 +13,11 @@ use Rattle.otn_ports.proofs.GivenLaws.{gave_none}
 use Rattle.otn_ports.specs.Bytes.{HasFailed}
 use Rattle.otn_ports.specs.Given.{Gave}
 use Rattle.line_tool.proofs.SlotTable.{complete_is}
-use Rattle.line_tool.specs.Runs.{IsWell}
+use Rattle.line_tool.specs.Runs.{IsRefusal, IsWell}
 use Rattle.line_tool.specs.SlotRuns.{SlotRun, SlotEnds}
 use Rattle.line_tool.specs.Words.{IsForm}
 use Rattle.line_tool.specs.declared.status.Status.{Status}
-use Rattle.line_tool.specs.declared.status.Status.TheVariants.{Done, Unfinished, Words, ReportFault, Cut, Memory}
+use Rattle.line_tool.specs.declared.status.Status.TheVariants.{Done, Unfinished, Words, Plan, PlanFault, ReportFault, Cut, Memory}
 use Rattle.line_tool.specs.declared.words.Command.TheVariants.{Slot}
 
 -- what was done with the line in place 0 is seen there
@@ -56,6 +56,8 @@ line_gave Memory slot first now old new same run = ([], subst (λ place. Gave fi
 line_gave Done slot first now old new same run = let h = run (λ e. absurd (cc)) in (h.taken, h.gave)
 line_gave Unfinished slot first now old new same run = let h = run (λ e. absurd (cc)) in (h.taken, h.gave)
 line_gave Words slot first now old new same run = let h = run (λ e. absurd (cc)) in (h.taken, h.gave)
+line_gave PlanFault slot first now old new same run = let h = run (λ e. absurd (cc)) in (h.taken, h.gave)
+line_gave (Plan error place) slot first now old new same run = let h = run (λ e. absurd (cc)) in (h.taken, h.gave)
 line_gave ReportFault slot first now old new same run = let h = run (λ e. absurd (cc)) in (h.taken, h.gave)
 line_gave Cut slot first now old new same run = let h = run (λ e. absurd (cc)) in (h.taken, h.gave)
 
@@ -68,5 +70,19 @@ complete_all ReportFault slot first now old new before later run fault well line
 complete_all Done slot first now old new before later run fault well line alive = inl refl
 complete_all Unfinished slot first now old new before later run fault well line alive = inr (inl refl)
 complete_all Words slot first now old new before later run fault well line alive = absurd (run (λ e. absurd (cc))).ends
+complete_all PlanFault slot first now old new before later run fault well line alive = absurd (run (λ e. absurd (cc))).ends
+complete_all (Plan error place) slot first now old new before later run fault well line alive = absurd (run (λ e. absurd (cc))).ends
 complete_all Cut slot first now old new before later run fault well line alive =
     complete_is Cut slot first now old new (run (λ e. absurd (cc))) (λ e. absurd (cc)) line alive
+
+-- of the answers before anything was done `slot` gives want of memory alone
+pub refused_run : (status : Status) (slot : ℕ) (first now : InView) (old new : Option (List ℕ)) → (status ≢ Memory → SlotRun slot first now old new status)
+    → IsRefusal status → status ≡ Memory
+refused_run Memory slot first now old new run refusal = refl
+refused_run Words slot first now old new run refusal = absurd (run (λ e. absurd (cc))).ends
+refused_run PlanFault slot first now old new run refusal = absurd (run (λ e. absurd (cc))).ends
+refused_run (Plan error place) slot first now old new run refusal = absurd (run (λ e. absurd (cc))).ends
+refused_run Done slot first now old new run refusal = absurd refusal
+refused_run Unfinished slot first now old new run refusal = absurd refusal
+refused_run ReportFault slot first now old new run refusal = absurd refusal
+refused_run Cut slot first now old new run refusal = absurd refusal

@@ -9,7 +9,7 @@ use Rattle.otn_ports.specs.Views.{Dead, InView}
 use Rattle.line_tool.specs.SlotReport.{slot_bytes, slot_report, used_frames}
 use Rattle.line_tool.specs.SlotRuns.{SlotRun, SlotStep, GainsPart, ByteRun}
 use Rattle.line_tool.specs.declared.status.Status.{Status}
-use Rattle.line_tool.specs.declared.status.Status.TheVariants.{Done, Unfinished, Words, ReportFault, Cut, Memory}
+use Rattle.line_tool.specs.declared.status.Status.TheVariants.{Done, Unfinished, Words, Plan, PlanFault, ReportFault, Cut, Memory}
 use Rattle.line_tool.proofs.LineFrames.{slots_of, slots_of-none, slots_of-more, used_frames-at, slot_report-at, slot_report-whole}
 
 -- after i whole frames
@@ -104,6 +104,8 @@ ends_with ReportFault slot i first mid now old gained new alive few h step =
     }
 ends_with Words slot i first mid now old gained new alive few h step = absurd step.ends
 ends_with Memory slot i first mid now old gained new alive few h step = absurd step.ends
+ends_with PlanFault slot i first mid now old gained new alive few h step = absurd step.ends
+ends_with (Plan error place) slot i first mid now old gained new alive few h step = absurd step.ends
 
 -- how it ends once the most frames are written and a further byte was asked for
 pub ends_after : (status : Status) (slot : ℕ) (first mid now : InView) (old new : Option (List ℕ)) → first.state ≢ Dead
@@ -132,6 +134,8 @@ ends_after Cut slot first mid now old new alive h byte =
 ends_after ReportFault slot first mid now old new alive h byte = absurd byte.ends
 ends_after Words slot first mid now old new alive h byte = absurd byte.ends
 ends_after Memory slot first mid now old new alive h byte = absurd byte.ends
+ends_after PlanFault slot first mid now old new alive h byte = absurd byte.ends
+ends_after (Plan error place) slot first mid now old new alive h byte = absurd byte.ends
 
 -- a line that is dead gives nothing
 pub dead_run : (slot : ℕ) (line : InView) (report : Option (List ℕ)) → line.state ≡ Dead → SlotRun slot line line report report Cut

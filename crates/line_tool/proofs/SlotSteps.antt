@@ -6,7 +6,7 @@ use Rattle.otn_ports.specs.Views.{State, Empty, Live, Dead, InView}
 use Rattle.otn_ports.specs.declared.in_place.Reading.TheVariants.{Full, End}
 use Rattle.line_tool.specs.SlotRuns.{SlotStep, SlotWritten}
 use Rattle.line_tool.specs.declared.status.Status.{Status}
-use Rattle.line_tool.specs.declared.status.Status.TheVariants.{Done, Unfinished, Words, ReportFault, Cut, Memory}
+use Rattle.line_tool.specs.declared.status.Status.TheVariants.{Done, Unfinished, Words, Plan, PlanFault, ReportFault, Cut, Memory}
 
 -- a place that filled a slice with room is live
 pub live_of : (s : State) (n : ℕ) → s ≢ Dead → (s ≢ Live → Full ≡ idle_reading (suc n)) → s ≡ Live
@@ -27,3 +27,5 @@ step_written (Some Unfinished) slot frame first now old new gave size state writ
 step_written (Some Cut) slot frame first now old new gave size state written = absurd written
 step_written (Some Words) slot frame first now old new gave size state written = absurd written
 step_written (Some Memory) slot frame first now old new gave size state written = absurd written
+step_written (Some PlanFault) slot frame first now old new gave size state written = absurd written
+step_written (Some (Plan error place)) slot frame first now old new gave size state written = absurd written

@@ -12,7 +12,7 @@ use Rattle.line_tool.specs.Runs.{Reports, HasRest, IsWell}
 use Rattle.line_tool.specs.SlotReport.{first_frames, frame_at, slot_bytes, slot_report, used_frames}
 use Rattle.line_tool.specs.SlotRuns.{SlotRun, GainsPart}
 use Rattle.line_tool.specs.declared.status.Status.{Status}
-use Rattle.line_tool.specs.declared.status.Status.TheVariants.{Done, Unfinished, Words, ReportFault, Cut, Memory}
+use Rattle.line_tool.specs.declared.status.Status.TheVariants.{Done, Unfinished, Words, Plan, PlanFault, ReportFault, Cut, Memory}
 use Rattle.line_tool.proofs.LineFrames.{slots_of-none, slot_report-whole, first_frames-more, first_frames-append}
 
 -- the first frames and then some more
@@ -110,6 +110,8 @@ reports_given ReportFault slot first now old new given h is =
     subst (λ xs. GainsPart old new (slot_report slot xs)) (sym b.parts) (part_of_more slot h.taken b.rest old new h.ends.0)
 reports_given Words slot first now old new given h is = absurd h.ends
 reports_given Memory slot first now old new given h is = absurd h.ends
+reports_given PlanFault slot first now old new given h is = absurd h.ends
+reports_given (Plan error place) slot first now old new given h is = absurd h.ends
 
 -- nothing is written of no bytes
 report_none : (slot : ℕ) → length (slot_report slot []) ≡ 0
@@ -132,6 +134,8 @@ cut_is Cut slot first now old new h = (λ _. h.ends.1, λ _. refl)
 cut_is ReportFault slot first now old new h = (λ e. absurd (cc), λ dead. absurd (fault_alive slot first now old new h dead))
 cut_is Words slot first now old new h = absurd h.ends
 cut_is Memory slot first now old new h = absurd h.ends
+cut_is PlanFault slot first now old new h = absurd h.ends
+cut_is (Plan error place) slot first now old new h = absurd h.ends
 
 -- Unfinished comes just where the line is not dead and bytes stand after the frames that are used
 pub unfinished_is : (status : Status) (slot : ℕ) (first now : InView) (old new : Option (List ℕ)) (given : List ℕ) → SlotRun slot first now old new status
@@ -155,6 +159,8 @@ unfinished_is Cut slot first now old new given h other is = (λ e. absurd (cc), 
 unfinished_is ReportFault slot first now old new given h other is = absurd (other refl)
 unfinished_is Words slot first now old new given h other is = absurd h.ends
 unfinished_is Memory slot first now old new given h other is = absurd h.ends
+unfinished_is PlanFault slot first now old new given h other is = absurd h.ends
+unfinished_is (Plan error place) slot first now old new given h other is = absurd h.ends
 
 -- how many bytes were taken, by the place's number
 counted : (old new n : ℕ) → new ≡ raised old n → new < 2 ^ 64 - 1 → new - old ≡ n
@@ -177,6 +183,8 @@ unfinished_counted status slot first now old new h other below =
     by_taken ReportFault slot first now old new h other = absurd (other refl)
     by_taken Words slot first now old new h other = absurd h.ends
     by_taken Memory slot first now old new h other = absurd h.ends
+    by_taken PlanFault slot first now old new h other = absurd h.ends
+    by_taken (Plan error place) slot first now old new h other = absurd h.ends
 
 -- with no fault, and a line that was not dead, the command is Done or Unfinished
 pub complete_is : (status : Status) (slot : ℕ) (first now : InView) (old new : Option (List ℕ)) → SlotRun slot first now old new status
@@ -184,6 +192,8 @@ pub complete_is : (status : Status) (slot : ℕ) (first now : InView) (old new :
 complete_is Done slot first now old new h other well alive = inl refl
 complete_is Unfinished slot first now old new h other well alive = inr (inl refl)
 complete_is Memory slot first now old new h other well alive = absurd h.ends
+complete_is PlanFault slot first now old new h other well alive = absurd h.ends
+complete_is (Plan error place) slot first now old new h other well alive = absurd h.ends
 complete_is Words slot first now old new h other well alive = absurd h.ends
 complete_is ReportFault slot first now old new h other well alive = absurd (other refl)
 complete_is Cut slot first now old new h other well alive = absurd (by_life h.gave.state)

@@ -9,3 +9,9 @@ two_texts [] a b n e f = absurd (omega arith)
 two_texts (x ∷ []) a b n e f = absurd (omega arith)
 two_texts (x ∷ y ∷ []) a b n e f = rw (e, f) refl
 two_texts (x ∷ y ∷ z ∷ rest) a b n e f = absurd (omega arith)
+
+-- one word
+pub one_text : (words : List (String Global)) (a : String Global) → length words ≡ 1 → a ≡ get_or words 0 a → texts words ≡ string_bytes a ∷ []
+one_text [] a n e = absurd (omega arith)
+one_text (x ∷ []) a n e = rw e refl
+one_text (x ∷ y ∷ rest) a n e = absurd (omega arith)

@@ -1,4 +1,5 @@
 pub mod Codes
+pub mod PlanCheck
 pub mod Runs
 pub mod SlotReport
 pub mod SlotRuns

@@ -6,12 +6,23 @@ use Rattle.otn_ports.specs.Bytes.{after, HasFailed}
 use Rattle.line_tool.specs.SlotReport.{used_frames}
 use Rattle.line_tool.specs.SlotRuns.{GainsPart}
 use Rattle.line_tool.specs.declared.status.Status.{Status}
-use Rattle.line_tool.specs.declared.status.Status.TheVariants.{ReportFault}
+use Rattle.line_tool.specs.declared.status.Status.TheVariants.{Done, Unfinished, Words, Plan, PlanFault, ReportFault, Cut, Memory}
 
 -- a report gained all these bytes; where a write of it failed, a part of them from the front
 abbrev pub Reports : Status → (old new : Option (List ℕ)) → List ℕ → Type 0
 Reports ReportFault old new bytes = GainsPart old new bytes
 Reports status old new bytes = new ≡ after old bytes
+
+-- an answer that comes before anything was done
+abbrev pub IsRefusal : Status → Type 0
+IsRefusal Words = Unit {0}
+IsRefusal PlanFault = Unit {0}
+IsRefusal (Plan error place) = Unit {0}
+IsRefusal Memory = Unit {0}
+IsRefusal ReportFault = ⊥
+IsRefusal Cut = ⊥
+IsRefusal Unfinished = ⊥
+IsRefusal Done = ⊥
 
 -- so many bytes are more than the whole frames among them that are used
 abbrev pub HasRest : (bytes : ℕ) → Type 0

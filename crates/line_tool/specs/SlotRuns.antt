@@ -6,7 +6,7 @@ use Rattle.otn_ports.specs.Reads.{HasEnded}
 use Rattle.otn_ports.specs.Views.{InView, Dead}
 use Rattle.line_tool.specs.SlotReport.{slot_bytes, slot_report, used_frames}
 use Rattle.line_tool.specs.declared.status.Status.{Status}
-use Rattle.line_tool.specs.declared.status.Status.TheVariants.{Done, Unfinished, Words, ReportFault, Cut, Memory}
+use Rattle.line_tool.specs.declared.status.Status.TheVariants.{Done, Unfinished, Words, Plan, PlanFault, ReportFault, Cut, Memory}
 
 -- a report gained a part of these bytes, from the front, and not all
 pub record GainsPart (old new : Option (List ℕ)) (bytes : List ℕ) : Type 0 where
@@ -25,6 +25,8 @@ SlotEnds Cut slot taken first now old new = (new ≡ after old (slot_report slot
 SlotEnds ReportFault slot taken first now old new = GainsPart old new (slot_report slot taken) × (now.state ≡ first.state)
 SlotEnds Words slot taken first now old new = ⊥
 SlotEnds Memory slot taken first now old new = ⊥
+SlotEnds PlanFault slot taken first now old new = ⊥
+SlotEnds (Plan error place) slot taken first now old new = ⊥
 
 -- a command from the line and the report as they were to how they are
 pub record SlotRun (slot : ℕ) (first now : InView) (old new : Option (List ℕ)) (status : Status) : Type 0 where
@@ -43,6 +45,8 @@ StepEnds (Some Unfinished) slot taken first now old new =
 StepEnds (Some Cut) slot taken first now old new = (length taken < 16320) × (now.state ≡ Dead) × (new ≡ old)
 StepEnds (Some Words) slot taken first now old new = ⊥
 StepEnds (Some Memory) slot taken first now old new = ⊥
+StepEnds (Some PlanFault) slot taken first now old new = ⊥
+StepEnds (Some (Plan error place)) slot taken first now old new = ⊥
 
 pub record SlotStep (slot : ℕ) (first now : InView) (old new : Option (List ℕ)) (answer : Option Status) : Type 0 where
   pub taken : List ℕ
@@ -58,6 +62,8 @@ SlotWritten slot frame old new (Some Unfinished) = ⊥
 SlotWritten slot frame old new (Some Cut) = ⊥
 SlotWritten slot frame old new (Some Words) = ⊥
 SlotWritten slot frame old new (Some Memory) = ⊥
+SlotWritten slot frame old new (Some PlanFault) = ⊥
+SlotWritten slot frame old new (Some (Plan error place)) = ⊥
 
 -- the answer to one byte more
 abbrev pub ByteEnds : Status → (taken : List ℕ) → (first now : InView) → Type 0
@@ -67,6 +73,8 @@ ByteEnds Cut taken first now = (taken ≡ []) × (now.state ≡ Dead)
 ByteEnds ReportFault taken first now = ⊥
 ByteEnds Words taken first now = ⊥
 ByteEnds Memory taken first now = ⊥
+ByteEnds PlanFault taken first now = ⊥
+ByteEnds (Plan error place) taken first now = ⊥
 
 pub record ByteRun (first now : InView) (status : Status) : Type 0 where
   pub taken : List ℕ

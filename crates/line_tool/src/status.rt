@@ -2,8 +2,10 @@
 ghost use Rattle.std.specs.Prelude.{◌≡◌};
 ghost use Rattle.line_tool.specs.Codes.{code_of};
 
-/// How a command ended. The answers are tried in the order of `Words`, `Memory`, `ReportFault`,
-/// `Cut`, `Unfinished`, `Done`.
+use plan_file::PlanError;
+
+/// How a command ended. The answers are tried in the order of `Words`, `PlanFault`, `Plan`, `Memory`,
+/// `ReportFault`, `Cut`, `Unfinished`, `Done`.
 #[derive(Clone, Copy, Debug, PartialEq, Eq)]
 pub enum Status {
     /// Everything was carried.
@@ -12,6 +14,11 @@ pub enum Status {
     Unfinished,
     /// The words are no command.
     Words,
+    /// The plan is refused: the first rule that it breaks, and where: 0 for the top, from 1 on for
+    /// its connections.
+    Plan(PlanError, u32),
+    /// A read of the plan failed.
+    PlanFault,
     /// A write of the report failed, and ended the command.
     ReportFault,
     /// The line input is dead: a read of it failed.
@@ -29,6 +36,8 @@ impl Status {
             Status::Done => 0,
             Status::Unfinished => 1,
             Status::Words => 2,
+            Status::Plan(..) => 3,
+            Status::PlanFault => 4,
             Status::ReportFault => 5,
             Status::Cut => 6,
             Status::Memory => 7,

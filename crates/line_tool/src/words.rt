@@ -7,6 +7,8 @@ ghost use Rattle.line_tool.specs.Words.{IsForm, IsNoForm, texts};
 pub enum Command {
     /// `slot K`: the payload bytes of one tributary slot, 1 to 8, of line input 0.
     Slot(u8),
+    /// `check`: whether the plan is one, and how large.
+    Check,
 }
 
 /// The command whose form these words are. None where they are no form.
@@ -18,6 +20,7 @@ pub fn command_of(words: &[String]) -> Option<Command>
         [name, slot] if name.as_str() == "slot" => {
             Some(Command::Slot(slot_digit(slot.as_bytes())?))
         }
+        [name] if name.as_str() == "check" => Some(Command::Check),
         _ => None,
     }
 }

@@ -1,60 +1,72 @@
-use Rattle.std.proofs.Common.{◌≡◌, ◌∙◌, List, ℕ, sym, ap, subst, inl, inr}
+use Rattle.std.proofs.Common.{◌≡◌, ◌∙◌, refl, sym, ap, subst}
 use Rattle.otn_ports.proofs.BaysLaws.{only_line_in, line_in_seen, line_in_set}
 use Rattle.otn_ports.specs.InPlace.{in_view}
 use Rattle.otn_ports.specs.Racks.{bays_view, with_line_in}
 use Rattle.otn_ports.specs.Views.{line_in_at}
-use Rattle.line_tool.proofs.SlotBays.{seen_run, never_words, same_slot, put_back, line_gave, complete_all}
+use Rattle.line_tool.proofs.PlanChecks.{check_told, check_refused}
+use Rattle.line_tool.proofs.SlotBays.{seen_run, refused_run, same_slot, put_back, line_gave, complete_all}
 use Rattle.line_tool.proofs.SlotTable.{reports_given, cut_is, unfinished_is, unfinished_counted}
+use Rattle.line_tool.specs.PlanCheck.{CheckRun}
 use Rattle.line_tool.specs.SlotRuns.{SlotRun}
-use Rattle.line_tool.specs.Words.{IsForm}
-use Rattle.line_tool.specs.declared.words.Command.{Command}
-use Rattle.line_tool.specs.declared.words.Command.TheVariants.{Slot}
-use Rattle.line_tool.specs.contracts.words.Command.{enum}
-use borrow.Enum.Total.{values_d}
+use Rattle.line_tool.specs.Words.{texts}
+use Rattle.line_tool.specs.declared.words.Command.TheVariants.{Slot, Check}
 use Rattle.line_tool.proofs.top.run.Goals as goal
-
--- which words it is the form of
-slot_form : (words : List (List ℕ)) (command : Command) → IsForm words command → IsForm words (Slot (values_d enum 0 (0, tt) command).0)
-slot_form words (Slot slot) form = form
-
-pub returns-in-Some-Slot-clause-refused : goal.returns-in-Some-Slot-clause-refused
-returns-in-Some-Slot-clause-refused g c = λ cause. elim cause [
-  | inl words ↦ absurd (never_words c.write_slot.result _ _ _ _ _ (c.write_slot.ensures.run (λ memory. cc)) words)
-  | inr memory ↦
-      let same = c.write_slot.ensures.memory memory in
-      (put_back g.I.Source g.O.Sink c.args.bays.now c.line_in_mut.result.now c.write_slot.new.line c.line_in_mut.ensures.value same.0, same.1)
-]
 
 pub returns-in-Some-Slot-clause-slot_taken : goal.returns-in-Some-Slot-clause-slot_taken
 returns-in-Some-Slot-clause-slot_taken g c = λ slot form m.
-    let mine = (values_d enum 0 (0, tt) c.in-Some-Slot.field-0).0 in
-    let e : mine ≡ slot = same_slot _ mine slot (slot_form _ c.in-Some-Slot.field-0 c.in-Some-Slot.ensures.form) form in
-    let run = seen_run g.I.Source g.O.Sink c.args.bays.now c.line_in_mut.result.now c.write_slot.new.line mine (g.K.Sink.got c.args.report.now) (g.K.Sink.got c.write_slot.new.report)
+    let mine = rw c.in-Some-Slot.field-0-is at c.in-Some-Slot.ensures.form in
+    let e : c.in-Some-Slot.slot ≡ slot = same_slot (texts c.args.words.now) c.in-Some-Slot.slot slot mine form in
+    let run = seen_run g.I.Source g.O.Sink c.args.bays.now c.line_in_mut.result.now c.write_slot.new.line c.in-Some-Slot.slot (g.K.Sink.got c.args.report.now) (g.K.Sink.got c.write_slot.new.report)
     c.write_slot.result c.line_in_mut.ensures.value (c.write_slot.ensures.run m) in
-    subst (λ s. SlotRun s (line_in_at (bays_view g.I.Source g.O.Sink c.args.bays.now) 0) (line_in_at (bays_view g.I.Source g.O.Sink (with_line_in c.args.bays.now 0 c.write_slot.new.line)) 0)
-    (g.K.Sink.got c.args.report.now) (g.K.Sink.got c.write_slot.new.report) c.write_slot.result) e run
+    subst (λ s. SlotRun s (line_in_at (bays_view g.I.Source g.O.Sink c.args.bays.now) 0) (line_in_at (bays_view g.I.Source g.O.Sink (with_line_in c.args.bays.now 0 c.write_slot.new.line)) 0) (g.K.Sink.got c.args.report.now) (g.K.Sink.got c.write_slot.new.report) c.write_slot.result) e run
+
+pub returns-in-Some-Slot-clause-refused : goal.returns-in-Some-Slot-clause-refused
+returns-in-Some-Slot-clause-refused g c = λ refusal.
+    let memory = refused_run c.write_slot.result c.in-Some-Slot.slot (in_view g.I.Source c.line_in_mut.result.now) (in_view g.I.Source c.write_slot.new.line) (g.K.Sink.got c.args.report.now) (g.K.Sink.got c.write_slot.new.report) c.write_slot.ensures.run refusal in
+    let same = c.write_slot.ensures.memory memory in
+    (put_back g.I.Source g.O.Sink c.args.bays.now c.line_in_mut.result.now c.write_slot.new.line c.line_in_mut.ensures.value same.0, ap g.K.Sink.got same.1)
 
 pub returns-in-Some-Slot-clause-slot : goal.returns-in-Some-Slot-clause-slot
 returns-in-Some-Slot-clause-slot g c = λ slot given form m is.
-    reports_given c.write_slot.result slot _ _ _ _ given (returns-in-Some-Slot-clause-slot_taken g c slot form m) is
+    reports_given c.write_slot.result slot (line_in_at (bays_view g.I.Source g.O.Sink c.args.bays.now) 0) (line_in_at (bays_view g.I.Source g.O.Sink (with_line_in c.args.bays.now 0 c.write_slot.new.line)) 0) (g.K.Sink.got c.args.report.now) (g.K.Sink.got c.write_slot.new.report) given (returns-in-Some-Slot-clause-slot_taken g c slot form m) is
 
-pub returns-in-Some-Slot-clause-cut : goal.returns-in-Some-Slot-clause-cut
-returns-in-Some-Slot-clause-cut g c = λ _ m.
-    cut_is c.write_slot.result _ _ _ _ _ (seen_run g.I.Source g.O.Sink c.args.bays.now c.line_in_mut.result.now c.write_slot.new.line _ _ _
+pub returns-in-Some-Slot-clause-slot_cut : goal.returns-in-Some-Slot-clause-slot_cut
+returns-in-Some-Slot-clause-slot_cut g c = λ slot form m.
+    cut_is c.write_slot.result slot (line_in_at (bays_view g.I.Source g.O.Sink c.args.bays.now) 0) (line_in_at (bays_view g.I.Source g.O.Sink (with_line_in c.args.bays.now 0 c.write_slot.new.line)) 0) (g.K.Sink.got c.args.report.now) (g.K.Sink.got c.write_slot.new.report) (returns-in-Some-Slot-clause-slot_taken g c slot form m)
+
+pub returns-in-Some-Slot-clause-slot_unfinished : goal.returns-in-Some-Slot-clause-slot_unfinished
+returns-in-Some-Slot-clause-slot_unfinished g c = λ slot given form m other is.
+    unfinished_is c.write_slot.result slot (line_in_at (bays_view g.I.Source g.O.Sink c.args.bays.now) 0) (line_in_at (bays_view g.I.Source g.O.Sink (with_line_in c.args.bays.now 0 c.write_slot.new.line)) 0) (g.K.Sink.got c.args.report.now) (g.K.Sink.got c.write_slot.new.report) given (returns-in-Some-Slot-clause-slot_taken g c slot form m) other is
+
+pub returns-in-Some-Slot-clause-slot_unfinished_by_number : goal.returns-in-Some-Slot-clause-slot_unfinished_by_number
+returns-in-Some-Slot-clause-slot_unfinished_by_number g c = λ slot form m other below.
+    unfinished_counted c.write_slot.result slot (line_in_at (bays_view g.I.Source g.O.Sink c.args.bays.now) 0) (line_in_at (bays_view g.I.Source g.O.Sink (with_line_in c.args.bays.now 0 c.write_slot.new.line)) 0) (g.K.Sink.got c.args.report.now) (g.K.Sink.got c.write_slot.new.report) (returns-in-Some-Slot-clause-slot_taken g c slot form m) other below
+
+pub returns-in-Some-Slot-clause-slot_complete : goal.returns-in-Some-Slot-clause-slot_complete
+returns-in-Some-Slot-clause-slot_complete g c = λ slot form well line alive.
+    complete_all c.write_slot.result slot (line_in_at (bays_view g.I.Source g.O.Sink c.args.bays.now) 0) (line_in_at (bays_view g.I.Source g.O.Sink (with_line_in c.args.bays.now 0 c.write_slot.new.line)) 0) (g.K.Sink.got c.args.report.now) (g.K.Sink.got c.write_slot.new.report) (g.K.Sink.faults c.args.report.now) (g.K.Sink.faults c.write_slot.new.report)
+    (λ m. returns-in-Some-Slot-clause-slot_taken g c slot form m) c.write_slot.ensures.report_fault well line alive
+
+pub returns-in-Some-Slot-clause-line : goal.returns-in-Some-Slot-clause-line
+returns-in-Some-Slot-clause-line g c =
+    line_gave c.write_slot.result c.in-Some-Slot.slot (line_in_at (bays_view g.I.Source g.O.Sink c.args.bays.now) 0) (line_in_at (bays_view g.I.Source g.O.Sink (with_line_in c.args.bays.now 0 c.write_slot.new.line)) 0) (g.K.Sink.got c.args.report.now) (g.K.Sink.got c.write_slot.new.report)
+    (λ memory. line_in_set g.I.Source g.O.Sink c.args.bays.now 0 c.line_in_mut.result.now c.write_slot.new.line c.line_in_mut.ensures.value
+    ∙ ap (in_view g.I.Source) (c.write_slot.ensures.memory memory).0
+    ∙ sym (line_in_seen g.I.Source g.O.Sink c.args.bays.now 0 c.line_in_mut.result.now c.line_in_mut.ensures.value))
+    (λ m. seen_run g.I.Source g.O.Sink c.args.bays.now c.line_in_mut.result.now c.write_slot.new.line c.in-Some-Slot.slot (g.K.Sink.got c.args.report.now) (g.K.Sink.got c.write_slot.new.report)
     c.write_slot.result c.line_in_mut.ensures.value (c.write_slot.ensures.run m))
-
-pub returns-in-Some-Slot-clause-unfinished : goal.returns-in-Some-Slot-clause-unfinished
-returns-in-Some-Slot-clause-unfinished g c = λ given _ m other is.
-    unfinished_is c.write_slot.result _ _ _ _ _ given (seen_run g.I.Source g.O.Sink c.args.bays.now c.line_in_mut.result.now c.write_slot.new.line _ _ _
-    c.write_slot.result c.line_in_mut.ensures.value (c.write_slot.ensures.run m)) other is
-
-pub returns-in-Some-Slot-clause-unfinished_by_number : goal.returns-in-Some-Slot-clause-unfinished_by_number
-returns-in-Some-Slot-clause-unfinished_by_number g c = λ _ m other below.
-    unfinished_counted c.write_slot.result _ _ _ _ _ (seen_run g.I.Source g.O.Sink c.args.bays.now c.line_in_mut.result.now c.write_slot.new.line _ _ _
-    c.write_slot.result c.line_in_mut.ensures.value (c.write_slot.ensures.run m)) other below
 
 pub returns-in-Some-Slot-clause-only : goal.returns-in-Some-Slot-clause-only
 returns-in-Some-Slot-clause-only g c = only_line_in g.I.Source g.O.Sink c.args.bays.now 0 c.write_slot.new.line
+
+pub returns-in-Some-Check-clause-refused : goal.returns-in-Some-Check-clause-refused
+returns-in-Some-Check-clause-refused g c = λ refusal.
+    (refl, check_refused c.check_plan.result (g.P.Source.left c.args.plan.now) (g.P.Source.left c.check_plan.new.plan) (g.K.Sink.got c.args.report.now) (g.K.Sink.got c.check_plan.new.report) c.check_plan.ensures.run refusal)
+
+pub returns-in-Some-Check-clause-check : goal.returns-in-Some-Check-clause-check
+returns-in-Some-Check-clause-check g c = λ text form told a b.
+    check_told c.check_plan.result text (g.P.Source.left c.check_plan.new.plan) (g.K.Sink.got c.args.report.now) (g.K.Sink.got c.check_plan.new.report)
+    (subst (λ had. CheckRun had (g.P.Source.left c.check_plan.new.plan) (g.K.Sink.got c.args.report.now) (g.K.Sink.got c.check_plan.new.report) c.check_plan.result) told c.check_plan.ensures.run) a b
 
 pub returns-in-None-clause-slot : goal.returns-in-None-clause-slot
 returns-in-None-clause-slot g c = λ slot given form m is. absurd (c.in-None.ensures.no_form (Slot slot) form)
@@ -62,18 +74,20 @@ returns-in-None-clause-slot g c = λ slot given form m is. absurd (c.in-None.ens
 pub returns-in-None-clause-slot_taken : goal.returns-in-None-clause-slot_taken
 returns-in-None-clause-slot_taken g c = λ slot form m. absurd (c.in-None.ensures.no_form (Slot slot) form)
 
-pub returns-in-Some-Slot-clause-line : goal.returns-in-Some-Slot-clause-line
-returns-in-Some-Slot-clause-line g c =
-    line_gave c.write_slot.result _ _ _ _ _
-    (λ memory. line_in_set g.I.Source g.O.Sink c.args.bays.now 0 c.line_in_mut.result.now c.write_slot.new.line c.line_in_mut.ensures.value
-    ∙ ap (in_view g.I.Source) (c.write_slot.ensures.memory memory).0
-    ∙ sym (line_in_seen g.I.Source g.O.Sink c.args.bays.now 0 c.line_in_mut.result.now c.line_in_mut.ensures.value))
-    (λ m. seen_run g.I.Source g.O.Sink c.args.bays.now c.line_in_mut.result.now c.write_slot.new.line _ _ _
-    c.write_slot.result c.line_in_mut.ensures.value (c.write_slot.ensures.run m))
+pub returns-in-None-clause-slot_cut : goal.returns-in-None-clause-slot_cut
+returns-in-None-clause-slot_cut g c = λ slot form m. absurd (c.in-None.ensures.no_form (Slot slot) form)
 
-pub returns-in-Some-Slot-clause-complete : goal.returns-in-Some-Slot-clause-complete
-returns-in-Some-Slot-clause-complete g c = λ _ well line alive.
-    complete_all c.write_slot.result _ _ _ _ _ _ _
-    (λ m. seen_run g.I.Source g.O.Sink c.args.bays.now c.line_in_mut.result.now c.write_slot.new.line _ _ _
-    c.write_slot.result c.line_in_mut.ensures.value (c.write_slot.ensures.run m))
-    c.write_slot.ensures.report_fault well line alive
+pub returns-in-None-clause-slot_unfinished : goal.returns-in-None-clause-slot_unfinished
+returns-in-None-clause-slot_unfinished g c = λ slot given form m other is. absurd (c.in-None.ensures.no_form (Slot slot) form)
+
+pub returns-in-None-clause-slot_complete : goal.returns-in-None-clause-slot_complete
+returns-in-None-clause-slot_complete g c = λ slot form well line alive. absurd (c.in-None.ensures.no_form (Slot slot) form)
+
+pub returns-in-None-clause-check : goal.returns-in-None-clause-check
+returns-in-None-clause-check g c = λ text form told a b. absurd (c.in-None.ensures.no_form Check form)
+
+pub returns-in-None-clause-check_read : goal.returns-in-None-clause-check_read
+returns-in-None-clause-check_read g c = λ form. absurd (c.in-None.ensures.no_form Check form)
+
+pub returns-in-None-clause-check_complete : goal.returns-in-None-clause-check_complete
+returns-in-None-clause-check_complete g c = λ form well plan. absurd (c.in-None.ensures.no_form Check form)

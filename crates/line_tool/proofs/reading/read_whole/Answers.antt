@@ -1,0 +1,13 @@
+use Rattle.std.proofs.Common.{arith, ◌≤◌, length}
+use Rattle.otn_ports.proofs.TakenTwice.{more}
+use Rattle.line_tool.proofs.reading.read_whole.Goals as goal
+
+pub loop-done-preserved : goal.loop-done-preserved
+loop-done-preserved g c =
+    let room : c.in-Ok.n ≤ length c.read.new.into = omega (arith, c.in-Ok.ensures.bound) in
+    record {
+      within = omega (arith, c.in-Ok.ensures.bound);
+      bytes = more _ _ _ _ _ _ _ _ c.loop-done.invariant.within room c.loop-done.invariant.bytes c.in-Ok.ensures.bytes;
+      same = cc;
+      later = omega (arith, c.read.ensures.later);
+    }

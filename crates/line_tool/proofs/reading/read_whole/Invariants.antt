@@ -1,0 +1,14 @@
+use Rattle.std.proofs.Common.{length, ◌-◌, ◌≡◌, ◌≤◌, take}
+use Rattle.otn_ports.specs.Bytes.{before}
+use Rattle.line_tool.proofs.reading.read_whole.Given as goal
+
+abbrev pub invariant-loop-done : goal.invariant-loop-done
+invariant-loop-done g l = record {
+  within : l.done ≤ length l.into;
+  bytes : g.S.Source.left l.fn.source ≡ before (take l.done l.into) (g.S.Source.left l.source);
+  same : g.S.Source.boxed l.source ≡ g.S.Source.boxed l.fn.source;
+  later : g.S.Source.faults l.fn.source ≤ g.S.Source.faults l.source;
+}
+
+abbrev pub decreases-loop-done : goal.decreases-loop-done
+decreases-loop-done g l = length l.initial.into - l.done

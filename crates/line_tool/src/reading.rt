@@ -1,0 +1,28 @@
+// Reading a source that stands in no place.
+ghost use Rattle.std.specs.Prelude.{◌≡◌, ◌<◌, ◌≤◌, length, take};
+ghost use Rattle.otn_ports.specs.Bytes.{before, HasFailed};
+ghost use Rattle.otn_ports.specs.Reads.{IsReading};
+
+use otn_ports::{Failed, Reading, Source};
+
+/// Reads until the slice is full, the source ends or a call fails,
+/// and says how many bytes came: they stand at the slice's front. After Lost the source's count of
+/// faults rose or stands at its end.
+pub(crate) fn read_whole<S: Source>(source: &mut S, into: &mut [u8]) -> (Reading, usize)
+    ensures within { result.1 ≤ length into.old }
+    ensures bytes { S.left source.old ≡ before (take result.1 into.new) (S.left source.new) }
+    ensures reading { IsReading result.0 result.1 (length into.old) (S.left source.new) }
+    ensures later { S.faults source.old ≤ S.faults source.new }
+    ensures cause { result.0 ≡ Reading.Lost → HasFailed (S.faults source.old) (S.faults source.new) }
+    ensures same { S.boxed source.new ≡ S.boxed source.old }
+{
+    let mut done = 0;
+    while done < into.len() {
+        match source.read(&mut into[done..]) {
+            Ok(0) => return (Reading::End(done), done),
+            Ok(n) => done += n,
+            Err(Failed) => return (Reading::Lost, done),
+        }
+    }
+    (Reading::Full, done)
+}
