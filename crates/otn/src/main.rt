@@ -7,23 +7,24 @@ ghost use Rattle.std.specs.Prelude.{◌≤◌, IfSome, length};
 use line_tool::{Status, run};
 use otn_base::Memory;
 use otn_base::limits::LINES;
-use otn_ports::{Bays, FileSource, FirstReady, InPlace, InPort, MemSource, Source, StdoutSink};
+use otn_ports::{Bays, FileSource, FirstReady, InPlace, InPort, Source, StdoutSink};
 use std::alloc::{AllocError, Global};
 use std::env::FillError;
 use std::io::ErrorKind;
 use std::process::ExitCode;
 use std::rt::Env;
-use std::{fs, str};
+use std::{fs, io, str};
 
 const HELP: &str = "\
 otn, an ODU2 multiplexer and cross-connect (ITU-T G.709)
 
 usage: otn slot K     the payload bytes of tributary slot K, 1 to 8, of each whole frame of line-0.in
+       otn check      whether plan.toml is a plan, and of how many connections and turns
        otn --help
        otn --version
 
 It reads the files of the current folder and writes to standard output. It ends with
-0 done  1 unfinished  2 words  5 report fault  6 cut  7 memory
+0 done  1 unfinished  2 words  3 plan refused  4 plan fault  5 report fault  6 cut  7 memory
 ";
 
 const VERSION: &str = "otn 0.1.0";
@@ -33,21 +34,21 @@ const LONGEST_WORD: usize = 4096;
 
 fn main(rt: HostRuntime) -> ExitCode {
     let status = serve(&rt).unwrap_or(Status::Memory);
-    if let Some(complaint) = complaint(status) {
-        let _ = eprintln!(rt; "otn: {complaint}");
-    }
+    let _ = complain(&rt, status);
     ExitCode::from(status.code())
 }
 
-// What is said of an answer on standard error.
-fn complaint(status: Status) -> Option<&'static str> {
+// Says on standard error what the answer is, where it is not that all was done.
+fn complain(rt: &HostRuntime, status: Status) -> io::Result<()> {
     match status {
-        Status::Done => None,
-        Status::Unfinished => Some("unfinished"),
-        Status::Words => Some("words"),
-        Status::ReportFault => Some("report fault"),
-        Status::Cut => Some("cut"),
-        Status::Memory => Some("memory"),
+        Status::Done => Ok(()),
+        Status::Unfinished => eprintln!(rt; "otn: unfinished"),
+        Status::Words => eprintln!(rt; "otn: words"),
+        Status::Plan(error, place) => eprintln!(rt; "otn: plan {} at {place}", error.code()),
+        Status::PlanFault => eprintln!(rt; "otn: plan fault"),
+        Status::ReportFault => eprintln!(rt; "otn: report fault"),
+        Status::Cut => eprintln!(rt; "otn: cut"),
+        Status::Memory => eprintln!(rt; "otn: memory"),
     }
 }
 
@@ -72,7 +73,7 @@ fn serve(rt: &HostRuntime) -> Result<Status, Memory> {
         let port: Box<dyn Source> = Box::new(alloc, source)?;
         bays.set_line_in(n, InPlace::Live(InPort::Boxed(port), 0));
     }
-    let mut plan = MemSource::new(Vec::new(alloc));
+    let mut plan = FileSource::of(fs::open(rt, "plan.toml").ok());
     let mut report = StdoutSink::of(rt.stdout());
     let mut chooser = FirstReady::new();
     Ok(run(
