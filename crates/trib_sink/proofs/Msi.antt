@@ -1,0 +1,104 @@
+-- The greatest of some slots, and the MSI byte of a frame.
+use Rattle.std.proofs.Common.{◌≡◌, ◌≢◌, ℕ, zero, suc, ◌+◌, ◌-◌, ◌<◌, ◌≤◌, List, [], ◌∷◌, ◌++◌, Bool, true, false, cond, Some, length, get_or, refl, ap, ◌∙◌, sym, subst, arith, append-nil}
+use Rattle.std.specs.Prelude.{All, ◌==◌, slice_get}
+use Rattle.std.specs.List.{flat_map, Contains}
+use Rattle.std.specs.List.Sorted.{IsStrictlyIncreasing}
+use Rattle.std.proofs.lemmas.Bool.{eq-eqb, ne_eqb}
+use Rattle.std.proofs.lemmas.Bool.Decides.{nat_tests}
+use Rattle.std.proofs.lemmas.List.Elements.{All-nil, All-cons, All-append, Contains-get_or}
+use Rattle.otn_base.specs.SlotList.{IsSlotList}
+use Rattle.frame_geometry.specs.Places.{place_of}
+use Rattle.tributary_model.specs.Places.{greatest}
+use Rattle.tributary_model.proofs.Views.{slot_low, slot_high}
+use Rattle.trib_sink.specs.Arrivals.{msi_at}
+use Rattle.trib_sink.specs.Watching.{AreOfEight}
+
+rising_rest : (x : ℕ) (xs : List ℕ) → IsStrictlyIncreasing (x ∷ xs) → IsStrictlyIncreasing xs
+rising_rest x xs h = λ k less. subst (λ i. get_or xs k 0 < get_or (x ∷ xs) i 0) (let e : suc k + 1 ≡ suc (k + 1) = omega arith in e) (h (suc k) (omega arith))
+
+rising_head : (x y : ℕ) (xs : List ℕ) → IsStrictlyIncreasing (x ∷ y ∷ xs) → x < y
+rising_head x y xs h = h 0 (omega arith)
+
+greatest_last : (xs : List ℕ) (r : ℕ) → IsStrictlyIncreasing xs → slice_get xs (length xs - 1) ≡ Some r → greatest xs ≡ r
+greatest_last [] r h e = cc
+greatest_last (x ∷ []) r h e = let same : x ≡ r = cc in omega arith
+greatest_last (x ∷ y ∷ xs) r h e =
+    let less = rising_head x y xs h in
+    let place : slice_get (y ∷ xs) (length (y ∷ xs) - 1) ≡ Some r = subst (λ i. slice_get (x ∷ y ∷ xs) i ≡ Some r) (let f : length (x ∷ y ∷ xs) - 1 ≡ suc (length (y ∷ xs) - 1) = omega arith in f) e in
+    let rest = greatest_last (y ∷ xs) r (rising_rest x (y ∷ xs) h) place in
+    let most : y ≤ greatest (y ∷ xs) = omega arith in
+    omega arith
+
+pub greatest_is_last : (xs : List ℕ) (r : ℕ) → IsSlotList 8 xs → slice_get xs (length xs - 1) ≡ Some r → greatest xs ≡ r
+greatest_is_last xs r h e = greatest_last xs r h.rising e
+
+-- each later number is greater
+above : (x : ℕ) (xs : List ℕ) → IsStrictlyIncreasing (x ∷ xs) → All (λ y. x < y) xs
+above x [] h = All-nil (λ y. x < y)
+above x (y ∷ ys) h =
+    let less = rising_head x y ys h in
+    let rest = above y ys (rising_rest x (y ∷ ys) h) in
+    All-cons (λ z. x < z) y ys less (λ k d l. let more : y < get_or ys k d = rest k d l in omega arith)
+
+-- no byte where no slot has its place there
+none_at : (e b : ℕ) (xs : List ℕ) → All (λ k. e ≢ 1 + k) xs → flat_map (λ k. cond {A = List (ℕ × ℕ)} (e == 1 + k) ((k, b) ∷ []) []) xs ≡ []
+none_at e b [] h = refl
+none_at e b (x ∷ xs) h =
+    let here : (e == 1 + x) ≡ false = ne_eqb e (1 + x) (h 0 x (omega arith)) in
+    let rest = none_at e b xs (λ k d l. h (suc k) d (omega arith)) in
+    ap (λ t. cond {A = List (ℕ × ℕ)} t ((x, b) ∷ []) [] ++ flat_map (λ k. cond {A = List (ℕ × ℕ)} (e == 1 + k) ((k, b) ∷ []) []) xs) here ∙ rest
+
+pub none_there : (e b : ℕ) (xs : List ℕ) → ((k : ℕ) → Contains xs k → e ≢ 1 + k) → flat_map (λ k. cond {A = List (ℕ × ℕ)} (e == 1 + k) ((k, b) ∷ []) []) xs ≡ []
+none_there e b xs h = none_at e b xs (λ k d l. h (get_or xs k d) (Contains-get_or xs k d l))
+
+-- what a list has beside its first
+has_rest : (x : ℕ) (xs : List ℕ) (y : ℕ) → Contains (x ∷ xs) y → x ≢ y → Contains xs y
+has_rest x xs y has other = go has.0 has.1 has.2
+  where
+    go : (k : ℕ) → k < length (x ∷ xs) → get_or (x ∷ xs) k y ≡ y → Contains xs y
+    go zero less e = absurd (other e)
+    go (suc k) less e = (k, omega arith, e)
+
+tested : (a b : ℕ) → (a == b) ≡ true → a ≡ b
+tested a b e = grind (arith, nat_tests)
+
+not_tested : (a b : ℕ) → (a == b) ≡ false → a ≢ b
+not_tested a b e same = let yes : (a == b) ≡ true = eq-eqb a b same in let bad : ⊥ = cc in bad
+
+-- the byte of the one slot that has
+pub one_there : (e b : ℕ) (xs : List ℕ) → IsStrictlyIncreasing xs → 1 ≤ e → Contains xs (e - 1) → flat_map (λ k. cond {A = List (ℕ × ℕ)} (e == 1 + k) ((k, b) ∷ []) []) xs ≡ (e - 1, b) ∷ []
+one_there e b [] h some has = absurd (let bad : ⊥ = (let l = has.1 in omega arith) in bad)
+one_there e b (x ∷ xs) h some has = go (λ f. one_there e b xs (rising_rest x xs h) some f) (e == 1 + x) refl
+  where
+    go : (Contains xs (e - 1) → flat_map (λ k. cond {A = List (ℕ × ℕ)} (e == 1 + k) ((k, b) ∷ []) []) xs ≡ (e - 1, b) ∷ [])
+        → (t : Bool) → (e == 1 + x) ≡ t → flat_map (λ k. cond {A = List (ℕ × ℕ)} (e == 1 + k) ((k, b) ∷ []) []) (x ∷ xs) ≡ (e - 1, b) ∷ []
+    go later_one true is =
+        let same : e ≡ 1 + x = tested e (1 + x) is in
+        let later = above x xs h in
+        let rest : flat_map (λ k. cond {A = List (ℕ × ℕ)} (e == 1 + k) ((k, b) ∷ []) []) xs ≡ [] = none_at e b xs (λ k d l f. let more : x < get_or xs k d = later k d l in let bad : ⊥ = omega arith in bad) in
+        ap (λ t. cond {A = List (ℕ × ℕ)} t ((x, b) ∷ []) [] ++ flat_map (λ k. cond {A = List (ℕ × ℕ)} (e == 1 + k) ((k, b) ∷ []) []) xs) is
+        ∙ ap {A = List (ℕ × ℕ)} (λ y. (x, b) ∷ y) rest
+        ∙ ap {A = ℕ} (λ n. (n, b) ∷ []) (let f : x ≡ e - 1 = omega arith in f)
+    go later_one false is =
+        let differ : e ≢ 1 + x = not_tested e (1 + x) is in
+        let other : x ≢ e - 1 = λ f. differ (omega arith) in
+        ap (λ t. cond {A = List (ℕ × ℕ)} t ((x, b) ∷ []) [] ++ flat_map (λ k. cond {A = List (ℕ × ℕ)} (e == 1 + k) ((k, b) ∷ []) []) xs) is
+        ∙ later_one (has_rest x xs (e - 1) has other)
+
+-- as a clause says it, one pair more or none
+pub noted : (slots frame : List ℕ) (e b : ℕ) (came new : List (ℕ × ℕ)) → IsSlotList 8 slots → 1 ≤ e → Contains slots (e - 1) → new ≡ came ++ (e - 1, b) ∷ []
+    → b ≡ get_or frame (place_of 4080 4 15) 0 → new ≡ came ++ msi_at slots e frame
+noted slots frame e b came new list some has is byte =
+    is ∙ ap {A = ℕ} (λ b. came ++ (e - 1, b) ∷ []) byte ∙ ap (λ xs. came ++ xs) (sym (one_there e (get_or frame (place_of 4080 4 15) 0) slots list.rising some has))
+
+pub not_noted : (slots frame : List ℕ) (e : ℕ) (came : List (ℕ × ℕ)) → (1 ≤ e → Contains slots (e - 1) → ⊥) → came ≡ came ++ msi_at slots e frame
+not_noted slots frame e came without =
+    sym (append-nil came) ∙ ap (λ xs. came ++ xs) (sym (none_there e (get_or frame (place_of 4080 4 15) 0) slots
+    (λ k has f. without (omega arith) (subst (Contains slots) (let g : k ≡ e - 1 = omega arith in g) has))))
+
+pub noted_slots : (slots : List ℕ) (e b : ℕ) (came new : List (ℕ × ℕ)) → IsSlotList 8 slots → Contains slots (e - 1) → new ≡ came ++ (e - 1, b) ∷ [] → AreOfEight came → AreOfEight new
+noted_slots slots e b came new list has is h =
+    let low = slot_low 8 slots (e - 1) list has in
+    let high = slot_high 8 slots (e - 1) list has in
+    let P : ℕ × ℕ → Type 0 = λ p. (1 ≤ p.0) × (p.0 ≤ 8) in
+    subst AreOfEight (sym is) (All-append P came ((e - 1, b) ∷ []) h (All-cons P (e - 1, b) [] (low, high) (All-nil P)))

@@ -1,0 +1,4 @@
+use Rattle.trib_sink.proofs.follower.Follower.take_frame.Goals as goal
+
+pub returns : goal.returns
+returns c = rw (c.take_frame.ensures, ← c.self.view_is)

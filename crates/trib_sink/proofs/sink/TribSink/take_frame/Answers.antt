@@ -1,0 +1,24 @@
+use Rattle.std.proofs.Common.{◌≡◌, ◌∙◌, ◌+◌, sym, subst, ap}
+use Rattle.trib_sink.specs.Sink.{Sink, StandsAfter}
+use Rattle.trib_sink.proofs.Stands.{stands_next, is_next}
+use Rattle.trib_sink.proofs.sink.TribSink.take_frame.Goals as goal
+
+pub returns-clause-taken : goal.returns-clause-taken
+returns-clause-taken c = ap (λ (s : Sink). s.taken + 1) c.self.view_is
+
+pub invariant_of-self : goal.invariant_of-self
+invariant_of-self c =
+    let i = c.self.inside in
+    let s : Sink = record { slots = i.slots; port = i.port; following = i.follower; watches = i.watches; taken = i.taken; message = i.message; msi = i.came.items } in
+    let number : c.args.n ≡ i.taken = c.requires.taken ∙ sym (ap (λ (s : Sink). s.taken) c.self.view_is) in
+    rw c.take_frame.ensures
+    (is_next s c.args.frame.now c.message_so_far-self-inside.result c.args.expected c.args.n c.note_msi.new.came.items number c.requires.number c.note_msi.ensures.few c.note_msi.ensures.slots c.self.invariant)
+
+pub returns-clause-stands : goal.returns-clause-stands
+returns-clause-stands c = λ own past frames h.
+    let i = c.self.inside in
+    let s : Sink = record { slots = i.slots; port = i.port; following = i.follower; watches = i.watches; taken = i.taken; message = i.message; msi = i.came.items } in
+    let number : c.args.n ≡ i.taken = c.requires.taken ∙ sym (ap (λ (s : Sink). s.taken) c.self.view_is) in
+    rw c.take_frame.ensures
+    (stands_next own past frames s c.args.frame.now c.message_so_far-self-inside.result c.args.expected c.args.n c.note_msi.new.came.items number c.self.invariant.asked c.message_so_far-self-inside.ensures c.note_msi.ensures.bytes
+    (subst (λ (x : Sink). StandsAfter own past frames x) (sym c.self.view_is) h))

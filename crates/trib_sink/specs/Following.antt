@@ -1,0 +1,76 @@
+-- How a sink follows its tributary.
+use Rattle.std.specs.Prelude.{◌≡◌, ℕ, ◌<◌, ◌≤◌, List, [], Bool, Option, Some, None}
+use Rattle.maintenance_signals.specs.declared.signal.Signal.TheVariants.{Ais}
+use Rattle.maintenance_signals.specs.Given.{Standing as Stream, HasGiven}
+use Rattle.tributary_model.specs.declared.turns.Hearing.{Hearing}
+use Rattle.tributary_model.specs.declared.turns.Hearing.TheVariants.{Damaged, Lost, Pair}
+use Rattle.tributary_model.specs.declared.turns.Said.{Said}
+use Rattle.tributary_model.specs.declared.turns.Standing.{Standing}
+use Rattle.tributary_model.specs.declared.turns.Standing.TheVariants.{Waiting, Down, Up}
+use Rattle.tributary_model.specs.Machine.{Machine, former_of, number_of}
+use Rattle.trib_sink.specs.Extraction.{Extraction}
+
+-- how it stands, the number that it hears the next message after, its bytes, and the place in the AIS stream
+pub record Following : Type 0 where
+  pub standing : Standing
+  pub listener : Option ℕ
+  pub extraction : Extraction
+  pub stream : Stream
+
+-- the number that a listener keeps after a message
+abbrev pub kept_after : Option ℕ → Hearing → Option ℕ
+kept_after former (Pair number rest equal) = Some number
+kept_after former Damaged = former
+kept_after former Lost = None
+
+-- within a stretch it is that of the last turn
+abbrev pub Keeps : Standing → Option ℕ → Type 0
+Keeps (Waiting n) former = Unit {0}
+Keeps Down former = Unit {0}
+Keeps (Up said) former = former ≡ Some said.number
+
+-- nothing is pending after the turn that began a stretch, and remainders are less than a group
+abbrev pub FitsFormer : (slots : ℕ) → (pending : List ℕ) → Option ℕ → Type 0
+FitsFormer slots pending None = pending ≡ []
+FitsFormer slots pending (Some due) = due < slots
+
+abbrev pub IsSmallSaid : (slots : ℕ) → Said → Type 0
+IsSmallSaid slots said = (said.number ≤ 15232) × (said.rest < slots)
+
+abbrev pub FitsStanding : (slots : ℕ) → (pending : List ℕ) → Standing → Type 0
+FitsStanding slots pending (Waiting n) = n ≤ 2
+FitsStanding slots pending Down = Unit {0}
+FitsStanding slots pending (Up said) = IsSmallSaid slots said × FitsFormer slots pending said.former
+
+-- the pair of a message is one of a multiframe
+pub record IsSmallHearing (slots : ℕ) (heard : Option Hearing) : Type 0 where
+  pub number_low : (number rest : ℕ) (equal : Bool) → heard ≡ Some (Pair number rest equal) → number ≤ 15232
+  pub rest_low : (number rest : ℕ) (equal : Bool) → heard ≡ Some (Pair number rest equal) → rest < slots
+
+-- what the first turn of a stretch says, and what a later one does
+pub record FitsFirst (slots : ℕ) (first : Option Said) : Type 0 where
+  pub small : (said : Said) → first ≡ Some said → IsSmallSaid slots said
+  pub former : (said : Said) → first ≡ Some said → said.former ≡ None
+
+pub record FitsNext (slots : ℕ) (next : Option Said) (due : ℕ) : Type 0 where
+  pub small : (said : Said) → next ≡ Some said → IsSmallSaid slots said
+  pub former : (said : Said) → next ≡ Some said → said.former ≡ Some due
+
+-- it stands as the machine without totals
+pub record IsAt (machine : Machine) (f : Following) : Type 0 where
+  pub standing : f.standing ≡ machine.standing
+  pub pending : f.extraction.pending ≡ machine.pending
+  pub stream : HasGiven Ais machine.place f.stream
+
+-- a turn is over, and none of the next one was taken
+pub record IsBetween (before now : Following) : Type 0 where
+  pub slots : now.extraction.slots ≡ before.extraction.slots
+  pub listener : now.listener ≡ before.listener
+  pub asked : now.extraction.asked ≡ 0
+  pub number : now.extraction.number ≡ number_of now.standing
+  pub fresh : now.extraction.fresh ≡ []
+
+-- after a message was heard
+abbrev pub listener_after : Following → Option Hearing → Option ℕ
+listener_after f None = f.listener
+listener_after f (Some heard) = kept_after (former_of f.standing) heard

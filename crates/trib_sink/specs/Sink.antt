@@ -1,0 +1,51 @@
+-- A sink after some turns, and within one.
+use Rattle.std.specs.Prelude.{◌≡◌, ℕ, ◌*◌, ◌-◌, ◌≤◌, List, Bool, if◌then◌else◌, Option, Some, None, length, slice_get}
+use Rattle.std.specs.List.{flat_map}
+use Rattle.otn_base.specs.SlotList.{IsSlotList}
+use Rattle.msi_table.specs.Marks.{Watch}
+use Rattle.tributary_model.specs.Places.{Tributary, Taken, View, greatest, frame_groups, message_in, msi_in, turn_view, AreWholeTurns}
+use Rattle.tributary_model.specs.Stretches.{came}
+use Rattle.tributary_model.specs.Emission.{data_bytes}
+use Rattle.tributary_model.specs.Machine.{number_of, machine_after}
+use Rattle.trib_sink.specs.Following.{Following, Keeps, IsAt}
+use Rattle.trib_sink.specs.Watching.{Watched, AreOfEight}
+
+-- what is seen of a sink: its slots and port, how it follows them, the watches over MSI bytes, and how many frames of this turn
+-- it has taken, with their message and MSI bytes
+pub record Sink : Type 0 where
+  pub slots : List ℕ
+  pub port : ℕ
+  pub following : Following
+  pub watches : List Watch
+  pub taken : ℕ
+  pub message : List ℕ
+  pub msi : List (ℕ × ℕ)
+
+-- what holds of every sink
+pub record IsSink (s : Sink) : Type 0 where
+  pub port_low : 1 ≤ s.port
+  pub port_high : s.port ≤ 8
+  pub count : s.following.extraction.slots ≡ length s.slots
+  pub taken_low : s.taken ≤ 8
+  pub asked : s.following.extraction.asked ≡ 1904 * s.taken
+  pub keeps : Keeps s.following.standing s.following.listener
+  pub msi_few : length s.msi ≤ s.taken
+  pub msi_slots : AreOfEight s.msi
+
+-- The sink is one of this tributary. These are the views of the turns that ended since it was new or restarted, the last first,
+-- and these the frames of the turn after them that it has taken.
+pub record StandsAfter (own : Tributary) (past : List (Option View)) (frames : List Taken) (s : Sink) : Type 0 where
+  pub own_is : own ≡ record { line_slots = 8; slots = s.slots; port = s.port }
+  pub slots : IsSlotList 8 own.slots
+  pub whole : AreWholeTurns (length own.slots) past
+  pub at : IsAt (machine_after own past) s.following
+  pub watched : Watched own.port (λ k. came k past) s.watches
+  pub taken : s.taken ≡ length frames
+  pub fresh : s.following.extraction.fresh ≡ data_bytes (number_of s.following.standing) (flat_map (λ t. frame_groups own t.frame) frames)
+  pub number : s.following.extraction.number ≡ number_of s.following.standing
+  pub message : greatest own.slots ≤ length frames → s.message ≡ message_in (slice_get frames (greatest own.slots - 1))
+  pub msi : s.msi ≡ flat_map (msi_in own) frames
+
+-- the view of a turn of these frames, where it has a multiframe
+abbrev pub ended_view : Tributary → (whole : Bool) → List Taken → Option View
+ended_view own whole frames = turn_view own (if whole then Some frames else None)

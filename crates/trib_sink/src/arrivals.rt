@@ -1,0 +1,46 @@
+// The message and the MSI bytes of a tributary in the frames of a multiframe.
+ghost use Rattle.std.specs.Prelude.{◌≡◌, ◌+◌, ◌<◌, ◌≤◌, ◌++◌, ◌==◌, if◌then◌else◌, length};
+ghost use Rattle.odtu_columns.specs.Message.{message_of};
+ghost use Rattle.tributary_model.specs.Places.{greatest};
+ghost use Rattle.trib_sink.specs.Arrivals.{msi_at};
+ghost use Rattle.trib_sink.specs.Watching.{AreOfEight};
+
+use arrayvec::ArrayVec;
+use frame_geometry::Frame;
+use odtu_columns::message;
+use otn_base::Slots;
+
+/// The message of a multiframe so far: that of frame `n` where it is the frame of the greatest slot.
+#[tactic(auto, using(crate::proofs::Msi::greatest_is_last))]
+pub(crate) fn message_so_far(slots: &Slots, n: u8, frame: &Frame<4080>, former: [u8; 6]) -> [u8; 6]
+    requires { n < 8 }
+    ensures { result ≡ (if n + 1 == greatest slots.now then message_of frame.now else former) }
+{
+    let _rising = slots.count();
+    if n + 1 == slots.last() {
+        message(frame)
+    } else {
+        former
+    }
+}
+
+/// Notes the MSI byte of a frame, with its slot, where an own one has its MSI byte there.
+pub(crate) fn note_msi(
+    slots: &Slots,
+    frame: &Frame<4080>,
+    expected: u8,
+    came: &mut ArrayVec<(u8, u8), 8>,
+)
+    requires room { length came.old.items < 8 }
+    ensures bytes { came.new.items ≡ came.old.items ++ msi_at slots.now expected frame.now }
+    ensures few { length came.new.items ≤ length came.old.items + 1 }
+    ensures slots { AreOfEight came.old.items → AreOfEight came.new.items }
+{
+    let _rising = slots.count();
+    if expected == 0 {
+        return;
+    }
+    if slots.has(expected - 1) {
+        came.push((expected - 1, frame.get(4, 15)));
+    }
+}

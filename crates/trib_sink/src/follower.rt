@@ -1,0 +1,290 @@
+// How a sink follows its tributary from turn to turn, without totals.
+ghost use Rattle.std.specs.Prelude.{◌≡◌, ◌+◌, ◌*◌, ◌<◌, ◌≤◌, [], ◌++◌, Some, IfOk, length, take, drop};
+ghost use Rattle.maintenance_signals.specs.declared.signal.Signal.TheVariants.{Ais};
+ghost use Rattle.maintenance_signals.specs.Stream.{signal_byte};
+ghost use Rattle.tributary_model.specs.declared.turns.Standing.TheVariants.{Waiting, Down as StandingDown, Up};
+ghost use Rattle.tributary_model.specs.Emission.{stream_bytes};
+ghost use Rattle.tributary_model.specs.Messages.{hears_message};
+ghost use Rattle.tributary_model.specs.Machine.{Machine, start, opened, waits_on, went_on, down_gives, up_gives, former_of, number_of, after_heard, gives_heard};
+ghost use Rattle.trib_sink.specs.Following.{Keeps, FitsStanding, FitsFormer, FitsFirst, FitsNext, IsSmallHearing, IsAt, IsBetween, kept_after};
+ghost use Rattle.trib_sink.specs.Rows.{with_frame};
+
+use crate::hear::hear_message;
+use crate::payload::Payload;
+use crate::said::{begun, gone_on};
+use frame_geometry::Frame;
+use jc_codec::Listener;
+use maintenance_signals::{Signal, SignalBytes};
+use otn_base::limits::NOMINAL;
+use otn_base::{Memory, Slots};
+use std::alloc::Global;
+use std::marker::Model;
+use tributary_model::{Hearing, Said, Standing};
+
+/// How a sink stands between two turns or within one, with the bytes that it extracted.
+#[derive(Drop)]
+pub(crate) struct Follower {
+    standing: Standing,
+    listener: Listener,
+    payload: Payload,
+    signal: SignalBytes,
+}
+
+impl Model for Follower {
+    ghost use Rattle.std.specs.Prelude.{◌≡◌};
+    ghost use Rattle.tributary_model.specs.Machine.{number_of};
+    ghost use Rattle.trib_sink.specs.Following.{Following, FitsStanding};
+
+    ghost Value = { Following };
+
+    ghost view = { λ f. record { standing = f.standing; listener = f.listener; extraction = f.payload; stream = f.signal } };
+
+    ghost invariant = { λ f. FitsStanding f.payload.slots f.payload.pending f.standing × (f.payload.number ≡ number_of f.standing) };
+}
+
+impl Follower {
+    /// Waiting, for so many slots. Takes all memory that it will ever need.
+    pub(crate) fn new(alloc: Global, slots: usize) -> Result<Self, Memory>
+        requires { slots ≤ 8 }
+        ensures at { IfOk result (λ f. IsAt start f) }
+        ensures slots { IfOk result (λ f. f.extraction.slots ≡ slots) }
+        ensures asked { IfOk result (λ f. f.extraction.asked ≡ 0) }
+        ensures fresh { IfOk result (λ f. f.extraction.fresh ≡ []) }
+        ensures number { IfOk result (λ f. f.extraction.number ≡ number_of f.standing) }
+    {
+        let payload = Payload::new(alloc, slots)?;
+        Ok(Follower {
+            standing: Standing::Waiting(0),
+            listener: Listener::new(),
+            payload,
+            signal: SignalBytes::new(Signal::Ais),
+        })
+    }
+
+    /// Waiting again, as a new one of as many slots.
+    pub(crate) fn restart(&mut self)
+        ensures at { IsAt start self.new }
+        ensures slots { self.new.extraction.slots ≡ self.old.extraction.slots }
+        ensures asked { self.new.extraction.asked ≡ 0 }
+        ensures fresh { self.new.extraction.fresh ≡ [] }
+        ensures number { self.new.extraction.number ≡ number_of self.new.standing }
+    {
+        self.payload.clear(0);
+        self.signal = SignalBytes::new(Signal::Ais);
+        self.standing = Standing::Waiting(0);
+    }
+
+    /// How it stands.
+    pub(crate) fn standing(&self) -> Standing
+        ensures { result ≡ self.now.standing }
+    {
+        self.standing
+    }
+
+    /// Extracts the data groups of a frame.
+    pub(crate) fn take_frame(&mut self, frame: &Frame<4080>, slots: &Slots)
+        requires count { length slots.now ≡ self.old.extraction.slots }
+        requires asked { self.old.extraction.asked + 1904 ≤ 15232 }
+        ensures { self.new ≡ record self.old { extraction = record self.old.extraction { asked = self.old.extraction.asked + 476 + 476 + 476 + 476; fresh = with_frame self.old.extraction.fresh self.old.extraction.number self.old.extraction.asked slots.now frame.now } } }
+    {
+        self.payload.take_frame(frame, slots);
+    }
+
+    /// Hears the message of the turn: after the number of the last turn within a stretch, else after none.
+    pub(crate) fn hear(&mut self, message: [u8; 6]) -> Hearing
+        requires { Keeps self.old.standing self.old.listener }
+        ensures heard { result ≡ hears_message (former_of self.old.standing) self.old.extraction.slots message }
+        ensures kept { self.new ≡ record self.old { listener = kept_after (former_of self.old.standing) result } }
+    {
+        ready(self.standing, &mut self.listener);
+        hear_message(&mut self.listener, message, self.payload.slots() as u32)
+    }
+
+    /// Ends a turn in which this was heard: `into` has at its front what the turn emits, and the answer is
+    /// how many bytes that is.
+    pub(crate) fn pass(&mut self, heard: Option<Hearing>, into: &mut [u8]) -> usize
+        requires small { IsSmallHearing self.old.extraction.slots heard }
+        requires room { self.old.extraction.slots * 15233 ≤ length into.old }
+        ensures standing { self.new.standing ≡ (after_heard self.old.extraction.slots heard self.old.extraction.fresh (record { standing = self.old.standing; pending = self.old.extraction.pending; place = 0 })).standing }
+        ensures at { (s : Machine) → IsAt s self.old → IsAt (after_heard self.old.extraction.slots heard self.old.extraction.fresh s) self.new }
+        ensures bytes { (s : Machine) → IsAt s self.old → into.new ≡ gives_heard self.old.extraction.slots (signal_byte Ais) heard self.old.extraction.fresh s ++ drop result into.old }
+        ensures count { (s : Machine) → IsAt s self.old → result ≡ length (gives_heard self.old.extraction.slots (signal_byte Ais) heard self.old.extraction.fresh s) }
+        ensures between { IsBetween self.old self.new }
+    {
+        match self.standing {
+            Standing::Waiting(n) => self.wait(n, begun(heard)),
+            Standing::Down => self.stay_down(begun(heard), into),
+            Standing::Up(said) => self.stay_up(said, gone_on(said, heard), into),
+        }
+    }
+
+    // Ends a turn of waiting: emits nothing.
+    fn wait(&mut self, n: u8, first: Option<Said>) -> usize
+        requires standing { self.old.standing ≡ Waiting n }
+        requires first { FitsFirst self.old.extraction.slots first }
+        ensures standing { self.new.standing ≡ (opened first (waits_on n)).standing }
+        ensures at { (s : Machine) → IsAt s self.old → IsAt (opened first (waits_on n)) self.new }
+        ensures between { IsBetween self.old self.new }
+        ensures count { result ≡ 0 }
+    {
+        match first {
+            Some(said) => self.settle(Standing::Up(said)),
+            None => self.wait_on(n),
+        }
+        0
+    }
+
+    // Waits one turn more, or is Down.
+    fn wait_on(&mut self, n: u8)
+        requires { self.old.standing ≡ Waiting n }
+        ensures standing { self.new.standing ≡ (waits_on n).standing }
+        ensures at { (s : Machine) → IsAt s self.old → IsAt (waits_on n) self.new }
+        ensures between { IsBetween self.old self.new }
+    {
+        if n >= 2 {
+            self.settle(Standing::Down);
+        } else {
+            self.settle(Standing::Waiting(n + 1));
+        }
+    }
+
+    // Ends a Down turn: emits nothing where it begins a stretch, else the next bytes of AIS.
+    fn stay_down(&mut self, first: Option<Said>, into: &mut [u8]) -> usize
+        requires standing { self.old.standing ≡ StandingDown }
+        requires first { FitsFirst self.old.extraction.slots first }
+        requires room { self.old.extraction.slots * 15168 ≤ length into.old }
+        ensures standing { self.new.standing ≡ (opened first (record { standing = StandingDown; pending = []; place = 0 })).standing }
+        ensures at { (s : Machine) → IsAt s self.old → IsAt (opened first (record { standing = StandingDown; pending = []; place = s.place + self.old.extraction.slots * 15168 })) self.new }
+        ensures bytes { (s : Machine) → IsAt s self.old → into.new ≡ down_gives first (stream_bytes (signal_byte Ais) s.place (self.old.extraction.slots * 15168)) ++ drop result into.old }
+        ensures count { (s : Machine) → IsAt s self.old → result ≡ length (down_gives first (stream_bytes (signal_byte Ais) s.place (self.old.extraction.slots * 15168))) }
+        ensures between { IsBetween self.old self.new }
+    {
+        match first {
+            Some(said) => {
+                self.settle(Standing::Up(said));
+                0
+            }
+            None => self.give_ais(into),
+        }
+    }
+
+    // Emits the next bytes of AIS.
+    #[tactic(auto, unfolding(maintenance_signals::specs::Stream::signal_bytes, tributary_model::specs::Emission::stream_bytes))]
+    fn give_ais(&mut self, into: &mut [u8]) -> usize
+        requires standing { self.old.standing ≡ StandingDown }
+        requires room { self.old.extraction.slots * 15168 ≤ length into.old }
+        ensures standing { self.new.standing ≡ StandingDown }
+        ensures at { (s : Machine) → IsAt s self.old → IsAt (record { standing = StandingDown; pending = []; place = s.place + self.old.extraction.slots * 15168 }) self.new }
+        ensures bytes { (s : Machine) → IsAt s self.old → into.new ≡ stream_bytes (signal_byte Ais) s.place (self.old.extraction.slots * 15168) ++ drop result into.old }
+        ensures count { result ≡ self.old.extraction.slots * 15168 }
+        ensures between { IsBetween self.old self.new }
+    {
+        let count = self.payload.slots() * NOMINAL;
+        self.signal.next(&mut into[..count]);
+        self.payload.clear(0);
+        count
+    }
+
+    // Ends a turn after one of a stretch: by what it says where the stretch goes on.
+    fn stay_up(&mut self, said: Said, next: Option<Said>, into: &mut [u8]) -> usize
+        requires standing { self.old.standing ≡ Up said }
+        requires next { FitsNext self.old.extraction.slots next said.rest }
+        requires room { self.old.extraction.slots * 15233 ≤ length into.old }
+        ensures standing { self.new.standing ≡ (went_on next said self.old.extraction.pending self.old.extraction.fresh).standing }
+        ensures at { (s : Machine) → IsAt s self.old → IsAt (went_on next said s.pending self.old.extraction.fresh) self.new }
+        ensures bytes { (s : Machine) → IsAt s self.old → into.new ≡ up_gives next said s.pending self.old.extraction.fresh ++ drop result into.old }
+        ensures count { (s : Machine) → IsAt s self.old → result ≡ length (up_gives next said s.pending self.old.extraction.fresh) }
+        ensures between { IsBetween self.old self.new }
+    {
+        let _opened = &self.payload;
+        match next {
+            Some(next) => match said.former {
+                Some(due) => self.go_on(due, next, into),
+                None => self.go_first(next),
+            },
+            None => self.end(into),
+        }
+    }
+
+    // The first turn after the one that began a stretch emits nothing.
+    fn go_first(&mut self, next: Said) -> usize
+        requires pending { self.old.extraction.pending ≡ [] }
+        requires next { (next.number ≤ 15232) × (next.rest < self.old.extraction.slots) }
+        requires former { FitsFormer self.old.extraction.slots (self.old.extraction.pending ++ self.old.extraction.fresh) next.former }
+        ensures standing { self.new.standing ≡ Up next }
+        ensures at { (s : Machine) → IsAt s self.old → IsAt (record { standing = Up next; pending = s.pending ++ self.old.extraction.fresh; place = 0 }) self.new }
+        ensures between { IsBetween self.old self.new }
+        ensures count { result ≡ 0 }
+    {
+        self.payload.keep_all(next.number);
+        self.signal.restart();
+        self.standing = Standing::Up(next);
+        0
+    }
+
+    // A later one emits all pending bytes and as many of its own as are due.
+    fn go_on(&mut self, due: u16, next: Said, into: &mut [u8]) -> usize
+        requires next { (next.number ≤ 15232) × (next.rest < self.old.extraction.slots) }
+        requires former { FitsFormer self.old.extraction.slots (drop due self.old.extraction.fresh) next.former }
+        requires due { due < self.old.extraction.slots }
+        requires room { self.old.extraction.slots * 15233 ≤ length into.old }
+        ensures standing { self.new.standing ≡ Up next }
+        ensures at { (s : Machine) → IsAt s self.old → IsAt (record { standing = Up next; pending = drop due self.old.extraction.fresh; place = 0 }) self.new }
+        ensures bytes { into.new ≡ self.old.extraction.pending ++ take due self.old.extraction.fresh ++ drop result into.old }
+        ensures count { result ≡ length (self.old.extraction.pending ++ take due self.old.extraction.fresh) }
+        ensures between { IsBetween self.old self.new }
+    {
+        let count = self.payload.give_due(due, next.number, into);
+        self.signal.restart();
+        self.standing = Standing::Up(next);
+        count
+    }
+
+    // The ending turn emits all pending bytes.
+    fn end(&mut self, into: &mut [u8]) -> usize
+        requires { self.old.extraction.slots * 15232 ≤ length into.old }
+        ensures standing { self.new.standing ≡ StandingDown }
+        ensures at { (s : Machine) → IsAt s self.old → IsAt (record { standing = StandingDown; pending = []; place = 0 }) self.new }
+        ensures bytes { into.new ≡ self.old.extraction.pending ++ drop result into.old }
+        ensures count { result ≡ length self.old.extraction.pending }
+        ensures between { IsBetween self.old self.new }
+    {
+        let count = self.payload.give_pending(into);
+        self.signal.restart();
+        self.standing = Standing::Down;
+        count
+    }
+
+    // Begins a turn with nothing pending.
+    fn settle(&mut self, standing: Standing)
+        requires { FitsStanding self.old.extraction.slots [] standing }
+        ensures standing { self.new.standing ≡ standing }
+        ensures at { (s : Machine) → IsAt s self.old → IsAt (record { standing = standing; pending = []; place = 0 }) self.new }
+        ensures between { IsBetween self.old self.new }
+    {
+        self.payload.clear(number(standing));
+        self.signal.restart();
+        self.standing = standing;
+    }
+}
+
+// A listener for the next message.
+fn ready(standing: Standing, listener: &mut Listener)
+    requires { Keeps standing listener.old }
+    ensures { listener.new ≡ former_of standing }
+{
+    match standing {
+        Standing::Up(_) => {}
+        _ => *listener = Listener::new(),
+    }
+}
+
+// The number by which the groups of the next turn are data.
+fn number(standing: Standing) -> u16
+    ensures { result ≡ number_of standing }
+{
+    match standing {
+        Standing::Up(said) => said.number,
+        _ => 0,
+    }
+}

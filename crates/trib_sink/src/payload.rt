@@ -1,0 +1,176 @@
+// The bytes that a sink extracted and did not emit, in a ring.
+ghost use Rattle.std.specs.Prelude.{◌≡◌, ◌+◌, ◌*◌, ◌≤◌, [], ◌++◌, All, IfOk, length, take, drop};
+ghost use Rattle.trib_sink.specs.Rows.{row_data, with_rows, with_frame};
+
+use crate::extract;
+use circular_buffer::HeapCircularBuffer;
+use frame_geometry::Frame;
+use gmp_rule::Runner;
+use otn_base::limits::{GROUPS, PAYLOAD_COLUMNS};
+use otn_base::{Memory, Slots};
+use std::alloc::Global;
+use std::marker::Model;
+
+/// The bytes of a tributary's data groups: those that earlier turns left pending, and those that this
+/// turn extracted.
+#[derive(Drop)]
+pub(crate) struct Payload {
+    slots: usize,
+    runner: Runner,
+    held: usize,
+    ring: HeapCircularBuffer<u8>,
+    scratch: Vec<u8>,
+}
+
+impl Model for Payload {
+    ghost use Rattle.std.specs.Prelude.{take, drop, vec_len};
+    ghost use Rattle.trib_sink.specs.Extraction.{Extraction, HasRoom};
+
+    ghost Value = { Extraction };
+
+    ghost view = { λ p. record { slots = p.slots; number = p.runner.number; asked = p.runner.asked; pending = take p.held p.ring.items; fresh = drop p.held p.ring.items } };
+
+    ghost invariant = { λ p. HasRoom p.slots p.runner.number p.runner.asked p.held p.ring.capacity (vec_len p.scratch) p.ring.items };
+}
+
+impl Payload {
+    /// Nothing extracted, for so many slots. Takes all memory that it will ever need.
+    pub(crate) fn new(alloc: Global, slots: usize) -> Result<Self, Memory>
+        requires { slots ≤ 8 }
+        ensures { IfOk result (λ p. p ≡ record { slots = slots; number = 0; asked = 0; pending = []; fresh = [] }) }
+    {
+        let ring = HeapCircularBuffer::with_capacity(alloc, slots * 2 * GROUPS)?;
+        let scratch = vec![in alloc; 0u8; PAYLOAD_COLUMNS]?;
+        Ok(Payload {
+            slots,
+            runner: Runner::start(0),
+            held: 0,
+            ring,
+            scratch,
+        })
+    }
+
+    /// For how many slots it is.
+    pub(crate) fn slots(&self) -> usize
+        ensures count { result ≡ self.now.slots }
+        ensures few { self.now.slots ≤ 8 }
+    {
+        self.slots
+    }
+
+    /// Extracts the data groups of a frame, row by row.
+    #[tactic(auto, using(odtu_columns::proofs::GroupRows::each_slot))]
+    pub(crate) fn take_frame(&mut self, frame: &Frame<4080>, slots: &Slots)
+        requires count { length slots.now ≡ self.old.slots }
+        requires asked { self.old.asked + 1904 ≤ 15232 }
+        ensures { self.new ≡ record self.old { asked = self.old.asked + 476 + 476 + 476 + 476; fresh = with_frame self.old.fresh self.old.number self.old.asked slots.now frame.now } }
+    {
+        let _rising = slots.count();
+        let list = slots.as_slice();
+        self.take_rows(frame, list, 1);
+        self.take_rows(frame, list, 3);
+    }
+
+    // Extracts the data groups of a row and of the next one.
+    fn take_rows(&mut self, frame: &Frame<4080>, slots: &[u8], row: u32)
+        requires low { 1 ≤ row }
+        requires high { row ≤ 3 }
+        requires slots { All (λ k. (1 ≤ k) × (k ≤ 8)) slots.now }
+        requires count { length slots.now ≡ self.old.slots }
+        requires asked { self.old.asked + 952 ≤ 15232 }
+        ensures { self.new ≡ record self.old { asked = self.old.asked + 476 + 476; fresh = with_rows self.old.fresh self.old.number self.old.asked slots.now frame.now row } }
+    {
+        self.take_row(frame.payload_row(row), slots);
+        self.take_row(frame.payload_row(row + 1), slots);
+    }
+
+    /// Drops all bytes, and begins a turn whose groups are data by this number.
+    pub(crate) fn clear(&mut self, number: u16)
+        requires { number ≤ 15232 }
+        ensures { self.new ≡ record self.old { number = number; asked = 0; pending = []; fresh = [] } }
+    {
+        self.ring.clear();
+        self.held = 0;
+        self.runner = Runner::start(number as u32);
+    }
+
+    /// Emits nothing, keeps all bytes pending, and begins a turn whose groups are data by this number.
+    pub(crate) fn keep_all(&mut self, number: u16)
+        requires number { number ≤ 15232 }
+        requires first { self.old.pending ≡ [] }
+        ensures { self.new ≡ record self.old { number = number; asked = 0; pending = self.old.pending ++ self.old.fresh; fresh = [] } }
+    {
+        self.held = self.ring.len();
+        self.runner = Runner::start(number as u32);
+    }
+
+    /// Emits all pending bytes and as many of this turn's as are due, keeps the others pending, and
+    /// begins a turn whose groups are data by this number.
+    pub(crate) fn give_due(&mut self, due: u16, number: u16, into: &mut [u8]) -> usize
+        requires number { number ≤ 15232 }
+        requires room { self.old.slots * 15232 + due ≤ length into.old }
+        ensures state { self.new ≡ record self.old { number = number; asked = 0; pending = drop due self.old.fresh; fresh = [] } }
+        ensures bytes { into.new ≡ self.old.pending ++ take due self.old.fresh ++ drop result into.old }
+        ensures count { result ≡ length (self.old.pending ++ take due self.old.fresh) }
+    {
+        let fresh = self.ring.len() - self.held;
+        let count = self.held + fresh.min(due as usize);
+        self.ring.read_into(&mut into[..count]);
+        self.held = self.ring.len();
+        self.runner = Runner::start(number as u32);
+        count
+    }
+
+    /// Emits all pending bytes and drops those of this turn.
+    pub(crate) fn give_pending(&mut self, into: &mut [u8]) -> usize
+        requires { self.old.slots * 15232 ≤ length into.old }
+        ensures state { self.new ≡ record self.old { number = 0; asked = 0; pending = []; fresh = [] } }
+        ensures bytes { into.new ≡ self.old.pending ++ drop result into.old }
+        ensures count { result ≡ length self.old.pending }
+    {
+        let count = self.held;
+        self.ring.read_into(&mut into[..count]);
+        self.held = 0;
+        self.clear(0);
+        count
+    }
+
+    // Extracts the data groups of a row.
+    fn take_row(&mut self, payload: &[u8], slots: &[u8])
+        requires payload { length payload.now ≡ 3808 }
+        requires slots { All (λ k. (1 ≤ k) × (k ≤ 8)) slots.now }
+        requires count { length slots.now ≡ self.old.slots }
+        requires asked { self.old.asked + 476 ≤ 15232 }
+        ensures { self.new ≡ record self.old { asked = self.old.asked + 476; fresh = self.old.fresh ++ row_data self.old.number self.old.asked payload.now slots.now 476 } }
+    {
+        push_row(
+            &mut self.runner,
+            payload,
+            slots,
+            &mut self.scratch,
+            &mut self.ring,
+        );
+    }
+}
+
+// Extracts the data groups of a row into a ring that has room for them.
+fn push_row(
+    runner: &mut Runner,
+    payload: &[u8],
+    slots: &[u8],
+    scratch: &mut [u8],
+    ring: &mut HeapCircularBuffer<u8>,
+)
+    requires payload { length payload.now ≡ 3808 }
+    requires slots { All (λ k. (1 ≤ k) × (k ≤ 8)) slots.now }
+    requires few { length slots.now ≤ 8 }
+    requires scratch { length scratch.old ≡ 3808 }
+    requires asked { runner.old.asked + 476 ≤ 15232 }
+    requires room { length ring.old.items + length slots.now * 476 ≤ ring.old.capacity }
+    ensures ring { ring.new ≡ record ring.old { items = ring.old.items ++ row_data runner.old.number runner.old.asked payload.now slots.now 476 } }
+    ensures count { length ring.new.items ≤ length ring.old.items + length slots.now * 476 }
+    ensures runner { runner.new ≡ record runner.old { asked = runner.old.asked + 476 } }
+{
+    let count = extract::take_row(runner, payload, slots, scratch);
+    ring.fill_from_slice(&scratch[..count]);
+}

@@ -1,0 +1,53 @@
+// What a message says to a sink, in the first turn of a stretch and in a later one.
+ghost use Rattle.std.specs.Prelude.{◌≡◌, ℕ};
+ghost use Rattle.tributary_model.specs.Machine.{begins, stays};
+ghost use Rattle.trib_sink.specs.Following.{IsSmallHearing, IsSmallSaid, FitsFirst, FitsNext};
+
+use tributary_model::{Hearing, Said};
+
+/// What the first turn of a stretch says, where this message begins one.
+pub(crate) fn begun(heard: Option<Hearing>) -> Option<Said>
+    ensures said { result ≡ begins heard }
+    ensures small { (slots : ℕ) → IsSmallHearing slots heard → FitsFirst slots result }
+{
+    match heard {
+        Some(Hearing::Pair(number, rest, true)) => Some(Said {
+            number,
+            rest,
+            damaged: 0,
+            former: None,
+        }),
+        _ => None,
+    }
+}
+
+/// What the next turn says, where it goes on with the stretch: the pair of its message, or the former one
+/// again where it is damaged. The third damaged message in a row ends the stretch; so does a lost one, or
+/// a turn in which nothing is heard.
+pub(crate) fn gone_on(said: Said, heard: Option<Hearing>) -> Option<Said>
+    ensures said { result ≡ stays heard said }
+    ensures small { (slots : ℕ) → IsSmallHearing slots heard → IsSmallSaid slots said → FitsNext slots result said.rest }
+{
+    match heard {
+        None => None,
+        Some(Hearing::Lost) => None,
+        Some(Hearing::Damaged) => {
+            if said.damaged >= 2 {
+                None
+            } else {
+                Some(Said {
+                    number: said.number,
+                    rest: said.rest,
+                    damaged: said.damaged + 1,
+                    former: Some(said.rest),
+                })
+            }
+        }
+        Some(Hearing::Pair(number, rest, _)) => Some(Said {
+            number,
+            rest,
+            damaged: 0,
+            former: Some(said.rest),
+        }),
+    }
+}

@@ -1,0 +1,182 @@
+// The sink of a tributary.
+ghost use Rattle.std.specs.Prelude.{◌≡◌, ℕ, ◌+◌, ◌*◌, ◌<◌, ◌≤◌, List, [], ◌∷◌, ◌++◌, Option, IfOk, IsTrue, true, false, length, drop};
+ghost use Rattle.maintenance_signals.specs.declared.signal.Signal.TheVariants.{Ais};
+ghost use Rattle.maintenance_signals.specs.Stream.{signal_byte};
+ghost use Rattle.tributary_model.specs.Places.{Tributary, Taken, View};
+ghost use Rattle.tributary_model.specs.Stretches.{state_after};
+ghost use Rattle.tributary_model.specs.Emission.{emission};
+ghost use Rattle.tributary_model.specs.Machine.{state_of_standing};
+
+use crate::arrivals::{message_so_far, note_msi};
+use crate::follower::Follower;
+use crate::turn::hear_multiframe;
+use arrayvec::ArrayVec;
+use frame_geometry::Frame;
+use msi_table::MsiWatch;
+use otn_base::{Memory, Slots};
+use std::alloc::Global;
+use std::marker::Model;
+use tributary_model::{SinkState, Standing};
+
+/// The sink of one tributary of a line. Contracts say after which turns it stands: of which views they
+/// were, since it was new or restarted, and which frames of the next turn it has taken.
+#[derive(Drop)]
+pub struct TribSink {
+    slots: Slots,
+    port: u8,
+    follower: Follower,
+    watches: [MsiWatch; 8],
+    taken: u8,
+    message: [u8; 6],
+    came: ArrayVec<(u8, u8), 8>,
+}
+
+impl Model for TribSink {
+    ghost use Rattle.trib_sink.specs.Sink.{Sink, IsSink};
+
+    ghost Value = { Sink };
+
+    ghost view = { λ s. record { slots = s.slots; port = s.port; following = s.follower; watches = s.watches; taken = s.taken; message = s.message; msi = s.came.items } };
+
+    ghost invariant = { λ s. IsSink (record { slots = s.slots; port = s.port; following = s.follower; watches = s.watches; taken = s.taken; message = s.message; msi = s.came.items }) };
+}
+
+impl TribSink {
+    ghost use Rattle.trib_sink.specs.Sink.{StandsAfter, ended_view};
+
+    /// A sink of these slots and this tributary port (1 to 8), before its first turn. Takes all memory
+    /// that it will ever need; answers `Memory` where there is none.
+    pub fn new(alloc: Global, slots: &Slots, port: u8) -> Result<TribSink, Memory>
+        requires low { 1 ≤ port }
+        requires high { port ≤ 8 }
+        ensures stands { IfOk result (λ s. StandsAfter (record { line_slots = 8; slots = slots.now; port = port }) [] [] s) }
+        ensures taken { IfOk result (λ s. s.taken ≡ 0) }
+        ensures slots { IfOk result (λ s. s.slots ≡ slots.now) }
+    {
+        let follower = Follower::new(alloc, slots.count() as usize)?;
+        let slots = slots.clone()?;
+        Ok(TribSink {
+            slots,
+            port,
+            follower,
+            watches: [MsiWatch::new(port); 8],
+            taken: 0,
+            message: [0; 6],
+            came: ArrayVec::new(),
+        })
+    }
+
+    /// How the sink stands after the turns that ended.
+    pub fn state(&self) -> SinkState
+        ensures { (own : Tributary) (past : List (Option View)) (frames : List Taken) → StandsAfter own past frames self.now → result ≡ state_after own past }
+    {
+        state_of(self.follower.standing())
+    }
+
+    /// Begins anew, as a new sink of the same slots and port.
+    pub fn restart(&mut self)
+        ensures stands { StandsAfter (record { line_slots = 8; slots = self.old.slots; port = self.old.port }) [] [] self.new }
+        ensures taken { self.new.taken ≡ 0 }
+        ensures slots { self.new.slots ≡ self.old.slots }
+    {
+        let _rising = self.slots.count();
+        self.follower.restart();
+        let watches = [MsiWatch::new(self.port); 8];
+        self.watches = watches;
+        self.came.clear();
+        self.taken = 0;
+    }
+
+    /// Takes frame `n` (0 to 7) of a turn, of which `n` frames are taken, with the MFAS number that is
+    /// expected of it.
+    pub fn take_frame(&mut self, n: u8, frame: &Frame<4080>, expected: u8)
+        requires number { n < 8 }
+        requires taken { n ≡ self.old.taken }
+        ensures stands { (own : Tributary) (past : List (Option View)) (frames : List Taken) → StandsAfter own past frames self.old
+            → StandsAfter own past (frames ++ record { frame = frame.now; expected = expected } ∷ []) self.new }
+        ensures taken { self.new.taken ≡ self.old.taken + 1 }
+        ensures slots { self.new.slots ≡ self.old.slots }
+    {
+        self.follower.take_frame(frame, &self.slots);
+        self.message = message_so_far(&self.slots, n, frame, self.message);
+        note_msi(&self.slots, frame, expected, &mut self.came);
+        self.taken += 1;
+    }
+
+    /// Ends a turn: `whole` says that it has a multiframe, whose eight frames were taken. `into` has at
+    /// its front the bytes that the turn emits, and the answer is how many they are: at most
+    /// `most_bytes` of the slots. In a turn without a multiframe no byte that was taken counts.
+    pub fn end_turn(&mut self, whole: bool, into: &mut [u8]) -> usize
+        requires whole { IsTrue whole → self.old.taken ≡ 8 }
+        requires room { length self.old.slots * 15233 ≤ length into.old }
+        ensures stands { (own : Tributary) (past : List (Option View)) (frames : List Taken) → StandsAfter own past frames self.old
+            → StandsAfter own (ended_view own whole frames ∷ past) [] self.new }
+        ensures bytes { (own : Tributary) (past : List (Option View)) (frames : List Taken) → StandsAfter own past frames self.old
+            → into.new ≡ emission own (signal_byte Ais) past (ended_view own whole frames) ++ drop result into.old }
+        ensures count { (own : Tributary) (past : List (Option View)) (frames : List Taken) → StandsAfter own past frames self.old
+            → result ≡ length (emission own (signal_byte Ais) past (ended_view own whole frames)) }
+        ensures taken { self.new.taken ≡ 0 }
+        ensures slots { self.new.slots ≡ self.old.slots }
+    {
+        if whole {
+            self.end_whole(into)
+        } else {
+            self.end_missed(into)
+        }
+    }
+
+    // Ends a turn with a multiframe.
+    fn end_whole(&mut self, into: &mut [u8]) -> usize
+        requires whole { self.old.taken ≡ 8 }
+        requires room { length self.old.slots * 15233 ≤ length into.old }
+        ensures stands { (own : Tributary) (past : List (Option View)) (frames : List Taken) → StandsAfter own past frames self.old
+            → StandsAfter own (ended_view own true frames ∷ past) [] self.new }
+        ensures bytes { (own : Tributary) (past : List (Option View)) (frames : List Taken) → StandsAfter own past frames self.old
+            → into.new ≡ emission own (signal_byte Ais) past (ended_view own true frames) ++ drop result into.old }
+        ensures count { (own : Tributary) (past : List (Option View)) (frames : List Taken) → StandsAfter own past frames self.old
+            → result ≡ length (emission own (signal_byte Ais) past (ended_view own true frames)) }
+        ensures taken { self.new.taken ≡ 0 }
+        ensures slots { self.new.slots ≡ self.old.slots }
+    {
+        let heard = hear_multiframe(
+            &self.slots,
+            self.message,
+            self.came.as_slice(),
+            &mut self.watches,
+            &mut self.follower,
+        );
+        let count = self.follower.pass(heard, into);
+        self.came.clear();
+        self.taken = 0;
+        count
+    }
+
+    // Ends a turn without a multiframe.
+    fn end_missed(&mut self, into: &mut [u8]) -> usize
+        requires room { length self.old.slots * 15233 ≤ length into.old }
+        ensures stands { (own : Tributary) (past : List (Option View)) (frames : List Taken) → StandsAfter own past frames self.old
+            → StandsAfter own (ended_view own false frames ∷ past) [] self.new }
+        ensures bytes { (own : Tributary) (past : List (Option View)) (frames : List Taken) → StandsAfter own past frames self.old
+            → into.new ≡ emission own (signal_byte Ais) past (ended_view own false frames) ++ drop result into.old }
+        ensures count { (own : Tributary) (past : List (Option View)) (frames : List Taken) → StandsAfter own past frames self.old
+            → result ≡ length (emission own (signal_byte Ais) past (ended_view own false frames)) }
+        ensures taken { self.new.taken ≡ 0 }
+        ensures slots { self.new.slots ≡ self.old.slots }
+    {
+        let count = self.follower.pass(None, into);
+        self.came.clear();
+        self.taken = 0;
+        count
+    }
+}
+
+// How a sink stands, as a caller sees it.
+fn state_of(standing: Standing) -> SinkState
+    ensures { result ≡ state_of_standing standing }
+{
+    match standing {
+        Standing::Waiting(_) => SinkState::Waiting,
+        Standing::Down => SinkState::Down,
+        Standing::Up(_) => SinkState::Up,
+    }
+}

@@ -1,0 +1,232 @@
+// A sink on turns whose emission is known by hand.
+ghost use Rattle.std.specs.Prelude.{◌≡◌, ◌*◌, ◌≤◌, [], IfOk, length, vec_len};
+
+use super::{SinkState, TribSink};
+use cnd_codec::say_d;
+use frame_geometry::Frame;
+use jc_codec::say;
+use otn_base::{Memory, Slots};
+use std::alloc::Global;
+use std::test::Fail;
+
+// What a turn of an ODU0 on slot 3 has: the message of a steady ODU0, one whose JC3 is wrong, or no multiframe.
+#[derive(Clone, Copy, PartialEq, Eq)]
+enum Turn {
+    Steady,
+    Damaged,
+    Missed,
+}
+
+// Takes eight frames of one turn, whose payload bytes are all `fill`, with this message in the frame of slot 3
+// and the MSI byte of port 1 at each slot, and ends the turn.
+fn pass_turn(
+    sink: &mut TribSink,
+    frame: &mut Frame<4080>,
+    message: [u8; 6],
+    fill: u8,
+    whole: bool,
+    into: &mut [u8],
+) -> usize
+    requires taken { sink.old.taken ≡ 0 }
+    requires room { length sink.old.slots * 15233 ≤ length into.old }
+    ensures taken { sink.new.taken ≡ 0 }
+    ensures slots { sink.new.slots ≡ sink.old.slots }
+{
+    for n in 0..8u8 {
+        write_frame(frame, if n == 2 { message } else { [0; 6] }, fill);
+        sink.take_frame(n, frame, n);
+    }
+    sink.end_turn(whole, into)
+}
+
+// Writes a frame of these payload and message bytes, and the MSI byte of port 1.
+fn write_frame(frame: &mut Frame<4080>, message: [u8; 6], fill: u8) {
+    frame.payload_row_mut(1).fill(fill);
+    frame.payload_row_mut(2).fill(fill);
+    frame.payload_row_mut(3).fill(fill);
+    frame.payload_row_mut(4).fill(fill);
+    write_message(frame, message);
+    frame.set(4, 15, 0x80);
+}
+
+// Writes the six bytes of a message.
+fn write_message(frame: &mut Frame<4080>, message: [u8; 6]) {
+    frame.set(1, 16, message[0]);
+    frame.set(2, 16, message[1]);
+    frame.set(3, 16, message[2]);
+    frame.set(1, 15, message[3]);
+    frame.set(2, 15, message[4]);
+    frame.set(3, 15, message[5]);
+}
+
+// The message of turn `t` of an ODU0 at its nominal rate: the first says the number, each later one that it is the same.
+fn message_of(turn: Turn, t: u8) -> [u8; 6] {
+    match turn {
+        Turn::Damaged => [0xED, 0x00, 0x38, 0, 0, 0],
+        _ => {
+            if t == 1 {
+                [0xED, 0x03, 0x2E, 0, 0, 0]
+            } else {
+                [0xED, 0x00, 0x39, 0, 0, 0]
+            }
+        }
+    }
+}
+
+// One turn: what it has, how many bytes it emits, which byte its 101st is, and how the sink stands after it.
+type Row = (Turn, usize, u8, SinkState);
+
+// A steady ODU0. A damaged message changes nothing. Three in a row end the stretch, and AIS follows until a
+// turn accepts. A turn without a multiframe ends a stretch at once, and the next turn accepts.
+const ROWS: [Row; 18] = [
+    (Turn::Steady, 0, 0, SinkState::Up),
+    (Turn::Steady, 0, 0, SinkState::Up),
+    (Turn::Steady, 15_168, 2, SinkState::Up),
+    (Turn::Steady, 15_168, 3, SinkState::Up),
+    (Turn::Damaged, 15_168, 4, SinkState::Up),
+    (Turn::Steady, 15_168, 5, SinkState::Up),
+    (Turn::Damaged, 15_168, 6, SinkState::Up),
+    (Turn::Damaged, 15_168, 7, SinkState::Up),
+    (Turn::Damaged, 15_168, 8, SinkState::Down),
+    (Turn::Damaged, 15_168, 0xFF, SinkState::Down),
+    (Turn::Damaged, 15_168, 0xFF, SinkState::Down),
+    (Turn::Steady, 0, 0, SinkState::Up),
+    (Turn::Steady, 0, 0, SinkState::Up),
+    (Turn::Steady, 15_168, 13, SinkState::Up),
+    (Turn::Missed, 15_168, 14, SinkState::Down),
+    (Turn::Steady, 0, 0, SinkState::Up),
+    (Turn::Steady, 0, 0, SinkState::Up),
+    (Turn::Steady, 15_168, 17, SinkState::Up),
+];
+
+// A buffer of so many bytes.
+fn buffer(alloc: Global, size: usize) -> Result<Vec<u8>, Memory>
+    ensures { IfOk result (λ v. vec_len v ≡ size) }
+{
+    Ok(vec![in alloc; 0u8; size]?)
+}
+
+// The row of the table that a turn does not meet, counted from 1, or 0 where all are met.
+fn first_wrong(sink: &mut TribSink, frame: &mut Frame<4080>, rows: &[Row], into: &mut [u8]) -> u8
+    requires taken { sink.old.taken ≡ 0 }
+    requires room { length sink.old.slots * 15233 ≤ length into.old }
+{
+    let mut t = 0u8;
+    for row in rows {
+        t = t.saturating_add(1);
+        let (turn, count, byte, state) = *row;
+        let emitted = pass_turn(
+            sink,
+            frame,
+            message_of(turn, t),
+            t,
+            turn != Turn::Missed,
+            into,
+        );
+        if emitted != count || sink.state() != state {
+            return t;
+        }
+        if count > 0 && into.get(100).copied() != Some(byte) {
+            return t;
+        }
+    }
+    0
+}
+
+#[test]
+fn steady_damaged_and_missed_turns(rt: HostRuntime) -> Result<(), Fail> {
+    let slots = Slots::new(&[3]).ok_or("slot 3")?;
+    let mut frame = Frame::<4080>::new(rt.alloc())?;
+    let mut into = buffer(rt.alloc(), 15_233)?;
+    let mut sink = TribSink::new(rt.alloc(), &slots, 1)?;
+    if slots.count() == 1 {
+        assert_eq!(rt; first_wrong(&mut sink, &mut frame, &ROWS, &mut into), 0);
+    }
+    Ok(())
+}
+
+// Without a multiframe a sink waits for three turns, and is Down then.
+const MISSED: [Row; 4] = [
+    (Turn::Missed, 0, 0, SinkState::Waiting),
+    (Turn::Missed, 0, 0, SinkState::Waiting),
+    (Turn::Missed, 0, 0, SinkState::Down),
+    (Turn::Missed, 15_168, 0xFF, SinkState::Down),
+];
+
+#[test]
+fn never_accepted(rt: HostRuntime) -> Result<(), Fail> {
+    let slots = Slots::new(&[3]).ok_or("slot 3")?;
+    let mut frame = Frame::<4080>::new(rt.alloc())?;
+    let mut into = buffer(rt.alloc(), 15_233)?;
+    let mut sink = TribSink::new(rt.alloc(), &slots, 1)?;
+    if slots.count() == 1 {
+        assert_eq!(rt; first_wrong(&mut sink, &mut frame, &MISSED, &mut into), 0);
+    }
+    // A frame of AIS begins with FAS and MFAS, seven bytes 0 and then ones.
+    for (place, byte) in [
+        (0usize, 0xF6u8),
+        (2, 0xF6),
+        (3, 0x28),
+        (5, 0x28),
+        (6, 0),
+        (13, 0),
+        (14, 0xFF),
+    ] {
+        assert_eq!(rt; into.get(place).copied(), Some(byte), "byte {place}");
+    }
+    Ok(())
+}
+
+// The pairs that a client of 45,001 and 45,000 bytes in turn gives three slots, and how many bytes are due.
+const PAIRS: [(u16, u16, usize); 7] = [
+    (0, 0, 0),
+    (15_000, 1, 0),
+    (15_000, 1, 0),
+    (15_000, 2, 45_001),
+    (15_000, 2, 45_000),
+    (15_001, 0, 45_001),
+    (15_000, 0, 45_000),
+];
+
+// The pair, counted from 1, at which another number of bytes is emitted, or 0 where there is none.
+fn first_wrong_pair(
+    sink: &mut TribSink,
+    frame: &mut Frame<4080>,
+    pairs: &[(u16, u16, usize)],
+    into: &mut [u8],
+) -> u8
+    requires taken { sink.old.taken ≡ 0 }
+    requires room { length sink.old.slots * 15233 ≤ length into.old }
+{
+    let mut t = 0u8;
+    let mut former = None;
+    for pair in pairs {
+        t = t.saturating_add(1);
+        let (number, rest, count) = *pair;
+        let number = number.min(15_232);
+        let [jc1, jc2, jc3] = say(former, number);
+        let [jc4, jc5, jc6] = say_d(rest.min(1023));
+        former = Some(number);
+        if pass_turn(sink, frame, [jc1, jc2, jc3, jc4, jc5, jc6], t, true, into) != count {
+            return t;
+        }
+    }
+    0
+}
+
+#[test]
+fn remainders_of_three_slots(rt: HostRuntime) -> Result<(), Fail> {
+    let slots = Slots::new(&[1, 2, 3]).ok_or("three slots")?;
+    let mut frame = Frame::<4080>::new(rt.alloc())?;
+    let mut into = buffer(rt.alloc(), 45_699)?;
+    let mut sink = TribSink::new(rt.alloc(), &slots, 1)?;
+    if slots.count() == 3 {
+        assert_eq!(rt;
+            first_wrong_pair(&mut sink, &mut frame, &PAIRS, &mut into),
+            0
+        );
+    }
+    sink.restart();
+    assert_eq!(rt; sink.state(), SinkState::Waiting);
+    Ok(())
+}

@@ -1,0 +1,42 @@
+// What a turn's multiframe says to a sink.
+ghost use Rattle.std.specs.Prelude.{◌≡◌, ℕ, ◌≤◌, List, [], ◌++◌, Bool, Option, Some, None, if◌then◌else◌, length};
+ghost use Rattle.std.specs.List.{list_any};
+ghost use Rattle.msi_table.specs.Marks.{is_marked};
+ghost use Rattle.tributary_model.specs.Messages.{hears_message};
+ghost use Rattle.tributary_model.specs.Machine.{former_of};
+ghost use Rattle.trib_sink.specs.Following.{Keeps, IsSmallHearing, listener_after};
+ghost use Rattle.trib_sink.specs.Watching.{Watched, bytes_of, AreOfEight};
+
+use crate::follower::Follower;
+use crate::watching::{any_marked, take_all};
+use msi_table::MsiWatch;
+use otn_base::Slots;
+use tributary_model::Hearing;
+
+/// Watches the MSI bytes that came in a turn with a multiframe, and hears its message where no slot is
+/// marked.
+#[tactic(auto, using(odtu_columns::proofs::GroupRows::each_slot, crate::proofs::Fits::heard_is_small))]
+pub(crate) fn hear_multiframe(
+    slots: &Slots,
+    message: [u8; 6],
+    came: &[(u8, u8)],
+    watches: &mut [MsiWatch],
+    follower: &mut Follower,
+) -> Option<Hearing>
+    requires eight { length watches.old ≡ 8 }
+    requires came { AreOfEight came.now }
+    requires keeps { Keeps follower.old.standing follower.old.listener }
+    ensures watched { (port : ℕ) (taken : ℕ → List ℕ) → Watched port taken watches.old → Watched port (λ k. taken k ++ bytes_of k came.now) watches.new }
+    ensures heard { (port : ℕ) (taken : ℕ → List ℕ) → Watched port taken watches.old
+        → result ≡ (if list_any (λ k. is_marked port (taken k ++ bytes_of k came.now)) slots.now then None
+        else Some (hears_message (former_of follower.old.standing) follower.old.extraction.slots message)) }
+    ensures small { IsSmallHearing follower.old.extraction.slots result }
+    ensures follower { follower.new ≡ record follower.old { listener = listener_after follower.old result } }
+{
+    let _rising = slots.count();
+    take_all(watches, came);
+    if any_marked(watches, slots.as_slice()) {
+        return None;
+    }
+    Some(follower.hear(message))
+}
