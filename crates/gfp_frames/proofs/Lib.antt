@@ -8,3 +8,4 @@ pub mod Arrives
 pub mod Streams
 pub mod PlaceRuns
 pub mod BitLists
+pub mod Grows

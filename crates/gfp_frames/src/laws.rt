@@ -1,5 +1,5 @@
 // Laws of the definitions that makers and readers meet.
-ghost use Rattle.std.specs.Prelude.{◌≡◌, ℕ, ◌/◌, ◌<◌, ◌^◌, List, ◌∷◌, Bool, length, take};
+ghost use Rattle.std.specs.Prelude.{◌≡◌, ℕ, ◌/◌, ◌<◌, ◌^◌, List, ◌∷◌, ◌++◌, Bool, length, take};
 ghost use Rattle.crc_small.specs.Header.{IsRightHeader, IsWithinOneBit};
 ghost use Rattle.gfp_scrambler.specs.BitList.{AreBytes, IsScrambled, IsDescrambled};
 ghost use Rattle.gfp_frames.specs.CoreHeader.{near_pli};
@@ -47,4 +47,9 @@ pub fn areas_are_one_list_of_bits()
         (sent : List ℕ) × (IsScrambled (areas_of frames) sent × (text_of frames ≡ laid_out sent frames)) }
     ensures read { (bytes : List ℕ) → AreBytes (joined (sync_areas bytes)) →
         (plain : List ℕ) × (IsDescrambled (joined (sync_areas bytes)) plain × (delivered bytes ≡ packets_in (cut_as (sync_areas bytes) plain))) }
+{}
+
+/// What a list of bytes delivers stays delivered, whatever comes after it.
+pub fn delivered_stays()
+    ensures { (bytes more : List ℕ) → (rest : List (List ℕ)) × (delivered (bytes ++ more) ≡ delivered bytes ++ rest) }
 {}

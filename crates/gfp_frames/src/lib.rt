@@ -12,7 +12,7 @@ mod reader;
 mod tests;
 
 pub use laws::{
-    areas_are_one_list_of_bits, frames_stand_by_place, made_is_the_stream,
+    areas_are_one_list_of_bits, delivered_stays, frames_stand_by_place, made_is_the_stream,
     one_wrong_bit_is_corrected, packets_arrive,
 };
 pub use maker::GfpMaker;
