@@ -1,0 +1,85 @@
+// GFP: packets into frames, and packets out of them.
+use gfp_frames::{GfpMaker, GfpReader};
+use otn_base::Memory;
+use otn_base::limits::MOST_PACKET;
+use std::alloc::Global;
+
+// Bytes of a frame beside its packet: core header, type, tHEC and FCS.
+const AROUND: usize = 12;
+
+/// Makes as many frames with FCS, of a packet of this size.
+pub fn make(alloc: Global, size: u32, times: u32) -> Result<u32, Memory> {
+    let packet = packet(alloc, size)?;
+    let mut frame = Vec::new(alloc);
+    frame.resize(packet.len().min(MOST_PACKET) + AROUND, 0u8)?;
+    let mut maker = GfpMaker::new(alloc)?;
+    let mut checksum = 0u32;
+    give(&mut maker, &mut frame[..4]);
+    for _ in 0..times {
+        offer(&mut maker, &packet);
+        give(&mut maker, &mut frame);
+        checksum = mixed(checksum, &frame);
+    }
+    Ok(checksum)
+}
+
+/// Reads the frames of 16 packets of this size with FCS, as often.
+pub fn read(alloc: Global, size: u32, times: u32) -> Result<u32, Memory> {
+    let packet = packet(alloc, size)?;
+    let mut frame = Vec::new(alloc);
+    frame.resize(packet.len().min(MOST_PACKET) + AROUND, 0u8)?;
+    let mut maker = GfpMaker::new(alloc)?;
+    let mut stream = Vec::new(alloc);
+    give(&mut maker, &mut frame[..4]);
+    stream.extend_from_slice(&frame[..4])?;
+    for _ in 0..16u32 {
+        offer(&mut maker, &packet);
+        give(&mut maker, &mut frame);
+        stream.extend_from_slice(&frame)?;
+    }
+    let mut reader = GfpReader::new(alloc)?;
+    let mut checksum = 0u32;
+    for _ in 0..times {
+        reader.restart();
+        checksum = take(&mut reader, &stream, checksum);
+    }
+    Ok(checksum)
+}
+
+// A packet of 1 to 65,527 bytes.
+fn packet(alloc: Global, size: u32) -> Result<Vec<u8>, Memory> {
+    let mut packet = Vec::new(alloc);
+    for n in 0..size.min(65_527).max(1) {
+        packet.push((n % 251) as u8)?;
+    }
+    Ok(packet)
+}
+
+fn offer(maker: &mut GfpMaker, packet: &[u8]) {
+    if maker.idle() && !packet.is_empty() && packet.len() <= MOST_PACKET {
+        maker.offer(packet, true);
+    }
+}
+
+fn give(maker: &mut GfpMaker, bytes: &mut [u8]) {
+    for byte in bytes.iter_mut() {
+        *byte = maker.next_byte();
+    }
+}
+
+// The checksum after the packets that these bytes deliver.
+fn take(reader: &mut GfpReader, bytes: &[u8], checksum: u32) -> u32 {
+    let mut mix = checksum;
+    for byte in bytes {
+        if let Some(packet) = reader.take(*byte) {
+            mix = mixed(mix, packet);
+        }
+    }
+    mix
+}
+
+// A checksum that looks at the last byte.
+fn mixed(checksum: u32, bytes: &[u8]) -> u32 {
+    let last = bytes.last().copied().unwrap_or(0);
+    checksum.wrapping_mul(31).wrapping_add(last as u32)
+}
