@@ -63,6 +63,11 @@ is_passed Locks = false
 is_passed Passes = true
 is_passed Ends = false
 
+abbrev pub is_locked : Tried → Bool
+is_locked Locks = true
+is_locked Passes = false
+is_locked Ends = false
+
 pub record Tries (tried : Tried) (old : LineView) (was : InView) (new : LineView) (is : InView) : Type 0 where
   pub came : List ℕ
   pub gave : Gave was came is

@@ -1,5 +1,5 @@
 -- Where an input line stands in its turns.
-use Rattle.std.specs.Prelude.{◌≡◌, ℕ, Bool, List, length, Option, IfSome, is_some}
+use Rattle.std.specs.Prelude.{◌≡◌, ℕ, Bool, List, length, Option, Some, None, IfSome, is_some}
 use Rattle.otn_ports.specs.Views.{InView}
 use Rattle.otn_ports.specs.Given.{Gave}
 use Rattle.multiframe.specs.LineTurns.{standing, used_in, wanted_so_far, lost_count}
@@ -19,6 +19,14 @@ pub record LineView : Type 0 where
   pub ended : Bool
   pub lead_in : ℕ
   pub lost : ℕ
+
+abbrev pub taken_count : Option Alignment → ℕ
+taken_count None = 0
+taken_count (Some a) = length a.taken
+
+-- how many of the pieces of this turn came to a frame of a multiframe
+abbrev pub members : LineView → ℕ
+members line = taken_count line.alignment
 
 -- The line is in turn t + 1 of the line that these bytes are, after line.pieces of its pieces. Of the bytes n were read:
 -- so many frames as the turns so far want, or all where they want one that is not whole.

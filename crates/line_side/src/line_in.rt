@@ -46,12 +46,12 @@ impl Model for LineIn {
 }
 
 impl LineIn {
-    ghost use Rattle.line_side.specs.LineStands.{LineStands};
-    ghost use Rattle.line_side.specs.LineMoves.{TakesNext, Tries, Hunts, StepMoves, EndMoves};
+    ghost use Rattle.line_side.specs.LineStands.{LineStands, members};
+    ghost use Rattle.line_side.specs.LineMoves.{TakesNext, Tries, Hunts, StepMoves, EndMoves, is_locked};
     ghost use Rattle.line_side.specs.Reader.{EndedAs};
     ghost use Rattle.line_side.specs.MayGive.{MayGive};
     ghost use Rattle.line_side.specs.LineFile.{mfas_of};
-    ghost use Rattle.multiframe.specs.LineTurns.{Ended, standing, multiframe};
+    ghost use Rattle.multiframe.specs.LineTurns.{Ended, standing, multiframe, one_if};
     ghost use Rattle.multiframe.specs.TurnPieces.{in_hand};
     ghost use Rattle.line_side.specs.declared.ending.Ending.TheVariants.{Open, Seen};
 
@@ -59,6 +59,7 @@ impl LineIn {
     pub fn new(alloc: Global) -> Result<LineIn, Memory>
         ensures stands { IfOk result (λ line. (first : InView) → LineStands first first 0 line) }
         ensures pieces { IfOk result (λ line. line.pieces ≡ 0) }
+        ensures members { IfOk result (λ line. members line ≡ 0) }
     {
         Ok(LineIn {
             phase: Phase::new(),
@@ -80,6 +81,8 @@ impl LineIn {
             → LineStands first (in_view P.Source place.new) t self.new }
         ensures pieces { self.new.pieces ≡ self.old.pieces + 1 }
         ensures member { result ≡ self.new.member }
+        ensures members { members self.new ≡ members self.old + one_if result }
+        ensures most { members self.new ≤ self.new.pieces }
 
         // what the place may give in the whole run after this piece, it could give before it
         ensures earlier { (first : InView) (t : ℕ) (given : List ℕ) → LineStands first (in_view P.Source place.old) t self.old
@@ -124,12 +127,16 @@ impl LineIn {
         ensures ended { (first now : InView) (t : ℕ) (given : List ℕ) → LineStands first now t self.old → MayGive first now given
             → (self.new.ended ≡ true) ↔ (standing 8 (mfas_of given) (t + 1) ≡ Ended) }
         ensures pieces { self.new.pieces ≡ 0 }
+        ensures whole { result ≡ true → members self.old ≡ 8 }
+        ensures members { members self.new ≡ 0 }
     {
         self.close()
     }
 
     fn close(&mut self) -> bool
-        ensures { EndMoves result self.old self.new }
+        ensures moves { EndMoves result self.old self.new }
+        ensures whole { result ≡ true → members self.old ≡ 8 }
+        ensures members { members self.new ≡ 0 }
     {
         let hunted = self.phase.hunting();
         let whole = self.phase.end_turn();
@@ -182,6 +189,7 @@ impl LineIn {
         ensures moves { StepMoves first result self.old (in_view P.Source place.old) self.new (in_view P.Source place.new) }
         ensures pieces { self.new.pieces ≡ self.old.pieces }
         ensures aligned { result ≡ true → IsSome self.new.alignment }
+        ensures members { members self.new ≡ members self.old + one_if result }
         ensures ending { EndedAs self.old.reader.ending (in_view P.Source place.old) → EndedAs self.new.reader.ending (in_view P.Source place.new) }
         ensures rests { self.old.ended ≡ true → place.new ≡ place.old }
         ensures quiet { self.old.reader.ending ≢ Open → (place.new ≡ place.old) × (self.new.reader.ending ≢ Open) }
@@ -201,6 +209,7 @@ impl LineIn {
         requires most { self.old.pieces ≤ 8 }
         ensures takes { TakesNext result self.old (in_view P.Source place.old) self.new (in_view P.Source place.new) }
         ensures aligned { result ≡ true → IsSome self.new.alignment }
+        ensures members { members self.new ≡ members self.old + one_if result }
         ensures ending { EndedAs self.old.reader.ending (in_view P.Source place.old) → EndedAs self.new.reader.ending (in_view P.Source place.new) }
         ensures quiet { self.old.reader.ending ≢ Open → (place.new ≡ place.old) × (self.new.reader.ending ≢ Open) }
     {
@@ -219,6 +228,7 @@ impl LineIn {
         requires going { self.old.ended ≡ false }
         ensures hunts { Hunts result self.old (in_view P.Source place.old) self.new (in_view P.Source place.new) }
         ensures aligned { result ≡ true → IsSome self.new.alignment }
+        ensures members { members self.new ≡ members self.old + one_if result }
         ensures ending { EndedAs self.old.reader.ending (in_view P.Source place.old) → EndedAs self.new.reader.ending (in_view P.Source place.new) }
         ensures quiet { self.old.reader.ending ≢ Open → (place.new ≡ place.old) × (self.new.reader.ending ≢ Open) }
     {
@@ -238,6 +248,7 @@ impl LineIn {
         requires pieces { 1 ≤ self.old.pieces }
         ensures tries { Tries result self.old (in_view P.Source place.old) self.new (in_view P.Source place.new) }
         ensures aligned { result ≡ Tried.Locks → IsSome self.new.alignment }
+        ensures members { members self.new ≡ members self.old + one_if (is_locked result) }
         ensures ending { EndedAs self.old.reader.ending (in_view P.Source place.old) → EndedAs self.new.reader.ending (in_view P.Source place.new) }
         ensures quiet { self.old.reader.ending ≢ Open → (place.new ≡ place.old) × (self.new.reader.ending ≢ Open) }
     {

@@ -4,11 +4,12 @@ use Rattle.line_side.proofs.Hunting.{HuntsOn, hunt_begins, hunt_passes, hunt_loc
 use Rattle.line_side.proofs.line_in.LineIn.hunt.Goals as goal
 
 pub loop-init : goal.loop-init
-loop-init g c = record { hunts = hunt_begins _ _; ending = λ h. h; quiet = λ h. (refl, h) }
+loop-init g c = record { hunts = hunt_begins _ _; members = refl; ending = λ h. h; quiet = λ h. (refl, h) }
 
 pub loop-preserved : goal.loop-preserved
 loop-preserved g c = record {
   hunts = hunt_passes _ _ _ _ _ _ _ c.loop.invariant.hunts c.in-Passes.ensures.tries;
+  members = (let x = c.in-Passes.ensures.members in let y = c.loop.invariant.members in omega arith);
   ending = λ h. c.in-Passes.ensures.ending (c.loop.invariant.ending h);
   quiet = λ h. (let x = c.loop.invariant.quiet h in let y = c.in-Passes.ensures.quiet x.1 in (y.0 ∙ x.0, y.1));
 }
