@@ -3,12 +3,13 @@
 #![tactic(auto)]
 
 mod gfp;
+mod sink;
 mod words;
 
 use otn_base::Memory;
 use std::process::ExitCode;
 
-const USAGE: &str = "usage: bench_layers gfp-make|gfp-read SIZE TIMES";
+const USAGE: &str = "usage: bench_layers gfp-make|gfp-read BYTES TIMES, or sink SLOTS TURNS";
 
 fn main(rt: HostRuntime) -> ExitCode {
     match serve(&rt) {
@@ -37,6 +38,7 @@ fn serve(rt: &HostRuntime) -> Result<Option<u32>, Memory> {
     match words::word(rt, 1, &mut buffer) {
         Some("gfp-make") => Ok(Some(gfp::make(alloc, size, times)?)),
         Some("gfp-read") => Ok(Some(gfp::read(alloc, size, times)?)),
+        Some("sink") => Ok(Some(sink::take(alloc, size as usize, times)?)),
         _ => Ok(None),
     }
 }

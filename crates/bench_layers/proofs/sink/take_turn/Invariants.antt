@@ -1,0 +1,8 @@
+use Rattle.std.proofs.Common.{◌≡◌}
+use Rattle.bench_layers.proofs.sink.take_turn.Given as goal
+
+abbrev pub invariant-loop-n : goal.invariant-loop-n
+invariant-loop-n l = record {
+  taken : l.sink.taken ≡ l.n;
+  slots : l.sink.slots ≡ l.fn.sink.slots;
+}
