@@ -73,30 +73,33 @@ fn message_of(turn: Turn, t: u8) -> [u8; 6] {
     }
 }
 
-// One turn: what it has, how many bytes it emits, which byte its 101st is, and how the sink stands after it.
+// One turn: what it has, how many bytes it emits, which byte its first is, and how the sink stands after it.
 type Row = (Turn, usize, u8, SinkState);
 
-// A steady ODU0. A damaged message changes nothing. Three in a row end the stretch, and AIS follows until a
-// turn accepts. A turn without a multiframe ends a stretch at once, and the next turn accepts.
-const ROWS: [Row; 18] = [
+// A steady ODU0. A damaged message changes nothing. Of six in a row the third ends the stretch, and AIS follows
+// until a turn accepts. A turn without a multiframe ends a stretch at once; after another one, which emits AIS
+// from its beginning, the next turn accepts.
+const ROWS: [Row; 20] = [
     (Turn::Steady, 0, 0, SinkState::Up),
     (Turn::Steady, 0, 0, SinkState::Up),
     (Turn::Steady, 15_168, 2, SinkState::Up),
-    (Turn::Steady, 15_168, 3, SinkState::Up),
-    (Turn::Damaged, 15_168, 4, SinkState::Up),
-    (Turn::Steady, 15_168, 5, SinkState::Up),
+    (Turn::Damaged, 15_168, 3, SinkState::Up),
+    (Turn::Steady, 15_168, 4, SinkState::Up),
+    (Turn::Damaged, 15_168, 5, SinkState::Up),
     (Turn::Damaged, 15_168, 6, SinkState::Up),
-    (Turn::Damaged, 15_168, 7, SinkState::Up),
-    (Turn::Damaged, 15_168, 8, SinkState::Down),
+    (Turn::Damaged, 15_168, 7, SinkState::Down),
+    (Turn::Damaged, 15_168, 0xF6, SinkState::Down),
     (Turn::Damaged, 15_168, 0xFF, SinkState::Down),
     (Turn::Damaged, 15_168, 0xFF, SinkState::Down),
     (Turn::Steady, 0, 0, SinkState::Up),
     (Turn::Steady, 0, 0, SinkState::Up),
     (Turn::Steady, 15_168, 13, SinkState::Up),
-    (Turn::Missed, 15_168, 14, SinkState::Down),
+    (Turn::Steady, 15_168, 14, SinkState::Up),
+    (Turn::Missed, 15_168, 15, SinkState::Down),
+    (Turn::Missed, 15_168, 0xF6, SinkState::Down),
     (Turn::Steady, 0, 0, SinkState::Up),
     (Turn::Steady, 0, 0, SinkState::Up),
-    (Turn::Steady, 15_168, 17, SinkState::Up),
+    (Turn::Steady, 15_168, 19, SinkState::Up),
 ];
 
 // A buffer of so many bytes.
@@ -126,7 +129,7 @@ fn first_wrong(sink: &mut TribSink, frame: &mut Frame<4080>, rows: &[Row], into:
         if emitted != count || sink.state() != state {
             return t;
         }
-        if count > 0 && into.get(100).copied() != Some(byte) {
+        if count > 0 && into.first().copied() != Some(byte) {
             return t;
         }
     }
@@ -150,7 +153,7 @@ const MISSED: [Row; 4] = [
     (Turn::Missed, 0, 0, SinkState::Waiting),
     (Turn::Missed, 0, 0, SinkState::Waiting),
     (Turn::Missed, 0, 0, SinkState::Down),
-    (Turn::Missed, 15_168, 0xFF, SinkState::Down),
+    (Turn::Missed, 15_168, 0xF6, SinkState::Down),
 ];
 
 #[test]
