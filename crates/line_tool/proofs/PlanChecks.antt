@@ -1,5 +1,5 @@
 -- What `check` answers to the text of a source that tells it.
-use Rattle.std.proofs.Common.{◌≡◌, ◌≢◌, ◌<◌, ◌+◌, ◌∙◌, ℕ, false, List, [], ◌++◌, Option, Some, None, length, nat_le, refl, sym, ap, inl, inr, arith, append-nil, length-append}
+use Rattle.std.proofs.Common.{◌≡◌, ◌≢◌, ◌<◌, ◌+◌, ◌∙◌, ℕ, false, List, [], ◌++◌, Option, Some, None, length, nat_le, refl, sym, ap, subst, inl, inr, arith, append-nil, length-append}
 use Rattle.std.specs.Prelude.{unwrap_or}
 use Rattle.std.proofs.lemmas.Bool.Decides.{nat_tests}
 use Rattle.otn_ports.specs.Bytes.{before}
@@ -56,3 +56,7 @@ check_refused status.PlanFault had has old new h refusal = h.ends
 check_refused status.Words had has old new h refusal = absurd h.ends
 check_refused status.Cut had has old new h refusal = absurd refusal
 check_refused status.Unfinished had has old new h refusal = absurd refusal
+
+-- `check` never answers that the words are none
+pub check_never_words : (answer : Status) (had has old new : Option (List ℕ)) → CheckRun had has old new answer → answer ≢ status.Words
+check_never_words answer had has old new h e = subst (λ s. CheckEnds s h.text old new) e h.ends

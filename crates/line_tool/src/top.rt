@@ -39,6 +39,7 @@ pub fn run<P: Source, K: Sink, C: Chooser, I: Source, O: Sink>(
     ensures words { (result ≡ Status.Words) ↔ IsNoForm (texts words.now) }
     ensures refused { IsRefusal result
         → (bays_view I.Source O.Sink bays.new ≡ bays_view I.Source O.Sink bays.old) × (K.got report.new ≡ K.got report.old) }
+    ensures idle { result ≡ Status.Words → (plan.new ≡ plan.old) × (bays.new ≡ bays.old) × (report.new ≡ report.old) }
     ensures plan_fault { result ≡ Status.PlanFault → IsForm (texts words.now) Command.Check × HasFailed (P.faults plan.old) (P.faults plan.new) }
     ensures plan_refused { (error : PlanError) (place : ℕ) → result ≡ Status.Plan error place → IsForm (texts words.now) Command.Check }
     ensures report_fault { result ≡ Status.ReportFault → HasFailed (K.faults report.old) (K.faults report.new) }

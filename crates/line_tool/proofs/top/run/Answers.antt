@@ -3,8 +3,8 @@ use Rattle.otn_ports.proofs.BaysLaws.{only_line_in, line_in_seen, line_in_set}
 use Rattle.otn_ports.specs.InPlace.{in_view}
 use Rattle.otn_ports.specs.Racks.{bays_view, with_line_in}
 use Rattle.otn_ports.specs.Views.{line_in_at}
-use Rattle.line_tool.proofs.PlanChecks.{check_told, check_refused}
-use Rattle.line_tool.proofs.SlotBays.{seen_run, refused_run, same_slot, put_back, line_gave, complete_all}
+use Rattle.line_tool.proofs.PlanChecks.{check_told, check_refused, check_never_words}
+use Rattle.line_tool.proofs.SlotBays.{seen_run, refused_run, never_words, same_slot, put_back, line_gave, complete_all}
 use Rattle.line_tool.proofs.SlotTable.{reports_given, cut_is, unfinished_is, unfinished_counted}
 use Rattle.line_tool.specs.PlanCheck.{CheckRun}
 use Rattle.line_tool.specs.SlotRuns.{SlotRun}
@@ -91,3 +91,13 @@ returns-in-None-clause-check_read g c = λ form. absurd (c.in-None.ensures.no_fo
 
 pub returns-in-None-clause-check_complete : goal.returns-in-None-clause-check_complete
 returns-in-None-clause-check_complete g c = λ form well plan. absurd (c.in-None.ensures.no_form Check form)
+
+pub returns-in-Some-Slot-clause-idle : goal.returns-in-Some-Slot-clause-idle
+returns-in-Some-Slot-clause-idle g c = λ words.
+    absurd (never_words c.write_slot.result c.in-Some-Slot.slot (in_view g.I.Source c.line_in_mut.result.now) (in_view g.I.Source c.write_slot.new.line)
+    (g.K.Sink.got c.args.report.now) (g.K.Sink.got c.write_slot.new.report) (c.write_slot.ensures.run (λ memory. cc)) words)
+
+pub returns-in-Some-Check-clause-idle : goal.returns-in-Some-Check-clause-idle
+returns-in-Some-Check-clause-idle g c = λ words.
+    absurd (check_never_words c.check_plan.result (g.P.Source.left c.args.plan.now) (g.P.Source.left c.check_plan.new.plan)
+    (g.K.Sink.got c.args.report.now) (g.K.Sink.got c.check_plan.new.report) c.check_plan.ensures.run words)
