@@ -6,8 +6,9 @@ ghost use Rattle.otn_ports.specs.Reads.{Reads, IsReading};
 
 use crate::{Failed, Reading, Source};
 
-/// Reads until the slice is full, the source ends or a call fails, and says how many bytes came.
-fn fill<S: Source>(source: &mut S, into: &mut [u8]) -> (Reading, usize)
+/// Reads a source that stands in no place, until the slice is full, the source ends or a call fails, and says how
+/// many bytes came: they stand at the slice's front. After Lost the source's count of faults rose or stands at its end.
+pub fn read_whole<S: Source>(source: &mut S, into: &mut [u8]) -> (Reading, usize)
     ensures within { result.1 ≤ length into.old }
     ensures bytes { S.left source.old ≡ before (take result.1 into.new) (S.left source.new) }
     ensures reading { IsReading result.0 result.1 (length into.old) (S.left source.new) }
@@ -30,7 +31,7 @@ fn fill<S: Source>(source: &mut S, into: &mut [u8]) -> (Reading, usize)
 pub(crate) fn fill_counted<P: Source>(port: &mut P, number: &mut u64, into: &mut [u8]) -> Reading
     ensures { Reads result (live_in P.Source port.old number.old) into.new (live_in P.Source port.new number.new) }
 {
-    let (reading, came) = fill(port, into);
+    let (reading, came) = read_whole(port, into);
     *number = number.saturating_add(came as u64);
     reading
 }

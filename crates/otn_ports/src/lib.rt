@@ -5,7 +5,7 @@
 //! - `file_source`, `file_sink`, `stdout_sink`: ports over the system's files and output.
 //! - `in_port`, `out_port`: a port behind a box, or one in memory.
 //! - `in_place`, `out_place`: a place with its port, which reads and writes whole slices.
-//! - `drain`: a whole write to a sink that stands in no place.
+//! - `fill`, `drain`: a whole read of a source, and a whole write to a sink, that stand in no place.
 //! - `bays`: all places of a device.
 //! - `chooser`: what settles a free choice.
 #![tactic(auto)]
@@ -34,6 +34,7 @@ pub use chooser::{Chooser, FirstReady};
 pub use drain::{Written, write_whole};
 pub use file_sink::FileSink;
 pub use file_source::FileSource;
+pub use fill::read_whole;
 pub use in_place::{InPlace, InPlaceOf, Reading};
 pub use in_port::InPort;
 pub use mem_sink::MemSink;

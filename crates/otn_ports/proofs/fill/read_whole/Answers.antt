@@ -1,6 +1,6 @@
 use Rattle.std.proofs.Common.{arith, ◌≤◌, length}
 use Rattle.otn_ports.proofs.TakenTwice.{more}
-use Rattle.otn_ports.proofs.fill.fill.Goals as goal
+use Rattle.otn_ports.proofs.fill.read_whole.Goals as goal
 
 pub loop-done-preserved : goal.loop-done-preserved
 loop-done-preserved g c =

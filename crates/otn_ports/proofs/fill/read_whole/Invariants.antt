@@ -1,6 +1,6 @@
 use Rattle.std.proofs.Common.{length, ◌-◌, ◌≡◌, ◌≤◌, take}
 use Rattle.otn_ports.specs.Bytes.{before}
-use Rattle.otn_ports.proofs.fill.fill.Given as goal
+use Rattle.otn_ports.proofs.fill.read_whole.Given as goal
 
 abbrev pub invariant-loop-done : goal.invariant-loop-done
 invariant-loop-done g l = record {
