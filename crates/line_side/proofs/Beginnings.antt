@@ -3,12 +3,12 @@ use Rattle.std.proofs.Common.{◌≡◌, ◌≢◌, ◌≤◌, ◌+◌, ◌%◌,
 use Rattle.std.specs.Prelude.{slice_index, ◌&&◌, IfSome}
 use Rattle.std.proofs.lemmas.Bool.Decides.{nat_tests}
 use Rattle.otn_ports.specs.Views.{InView}
-use Rattle.otn_ports.proofs.GivenLaws.{gave_none}
 use Rattle.multiframe.specs.LineTurns.{one_if, looked_ahead, is_start, begins}
 use Rattle.line_side.specs.declared.ending.Ending.{Ending}
 use Rattle.line_side.specs.declared.ending.Ending.TheVariants.{Open, Seen, Died}
 use Rattle.line_side.specs.LineFile.{frame_at, frame_mfas, whole_frames, mfas_of}
 use Rattle.line_side.specs.Reader.{ReaderView, HasRead, LookedAhead, LooksAhead, Began, Begins, count_of}
+use Rattle.line_side.proofs.Giving.{step_none}
 use Rattle.line_side.proofs.Mfas.{length_mfas, index_mfas}
 
 -- what is wanted covers what is used
@@ -52,9 +52,9 @@ no_look given n u w r alone other h =
 pub begins_not : (old : ReaderView) (was : InView) → old.ahead ≡ None → eqb (frame_mfas old.hand % 8) 0 ≡ false → Begins false old was old was
 begins_not old was alone other = record {
   came = [];
-  gave = gave_none was;
+  step = step_none old.ending was;
   hand = refl;
-  told = λ given taken u w step h hand. rw (append-nil taken) (no_look given (length taken) u w old alone (ap (λ frame. eqb (frame_mfas frame % 8) 0) (sym hand) ∙ other) h);
+  told = λ given taken u w may h hand. rw (append-nil taken) (no_look given (length taken) u w old alone (ap (λ frame. eqb (frame_mfas frame % 8) 0) (sym hand) ∙ other) h);
 }
 
 -- it has, and the next frame was looked at
@@ -97,13 +97,13 @@ pub begins_by : (result said : Bool) (old : ReaderView) (was : InView) (new : Re
     → (result ≡ false → said ≡ false) → (result ≡ true → IfSome new.ahead (λ frame. said ≡ begins 8 (frame_mfas old.hand) (frame_mfas frame))) → Begins said old was new is
 begins_by result said old was new is alone fits look none some = record {
   came = look.came;
-  gave = look.gave;
+  step = look.step;
   hand = look.hand;
-  told = λ given taken u w step h hand.
+  told = λ given taken u w may h hand.
       let within = h.within in
       let zero : count_of old.ahead ≡ 0 = ap count_of alone in
       looked given (length (taken ++ look.came)) u w result said new
-      (ap (λ frame. eqb (frame_mfas frame % 8) 0) (sym hand) ∙ fits) (omega arith) (look.told given taken (u + 1) w step h) none
+      (ap (λ frame. eqb (frame_mfas frame % 8) 0) (sym hand) ∙ fits) (omega arith) (look.told given taken (u + 1) w may h) none
       (λ e. let P : List ℕ → Type 0 = λ hand. IfSome new.ahead (λ frame. said ≡ begins 8 (frame_mfas hand) (frame_mfas frame)) in subst P hand (some e));
 }
 

@@ -7,7 +7,7 @@ use Rattle.multiframe.specs.LineTurns.{Lock, Standing, Hunting, Locked, Ended, C
 use Rattle.multiframe.specs.Alignment.{Alignment, taken_of}
 use Rattle.multiframe.specs.TurnPieces.{AlignedIn, aligned_by, ended_in, in_hand, hand_at}
 use Rattle.line_side.specs.LineFile.{mfas_of}
-use Rattle.line_side.specs.MayGive.{MayGive}
+use Rattle.line_side.specs.MayBe.{MayBe}
 use Rattle.line_side.specs.LineStands.{LineView, LineStands}
 use Rattle.line_side.proofs.TurnEnds.{standing_suc, standing_none}
 
@@ -48,9 +48,9 @@ ended_now ms (Locked lock) h = let no_more = le-ltb (length ms) (lock.frame + 0)
 ended_now ms Ended h = (λ e. refl, λ e. refl)
 
 -- a line that stands before turn t + 1 knows whether it has ended
-pub ended_is : (first now : InView) (t : ℕ) (given : List ℕ) (line : LineView) → line.pieces ≡ 0 → LineStands first now t line → MayGive first now given
+pub ended_is : (first now : InView) (taken given : List ℕ) (t : ℕ) (line : LineView) → line.pieces ≡ 0 → LineStands first now taken t line → MayBe line.reader.ending taken given
     → (line.ended ≡ true) ↔ (standing 8 (mfas_of given) t ≡ Ended)
-ended_is first now t given line none h may =
+ended_is first now taken given t line none h may =
     let said : line.ended ≡ ended_in 8 (mfas_of given) (standing 8 (mfas_of given) t) 0 = (h.told given may).ended ∙ ap (ended_in 8 (mfas_of given) (standing 8 (mfas_of given) t)) none in
     let x = ended_now (mfas_of given) (standing 8 (mfas_of given) t) (standing_within (mfas_of given) t) in
     (λ e. x.0 (sym said ∙ e), λ e. said ∙ x.1 e)
@@ -77,9 +77,9 @@ expected_by ms (Some lock) k result alignment h e =
     by_test false e = tt
 
 -- the MFAS that is expected in hand is that of the alignment
-pub expected_is : (first now : InView) (t k result : ℕ) (given : List ℕ) (line : LineView) → line.pieces ≡ suc k → LineStands first now t line → MayGive first now given
+pub expected_is : (first now : InView) (taken given : List ℕ) (t k result : ℕ) (line : LineView) → line.pieces ≡ suc k → LineStands first now taken t line → MayBe line.reader.ending taken given
     → IfSome line.alignment (λ a. result ≡ (a.expected + (line.pieces - 1)) % 256) → IfSome (in_hand 8 (mfas_of given) (standing 8 (mfas_of given) t) line.pieces) (λ member. result ≡ member.expected)
-expected_is first now t k result given line some h may e =
+expected_is first now taken given t k result line some h may e =
     let P : ℕ → Type 0 = λ k. AlignedIn 8 (mfas_of given) (standing 8 (mfas_of given) t) k line.alignment in
     let Q : ℕ → Type 0 = λ k. IfSome (in_hand 8 (mfas_of given) (standing 8 (mfas_of given) t) k) (λ member. result ≡ member.expected) in
     let R : ℕ → Type 0 = λ p. IfSome line.alignment (λ a. result ≡ (a.expected + p) % 256) in

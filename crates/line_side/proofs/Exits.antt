@@ -1,41 +1,40 @@
--- What is known where a run ends: Given is a list that the place may give, and so many of its bytes were read as the
--- line's turns want.
-use Rattle.std.proofs.Common.{◌≡◌, ◌≢◌, ◌*◌, ℕ, true, false, cond, ltb, List, [], ◌++◌, Option, Some, length, arith, refl, sym, ap, ◌∙◌, append-nil}
+-- What is known of a line's bytes: what its place gave is among those that it may have, and so many of them were read as
+-- the line's turns want.
+use Rattle.std.proofs.Common.{◌≡◌, ◌≢◌, ◌*◌, ◌⊎◌, ℕ, true, false, cond, ltb, List, [], Option, Some, length, arith, refl, sym, ap, ◌∙◌, inl, inr, subst}
 use Rattle.std.proofs.lemmas.Bool.{lt-ltb, le-ltb}
-use Rattle.otn_ports.specs.Views.{State, Empty, Live, Dead, InView}
-use Rattle.otn_ports.specs.Given.{Gave, IsGiven, given_between}
+use Rattle.otn_ports.specs.Views.{State, Empty, Live, Dead}
+use Rattle.otn_ports.specs.Reads.{HasEnded}
 use Rattle.otn_ports.proofs.GivenLaws.{given_of_gave}
 use Rattle.multiframe.specs.LineTurns.{wanted_so_far, took}
 use Rattle.line_side.specs.LineFile.{mfas_of}
-use Rattle.line_side.specs.MayGive.{MayGive}
+use Rattle.line_side.specs.Laws.{GivenIsAmong, TakesTheWanted}
 use Rattle.line_side.specs.LineStands.{LineView, IsLine}
 use Rattle.line_side.specs.declared.ending.Ending.{Ending}
 use Rattle.line_side.specs.declared.ending.Ending.TheVariants.{Open, Seen, Died}
+use Rattle.line_side.proofs.Giving.{dead_not_live, empty_not_live}
 use Rattle.line_side.proofs.Mfas.{length_mfas}
 
-tells_given : (s t : State) (first now : Option (List ℕ)) (given : List ℕ) → given_between s t first now given → s ≡ Live → (bytes : List ℕ) × (first ≡ Some bytes)
-tells_given Live Live first now given g e = (given, g)
-tells_given Live Empty first now given g e = (given, g)
-tells_given Live Dead first now given g e = (given ++ g.rest, g.had)
-tells_given Empty t first now given g e = absurd (cc)
-tells_given Dead t first now given g e = absurd (cc)
+live_or_not : (s : State) → (s ≡ Live) ⊎ (s ≢ Live)
+live_or_not Live = inl refl
+live_or_not Empty = inr empty_not_live
+live_or_not Dead = inr dead_not_live
 
--- Given is one of the lists that the place may give in the run
-pub given_may : (first now : InView) (taken given : List ℕ) → Gave first taken now → IsGiven first now given → MayGive first now given
-given_may first now taken given h g =
-    let b = given_of_gave first now taken given h g in
-    record {
-      tells = record { live = tells_given first.state now.state first.left now.left given g };
-      taken = taken;
-      gave = h;
-      rest = b.rest;
-      may = record { live = λ live. ([], b.live live ∙ ap Some (sym (append-nil b.rest))); idle = b.other };
-      parts = b.parts;
-    }
+-- nothing is left of a live place that has ended
+none_left : (s : State) (left : Option (List ℕ)) (rest : List ℕ) → (s ≡ Live → left ≡ Some rest) → (s ≢ Live → rest ≡ []) → (s ≡ Live → HasEnded left) → rest ≡ []
+none_left s left rest live other ended = go (live_or_not s)
+  where
+    go : (s ≡ Live) ⊎ (s ≢ Live) → rest ≡ []
+    go (inl now) = subst HasEnded (live now) (ended now)
+    go (inr idle) = other idle
+
+pub given_among : GivenIsAmong
+given_among first now taken given t line h g =
+    let b = given_of_gave first now taken given h.gave g in
+    record { rest = b.rest; over = λ closed. none_left now.state now.left b.rest b.live b.other (h.over closed); parts = b.parts }
 
 -- so many bytes were read as the turns and pieces so far want
-pub took_is : (given : List ℕ) (n t : ℕ) (line : LineView) → IsLine given n t line → n ≡ took 16320 (length given) (mfas_of given) (wanted_so_far 8 (mfas_of given) t line.pieces)
-took_is given n t line h = by_ending line.reader.ending refl
+took_of : (given : List ℕ) (n t : ℕ) (line : LineView) → IsLine given n t line → n ≡ took 16320 (length given) (mfas_of given) (wanted_so_far 8 (mfas_of given) t line.pieces)
+took_of given n t line h = by_ending line.reader.ending refl
   where
     over : line.reader.ending ≢ Open → n ≡ took 16320 (length given) (mfas_of given) (wanted_so_far 8 (mfas_of given) t line.pieces)
     over closed =
@@ -53,3 +52,6 @@ took_is given n t line h = by_ending line.reader.ending refl
         s.0 ∙ ap (λ x. 16320 * x) s.1 ∙ sym (ap (λ b. cond b (length given) (16320 * wanted_so_far 8 (mfas_of given) t line.pieces)) inside)
     by_ending Seen e = over (λ f. cc)
     by_ending Died e = over (λ f. cc)
+
+pub took_is : TakesTheWanted
+took_is first now taken given t line h may = took_of given (length taken) t line (h.told given may)

@@ -2,16 +2,14 @@
 use Rattle.std.proofs.Common.{◌≡◌, ◌<◌, ◌≤◌, ◌+◌, ◌-◌, min, max, ℕ, zero, suc, Bool, true, false, List, [], ◌++◌, Some, None, length, arith, refl, sym, ap, ◌∙◌, append_assoc, append-nil, add-one}
 use Rattle.std.proofs.lemmas.Bool.{lt-ltb, le-ltb}
 use Rattle.otn_ports.specs.Views.{InView}
-use Rattle.otn_ports.specs.Given.{Gave}
-use Rattle.otn_ports.proofs.GivenLaws.{gave_none, gave_twice}
 use Rattle.multiframe.specs.LineTurns.{one_if, looked_ahead, is_start, least_start, least_or}
 use Rattle.line_side.specs.LineFile.{whole_frames, mfas_of}
-use Rattle.line_side.specs.MayGive.{StepOf}
-use Rattle.line_side.specs.Reader.{ReaderView, HasRead, stopped}
+use Rattle.line_side.specs.MayBe.{MayBe}
+use Rattle.line_side.specs.Reader.{ReaderView, HasRead, ReadStep, stopped}
 use Rattle.line_side.specs.LineStands.{LineView}
 use Rattle.line_side.specs.LineMoves.{Keeps, PassesOver, Tries, Hunts}
 use Rattle.line_side.specs.declared.tried.Tried.TheVariants.{Locks, Passes, Ends}
-use Rattle.line_side.proofs.Giving.{step_first, step_second}
+use Rattle.line_side.proofs.Giving.{step_none, step_twice, may_first, may_second}
 use Rattle.line_side.proofs.Beginnings.{same_wanted, same_used}
 use Rattle.line_side.proofs.Mfas.{length_mfas}
 
@@ -27,12 +25,12 @@ pub record HuntAt (given : List ℕ) (n i w m : ℕ) (line : LineView) : Type 0 
 
 pub record HuntsOn (old : LineView) (was : InView) (m : ℕ) (line : LineView) (is : InView) : Type 0 where
   pub came : List ℕ
-  pub gave : Gave was came is
+  pub step : ReadStep old.reader.ending was came line.reader.ending is
   pub keeps : Keeps old line
   pub alignment : line.alignment ≡ old.alignment
   pub ended : line.ended ≡ old.ended
   pub passes_over : PassesOver old m line
-  pub at : (given taken : List ℕ) (i w : ℕ) → StepOf was came is given taken → HasRead given (length taken) i w old.reader → HuntAt given (length (taken ++ came)) i w m line
+  pub at : (given taken : List ℕ) (i w : ℕ) → MayBe line.reader.ending (taken ++ came) given → HasRead given (length taken) i w old.reader → HuntAt given (length (taken ++ came)) i w m line
 
 -- ---- the least start
 
@@ -93,12 +91,12 @@ wanted_most ms i (suc m) w = let o = one_most (looked_ahead 8 ms (i + m)) in ome
 pub hunt_begins : (old : LineView) (was : InView) → HuntsOn old was 0 old was
 hunt_begins old was = record {
   came = [];
-  gave = gave_none was;
+  step = step_none old.reader.ending was;
   keeps = record { pieces = refl; lost = refl };
   alignment = refl;
   ended = refl;
   passes_over = λ before e. omega arith;
-  at = λ given taken i w step h. rw (append-nil taken) (record {
+  at = λ given taken i w may h. rw (append-nil taken) (record {
     read = same_used given (length taken) i (i + 0) w old.reader (omega arith) h;
     least = least_none (mfas_of given) i;
   });
@@ -107,14 +105,14 @@ hunt_begins old was = record {
 pub hunt_passes : (old : LineView) (was : InView) (m : ℕ) (line new : LineView) (mid is : InView) → HuntsOn old was m line mid → Tries Passes line mid new is → HuntsOn old was (m + 1) new is
 hunt_passes old was m line new mid is h t = record {
   came = h.came ++ t.came;
-  gave = gave_twice was mid is h.came t.came h.gave t.gave;
+  step = step_twice old.reader.ending line.reader.ending new.reader.ending was mid is h.came t.came h.step t.step;
   keeps = record { pieces = t.keeps.pieces ∙ h.keeps.pieces; lost = t.keeps.lost ∙ h.keeps.lost };
   alignment = (t.passed refl).0 ∙ h.alignment;
   ended = (t.passed refl).1 ∙ h.ended;
   passes_over = λ before e. (let x = t.passes_over (before + m) (h.passes_over before e) in omega arith);
-  at = λ given taken i w step r.
-      let a = h.at given taken i w (step_first was mid is h.came t.came given taken h.gave t.gave step) r in
-      let p = t.passes refl given (taken ++ h.came) (i + m) (hunt_wanted (mfas_of given) i m w) (step_second was mid is h.came t.came given taken h.gave step) a.read in
+  at = λ given taken i w may r.
+      let a = h.at given taken i w (may_first line.reader.ending new.reader.ending mid is h.came t.came taken given t.step may) r in
+      let p = t.passes refl given (taken ++ h.came) (i + m) (hunt_wanted (mfas_of given) i m w) (may_second new.reader.ending h.came t.came taken given may) a.read in
       rw (← append_assoc taken h.came t.came) (record {
         read = same_used given _ (i + m + 1) (i + (m + 1)) _ new.reader (omega arith) (same_wanted given _ (i + m + 1) _ _ new.reader (wanted_next (mfas_of given) i m w) p.read);
         least = least_next (mfas_of given) i m false a.least p.start;
@@ -124,11 +122,11 @@ hunt_passes old was m line new mid is h t = record {
 pub hunt_locks : (old : LineView) (was : InView) (m : ℕ) (line new : LineView) (mid is : InView) → m < 8 → HuntsOn old was m line mid → Tries Locks line mid new is → Hunts true old was new is
 hunt_locks old was m line new mid is few h t = record {
   came = h.came ++ t.came;
-  gave = gave_twice was mid is h.came t.came h.gave t.gave;
+  step = step_twice old.reader.ending line.reader.ending new.reader.ending was mid is h.came t.came h.step t.step;
   keeps = record { pieces = t.keeps.pieces ∙ h.keeps.pieces; lost = t.keeps.lost ∙ h.keeps.lost };
-  locks = λ _ given taken i w step r.
-      let a = h.at given taken i w (step_first was mid is h.came t.came given taken h.gave t.gave step) r in
-      let l = t.locks refl given (taken ++ h.came) (i + m) (hunt_wanted (mfas_of given) i m w) (step_second was mid is h.came t.came given taken h.gave step) a.read in (
+  locks = λ _ given taken i w may r.
+      let a = h.at given taken i w (may_first line.reader.ending new.reader.ending mid is h.came t.came taken given t.step may) r in
+      let l = t.locks refl given (taken ++ h.came) (i + m) (hunt_wanted (mfas_of given) i m w) (may_second new.reader.ending h.came t.came taken given may) a.read in (
         m,
         rw (← append_assoc taken h.came t.came) (record {
           least = ap (least_start 8 (mfas_of given) i) (let e : 8 ≡ m + 1 + (8 - (m + 1)) = omega arith in e)
@@ -149,12 +147,12 @@ hunt_locks old was m line new mid is few h t = record {
 pub hunt_ends : (old : LineView) (was : InView) (m : ℕ) (line new : LineView) (mid is : InView) → m < 8 → HuntsOn old was m line mid → Tries Ends line mid new is → Hunts false old was new is
 hunt_ends old was m line new mid is few h t = record {
   came = h.came ++ t.came;
-  gave = gave_twice was mid is h.came t.came h.gave t.gave;
+  step = step_twice old.reader.ending line.reader.ending new.reader.ending was mid is h.came t.came h.step t.step;
   keeps = record { pieces = t.keeps.pieces ∙ h.keeps.pieces; lost = t.keeps.lost ∙ h.keeps.lost };
   locks = λ f. absurd (cc);
-  fails = λ _ given taken i w step r.
-      let a = h.at given taken i w (step_first was mid is h.came t.came given taken h.gave t.gave step) r in
-      let l = t.ends refl given (taken ++ h.came) (i + m) (hunt_wanted (mfas_of given) i m w) (step_second was mid is h.came t.came given taken h.gave step) a.read in
+  fails = λ _ given taken i w may r.
+      let a = h.at given taken i w (may_first line.reader.ending new.reader.ending mid is h.came t.came taken given t.step may) r in
+      let l = t.ends refl given (taken ++ h.came) (i + m) (hunt_wanted (mfas_of given) i m w) (may_second new.reader.ending h.came t.came taken given may) a.read in
       let size = length_mfas given in
       let end = l.end in
       let most = wanted_most (mfas_of given) i m w in
@@ -174,11 +172,11 @@ hunt_ends old was m line new mid is few h t = record {
 pub hunt_fails : (old : LineView) (was : InView) (line : LineView) (is : InView) → old.ended ≡ false → HuntsOn old was 8 line is → Hunts false old was line is
 hunt_fails old was line is opened h = record {
   came = h.came;
-  gave = h.gave;
+  step = h.step;
   keeps = h.keeps;
   locks = λ f. absurd (cc);
-  fails = λ _ given taken i w step r.
-      let a = h.at given taken i w step r in
+  fails = λ _ given taken i w may r.
+      let a = h.at given taken i w may r in
       let size = length_mfas given in
       let within = a.read.within in
       record {

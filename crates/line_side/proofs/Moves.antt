@@ -3,7 +3,6 @@ use Rattle.std.proofs.Common.{◌≡◌, ◌<◌, ◌+◌, ◌-◌, ◌%◌, ◌
 use Rattle.std.specs.Prelude.{slice_index, option_map, ◌&&◌}
 use Rattle.std.proofs.lemmas.Bool.{ltb-true, lt-ltb}
 use Rattle.otn_ports.specs.Views.{InView}
-use Rattle.otn_ports.proofs.GivenLaws.{gave_twice}
 use Rattle.multiframe.specs.LineTurns.{one_if, looked_ahead, is_start}
 use Rattle.multiframe.specs.Alignment.{aligned_at, with_frame}
 use Rattle.line_side.specs.LineFile.{frame_at, frame_mfas, mfas_of}
@@ -11,18 +10,18 @@ use Rattle.line_side.specs.Reader.{ReaderView, Advances, Begins, stopped}
 use Rattle.line_side.specs.LineStands.{LineView}
 use Rattle.line_side.specs.LineMoves.{TakesNext, Tries}
 use Rattle.line_side.specs.declared.tried.Tried.TheVariants.{Locks, Passes, Ends}
-use Rattle.line_side.proofs.Giving.{step_first, step_second}
+use Rattle.line_side.proofs.Giving.{step_twice, may_first, may_second}
 use Rattle.line_side.proofs.Beginnings.{same_wanted}
 use Rattle.line_side.proofs.Mfas.{index_mfas}
 
 pub takes_none : (old : LineView) (was is : InView) (r : ReaderView) → Advances false old.reader was r is → TakesNext false old was (record old { reader = r; ended = true }) is
 takes_none old was is r a = record {
   came = a.came;
-  gave = a.gave;
+  step = a.step;
   keeps = record { pieces = refl; lost = refl };
   lead_in = refl;
   frame = λ t. absurd (cc);
-  none = λ _ given taken u w step h. let x = (a.told given taken u w step h).none refl in
+  none = λ _ given taken u w may h. let x = (a.told given taken u w may h).none refl in
       record { read = x.0; end = x.1; alignment = refl; ended = refl };
 }
 
@@ -30,10 +29,10 @@ pub takes_frame : (old : LineView) (was is : InView) (r : ReaderView) (m : ℕ) 
     → TakesNext true old was (record old { reader = r; alignment = option_map (with_frame m) old.alignment }) is
 takes_frame old was is r m a e = record {
   came = a.came;
-  gave = a.gave;
+  step = a.step;
   keeps = record { pieces = refl; lost = refl };
   lead_in = refl;
-  frame = λ _ given taken u w step h. let x = (a.told given taken u w step h).frame refl in
+  frame = λ _ given taken u w may h. let x = (a.told given taken u w may h).frame refl in
       record {
         read = x.0;
         there = x.1;
@@ -54,13 +53,13 @@ one_passed lead before e = omega arith
 pub tries_ends : (old : LineView) (was is : InView) (r : ReaderView) → Advances false old.reader was r is → Tries Ends old was (record old { reader = r; ended = true }) is
 tries_ends old was is r a = record {
   came = a.came;
-  gave = a.gave;
+  step = a.step;
   keeps = record { pieces = refl; lost = refl };
   passes_over = none_passed old.lead_in;
   passed = λ t. absurd (cc);
   locks = λ t. absurd (cc);
   passes = λ t. absurd (cc);
-  ends = λ _ given taken u w step h. let x = (a.told given taken u w step h).none refl in
+  ends = λ _ given taken u w may h. let x = (a.told given taken u w may h).none refl in
       record { read = x.0; end = x.1; alignment = refl; ended = refl };
 }
 
@@ -71,14 +70,14 @@ pub tries_passes : (old : LineView) (was mid is : InView) (r s : ReaderView) →
     → Tries Passes old was (record old { reader = s; lead_in = min (old.lead_in + 1) (2 ^ 64 - 1) }) is
 tries_passes old was mid is r s a b = record {
   came = a.came ++ b.came;
-  gave = gave_twice was mid is a.came b.came a.gave b.gave;
+  step = step_twice old.reader.ending r.ending s.ending was mid is a.came b.came a.step b.step;
   keeps = record { pieces = refl; lost = refl };
   passes_over = one_passed old.lead_in;
   passed = λ _. (refl, refl);
   locks = λ t. absurd (cc);
-  passes = λ _ given taken u w step h.
-      let x = (a.told given taken u w (step_first was mid is a.came b.came given taken a.gave b.gave step) h).frame refl in
-      let y = b.told given (taken ++ a.came) u (max w (u + 1)) (step_second was mid is a.came b.came given taken a.gave step) x.0 x.2 in
+  passes = λ _ given taken u w may h.
+      let x = (a.told given taken u w (may_first r.ending s.ending mid is a.came b.came taken given b.step may) h).frame refl in
+      let y = b.told given (taken ++ a.came) u (max w (u + 1)) (may_second s.ending a.came b.came taken given may) x.0 x.2 in
       record {
         read = rw (← append_assoc taken a.came b.came) (same_wanted given _ (u + 1) _ _ s (twice_wanted w u (one_if (looked_ahead 8 (mfas_of given) u))) y.read);
         start = y.start;
@@ -106,13 +105,13 @@ pub tries_locks : (old : LineView) (was mid is : InView) (r s : ReaderView) (m :
     → Tries Locks old was (record old { reader = s; alignment = Some (with_frame m (aligned_at m)) }) is
 tries_locks old was mid is r s m a b e = record {
   came = a.came ++ b.came;
-  gave = gave_twice was mid is a.came b.came a.gave b.gave;
+  step = step_twice old.reader.ending r.ending s.ending was mid is a.came b.came a.step b.step;
   keeps = record { pieces = refl; lost = refl };
   passes_over = none_passed old.lead_in;
   passed = λ t. absurd (cc);
-  locks = λ _ given taken u w step h.
-      let x = (a.told given taken u w (step_first was mid is a.came b.came given taken a.gave b.gave step) h).frame refl in
-      let y = b.told given (taken ++ a.came) u (max w (u + 1)) (step_second was mid is a.came b.came given taken a.gave step) x.0 x.2 in
+  locks = λ _ given taken u w may h.
+      let x = (a.told given taken u w (may_first r.ending s.ending mid is a.came b.came taken given b.step may) h).frame refl in
+      let y = b.told given (taken ++ a.came) u (max w (u + 1)) (may_second s.ending a.came b.came taken given may) x.0 x.2 in
       let hand : s.hand ≡ frame_at given u = b.hand ∙ x.2 in
       let looked : one_if (looked_ahead 8 (mfas_of given) u) ≡ 1 = ap one_if (start_looked (mfas_of given) u y.start).1 in
       record {

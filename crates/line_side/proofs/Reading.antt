@@ -1,5 +1,5 @@
 -- What a read of a frame says.
-use Rattle.std.proofs.Common.{◌≡◌, ◌≢◌, ◌<◌, ℕ, List, [], ◌∷◌, ◌++◌, Option, Some, None, length, take, arith, refl, sym, ap, ◌∙◌}
+use Rattle.std.proofs.Common.{◌≡◌, ◌≢◌, ◌<◌, ℕ, List, [], length, take, arith, refl, sym, ap, ◌∙◌}
 use Rattle.std.proofs.lemmas.List.{length-take-le}
 use Rattle.otn_ports.specs.Views.{State, Empty, Live, Dead, InView}
 use Rattle.otn_ports.specs.Reads.{Reads, HasEnded, state_after}
@@ -11,23 +11,16 @@ use Rattle.otn_ports.specs.InPlace.{in_view}
 use Rattle.otn_ports.specs.declared.source.Source.{Ghosts}
 use Rattle.otn_ports.specs.declared.in_place.InPlaceOf.{InPlaceOf}
 use Rattle.otn_ports.specs.declared.in_place.InPlaceOf.TheVariants as place
-use Rattle.line_side.specs.MayGive.{Tells, MayLeave}
 use Rattle.line_side.specs.Reader.{FrameRead}
-use Rattle.line_side.proofs.Giving.{tells_after, dead_not_live, empty_not_live}
+use Rattle.line_side.proofs.Giving.{dead_not_live, empty_not_live}
 
 -- what the answer of a read into a frame says, before the place is looked at
 pub record FrameCame (reading : Reading) (was : InView) (frame : List ℕ) (is : InView) : Type 0 where
   pub came : List ℕ
   pub gave : Gave was came is
   pub whole : reading ≡ Full → (came ≡ frame) × (length came ≡ 16320) × (is.state ≢ Dead)
-  pub short : reading ≢ Full → (length came < 16320) × ((rest : List ℕ) → Tells was → MayLeave is rest → rest ≡ [])
+  pub short : reading ≢ Full → (length came < 16320) × (is.state ≡ Live → HasEnded is.left)
   pub end : (k : ℕ) → reading ≡ End k → k ≡ length came
-
--- nothing is left of a source that tells its bytes and has ended
-none_left : (left : Option (List ℕ)) (rest tail bytes : List ℕ) → left ≡ Some bytes → HasEnded left → left ≡ Some (rest ++ tail) → rest ≡ []
-none_left None rest tail bytes e ended f = absurd (cc)
-none_left (Some x) [] tail bytes e ended f = refl
-none_left (Some x) (r ∷ rest) tail bytes e ended f = absurd (cc)
 
 live_came : (reading : Reading) (was is : InView) (into : List ℕ) → length into ≡ 16320 → was.state ≡ Live → is.state ≡ state_after Live reading → Reads reading was into is → GaveBy reading was into is → FrameCame reading was into is
 live_came Full was is into len live state reads gave = record {
@@ -43,13 +36,7 @@ live_came (End n) was is into len live state reads gave =
       came = take n into;
       gave = gave;
       whole = λ e. absurd (cc);
-      short = λ _. (
-        let b = reads.0 in omega arith,
-        λ rest tells may.
-            let t = tells_after was is (take n into) tells live gave in
-            let (tail, left) = may.live state in
-            none_left is.left rest tail t.tail t.has reads.2 left,
-      );
+      short = λ _. (let b = reads.0 in omega arith, λ _. reads.2);
       end = λ k e. (let same : n ≡ k = cc in omega arith);
     }
 live_came Lost was is into len live state reads (n, less, gave) =
@@ -58,7 +45,7 @@ live_came Lost was is into len live state reads (n, less, gave) =
       came = take n into;
       gave = gave;
       whole = λ e. absurd (cc);
-      short = λ _. (omega arith, λ rest tells may. may.idle (λ now. dead_not_live (sym state ∙ now)));
+      short = λ _. (omega arith, λ now. absurd (dead_not_live (sym state ∙ now)));
       end = λ k e. absurd (cc);
     }
 
@@ -67,7 +54,7 @@ idle_came reading was is into idle same answer gave = record {
   came = [];
   gave = gave;
   whole = λ e. absurd (cc);
-  short = λ _. (omega arith, λ rest tells may. may.idle (λ live. idle (sym (ap (λ place. place.state) same) ∙ live)));
+  short = λ _. (omega arith, λ live. absurd (idle (sym (ap (λ place. place.state) same) ∙ live)));
   end = λ k e. (let zero : 0 ≡ k = cc in omega arith);
 }
 

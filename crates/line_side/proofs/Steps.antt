@@ -1,14 +1,14 @@
 -- What a step of the reader does, over plain views.
-use Rattle.std.proofs.Common.{◌≡◌, ◌≢◌, ◌<◌, ◌+◌, ◌-◌, ◌*◌, ◌%◌, ◌^◌, min, max, ℕ, Bool, true, false, List, [], ◌++◌, Option, Some, None, length, arith, refl, sym, ap, ◌∙◌, length-append, append-nil, subst}
+use Rattle.std.proofs.Common.{◌≡◌, ◌≢◌, ◌<◌, ◌+◌, ◌-◌, ◌*◌, ◌%◌, ◌^◌, min, max, ℕ, Bool, true, false, List, [], ◌++◌, Option, Some, None, length, arith, refl, sym, ap, ◌∙◌, length-append, append-nil, append_assoc, subst}
 use Rattle.std.specs.Prelude.{IfSome, IsTrue, ◌↔◌, if◌then◌else◌}
 use Rattle.otn_ports.specs.Views.{InView}
-use Rattle.otn_ports.proofs.GivenLaws.{gave_none}
 use Rattle.otn_ports.specs.declared.in_place.Reading.{Reading}
 use Rattle.otn_ports.specs.declared.in_place.Reading.TheVariants.{Full, End, Lost}
 use Rattle.line_side.specs.declared.ending.Ending.{Ending}
 use Rattle.line_side.specs.declared.ending.Ending.TheVariants.{Open}
 use Rattle.line_side.specs.LineFile.{frame_at, whole_frames}
-use Rattle.line_side.specs.Reader.{ReaderView, HasRead, FrameRead, Advanced, LookedAhead, Advances, LooksAhead, with_ahead, taking, with_reading, ending_after, left_after, stopped, count_of, rest_of}
+use Rattle.line_side.specs.Reader.{ReaderView, HasRead, FrameRead, Advanced, LookedAhead, Advances, LooksAhead, with_ahead, taking, with_reading, ending_after, left_after, stopped, count_of, rest_of, ReadStep}
+use Rattle.line_side.proofs.Giving.{step_none}
 use Rattle.line_side.proofs.Frames.{frame_here, whole_here, short_here}
 
 stopped_twice : (u f : ℕ) → f ≡ stopped u → min (f + 1) (2 ^ 64 - 1) ≡ stopped (u + 1)
@@ -67,10 +67,10 @@ short_read taken came rest u w old new h e opened less none f closed frames left
 
 -- how the bytes ended where no whole frame came
 rest_after : (reading : Reading) (given came : List ℕ) (r : ReaderView) → r.rest ≡ 0 → reading ≢ Full → ((k : ℕ) → reading ≡ End k → k ≡ length came) → length given % 16320 ≡ length came
-    → ((with_reading reading r).ending ≢ Open) × ((with_reading reading r).rest ≡ rest_of (with_reading reading r).ending given)
+    → (with_reading reading r).rest ≡ rest_of (with_reading reading r).ending given
 rest_after Full given came r zero other end e = absurd (other refl)
-rest_after (End k) given came r zero other end e = (λ o. cc, end k refl ∙ sym e)
-rest_after Lost given came r zero other end e = (λ o. cc, zero)
+rest_after (End k) given came r zero other end e = end k refl ∙ sym e
+rest_after Lost given came r zero other end e = zero
 
 with_reading_ahead : (reading : Reading) (r : ReaderView) → ((with_reading reading r).ahead ≡ r.ahead) × ((with_reading reading r).frames ≡ r.frames) × ((with_reading reading r).hand ≡ r.hand)
 with_reading_ahead Full r = (refl, refl, refl)
@@ -80,62 +80,74 @@ with_reading_ahead Lost r = (refl, refl, refl)
 pub closed_rest : (given : List ℕ) (n u w : ℕ) (r : ReaderView) → r.ending ≡ Open → HasRead given n u w r → r.rest ≡ 0
 closed_rest given n u w r opened h = h.rest ∙ ap (λ e. rest_of e given) opened
 
+-- the bytes have ended where no whole frame came
+closed_after : (reading : Reading) (ending : Ending) → reading ≢ Full → ending_after reading ending ≢ Open
+closed_after Full ending other = absurd (other refl)
+closed_after (End k) ending other = λ o. cc
+closed_after Lost ending other = λ o. cc
+
+short_step : (reading : Reading) (ending : Ending) (was is : InView) (frame : List ℕ) → ending ≡ Open → reading ≢ Full → (f : FrameRead reading was frame is) → ReadStep ending was f.came (ending_after reading ending) is
+short_step reading ending was is frame opened other f = record { gave = f.gave; quiet = λ closed. absurd (closed opened); over = λ _ _. (f.short other).1 }
+
+whole_step : (reading : Reading) (ending : Ending) (was is : InView) (frame : List ℕ) → ending ≡ Open → (f : FrameRead reading was frame is) → ReadStep ending was f.came ending is
+whole_step reading ending was is frame opened f = record { gave = f.gave; quiet = λ closed. absurd (closed opened); over = λ _ closed. absurd (closed opened) }
+
 -- ---- the steps as the reader's calls make them
 
 pub advance_ahead : (old : ReaderView) (was : InView) (frame : List ℕ) → old.ahead ≡ Some frame → Advances true old was (with_ahead old) was
 advance_ahead old was frame e = rw (ap (λ a. taking a old) e) (record {
   came = [];
-  gave = gave_none was;
-  told = λ given taken u w step h.
+  step = step_none old.ending was;
+  told = λ given taken u w may h.
       let P : List ℕ → Type 0 = λ g. HasRead g (length taken) u w old → Advanced g (length (taken ++ [])) u (max w (u + 1)) true (taking (Some frame) old) in
-      subst P (sym step.parts) (λ h. rw (append-nil taken) (took_ahead (taken ++ step.rest) frame (length taken) u w old e h)) h;
+      subst P (sym (may.parts ∙ append_assoc taken [] may.rest)) (λ h. rw (append-nil taken) (took_ahead (taken ++ may.rest) frame (length taken) u w old e h)) h;
 })
 
 pub advance_over : (old : ReaderView) (was : InView) → old.ahead ≡ None → old.ending ≢ Open → Advances false old was old was
 advance_over old was e closed = record {
   came = [];
-  gave = gave_none was;
-  told = λ given taken u w step h.
+  step = step_none old.ending was;
+  told = λ given taken u w may h.
       let P : List ℕ → Type 0 = λ g. HasRead g (length taken) u w old → Advanced g (length (taken ++ [])) u (max w (u + 1)) false old in
-      subst P (sym step.parts) (λ h. rw (append-nil taken) (let o = ended_already (taken ++ step.rest) (length taken) u w old e closed h in
+      subst P (sym (may.parts ∙ append_assoc taken [] may.rest)) (λ h. rw (append-nil taken) (let o = ended_already (taken ++ may.rest) (length taken) u w old e closed h in
       record { alone = e; frame = λ t. absurd (cc); none = λ _. (o.0, o.1, closed) })) h;
 }
 
 pub advance_short : (reading : Reading) (old : ReaderView) (was is : InView) (frame : List ℕ) (new : ReaderView) → old.ahead ≡ None → old.ending ≡ Open → reading ≢ Full → FrameRead reading was frame is
     → new ≡ with_reading reading (record old { hand = frame }) → Advances false old was new is
-advance_short reading old was is frame new e opened other f same = rw same (record {
+advance_short reading old was is frame new e opened other f same = let closed = closed_after reading old.ending other in rw same (record {
   came = f.came;
-  gave = f.gave;
-  told = λ given taken u w step h.
+  step = short_step reading old.ending was is frame opened other f;
+  told = λ given taken u w may h.
       let P : List ℕ → Type 0 = λ g. HasRead g (length taken) u w old → Advanced g (length (taken ++ f.came)) u (max w (u + 1)) false (with_reading reading (record old { hand = frame })) in
-      subst P (sym step.parts) (λ h.
+      subst P (sym (may.parts ∙ append_assoc taken f.came may.rest)) (λ h.
       let short = f.short other in
-      let none = short.1 step.rest step.tells step.may in
-      let zero = closed_rest (taken ++ (f.came ++ step.rest)) (length taken) u w old opened h in
+      let none = may.over closed in
+      let zero = closed_rest (taken ++ (f.came ++ may.rest)) (length taken) u w old opened h in
       let size = h.still opened in
       let zero' : count_of old.ahead ≡ 0 = ap count_of e in
-      let here = short_here taken f.came step.rest u (omega arith) short.0 none in
+      let here = short_here taken f.came may.rest u (omega arith) short.0 none in
       let r = record old { hand = frame } in
       let kept = with_reading_ahead reading r in
-      let after = rest_after reading (taken ++ (f.came ++ step.rest)) f.came r zero other (λ k q. (f.end k q).0) here.2 in
-      let read = short_read taken f.came step.rest u w old (with_reading reading r) h e opened short.0 none (kept.0 ∙ e) after.0 kept.1 after.1 in
-      record { alone = kept.0 ∙ e; frame = λ t. absurd (cc); none = λ _. (read.0, read.1, after.0) }) h;
+      let after = rest_after reading (taken ++ (f.came ++ may.rest)) f.came r zero other (λ k q. (f.end k q).0) here.2 in
+      let read = short_read taken f.came may.rest u w old (with_reading reading r) h e opened short.0 none (kept.0 ∙ e) closed kept.1 after in
+      record { alone = kept.0 ∙ e; frame = λ t. absurd (cc); none = λ _. (read.0, read.1, closed) }) h;
 })
 
 pub advance_whole : (reading : Reading) (old : ReaderView) (was is : InView) (frame : List ℕ) (new : ReaderView) → old.ahead ≡ None → old.ending ≡ Open → reading ≡ Full → FrameRead reading was frame is
     → new ≡ record { hand = frame; ahead = None; ending = old.ending; frames = stopped (old.frames + 1); rest = old.rest } → Advances true old was new is
 advance_whole reading old was is frame new e opened full f same = rw same (record {
   came = f.came;
-  gave = f.gave;
-  told = λ given taken u w step h.
+  step = whole_step reading old.ending was is frame opened f;
+  told = λ given taken u w may h.
       let P : List ℕ → Type 0 = λ g. HasRead g (length taken) u w old → Advanced g (length (taken ++ f.came)) u (max w (u + 1)) true (record { hand = frame; ahead = None; ending = old.ending; frames = stopped (old.frames + 1); rest = old.rest }) in
-      subst P (sym step.parts) (λ h.
+      subst P (sym (may.parts ∙ append_assoc taken f.came may.rest)) (λ h.
       let whole = f.whole full in
       let size = h.still opened in
       let zero : count_of old.ahead ≡ 0 = ap count_of e in
       let n : length taken ≡ 16320 * u = omega arith in
-      let here = frame_here taken f.came step.rest u n whole.1 in
-      let there = whole_here taken f.came step.rest u n whole.1 in
+      let here = frame_here taken f.came may.rest u n whole.1 in
+      let there = whole_here taken f.came may.rest u n whole.1 in
       let m = length-append taken f.came in
       record {
         alone = refl;
@@ -158,32 +170,32 @@ advance_whole reading old was is frame new e opened full f same = rw same (recor
 pub look_over : (old : ReaderView) (was : InView) → old.ahead ≡ None → old.ending ≢ Open → LooksAhead false old was old was
 look_over old was e closed = record {
   came = [];
-  gave = gave_none was;
+  step = step_none old.ending was;
   hand = refl;
-  told = λ given taken u w step h.
+  told = λ given taken u w may h.
       let P : List ℕ → Type 0 = λ g. HasRead g (length taken) u w old → LookedAhead g (length (taken ++ [])) u (max w (u + 1)) false old in
-      subst P (sym step.parts) (λ h. rw (append-nil taken) (let o = ended_already (taken ++ step.rest) (length taken) u w old e closed h in
+      subst P (sym (may.parts ∙ append_assoc taken [] may.rest)) (λ h. rw (append-nil taken) (let o = ended_already (taken ++ may.rest) (length taken) u w old e closed h in
       record { read = o.0; frame = λ t. absurd (cc); none = λ _. (o.1, e) })) h;
 }
 
 pub look_short : (reading : Reading) (old : ReaderView) (was is : InView) (frame : List ℕ) (new : ReaderView) → old.ahead ≡ None → old.ending ≡ Open → reading ≢ Full → FrameRead reading was frame is
     → new ≡ with_reading reading old → LooksAhead false old was new is
-look_short reading old was is frame new e opened other f same = rw same (record {
+look_short reading old was is frame new e opened other f same = let closed = closed_after reading old.ending other in rw same (record {
   came = f.came;
-  gave = f.gave;
+  step = short_step reading old.ending was is frame opened other f;
   hand = (with_reading_ahead reading old).2;
-  told = λ given taken u w step h.
+  told = λ given taken u w may h.
       let P : List ℕ → Type 0 = λ g. HasRead g (length taken) u w old → LookedAhead g (length (taken ++ f.came)) u (max w (u + 1)) false (with_reading reading old) in
-      subst P (sym step.parts) (λ h.
+      subst P (sym (may.parts ∙ append_assoc taken f.came may.rest)) (λ h.
       let short = f.short other in
-      let none = short.1 step.rest step.tells step.may in
-      let zero = closed_rest (taken ++ (f.came ++ step.rest)) (length taken) u w old opened h in
+      let none = may.over closed in
+      let zero = closed_rest (taken ++ (f.came ++ may.rest)) (length taken) u w old opened h in
       let size = h.still opened in
       let zero' : count_of old.ahead ≡ 0 = ap count_of e in
-      let here = short_here taken f.came step.rest u (omega arith) short.0 none in
+      let here = short_here taken f.came may.rest u (omega arith) short.0 none in
       let kept = with_reading_ahead reading old in
-      let after = rest_after reading (taken ++ (f.came ++ step.rest)) f.came old zero other (λ k q. (f.end k q).0) here.2 in
-      let read = short_read taken f.came step.rest u w old (with_reading reading old) h e opened short.0 none (kept.0 ∙ e) after.0 kept.1 after.1 in
+      let after = rest_after reading (taken ++ (f.came ++ may.rest)) f.came old zero other (λ k q. (f.end k q).0) here.2 in
+      let read = short_read taken f.came may.rest u w old (with_reading reading old) h e opened short.0 none (kept.0 ∙ e) closed kept.1 after in
       record { read = read.0; frame = λ t. absurd (cc); none = λ _. (read.1, kept.0 ∙ e) }) h;
 })
 
@@ -191,17 +203,17 @@ pub look_whole : (reading : Reading) (old : ReaderView) (was is : InView) (frame
     → new ≡ record old { ahead = Some frame } → LooksAhead true old was new is
 look_whole reading old was is frame new e opened full f same = rw same (record {
   came = f.came;
-  gave = f.gave;
+  step = whole_step reading old.ending was is frame opened f;
   hand = refl;
-  told = λ given taken u w step h.
+  told = λ given taken u w may h.
       let P : List ℕ → Type 0 = λ g. HasRead g (length taken) u w old → LookedAhead g (length (taken ++ f.came)) u (max w (u + 1)) true (record old { ahead = Some frame }) in
-      subst P (sym step.parts) (λ h.
+      subst P (sym (may.parts ∙ append_assoc taken f.came may.rest)) (λ h.
       let whole = f.whole full in
       let size = h.still opened in
       let zero : count_of old.ahead ≡ 0 = ap count_of e in
       let n : length taken ≡ 16320 * u = omega arith in
-      let here = frame_here taken f.came step.rest u n whole.1 in
-      let there = whole_here taken f.came step.rest u n whole.1 in
+      let here = frame_here taken f.came may.rest u n whole.1 in
+      let there = whole_here taken f.came may.rest u n whole.1 in
       let m = length-append taken f.came in
       record {
         read = record {

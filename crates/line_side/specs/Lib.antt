@@ -1,5 +1,6 @@
 pub mod LineFile
-pub mod MayGive
+pub mod MayBe
 pub mod Reader
 pub mod LineStands
 pub mod LineMoves
+pub mod Laws

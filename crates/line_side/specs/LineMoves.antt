@@ -1,12 +1,11 @@
 -- What the moves of an input line within a piece do.
 use Rattle.std.specs.Prelude.{◌≡◌, ◌<◌, ◌+◌, ◌-◌, ◌^◌, min, max, ℕ, Bool, true, false, if◌then◌else◌, List, ◌++◌, length, nat_lt, option_map, Some, None, slice_index}
 use Rattle.otn_ports.specs.Views.{InView}
-use Rattle.otn_ports.specs.Given.{Gave}
 use Rattle.multiframe.specs.LineTurns.{Lock, one_if, looked_ahead, is_start, least_start}
 use Rattle.multiframe.specs.Alignment.{Alignment, aligned_at, with_frame, taken_of, EndsTurn}
 use Rattle.line_side.specs.LineFile.{frame_at, mfas_of, whole_frames}
-use Rattle.line_side.specs.MayGive.{StepOf}
-use Rattle.line_side.specs.Reader.{ReaderView, HasRead, stopped}
+use Rattle.line_side.specs.MayBe.{MayBe}
+use Rattle.line_side.specs.Reader.{ReaderView, HasRead, ReadStep, stopped}
 use Rattle.line_side.specs.LineStands.{LineView}
 use Rattle.line_side.specs.declared.tried.Tried.{Tried}
 use Rattle.line_side.specs.declared.tried.Tried.TheVariants.{Locks, Passes, Ends}
@@ -37,12 +36,12 @@ pub record FoundNone (given : List ℕ) (n u w : ℕ) (old new : LineView) : Typ
 
 pub record TakesNext (result : Bool) (old : LineView) (was : InView) (new : LineView) (is : InView) : Type 0 where
   pub came : List ℕ
-  pub gave : Gave was came is
+  pub step : ReadStep old.reader.ending was came new.reader.ending is
   pub keeps : Keeps old new
   pub lead_in : new.lead_in ≡ old.lead_in
-  pub frame : result ≡ true → (given taken : List ℕ) (u w : ℕ) → StepOf was came is given taken → HasRead given (length taken) u w old.reader
+  pub frame : result ≡ true → (given taken : List ℕ) (u w : ℕ) → MayBe new.reader.ending (taken ++ came) given → HasRead given (length taken) u w old.reader
       → TookFrame given (length (taken ++ came)) u (max w (u + 1)) old new
-  pub none : result ≡ false → (given taken : List ℕ) (u w : ℕ) → StepOf was came is given taken → HasRead given (length taken) u w old.reader
+  pub none : result ≡ false → (given taken : List ℕ) (u w : ℕ) → MayBe new.reader.ending (taken ++ came) given → HasRead given (length taken) u w old.reader
       → FoundNone given (length (taken ++ came)) u (max w (u + 1)) old new
 
 -- the line is locked on the multiframe that begins with frame u
@@ -70,15 +69,15 @@ is_locked Ends = false
 
 pub record Tries (tried : Tried) (old : LineView) (was : InView) (new : LineView) (is : InView) : Type 0 where
   pub came : List ℕ
-  pub gave : Gave was came is
+  pub step : ReadStep old.reader.ending was came new.reader.ending is
   pub keeps : Keeps old new
   pub passes_over : PassesOver old (one_if (is_passed tried)) new
   pub passed : tried ≡ Passes → (new.alignment ≡ old.alignment) × (new.ended ≡ old.ended)
-  pub locks : tried ≡ Locks → (given taken : List ℕ) (u w : ℕ) → StepOf was came is given taken → HasRead given (length taken) u w old.reader
+  pub locks : tried ≡ Locks → (given taken : List ℕ) (u w : ℕ) → MayBe new.reader.ending (taken ++ came) given → HasRead given (length taken) u w old.reader
       → LockedAt given (length (taken ++ came)) u (max w (u + 1 + 1)) old new
-  pub passes : tried ≡ Passes → (given taken : List ℕ) (u w : ℕ) → StepOf was came is given taken → HasRead given (length taken) u w old.reader
+  pub passes : tried ≡ Passes → (given taken : List ℕ) (u w : ℕ) → MayBe new.reader.ending (taken ++ came) given → HasRead given (length taken) u w old.reader
       → PassedBy given (length (taken ++ came)) u (max w (u + 1 + one_if (looked_ahead 8 (mfas_of given) u))) new.reader
-  pub ends : tried ≡ Ends → (given taken : List ℕ) (u w : ℕ) → StepOf was came is given taken → HasRead given (length taken) u w old.reader
+  pub ends : tried ≡ Ends → (given taken : List ℕ) (u w : ℕ) → MayBe new.reader.ending (taken ++ came) given → HasRead given (length taken) u w old.reader
       → FoundNone given (length (taken ++ came)) u (max w (u + 1)) old new
 
 -- a hunt from frame i on has locked at the least of the eight frames at which a multiframe may begin
@@ -97,11 +96,11 @@ pub record HuntFailed (given : List ℕ) (n i w : ℕ) (old new : LineView) : Ty
 
 pub record Hunts (result : Bool) (old : LineView) (was : InView) (new : LineView) (is : InView) : Type 0 where
   pub came : List ℕ
-  pub gave : Gave was came is
+  pub step : ReadStep old.reader.ending was came new.reader.ending is
   pub keeps : Keeps old new
-  pub locks : result ≡ true → (given taken : List ℕ) (i w : ℕ) → StepOf was came is given taken → HasRead given (length taken) i w old.reader
+  pub locks : result ≡ true → (given taken : List ℕ) (i w : ℕ) → MayBe new.reader.ending (taken ++ came) given → HasRead given (length taken) i w old.reader
       → (m : ℕ) × HuntLocked given (length (taken ++ came)) i w m old new
-  pub fails : result ≡ false → (given taken : List ℕ) (i w : ℕ) → StepOf was came is given taken → HasRead given (length taken) i w old.reader
+  pub fails : result ≡ false → (given taken : List ℕ) (i w : ℕ) → MayBe new.reader.ending (taken ++ came) given → HasRead given (length taken) i w old.reader
       → HuntFailed given (length (taken ++ came)) i w old new
 
 -- nothing was read

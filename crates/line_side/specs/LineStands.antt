@@ -1,12 +1,14 @@
 -- Where an input line stands in its turns.
-use Rattle.std.specs.Prelude.{◌≡◌, ℕ, Bool, List, length, Option, Some, None, IfSome, is_some}
-use Rattle.otn_ports.specs.Views.{InView}
+use Rattle.std.specs.Prelude.{◌≡◌, ◌≢◌, ℕ, Bool, List, ◌++◌, length, Option, Some, None, IfSome, is_some}
+use Rattle.otn_ports.specs.Views.{InView, Live}
 use Rattle.otn_ports.specs.Given.{Gave}
+use Rattle.otn_ports.specs.Reads.{HasEnded}
 use Rattle.multiframe.specs.LineTurns.{standing, used_in, wanted_so_far, lost_count}
 use Rattle.multiframe.specs.Alignment.{Alignment}
 use Rattle.line_side.specs.LineFile.{frame_at, mfas_of}
-use Rattle.line_side.specs.MayGive.{MayGive}
+use Rattle.line_side.specs.MayBe.{MayBe}
 use Rattle.line_side.specs.Reader.{ReaderView, HasRead, EndedAs, stopped}
+use Rattle.line_side.specs.declared.ending.Ending.TheVariants.{Open}
 use Rattle.multiframe.specs.TurnPieces.{AlignedIn, in_hand, ended_in, lead_in_so_far}
 
 -- what is seen of an input line: its alignment, its reader, how many pieces of the turn are done, whether the last one
@@ -39,10 +41,16 @@ pub record IsLine (given : List ℕ) (n t : ℕ) (line : LineView) : Type 0 wher
   pub lead_in : line.lead_in ≡ stopped (lead_in_so_far 8 (mfas_of given) t line.pieces)
   pub lost : line.lost ≡ stopped (lost_count 8 (mfas_of given) t)
 
--- The line stands in turn t + 1 after line.pieces of its pieces, on a place that was so at first and is so now: for
--- whatever the place may give in the whole run, it is a line of these bytes.
-pub record LineStands (first now : InView) (t : ℕ) (line : LineView) : Type 0 where
-  pub taken : List ℕ
+-- The line stands in turn t + 1 after line.pieces of its pieces. `first` and `now` are views of its place, between which
+-- these bytes were taken: whatever it may turn out to have behind them, it is a line of all these bytes.
+pub record LineStands (first now : InView) (taken : List ℕ) (t : ℕ) (line : LineView) : Type 0 where
   pub gave : Gave first taken now
   pub ending : EndedAs line.reader.ending now
-  pub told : (given : List ℕ) → MayGive first now given → IsLine given (length taken) t line
+  pub over : line.reader.ending ≢ Open → now.state ≡ Live → HasEnded now.left
+  pub told : (given : List ℕ) → MayBe line.reader.ending taken given → IsLine given (length taken) t line
+
+-- after a piece: more bytes were taken, and what the line may have from then on it might have before
+pub record PieceStands (first now : InView) (taken : List ℕ) (t : ℕ) (old new : LineView) : Type 0 where
+  pub came : List ℕ
+  pub stands : LineStands first now (taken ++ came) t new
+  pub earlier : (given : List ℕ) → MayBe new.reader.ending (taken ++ came) given → MayBe old.reader.ending taken given

@@ -1,12 +1,13 @@
 -- The reader of a line: how far it has read.
 use Rattle.std.specs.Prelude.{◌≡◌, ◌≢◌, ◌<◌, ◌≤◌, ◌+◌, ◌-◌, ◌*◌, ◌%◌, ◌^◌, min, max, ℕ, Bool, true, false, List, [], ◌++◌, length, Option, Some, None, IfSome}
-use Rattle.otn_ports.specs.Views.{InView, Dead}
+use Rattle.otn_ports.specs.Views.{InView, Live, Dead}
 use Rattle.otn_ports.specs.Given.{Gave}
+use Rattle.otn_ports.specs.Reads.{HasEnded}
 use Rattle.otn_ports.specs.declared.in_place.Reading.{Reading}
 use Rattle.otn_ports.specs.declared.in_place.Reading.TheVariants.{Full, End, Lost}
 use Rattle.line_side.specs.LineFile.{frame_at, whole_frames, mfas_of}
 use Rattle.multiframe.specs.LineTurns.{one_if, looked_ahead, is_start}
-use Rattle.line_side.specs.MayGive.{MayLeave, Tells, StepOf}
+use Rattle.line_side.specs.MayBe.{MayBe}
 use Rattle.line_side.specs.declared.ending.Ending.{Ending}
 use Rattle.line_side.specs.declared.ending.Ending.TheVariants.{Open, Seen, Died}
 
@@ -49,7 +50,7 @@ pub record FrameRead (reading : Reading) (was : InView) (frame : List ℕ) (is :
   pub came : List ℕ
   pub gave : Gave was came is
   pub whole : reading ≡ Full → (came ≡ frame) × (length came ≡ 16320)
-  pub short : reading ≢ Full → (length came < 16320) × ((rest : List ℕ) → Tells was → MayLeave is rest → rest ≡ [])
+  pub short : reading ≢ Full → (length came < 16320) × (is.state ≡ Live → HasEnded is.left)
   pub end : (k : ℕ) → reading ≡ End k → (k ≡ length came) × (is.state ≢ Dead)
   pub lost : reading ≡ Lost → is.state ≡ Dead
 
@@ -75,6 +76,12 @@ left_after Lost rest = rest
 abbrev pub with_reading : Reading → ReaderView → ReaderView
 with_reading reading r = record r { ending = ending_after reading r.ending; rest = left_after reading r.rest }
 
+-- a step of a reader in which these bytes came: once the bytes have ended none come, and a live place has ended too
+pub record ReadStep (old : Ending) (was : InView) (came : List ℕ) (new : Ending) (is : InView) : Type 0 where
+  pub gave : Gave was came is
+  pub quiet : old ≢ Open → (came ≡ []) × (new ≢ Open)
+  pub over : (old ≢ Open → was.state ≡ Live → HasEnded was.left) → new ≢ Open → is.state ≡ Live → HasEnded is.left
+
 -- the frame after those that are used came into the hand, or there is none
 pub record Advanced (given : List ℕ) (n u w : ℕ) (result : Bool) (r : ReaderView) : Type 0 where
   pub alone : r.ahead ≡ None
@@ -87,19 +94,19 @@ pub record LookedAhead (given : List ℕ) (n u w : ℕ) (result : Bool) (r : Rea
   pub frame : result ≡ true → (u < whole_frames given) × (r.ahead ≡ Some (frame_at given u))
   pub none : result ≡ false → (u ≡ whole_frames given) × (r.ahead ≡ None)
 
--- what a step of the reader says of each run of which it may be a part: it took these bytes of the place, and wanted
--- the frame after those that were used
+-- what a step of the reader says of all bytes that the line may have after it: it took these of the place, and wanted the
+-- frame after those that were used
 pub record Advances (result : Bool) (old : ReaderView) (was : InView) (new : ReaderView) (is : InView) : Type 0 where
   pub came : List ℕ
-  pub gave : Gave was came is
-  pub told : (given taken : List ℕ) (u w : ℕ) → StepOf was came is given taken → HasRead given (length taken) u w old
+  pub step : ReadStep old.ending was came new.ending is
+  pub told : (given taken : List ℕ) (u w : ℕ) → MayBe new.ending (taken ++ came) given → HasRead given (length taken) u w old
       → Advanced given (length (taken ++ came)) u (max w (u + 1)) result new
 
 pub record LooksAhead (result : Bool) (old : ReaderView) (was : InView) (new : ReaderView) (is : InView) : Type 0 where
   pub came : List ℕ
-  pub gave : Gave was came is
+  pub step : ReadStep old.ending was came new.ending is
   pub hand : new.hand ≡ old.hand
-  pub told : (given taken : List ℕ) (u w : ℕ) → StepOf was came is given taken → HasRead given (length taken) u w old
+  pub told : (given taken : List ℕ) (u w : ℕ) → MayBe new.ending (taken ++ came) given → HasRead given (length taken) u w old
       → LookedAhead given (length (taken ++ came)) u (max w (u + 1)) result new
 
 -- whether a multiframe may begin with the frame in hand, the last one that is used: by it and the next frame
@@ -109,12 +116,12 @@ pub record Began (given : List ℕ) (n u w : ℕ) (result : Bool) (r : ReaderVie
 
 pub record Begins (result : Bool) (old : ReaderView) (was : InView) (new : ReaderView) (is : InView) : Type 0 where
   pub came : List ℕ
-  pub gave : Gave was came is
+  pub step : ReadStep old.ending was came new.ending is
   pub hand : new.hand ≡ old.hand
-  pub told : (given taken : List ℕ) (u w : ℕ) → StepOf was came is given taken → HasRead given (length taken) (u + 1) w old
+  pub told : (given taken : List ℕ) (u w : ℕ) → MayBe new.ending (taken ++ came) given → HasRead given (length taken) (u + 1) w old
       → old.hand ≡ frame_at given u → Began given (length (taken ++ came)) u w result new
 
--- how the bytes ended, by the place: it died exactly where it is dead, and its end was seen only where it isn't
+-- how the bytes ended, by the place: it died only where it is dead, and its end was seen only where it isn't
 pub record EndedAs (ending : Ending) (place : InView) : Type 0 where
   pub died : ending ≡ Died → place.state ≡ Dead
   pub seen : ending ≡ Seen → place.state ≢ Dead

@@ -3,11 +3,13 @@
 
 mod counts;
 mod ending;
+mod laws;
 mod line_in;
 mod reader;
 mod tried;
 
 pub use counts::LineCounts;
+pub use laws::{given_is_among, takes_the_wanted};
 pub use line_in::LineIn;
 
 #[cfg(test)]

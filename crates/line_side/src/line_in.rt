@@ -1,6 +1,7 @@
 // An input line: it finds multiframes in the frames that come, one in each turn.
-ghost use Rattle.std.specs.Prelude.{◌≡◌, ◌≢◌, ◌↔◌, ◌+◌, ◌-◌, ◌%◌, ◌<◌, ◌≤◌, ℕ, List, true, false, None, Some, IfOk, IfSome, IsSome, IsSomeAnd, IsTrue, is_some, length};
+ghost use Rattle.std.specs.Prelude.{◌≡◌, ◌≢◌, ◌↔◌, ◌+◌, ◌-◌, ◌%◌, ◌<◌, ◌≤◌, ℕ, List, [], true, false, None, IfOk, IfSome, IsSome, IsSomeAnd, IsTrue, is_some, length};
 ghost use Rattle.std.specs.Option.{ForSome};
+ghost use Rattle.otn_ports.specs.Given.{Gave};
 ghost use Rattle.otn_ports.specs.InPlace.{in_view};
 ghost use Rattle.otn_ports.specs.Views.{InView};
 
@@ -46,10 +47,10 @@ impl Model for LineIn {
 }
 
 impl LineIn {
-    ghost use Rattle.line_side.specs.LineStands.{LineStands, members};
+    ghost use Rattle.line_side.specs.LineStands.{LineStands, PieceStands, members};
     ghost use Rattle.line_side.specs.LineMoves.{TakesNext, Tries, Hunts, StepMoves, EndMoves, is_locked};
     ghost use Rattle.line_side.specs.Reader.{EndedAs};
-    ghost use Rattle.line_side.specs.MayGive.{MayGive};
+    ghost use Rattle.line_side.specs.MayBe.{MayBe};
     ghost use Rattle.line_side.specs.LineFile.{mfas_of};
     ghost use Rattle.multiframe.specs.LineTurns.{Ended, standing, multiframe, one_if};
     ghost use Rattle.multiframe.specs.TurnPieces.{in_hand};
@@ -57,7 +58,7 @@ impl LineIn {
 
     /// A line before its first turn, of which nothing was read.
     pub fn new(alloc: Global) -> Result<LineIn, Memory>
-        ensures stands { IfOk result (λ line. (first : InView) → LineStands first first 0 line) }
+        ensures stands { IfOk result (λ line. (first : InView) → LineStands first first [] 0 line) }
         ensures pieces { IfOk result (λ line. line.pieces ≡ 0) }
         ensures members { IfOk result (λ line. members line ≡ 0) }
     {
@@ -77,16 +78,15 @@ impl LineIn {
     /// turn, reads nothing.
     pub fn piece<P: Source>(&mut self, place: &mut InPlaceOf<P>) -> bool
         requires { self.old.pieces < 8 }
-        ensures stands { (first : InView) (t : ℕ) → LineStands first (in_view P.Source place.old) t self.old
-            → LineStands first (in_view P.Source place.new) t self.new }
+        ensures stands { (first : InView) (taken : List ℕ) (t : ℕ) → LineStands first (in_view P.Source place.old) taken t self.old
+            → PieceStands first (in_view P.Source place.new) taken t self.old self.new }
         ensures pieces { self.new.pieces ≡ self.old.pieces + 1 }
         ensures member { result ≡ self.new.member }
         ensures members { members self.new ≡ members self.old + one_if result }
         ensures most { members self.new ≤ self.new.pieces }
 
-        // what the place may give in the whole run after this piece, it could give before it
-        ensures earlier { (first : InView) (t : ℕ) (given : List ℕ) → LineStands first (in_view P.Source place.old) t self.old
-            → MayGive first (in_view P.Source place.new) given → MayGive first (in_view P.Source place.old) given }
+        // bytes are taken of a live place, or none, and any other place is as it was
+        ensures gave { (came : List ℕ) × Gave (in_view P.Source place.old) came (in_view P.Source place.new) }
 
         // once the end was seen, the place died or the line has ended, the place is asked nothing more
         ensures quiet { self.old.reader.ending ≢ Open → place.new ≡ place.old }
@@ -111,7 +111,7 @@ impl LineIn {
     pub fn expected(&self) -> u8
         requires { self.now.member ≡ true }
         ensures alignment { IfSome self.now.alignment (λ a. result ≡ (a.expected + (self.now.pieces - 1)) % 256) }
-        ensures line { (first now : InView) (t : ℕ) (given : List ℕ) → LineStands first now t self.now → MayGive first now given
+        ensures line { (first now : InView) (taken given : List ℕ) (t : ℕ) → LineStands first now taken t self.now → MayBe self.now.reader.ending taken given
             → IfSome (in_hand 8 (mfas_of given) (standing 8 (mfas_of given) t) self.now.pieces) (λ member. result ≡ member.expected) }
     {
         let _ = &self.member;
@@ -121,10 +121,11 @@ impl LineIn {
     /// Ends the turn, and says whether it has a multiframe.
     pub fn end_turn(&mut self) -> bool
         requires { self.old.pieces ≡ 8 }
-        ensures stands { (first now : InView) (t : ℕ) → LineStands first now t self.old → LineStands first now (t + 1) self.new }
-        ensures multiframe { (first now : InView) (t : ℕ) (given : List ℕ) → LineStands first now t self.old → MayGive first now given
+        ensures stands { (first now : InView) (taken : List ℕ) (t : ℕ) → LineStands first now taken t self.old → LineStands first now taken (t + 1) self.new }
+        ensures ending { self.new.reader.ending ≡ self.old.reader.ending }
+        ensures multiframe { (first now : InView) (taken given : List ℕ) (t : ℕ) → LineStands first now taken t self.old → MayBe self.old.reader.ending taken given
             → result ≡ is_some (multiframe 8 (mfas_of given) t) }
-        ensures ended { (first now : InView) (t : ℕ) (given : List ℕ) → LineStands first now t self.old → MayGive first now given
+        ensures ended { (first now : InView) (taken given : List ℕ) (t : ℕ) → LineStands first now taken t self.old → MayBe self.old.reader.ending taken given
             → (self.new.ended ≡ true) ↔ (standing 8 (mfas_of given) (t + 1) ≡ Ended) }
         ensures pieces { self.new.pieces ≡ 0 }
         ensures whole { result ≡ true → members self.old ≡ 8 }

@@ -33,6 +33,12 @@ pub data Standing : Type 0 where
   Locked : Lock → Standing
   Ended : Standing
 
+-- whether it has ended
+abbrev pub has_ended : Standing → Bool
+has_ended (Hunting i) = false
+has_ended (Locked lock) = false
+has_ended Ended = true
+
 abbrev pub lock_from : List ℕ → ℕ → Option ℕ → Option Lock
 lock_from ms i None = None
 lock_from ms i (Some n) = Some (record { frame = i + n; expected = slice_index ms (i + n) })

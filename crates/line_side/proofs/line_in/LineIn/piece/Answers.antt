@@ -1,18 +1,18 @@
 use Rattle.std.proofs.Common.{ap, ◌∙◌}
 use Rattle.line_side.specs.LineStands.{LineView}
-use Rattle.line_side.proofs.Standing.{piece_stands, piece_earlier, first_is}
+use Rattle.line_side.proofs.Standing.{piece_stands, piece_gave, first_is}
 use Rattle.line_side.proofs.line_in.LineIn.piece.Goals as goal
 
 pub returns-clause-stands : goal.returns-clause-stands
-returns-clause-stands g c = rw (← c.self.view_is) (λ first t h.
+returns-clause-stands g c = rw (← c.self.view_is) (λ first taken t h.
     let e = c.step-self-inside.ensures in
     let moves = rw (← c.self-2.view_is) at e.moves in
     let pieces = rw (← c.self-2.view_is) at e.pieces in
     let ending = rw (← c.self-2.view_is) at e.ending in
-    piece_stands first _ _ t _ c.step-self-inside.result _ _ (first_is c.self.inside.pieces) moves pieces ending h)
+    piece_stands first _ _ taken t _ c.step-self-inside.result _ _ (first_is c.self.inside.pieces) moves pieces ending h)
 
-pub returns-clause-earlier : goal.returns-clause-earlier
-returns-clause-earlier g c = rw (← c.self.view_is) (λ first t given h may. piece_earlier first _ _ t given _ _ _ _ c.step-self-inside.ensures.moves h may)
+pub returns-clause-gave : goal.returns-clause-gave
+returns-clause-gave g c = piece_gave _ _ _ _ _ _ c.step-self-inside.ensures.moves
 
 pub returns-clause-ended : goal.returns-clause-ended
 returns-clause-ended g c = λ h. c.step-self-inside.ensures.rests (ap (λ (l : LineView). l.ended) c.self.view_is ∙ h)
