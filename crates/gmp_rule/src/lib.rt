@@ -1,5 +1,6 @@
 //! Which groups of a multiframe carry data at a number, by the sigma-delta rule of GMP (G.709 Annex D):
-//! asked at one group (`is_data`), counted (`data_groups`), or over the groups in order (`Runner`).
+//! asked at one group (`is_data`), counted (`data_groups`), or over the groups in order, one by one or
+//! by runs of data (`Runner`).
 #![tactic(auto)]
 
 mod rule;

@@ -1,5 +1,5 @@
 // The data rule over the groups of a multiframe in order.
-ghost use Rattle.std.specs.Prelude.{◌≡◌, ◌+◌, ◌*◌, ◌%◌, ◌<◌, ◌≤◌, ◌↔◌, IsTrue};
+ghost use Rattle.std.specs.Prelude.{◌≡◌, ◌+◌, ◌*◌, ◌%◌, ◌<◌, ◌≤◌, ◌↔◌, ℕ, IsTrue};
 ghost use Rattle.gmp_rule.specs.DataRule.{IsData};
 
 use crate::ALL;
@@ -55,4 +55,37 @@ impl Runner {
             false
         }
     }
+
+    /// How many of the next groups, of `most` at most, carry data before the first one that does not.
+    /// They count as asked.
+    pub fn data_run(&mut self, most: u32) -> u32
+        requires { self.old.asked + most ≤ 15232 }
+        ensures most { result ≤ most }
+        ensures data { (i : ℕ) → i < result → IsData self.old.number (self.old.asked + i + 1) }
+        ensures longest { result < most → IsData self.old.number (self.old.asked + result + 1) → ⊥ }
+        ensures step { self.new ≡ record self.old { asked = self.old.asked + result } }
+    {
+        let stuff = ALL - self.number;
+        let run = run_within(self.remainder, stuff, most);
+        self.asked += run;
+        self.remainder -= run * stuff;
+        run
+    }
+}
+
+// How many groups, of `most` at most, carry data one after the other where the remainder stands so
+// high and each of them lowers it by `stuff`.
+fn run_within(remainder: u32, stuff: u32, most: u32) -> u32
+    requires { most ≤ 15232 }
+    ensures most { result ≤ most }
+    ensures inside { result * stuff ≤ remainder }
+    ensures longest { result < most → remainder < result * stuff + stuff }
+{
+    if remainder < stuff {
+        return 0;
+    }
+    if stuff == 0 {
+        return most;
+    }
+    most.min(remainder / stuff)
 }

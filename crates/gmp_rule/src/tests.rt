@@ -39,3 +39,27 @@ fn groups_of_known_numbers(rt: HostRuntime) {
         assert_eq!(rt; data, count as u64, "all groups at {c}");
     }
 }
+
+// At each number: how many data groups follow the first group one after the other.
+const RUNS: [(u32, u32); 6] = [
+    // Groups 1 and 239 are stuff.
+    (15_168, 237),
+    // Every other group is data, from the second on.
+    (7_616, 1),
+    (1, 0),
+    (15_231, 15_231),
+    (0, 0),
+    (15_232, 15_231),
+];
+
+#[test]
+fn runs_of_known_numbers(rt: HostRuntime) {
+    for (c, run) in RUNS {
+        let mut runner = Runner::start(c.min(ALL));
+        let _first = runner.next();
+        let few = runner.data_run(100);
+        assert_eq!(rt; few, run.min(100), "100 groups at {c}");
+        let rest = runner.data_run(15_131);
+        assert_eq!(rt; few.saturating_add(rest), run, "all groups at {c}");
+    }
+}

@@ -7,7 +7,8 @@ use Rattle.std.proofs.lemmas.Bool.Decides.{nat_tests}
 use Rattle.std.proofs.lemmas.List.{take_more, take_all, map-append}
 use Rattle.std.proofs.lemmas.List.Elements.{filter-append}
 use Rattle.msi_table.specs.Marks.{Watch, HasTaken}
-use Rattle.trib_sink.specs.Watching.{Watched, bytes_of}
+use Rattle.tributary_model.specs.Stretches.{bytes_of}
+use Rattle.trib_sink.specs.Watching.{Watched}
 
 same_number : (a b : ℕ) → (a == b) ≡ true → a ≡ b
 same_number a b e = grind (arith, nat_tests)

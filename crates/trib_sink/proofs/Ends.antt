@@ -1,23 +1,23 @@
 -- A sink after a turn more.
 use Rattle.std.proofs.Common.{◌≡◌, ◌⊎◌, inl, inr, ℕ, suc, ◌*◌, ◌/◌, ◌-◌, ◌<◌, ◌≤◌, get_or, List, [], ◌∷◌, ◌++◌, Bool, true, false, cond, Option, Some, None, length, refl, ap, ◌∙◌, sym, subst, arith, append-nil}
-use Rattle.std.specs.Prelude.{slice_get, reverse, All}
+use Rattle.std.specs.Prelude.{slice_get, All}
 use Rattle.std.proofs.lemmas.List.{get_or_default}
 use Rattle.std.specs.List.{list_any, flat_map}
 use Rattle.otn_base.specs.SlotList.{IsSlotList}
-use Rattle.msi_table.specs.Marks.{Watch, is_marked as is_marked_watch, both_wrong as both_wrong_watch, msi_byte}
+use Rattle.msi_table.specs.Marks.{Watch, is_marked}
 use Rattle.tributary_model.specs.declared.turns.Hearing.{Hearing}
 use Rattle.tributary_model.specs.declared.turns.Standing.{Standing}
 use Rattle.tributary_model.specs.declared.turns.Standing.TheVariants.{Waiting, Down, Up}
 use Rattle.tributary_model.specs.Places.{Tributary, Taken, View, greatest, frame_groups, message_in, msi_in, view_of, IsWholeTurn, AreWholeTurns}
 use Rattle.tributary_model.specs.Messages.{hears_message}
-use Rattle.tributary_model.specs.Stretches.{groups_of, came, both_wrong, is_marked, any_marked}
+use Rattle.tributary_model.specs.Stretches.{groups_of, bytes_of, came, any_marked}
 use Rattle.tributary_model.specs.Emission.{data_bytes, emission}
 use Rattle.tributary_model.specs.Machine.{Machine, former_of, number_of, heard_in, after_standing, after_heard, gives_standing, gives_heard, machine_after}
 use Rattle.tributary_model.specs.Laws.{IsTributary}
 use Rattle.tributary_model.proofs.Law.{machine_next, machine_is_emission}
 use Rattle.tributary_model.proofs.Views.{whole_view}
 use Rattle.trib_sink.specs.Following.{Following, IsAt, IsBetween, listener_after}
-use Rattle.trib_sink.specs.Watching.{Watched, bytes_of}
+use Rattle.trib_sink.specs.Watching.{Watched}
 use Rattle.trib_sink.specs.Sink.{Sink, IsSink, StandsAfter}
 use Rattle.trib_sink.proofs.Frames.{of_eight}
 use Rattle.trib_sink.proofs.Stands.{some_greatest, bytes_start}
@@ -182,21 +182,16 @@ pub watched_whole : (own : Tributary) (past : List (Option View)) (frames : List
     → Watched own.port (λ k. came k past ++ bytes_of k s.msi) watches → Watched own.port (λ k. came k (Some (view_of own frames) ∷ past)) watches
 watched_whole own past frames s watches h w = same_taken own.port (λ k. came k past ++ bytes_of k s.msi) (λ k. came k (Some (view_of own frames) ∷ past)) watches (came_whole own frames past s.msi h.msi) w
 
--- the watches mark what the definition marks
-same_wrong : (right : ℕ) (xs : List ℕ) → both_wrong_watch right xs ≡ both_wrong right xs
-same_wrong right [] = refl
-same_wrong right (x ∷ []) = refl
-same_wrong right (x ∷ y ∷ rest) = refl
-
 any_alike : (p q : ℕ → Bool) (xs : List ℕ) → ((k : ℕ) → p k ≡ q k) → list_any p xs ≡ list_any q xs
 any_alike p q [] h = refl
 any_alike p q (x ∷ xs) h = let a = h x in let b = any_alike p q xs h in cc
 
+-- the watches mark what the definition marks
 marked_whole : (own : Tributary) (past : List (Option View)) (frames : List Taken) (msi : List (ℕ × ℕ)) → msi ≡ flat_map (msi_in own) frames
-    → list_any (λ k. is_marked_watch own.port (came k past ++ bytes_of k msi)) own.slots ≡ any_marked own (Some (view_of own frames) ∷ past)
+    → list_any (λ k. is_marked own.port (came k past ++ bytes_of k msi)) own.slots ≡ any_marked own (Some (view_of own frames) ∷ past)
 marked_whole own past frames msi e =
-    any_alike (λ k. is_marked_watch own.port (came k past ++ bytes_of k msi)) (is_marked own (Some (view_of own frames) ∷ past)) own.slots
-    (λ k. ap (is_marked_watch own.port) (came_whole own frames past msi e k) ∙ same_wrong (msi_byte own.port) (reverse (came k (Some (view_of own frames) ∷ past))))
+    any_alike (λ k. is_marked own.port (came k past ++ bytes_of k msi)) (λ k. is_marked own.port (came k (Some (view_of own frames) ∷ past))) own.slots
+    (λ k. ap (is_marked own.port) (came_whole own frames past msi e k))
 
 heard_by : (former : Option ℕ) (m : ℕ) (marked : Bool) (v : View) → cond {A = Option Hearing} marked None (Some (hears_message former m v.message)) ≡ heard_in former m marked (Some v)
 heard_by former m true v = refl
@@ -208,7 +203,7 @@ tributary_of own s e list =
     record { slots = subst (λ n. IsSlotList n own.slots) (sym eight) list; even = subst (λ n. n * (3808 / n) ≡ 3808) (sym eight) refl }
 
 pub whole_turn : (own : Tributary) (past : List (Option View)) (frames : List Taken) (s : Sink) (heard : Option Hearing) → IsSink s → StandsAfter own past frames s → s.taken ≡ 8
-    → heard ≡ cond (list_any (λ k. is_marked_watch own.port (came k past ++ bytes_of k s.msi)) s.slots) None (Some (hears_message (former_of s.following.standing) s.following.extraction.slots s.message))
+    → heard ≡ cond (list_any (λ k. is_marked own.port (came k past ++ bytes_of k s.msi)) s.slots) None (Some (hears_message (former_of s.following.standing) s.following.extraction.slots s.message))
     → IsTurnOf own past (Some (view_of own frames)) s.following.standing heard s.following.extraction.fresh
 whole_turn own past frames s heard i h all is =
     let v = view_of own frames in
@@ -223,7 +218,7 @@ whole_turn own past frames s heard i h all is =
       whole = whole_view own frames (tributary_of own s h.own_is h.slots) (eight ∙ sym lines);
       heard_is =
           is
-          ∙ ap (λ xs. cond {A = Option Hearing} (list_any (λ k. is_marked_watch own.port (came k past ++ bytes_of k s.msi)) xs) None (Some (hears_message (former_of st) s.following.extraction.slots s.message))) slots
+          ∙ ap (λ xs. cond {A = Option Hearing} (list_any (λ k. is_marked own.port (came k past ++ bytes_of k s.msi)) xs) None (Some (hears_message (former_of st) s.following.extraction.slots s.message))) slots
           ∙ ap (λ b. cond {A = Option Hearing} b None (Some (hears_message (former_of st) s.following.extraction.slots s.message))) (marked_whole own past frames s.msi h.msi)
           ∙ ap (λ n. cond {A = Option Hearing} (any_marked own (Some v ∷ past)) None (Some (hears_message (former_of st) n s.message))) count
           ∙ ap (λ xs. cond {A = Option Hearing} (any_marked own (Some v ∷ past)) None (Some (hears_message (former_of st) (length own.slots) xs))) message
@@ -240,11 +235,11 @@ whole_turn own past frames s heard i h all is =
 
 -- the same where the MSI bytes were handed on as another list that is equal
 pub whole_turn_of : (own : Tributary) (past : List (Option View)) (frames : List Taken) (s : Sink) (heard : Option Hearing) (msi : List (ℕ × ℕ)) → msi ≡ s.msi → IsSink s → StandsAfter own past frames s → s.taken ≡ 8
-    → heard ≡ cond (list_any (λ k. is_marked_watch own.port (came k past ++ bytes_of k msi)) s.slots) None (Some (hears_message (former_of s.following.standing) s.following.extraction.slots s.message))
+    → heard ≡ cond (list_any (λ k. is_marked own.port (came k past ++ bytes_of k msi)) s.slots) None (Some (hears_message (former_of s.following.standing) s.following.extraction.slots s.message))
     → IsTurnOf own past (Some (view_of own frames)) s.following.standing heard s.following.extraction.fresh
 whole_turn_of own past frames s heard msi e i h all is =
     whole_turn own past frames s heard i h all
-    (is ∙ ap (λ xs. cond {A = Option Hearing} (list_any (λ k. is_marked_watch own.port (came k past ++ bytes_of k xs)) s.slots) None (Some (hears_message (former_of s.following.standing) s.following.extraction.slots s.message))) e)
+    (is ∙ ap (λ xs. cond {A = Option Hearing} (list_any (λ k. is_marked own.port (came k past ++ bytes_of k xs)) s.slots) None (Some (hears_message (former_of s.following.standing) s.following.extraction.slots s.message))) e)
 
 pub watched_whole_of : (own : Tributary) (past : List (Option View)) (frames : List Taken) (s : Sink) (watches : List Watch) (msi : List (ℕ × ℕ)) → msi ≡ s.msi → StandsAfter own past frames s
     → Watched own.port (λ k. came k past ++ bytes_of k msi) watches → Watched own.port (λ k. came k (Some (view_of own frames) ∷ past)) watches

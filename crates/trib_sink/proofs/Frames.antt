@@ -7,9 +7,10 @@ use Rattle.std.proofs.lemmas.List.FromFn.{length-map-range_with_len}
 use Rattle.gmp_rule.specs.DataRule.{is_data_at}
 use Rattle.otn_base.specs.SlotList.{IsSlotList}
 use Rattle.frame_geometry.specs.Places.{payload_row_of}
+use Rattle.odtu_columns.specs.Groups.{group_at}
 use Rattle.odtu_columns.specs.Payload.{payload_group}
 use Rattle.odtu_columns.proofs.GroupRows.{each_slot, payload_group-frame}
-use Rattle.tributary_model.specs.Places.{Tributary, Taken, cycle_bytes, row_groups, frame_groups}
+use Rattle.tributary_model.specs.Places.{Tributary, Taken, row_groups, frame_groups}
 use Rattle.tributary_model.specs.Emission.{data_bytes}
 use Rattle.trib_sink.specs.Rows.{row_data, data_from, with_frame}
 
@@ -62,13 +63,13 @@ row_is : (c before row port : ℕ) (slots frame : List ℕ) → IsSlotList 8 slo
     → row_data c before (payload_row_of 4080 row frame) slots 476 ≡ data_from c before (row_groups (of_eight slots port) frame row)
 unfolding row_data data_from row_groups
 row_is c before row port slots frame list =
-    pieces_alike (λ x. cond (is_data_at c (before + x + 1)) (payload_group (payload_row_of 4080 row frame) slots x) []) (λ x. cond (is_data_at c (before + x + 1)) (cycle_bytes (of_eight slots port) frame row x) []) 0 476
+    pieces_alike (λ x. cond (is_data_at c (before + x + 1)) (payload_group (payload_row_of 4080 row frame) slots x) []) (λ x. cond (is_data_at c (before + x + 1)) (group_at 8 slots row x frame) []) 0 476
     (λ x l. ap (λ y. cond (is_data_at c (before + x + 1)) y []) (payload_group-frame row x frame slots (omega arith) (each_slot slots list)))
-    ∙ sym (by_place c before (cycle_bytes (of_eight slots port) frame row) (before + 1) 0 476 (omega arith))
+    ∙ sym (by_place c before (λ x. group_at 8 slots row x frame) (before + 1) 0 476 (omega arith))
 
 row_many : (slots frame : List ℕ) (port row : ℕ) → length (row_groups (of_eight slots port) frame row) ≡ 476
 unfolding row_groups
-row_many slots frame port row = length-map-range_with_len (cycle_bytes (of_eight slots port) frame row) 0 476
+row_many slots frame port row = length-map-range_with_len (λ x. group_at 8 slots row x frame) 0 476
 
 -- ---- a frame
 

@@ -1,4 +1,6 @@
 pub mod Rows
+pub mod Runs
+pub mod Apart
 pub mod Ring
 pub mod Fits
 pub mod Bytes

@@ -8,9 +8,8 @@ use Rattle.std.proofs.lemmas.Bool.Decides.{nat_tests}
 use Rattle.std.proofs.lemmas.List.Elements.{All-nil, All-cons, All-append, Contains-get_or}
 use Rattle.otn_base.specs.SlotList.{IsSlotList}
 use Rattle.frame_geometry.specs.Places.{place_of}
-use Rattle.tributary_model.specs.Places.{greatest}
+use Rattle.tributary_model.specs.Places.{greatest, msi_at}
 use Rattle.tributary_model.proofs.Views.{slot_low, slot_high}
-use Rattle.trib_sink.specs.Arrivals.{msi_at}
 use Rattle.trib_sink.specs.Watching.{AreOfEight}
 
 rising_rest : (x : ℕ) (xs : List ℕ) → IsStrictlyIncreasing (x ∷ xs) → IsStrictlyIncreasing xs

@@ -8,14 +8,13 @@ use Rattle.std.proofs.lemmas.List.Concat.{flat_map-append}
 use Rattle.otn_base.specs.SlotList.{IsSlotList}
 use Rattle.msi_table.specs.Marks.{Watch, HasTaken}
 use Rattle.odtu_columns.specs.Message.{message_of}
-use Rattle.tributary_model.specs.Places.{Tributary, Taken, View, greatest, message_in, msi_in}
+use Rattle.tributary_model.specs.Places.{Tributary, Taken, View, greatest, message_in, msi_at, msi_in}
 use Rattle.tributary_model.specs.Stretches.{came, state_after}
 use Rattle.tributary_model.specs.Emission.{data_bytes}
 use Rattle.tributary_model.specs.Machine.{start, number_of, machine_after, state_of_standing}
 use Rattle.tributary_model.proofs.Law.{state_is}
 use Rattle.trib_sink.specs.Following.{Following, IsAt}
 use Rattle.trib_sink.specs.Watching.{Watched, AreOfEight}
-use Rattle.trib_sink.specs.Arrivals.{msi_at}
 use Rattle.trib_sink.specs.Rows.{with_frame}
 use Rattle.trib_sink.specs.Sink.{Sink, IsSink, StandsAfter}
 use Rattle.trib_sink.proofs.Frames.{of_eight, frame_taken}

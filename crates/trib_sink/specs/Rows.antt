@@ -9,6 +9,10 @@ use Rattle.odtu_columns.specs.Payload.{payload_group}
 unfoldable pub row_data : (c before : ℕ) → (payload slots : List ℕ) → (n : ℕ) → List ℕ
 row_data c before payload slots n = flat_map (λ x. if is_data_at c (before + x + 1) then payload_group payload slots x else []) (range_with_len 0 n)
 
+-- the bytes of the slots in so many cycles of a row from one on, all of them data
+unfoldable pub run_bytes : (payload slots : List ℕ) → (first count : ℕ) → List ℕ
+run_bytes payload slots first count = flat_map (payload_group payload slots) (range_with_len first count)
+
 -- the bytes of the data groups among these, before which stand so many of the multiframe
 unfoldable pub data_from : (c before : ℕ) → List (List ℕ) → List ℕ
 data_from c before groups = flat_map (λ p. if is_data_at c (p.0) then p.1 else []) (enumerate_from (before + 1) groups)

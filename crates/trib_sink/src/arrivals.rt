@@ -1,8 +1,7 @@
 // The message and the MSI bytes of a tributary in the frames of a multiframe.
 ghost use Rattle.std.specs.Prelude.{◌≡◌, ◌+◌, ◌<◌, ◌≤◌, ◌++◌, ◌==◌, if◌then◌else◌, length};
 ghost use Rattle.odtu_columns.specs.Message.{message_of};
-ghost use Rattle.tributary_model.specs.Places.{greatest};
-ghost use Rattle.trib_sink.specs.Arrivals.{msi_at};
+ghost use Rattle.tributary_model.specs.Places.{greatest, msi_at};
 ghost use Rattle.trib_sink.specs.Watching.{AreOfEight};
 
 use arrayvec::ArrayVec;

@@ -1,5 +1,6 @@
 // The bytes that a sink extracted and did not emit, in a ring.
 ghost use Rattle.std.specs.Prelude.{◌≡◌, ◌+◌, ◌*◌, ◌≤◌, [], ◌++◌, All, IfOk, length, take, drop};
+ghost use Rattle.otn_base.specs.SlotList.{IsSlotList};
 ghost use Rattle.trib_sink.specs.Rows.{row_data, with_rows, with_frame};
 
 use crate::extract;
@@ -76,6 +77,7 @@ impl Payload {
         requires low { 1 ≤ row }
         requires high { row ≤ 3 }
         requires slots { All (λ k. (1 ≤ k) × (k ≤ 8)) slots.now }
+        requires list { IsSlotList 8 slots.now }
         requires count { length slots.now ≡ self.old.slots }
         requires asked { self.old.asked + 952 ≤ 15232 }
         ensures { self.new ≡ record self.old { asked = self.old.asked + 476 + 476; fresh = with_rows self.old.fresh self.old.number self.old.asked slots.now frame.now row } }
@@ -139,6 +141,7 @@ impl Payload {
     fn take_row(&mut self, payload: &[u8], slots: &[u8])
         requires payload { length payload.now ≡ 3808 }
         requires slots { All (λ k. (1 ≤ k) × (k ≤ 8)) slots.now }
+        requires list { IsSlotList 8 slots.now }
         requires count { length slots.now ≡ self.old.slots }
         requires asked { self.old.asked + 476 ≤ 15232 }
         ensures { self.new ≡ record self.old { asked = self.old.asked + 476; fresh = self.old.fresh ++ row_data self.old.number self.old.asked payload.now slots.now 476 } }
@@ -163,6 +166,7 @@ fn push_row(
 )
     requires payload { length payload.now ≡ 3808 }
     requires slots { All (λ k. (1 ≤ k) × (k ≤ 8)) slots.now }
+    requires list { IsSlotList 8 slots.now }
     requires few { length slots.now ≤ 8 }
     requires scratch { length scratch.old ≡ 3808 }
     requires asked { runner.old.asked + 476 ≤ 15232 }

@@ -3,9 +3,10 @@ ghost use Rattle.std.specs.Prelude.{◌≡◌, ℕ, ◌≤◌, List, [], ◌++�
 ghost use Rattle.std.specs.List.{list_any};
 ghost use Rattle.msi_table.specs.Marks.{is_marked};
 ghost use Rattle.tributary_model.specs.Messages.{hears_message};
+ghost use Rattle.tributary_model.specs.Stretches.{bytes_of};
 ghost use Rattle.tributary_model.specs.Machine.{former_of};
 ghost use Rattle.trib_sink.specs.Following.{Keeps, IsSmallHearing, listener_after};
-ghost use Rattle.trib_sink.specs.Watching.{Watched, bytes_of, AreOfEight};
+ghost use Rattle.trib_sink.specs.Watching.{Watched, AreOfEight};
 
 use crate::follower::Follower;
 use crate::watching::{any_marked, take_all};

@@ -2,7 +2,8 @@
 ghost use Rattle.std.specs.Prelude.{◌≡◌, ℕ, ◌≤◌, List, [], ◌∷◌, ◌++◌, ◌==◌, if◌then◌else◌, All, length};
 ghost use Rattle.std.specs.List.{list_any};
 ghost use Rattle.msi_table.specs.Marks.{is_marked};
-ghost use Rattle.trib_sink.specs.Watching.{Watched, bytes_of, AreOfEight};
+ghost use Rattle.tributary_model.specs.Stretches.{bytes_of};
+ghost use Rattle.trib_sink.specs.Watching.{Watched, AreOfEight};
 
 use msi_table::MsiWatch;
 

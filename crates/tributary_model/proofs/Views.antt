@@ -8,7 +8,8 @@ use Rattle.std.proofs.lemmas.List.Elements.{All-contains_itself, All-append, All
 use Rattle.std.proofs.lemmas.List.FromFn.{length-map-range_with_len}
 use Rattle.std.proofs.Math.Nat.{mul-add-mod_self_left, mod-eq_of_lt, mul-le-mul_left}
 use Rattle.otn_base.specs.SlotList.{IsSlotList}
-use Rattle.tributary_model.specs.Places.{Tributary, byte_at, Taken, greatest, IsOwn, cycle_bytes, row_groups, frame_groups, message_in, msi_in, view_of, IsWhole}
+use Rattle.odtu_columns.specs.Groups.{group_at}
+use Rattle.tributary_model.specs.Places.{Tributary, byte_at, Taken, greatest, IsOwn, row_groups, frame_groups, message_in, msi_in, view_of, IsWhole}
 use Rattle.tributary_model.specs.Laws.{IsTributary, SameOwnPlaces, AllSameOwnPlaces}
 use Rattle.tributary_model.proofs.Sizes.{All_first, All_rest}
 
@@ -77,7 +78,7 @@ same_row : (own : Tributary) (n row : ℕ) (one other : Taken) → IsTributary o
     → row_groups own one.frame row ≡ row_groups own other.frame row
 unfolding row_groups
 same_row own n row one other t same first last =
-    range_alike (cycle_bytes own one.frame row) (cycle_bytes own other.frame row) 0 (3808 / own.line_slots)
+    range_alike (λ x. group_at own.line_slots own.slots row x one.frame) (λ x. group_at own.line_slots own.slots row x other.frame) 0 (3808 / own.line_slots)
     (λ x l r. map_alike (λ k. byte_at one.frame row (16 + own.line_slots * x + k)) (λ k. byte_at other.frame row (16 + own.line_slots * x + k)) own.slots
     (of_slots (λ k. byte_at one.frame row (16 + own.line_slots * x + k) ≡ byte_at other.frame row (16 + own.line_slots * x + k)) own.slots
     (λ k has. same.bytes row (16 + own.line_slots * x + k) (payload_place own n one.expected row x k t first last (omega arith) has))))
@@ -179,11 +180,11 @@ range_all P f a (suc n) h = All-cons P (f a) (map f (range_with_len (a + 1) n)) 
 
 row_each : (own : Tributary) (frame : List ℕ) (row : ℕ) → All (IsGroup (length own.slots)) (row_groups own frame row)
 unfolding row_groups
-row_each own frame row = range_all (IsGroup (length own.slots)) (cycle_bytes own frame row) 0 (3808 / own.line_slots) (λ x. map_length _ own.slots)
+row_each own frame row = range_all (IsGroup (length own.slots)) (λ x. group_at own.line_slots own.slots row x frame) 0 (3808 / own.line_slots) (λ x. map_length _ own.slots)
 
 row_many : (own : Tributary) (frame : List ℕ) (row : ℕ) → length (row_groups own frame row) ≡ 3808 / own.line_slots
 unfolding row_groups
-row_many own frame row = length-map-range_with_len (cycle_bytes own frame row) 0 (3808 / own.line_slots)
+row_many own frame row = length-map-range_with_len (λ x. group_at own.line_slots own.slots row x frame) 0 (3808 / own.line_slots)
 
 frame_each : (own : Tributary) (frame : List ℕ) → All (IsGroup (length own.slots)) (frame_groups own frame)
 unfolding frame_groups

@@ -1,10 +1,10 @@
 -- What it is that a tributary carries a client's bytes.
 use Rattle.std.specs.Prelude.{◌≡◌, ◌⊎◌, ℕ, zero, suc, ◌+◌, ◌*◌, ◌/◌, ◌%◌, ◌-◌, ◌≤◌, List, [], ◌∷◌, ◌++◌, All, Option, Some, None, length, take, drop, map, sum, slice_get}
 use Rattle.gmp_rule.specs.DataRule.{IsData}
+use Rattle.msi_table.specs.Marks.{msi_byte}
 use Rattle.jc_codec.specs.Message.{says}
 use Rattle.cnd_codec.specs.Remainder.{says_rest}
 use Rattle.tributary_model.specs.Places.{Tributary, View}
-use Rattle.tributary_model.specs.Stretches.{right_msi}
 
 -- how many bytes the first t turns bring, of which the list has the numbers
 abbrev pub sent : List ℕ → (t : ℕ) → ℕ
@@ -42,7 +42,7 @@ CarriesGroups m bytes p t groups =
 -- the view of turn t, from 0, of a sender that takes the bytes by the numbers of p
 pub record CarriesTurn (own : Tributary) (bytes p : List ℕ) (t : ℕ) (view : View) : Type 0 where
   pub message : cleared view.message ≡ says (former_of (length own.slots) p t) (number_in (length own.slots) p t) ++ says_rest (rest_in (length own.slots) p t)
-  pub msi : All (λ x. x.1 ≡ right_msi own) view.msi
+  pub msi : All (λ x. x.1 ≡ msi_byte own.port) view.msi
   pub groups : CarriesGroups (length own.slots) bytes p t view.groups
 
 -- The views of a line's turns carry the bytes by the numbers of p from turn b to turn u, where the sender began with turn s:

@@ -1,4 +1,5 @@
--- What a sink emits in each turn, by totals over its stretch. A stretch lists its turns with the last first.
+-- What a sink emits in each turn, by totals over its stretch. A stretch lists its turns with the last first; turn a is its first.
+-- C and D are the numbers Cm and CnD that a turn's message says, and M (m) is how many slots the tributary has.
 use Rattle.std.specs.Prelude.{ℕ, suc, ◌+◌, ◌*◌, max, min, List, [], ◌∷◌, ◌++◌, if◌then◌else◌, Option, length, map, ◌-◌}
 use Rattle.std.specs.List.{flat_map, enumerate_from, range_with_len, slice_range}
 use Rattle.gmp_rule.specs.DataRule.{is_data_at}

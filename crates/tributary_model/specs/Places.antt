@@ -1,6 +1,10 @@
 -- The own places of a tributary in a multiframe of its line, and what stands there.
-use Rattle.std.specs.Prelude.{◌≡◌, ◌⊎◌, ℕ, ◌+◌, ◌*◌, ◌/◌, ◌%◌, ◌-◌, ◌≤◌, ◌==◌, max, List, [], ◌∷◌, if◌then◌else◌, Option, Some, None, slice_index, slice_get, map, option_map, length, All}
+use Rattle.std.specs.Prelude.{◌≡◌, ◌⊎◌, ℕ, ◌+◌, ◌/◌, ◌-◌, ◌≤◌, ◌==◌, max, List, [], ◌∷◌, if◌then◌else◌, Option, Some, None, slice_index, slice_get, map, option_map, length, All}
 use Rattle.std.specs.List.{flat_map, range_with_len, Contains}
+use Rattle.frame_geometry.specs.Places.{place_of}
+use Rattle.odtu_columns.specs.Columns.{slot_of}
+use Rattle.odtu_columns.specs.Groups.{group_at}
+use Rattle.odtu_columns.specs.Message.{message_of}
 
 -- A tributary of a line: how many slots the line has, which of them are its own, rising, and its tributary port, from 1.
 pub record Tributary : Type 0 where
@@ -10,7 +14,7 @@ pub record Tributary : Type 0 where
 
 -- G.709 clause 11.1: the byte in a row and a column, both from 1, of an OTU2 frame of 4 rows of 4,080 columns
 abbrev pub byte_at : List ℕ → (row column : ℕ) → ℕ
-byte_at frame row column = slice_index frame (4080 * (row - 1) + (column - 1))
+byte_at frame row column = slice_index frame (place_of 4080 row column)
 
 -- a frame of a multiframe: its bytes, and the MFAS number that is expected there
 pub record Taken : Type 0 where
@@ -24,11 +28,11 @@ greatest (k ∷ slots) = max k (greatest slots)
 
 -- ---- the own places, by row and column of frame n, from 0, of a multiframe
 
--- G.709 clause 19.1: payload column c is of slot ((c - 17) mod S) + 1 of a line of S slots
+-- G.709 clause 19.1: the payload columns of an own slot, in all four rows
 pub record IsOwnPayload (own : Tributary) (row column : ℕ) : Type 0 where
   pub rows : (1 ≤ row) × (row ≤ 4)
   pub columns : (17 ≤ column) × (column ≤ 3824)
-  pub slot : Contains own.slots ((column - 17) % own.line_slots + 1)
+  pub slot : Contains own.slots (slot_of own.line_slots column)
 
 -- G.709 clause 19.4: columns 15 and 16 of rows 1 to 3 in the frame of the greatest of the slots
 pub record IsOwnMessage (own : Tributary) (n row column : ℕ) : Type 0 where
@@ -46,27 +50,26 @@ IsOwn own n expected row column = IsOwnPayload own row column ⊎ IsOwnMessage o
 
 -- ---- what stands there
 
--- the bytes of the own slots in cycle x, from 0, of a row: in slot order, those of the x-th run of as many payload columns as the line has slots
-abbrev pub cycle_bytes : Tributary → List ℕ → (row x : ℕ) → List ℕ
-cycle_bytes own frame row x = map (λ k. byte_at frame row (16 + own.line_slots * x + k)) own.slots
-
 -- the groups of a row: its 3,808 payload columns in cycles
 unfoldable pub row_groups : Tributary → List ℕ → (row : ℕ) → List (List ℕ)
-row_groups own frame row = map (cycle_bytes own frame row) (range_with_len 0 (3808 / own.line_slots))
+row_groups own frame row = map (λ cycle. group_at own.line_slots own.slots row cycle frame) (range_with_len 0 (3808 / own.line_slots))
 
 -- the groups of a frame, row by row
 unfoldable pub frame_groups : Tributary → List ℕ → List (List ℕ)
 frame_groups own frame = flat_map (row_groups own frame) (1 ∷ 2 ∷ 3 ∷ 4 ∷ [])
 
--- G.709 clause 19.4.3: JC1, JC2 and JC3 in column 16, JC4, JC5 and JC6 in column 15, of rows 1, 2 and 3
+-- G.709 clause 19.4: the six bytes JC1 to JC6 of a frame, where there is one
 abbrev pub message_in : Option Taken → List ℕ
 message_in None = []
-message_in (Some t) =
-    byte_at t.frame 1 16 ∷ byte_at t.frame 2 16 ∷ byte_at t.frame 3 16 ∷ byte_at t.frame 1 15 ∷ byte_at t.frame 2 15 ∷ byte_at t.frame 3 15 ∷ []
+message_in (Some t) = message_of t.frame
 
--- the MSI byte of a frame with its slot, where that is an own one
+-- the MSI byte of a frame with its slot, where that is one of these
+abbrev pub msi_at : (slots : List ℕ) → (expected : ℕ) → (frame : List ℕ) → List (ℕ × ℕ)
+msi_at slots expected frame = flat_map (λ k. if expected == 1 + k then (k, byte_at frame 4 15) ∷ [] else []) slots
+
+-- where it is an own one
 abbrev pub msi_in : Tributary → Taken → List (ℕ × ℕ)
-msi_in own t = flat_map (λ k. if t.expected == 1 + k then (k, byte_at t.frame 4 15) ∷ [] else []) own.slots
+msi_in own t = msi_at own.slots t.expected t.frame
 
 -- The view of a turn with a multiframe, which has as many frames as the line has slots: its groups, the first being group 1, the
 -- message, and the MSI bytes that came, each with its slot.

@@ -1,7 +1,8 @@
 -- The stretches in which a sink follows its tributary. Turns are listed with the last first: a past is the views of the
 -- turns from the connection's start on.
-use Rattle.std.specs.Prelude.{ℕ, ◌+◌, ◌-◌, ◌==◌, nat_lt, List, [], ◌∷◌, ◌++◌, Bool, true, false, not, ◌&&◌, if◌then◌else◌, Option, Some, None, length, reverse, map, filter}
+use Rattle.std.specs.Prelude.{ℕ, ◌==◌, nat_lt, List, [], ◌∷◌, ◌++◌, Bool, true, false, not, ◌&&◌, if◌then◌else◌, Option, Some, None, length, map, filter}
 use Rattle.std.specs.List.{list_any}
+use Rattle.msi_table.specs.Marks.{is_marked}
 use Rattle.tributary_model.specs.declared.turns.Hearing.{Hearing}
 use Rattle.tributary_model.specs.declared.turns.Hearing.TheVariants.{Damaged, Lost, Pair}
 use Rattle.tributary_model.specs.declared.turns.SinkState.{SinkState}
@@ -15,32 +16,23 @@ abbrev pub groups_of : Option View → List (List ℕ)
 groups_of None = []
 groups_of (Some view) = view.groups
 
+-- the bytes of slot k among bytes with their slots
+abbrev pub bytes_of : (k : ℕ) → List (ℕ × ℕ) → List ℕ
+bytes_of k msi = map (λ p. p.1) (filter (λ p. p.0 == k) msi)
+
 -- the MSI bytes of slot k that came in a turn
 abbrev pub msi_of : (k : ℕ) → Option View → List ℕ
 msi_of k None = []
-msi_of k (Some view) = map (λ p. p.1) (filter (λ p. p.0 == k) view.msi)
+msi_of k (Some view) = bytes_of k view.msi
 
 -- those that came in all turns so far, in the order in which they came
 unfoldable pub came : (k : ℕ) → List (Option View) → List ℕ
 came k [] = []
 came k (view ∷ past) = came k past ++ msi_of k view
 
--- whether the first two of a list are both another byte
-abbrev pub both_wrong : (right : ℕ) → List ℕ → Bool
-both_wrong right [] = false
-both_wrong right (x ∷ []) = false
-both_wrong right (x ∷ y ∷ rest) = not (x == right) && not (y == right)
-
--- the MSI byte of a slot that an ODTU of this port uses (G.709 clause 19.4.1)
-abbrev pub right_msi : Tributary → ℕ
-right_msi own = 0x80 + own.port - 1
-
--- slot k is marked after these turns: the last two of its MSI bytes that came were both wrong
-abbrev pub is_marked : Tributary → List (Option View) → (k : ℕ) → Bool
-is_marked own past k = both_wrong (right_msi own) (reverse (came k past))
-
+-- whether an own slot is marked after these turns: the last two of its MSI bytes that came were both wrong
 abbrev pub any_marked : Tributary → List (Option View) → Bool
-any_marked own past = list_any (is_marked own past) own.slots
+any_marked own past = list_any (λ k. is_marked own.port (came k past)) own.slots
 
 -- ---- stretches
 
@@ -72,12 +64,13 @@ fit own true view = None
 fit own false None = None
 fit own false (Some view) = fit_pair view (hears_message None (length own.slots) view.message)
 
--- whether the last two messages of a stretch were damaged
+-- a message that is damaged
 abbrev pub is_damaged : Hearing → Bool
 is_damaged Damaged = true
 is_damaged Lost = false
 is_damaged (Pair number rest equal) = false
 
+-- whether the last two messages of a stretch were damaged
 abbrev pub two_damaged : List Member → Bool
 two_damaged [] = false
 two_damaged (last ∷ []) = false

@@ -1,5 +1,5 @@
 use Rattle.std.proofs.Common.{◌++◌, take}
-use Rattle.trib_sink.specs.Watching.{bytes_of}
+use Rattle.tributary_model.specs.Stretches.{bytes_of}
 use Rattle.trib_sink.proofs.Bytes.{no_bytes, more_bytes, all_bytes}
 use Rattle.trib_sink.proofs.watching.take_all.Goals as goal
 

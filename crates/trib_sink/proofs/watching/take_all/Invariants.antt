@@ -1,5 +1,6 @@
 use Rattle.std.proofs.Common.{ℕ, List, ◌++◌, take}
-use Rattle.trib_sink.specs.Watching.{Watched, bytes_of}
+use Rattle.tributary_model.specs.Stretches.{bytes_of}
+use Rattle.trib_sink.specs.Watching.{Watched}
 use Rattle.trib_sink.proofs.watching.take_all.Given as goal
 
 abbrev pub invariant-loop-pair : goal.invariant-loop-pair

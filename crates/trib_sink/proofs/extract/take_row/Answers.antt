@@ -1,0 +1,27 @@
+use Rattle.std.proofs.Common.{◌≡◌, ◌+◌, ◌++◌, [], cond, ap, arith, subst, take, ◌∙◌}
+use Rattle.gmp_rule.specs.DataRule.{Progress, IsData, is_data_at}
+use Rattle.odtu_columns.specs.Payload.{payload_group}
+use Rattle.trib_sink.proofs.Runs.{row_more}
+use Rattle.trib_sink.proofs.extract.take_row.Goals as goal
+
+pub loop-cycle-preserved : goal.loop-cycle-preserved
+loop-cycle-preserved c =
+    let number = c.args.runner.now.number in
+    let before = c.args.runner.now.asked in
+    let x = c.loop-cycle.cycle in
+    let run = c.data_run-run.result in
+    let front = take c.loop-cycle.end c.loop-cycle.into in
+    let here = payload_group c.args.payload.now c.args.slots.now x in
+    let asked : c.take_cycle-end.new.runner ≡ record { number = number; asked = before + x + 1 } =
+    c.take_cycle-end.ensures.runner ∙ ap (λ (r : Progress). record r { asked = r.asked + 1 }) c.loop-cycle.invariant.runner in
+    let one : take c.take_cycle-end.result c.take_cycle-end.new.into ≡ front ++ cond (is_data_at number (before + x + 1)) here [] =
+    c.take_cycle-end.ensures.bytes ∙ ap (λ (r : Progress). front ++ cond (is_data_at r.number (r.asked + 1)) here []) c.loop-cycle.invariant.runner in
+    record {
+      cycles = omega arith;
+      runner = c.data_run-run.ensures.step ∙ ap (λ (r : Progress). record r { asked = r.asked + run }) asked
+          ∙ ap (λ n. record { number = number; asked = n }) (let e : before + x + 1 + run ≡ before + (x + (run + 1)) = omega arith in e);
+      few = grind arith;
+      bytes = row_more number before c.args.payload.now c.args.slots.now c.loop-cycle.into c.take_cycle-end.new.into c.put_cycles-end.new.into
+          c.loop-cycle.end c.take_cycle-end.result c.put_cycles-end.result x run c.loop-cycle.invariant.bytes one c.put_cycles-end.ensures.bytes
+          (λ i below. subst (λ (r : Progress). IsData r.number (r.asked + i + 1)) asked (c.data_run-run.ensures.«data» i below));
+    }
