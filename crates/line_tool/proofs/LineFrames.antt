@@ -6,7 +6,8 @@ use Rattle.std.proofs.lemmas.List.{take-append-le, drop-append-le, drop_at, leng
 use Rattle.std.proofs.lemmas.List.FromFn.{map-range_with_len_more}
 use Rattle.std.proofs.lemmas.Nat.{div-mul-add}
 use Rattle.std.proofs.Math.Seq.{take-length}
-use Rattle.line_tool.specs.SlotReport.{frame_at, first_frames, used_frames, slot_bytes, slot_report}
+use Rattle.line_side.specs.LineFile.{frame_at}
+use Rattle.line_tool.specs.SlotReport.{first_frames, used_frames, slot_bytes, slot_report}
 
 -- the slot's bytes of the first i frames
 pub slots_of : (slot : ℕ) → List ℕ → (i : ℕ) → List ℕ
@@ -14,10 +15,11 @@ slots_of slot bytes i = flat_map (slot_bytes slot) (first_frames bytes i)
 
 -- a frame stays where more bytes follow
 pub frame_at-append : (bytes more : List ℕ) (f : ℕ) → f * 16320 + 16320 ≤ length bytes → frame_at (bytes ++ more) f ≡ frame_at bytes f
+unfolding frame_at
 frame_at-append bytes more f there =
-    let before : f * 16320 ≤ length bytes = omega arith in
-    let room : 16320 ≤ length (drop (f * 16320) bytes) = simp length-drop (omega arith) in
-    ap (take 16320) (drop-append-le (f * 16320) bytes more before) ∙ take-append-le 16320 (drop (f * 16320) bytes) more room
+    let before : 16320 * f ≤ length bytes = omega arith in
+    let room : 16320 ≤ length (drop (16320 * f) bytes) = simp length-drop (omega arith) in
+    ap (take 16320) (drop-append-le (16320 * f) bytes more before) ∙ take-append-le 16320 (drop (16320 * f) bytes) more room
 
 -- one frame more
 pub first_frames-more : (bytes : List ℕ) (n : ℕ) → first_frames bytes (n + 1) ≡ first_frames bytes n ++ frame_at bytes n ∷ []
@@ -41,7 +43,8 @@ first_frames-append bytes more (suc n) there =
 
 -- the frame that follows whole frames
 last_frame : (bytes frame : List ℕ) (i : ℕ) → length bytes ≡ i * 16320 → length frame ≡ 16320 → frame_at (bytes ++ frame) i ≡ frame
-last_frame bytes frame i size wide = ap (take 16320) (drop_at bytes frame (i * 16320) size) ∙ ap (λ n. take n frame) (sym wide) ∙ take-length frame
+unfolding frame_at
+last_frame bytes frame i size wide = ap (take 16320) (drop_at bytes frame (16320 * i) (omega arith)) ∙ ap (λ n. take n frame) (sym wide) ∙ take-length frame
 
 -- no frame
 pub slots_of-none : (slot : ℕ) → slots_of slot [] 0 ≡ []

@@ -7,7 +7,9 @@ use Rattle.otn_ports.specs.Bytes.{after}
 use Rattle.otn_ports.specs.Given.{Gave}
 use Rattle.otn_ports.specs.Views.{Dead, InView}
 use Rattle.line_tool.specs.SlotReport.{slot_bytes, slot_report, used_frames}
-use Rattle.line_tool.specs.SlotRuns.{SlotRun, SlotStep, GainsPart, ByteRun}
+use Rattle.line_tool.specs.SlotRuns.{SlotRun, SlotStep}
+use Rattle.line_tool.specs.Gains.{GainsPart}
+use Rattle.line_tool.specs.Beyond.{ByteRun}
 use Rattle.line_tool.specs.declared.status.Status.{Status}
 use Rattle.line_tool.specs.declared.status.Status.TheVariants.{Done, Unfinished, Words, Plan, PlanFault, ReportFault, Cut, Memory}
 use Rattle.line_tool.proofs.LineFrames.{slots_of, slots_of-none, slots_of-more, used_frames-at, slot_report-at, slot_report-whole}
@@ -20,7 +22,7 @@ pub record SoFar (slot i : ℕ) (first now : InView) (old new : Option (List ℕ
   pub state : now.state ≡ first.state
   pub report : new ≡ after old (slots_of slot taken i)
 
-after-none : (got : Option (List ℕ)) → got ≡ after got []
+pub after-none : (got : Option (List ℕ)) → got ≡ after got []
 after-none None = refl
 after-none (Some got) = ap Some (sym (append-nil got))
 
@@ -45,7 +47,7 @@ so_far_more slot i first mid now old gained new h step = record {
 }
 
 -- what a part of the last frame's bytes is of the whole report
-part_after : (old gained new : Option (List ℕ)) (before bytes : List ℕ) → gained ≡ after old before → GainsPart gained new bytes → GainsPart old new (before ++ bytes)
+pub part_after : (old gained new : Option (List ℕ)) (before bytes : List ℕ) → gained ≡ after old before → GainsPart gained new bytes → GainsPart old new (before ++ bytes)
 part_after old gained new before bytes e h = record {
   went = length before + h.went;
   part = omega (arith, length-append before bytes, h.part);
@@ -81,7 +83,7 @@ ends_with Done slot i first mid now old gained new alive few h step =
     record {
       taken = e.taken ++ step.taken;
       gave = e.gave;
-      ends = (e.report, λ dead. alive (sym h.state ∙ sym step.ends.1 ∙ dead), step.ends.2, omega (arith, e.size, e.used, none));
+      ends = (e.report, λ dead. alive (sym h.state ∙ sym step.ends.1 ∙ dead), step.ends.2, omega (arith, e.size, e.used, none), omega (arith, e.size, none, few));
     }
 ends_with Unfinished slot i first mid now old gained new alive few h step =
     let some = step.ends.0 in
@@ -89,11 +91,11 @@ ends_with Unfinished slot i first mid now old gained new alive few h step =
     record {
       taken = e.taken ++ step.taken;
       gave = e.gave;
-      ends = (e.report, λ dead. alive (sym h.state ∙ sym step.ends.2 ∙ dead), omega (arith, e.size, e.used, some), inl step.ends.3);
+      ends = (e.report, λ dead. alive (sym h.state ∙ sym step.ends.2 ∙ dead), omega (arith, e.size, e.used, some), inl step.ends.3, omega (arith, e.size, step.ends.1, few));
     }
 ends_with Cut slot i first mid now old gained new alive few h step =
     let e = ended slot i first mid now old gained new step.taken (omega arith) h step.gave step.ends.0 step.ends.2 in
-    record { taken = e.taken ++ step.taken; gave = e.gave; ends = (e.report, step.ends.1) }
+    record { taken = e.taken ++ step.taken; gave = e.gave; ends = (e.report, step.ends.1, omega (arith, e.size, step.ends.0, few)) }
 ends_with ReportFault slot i first mid now old gained new alive few h step =
     let size : length (h.taken ++ step.taken) ≡ (i + 1) * 16320 = omega (arith, length-append h.taken step.taken, h.size, step.ends.0) in
     let whole = slot_report-whole slot (h.taken ++ step.taken) (i + 1) size (omega arith) ∙ slots_of-more slot h.taken step.taken i h.size step.ends.0 in
@@ -116,7 +118,7 @@ ends_after Done slot first mid now old new alive h byte =
     record {
       taken = e.taken ++ byte.taken;
       gave = e.gave;
-      ends = (e.report, λ dead. alive (sym h.state ∙ sym byte.ends.1 ∙ dead), byte.ends.2, omega (arith, e.size, e.used, none));
+      ends = (e.report, λ dead. alive (sym h.state ∙ sym byte.ends.1 ∙ dead), byte.ends.2, omega (arith, e.size, e.used, none), omega (arith, e.size, none));
     }
 ends_after Unfinished slot first mid now old new alive h byte =
     let one = byte.ends.0 in
@@ -125,12 +127,12 @@ ends_after Unfinished slot first mid now old new alive h byte =
     record {
       taken = e.taken ++ byte.taken;
       gave = e.gave;
-      ends = (e.report, λ dead. alive (sym h.state ∙ sym byte.ends.1 ∙ dead), omega (arith, e.size, e.used, one), inr size);
+      ends = (e.report, λ dead. alive (sym h.state ∙ sym byte.ends.1 ∙ dead), omega (arith, e.size, e.used, one), inr size, omega (arith, size));
     }
 ends_after Cut slot first mid now old new alive h byte =
     let none : length byte.taken ≡ 0 = ap length byte.ends.0 in
     let e = ended slot 131072 first mid now old new new byte.taken (lit≤ tt) h byte.gave (omega arith) refl in
-    record { taken = e.taken ++ byte.taken; gave = e.gave; ends = (e.report, byte.ends.1) }
+    record { taken = e.taken ++ byte.taken; gave = e.gave; ends = (e.report, byte.ends.1, omega (arith, e.size, none)) }
 ends_after ReportFault slot first mid now old new alive h byte = absurd byte.ends
 ends_after Words slot first mid now old new alive h byte = absurd byte.ends
 ends_after Memory slot first mid now old new alive h byte = absurd byte.ends
@@ -142,5 +144,5 @@ pub dead_run : (slot : ℕ) (line : InView) (report : Option (List ℕ)) → lin
 dead_run slot line report dead = record {
   taken = [];
   gave = gave_none line;
-  ends = (after-none report ∙ ap (after report) (sym (slot_report-whole slot [] 0 refl (lit≤ tt) ∙ slots_of-none slot)), dead);
+  ends = (after-none report ∙ ap (after report) (sym (slot_report-whole slot [] 0 refl (lit≤ tt) ∙ slots_of-none slot)), dead, lit≤ tt);
 }

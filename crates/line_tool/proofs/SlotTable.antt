@@ -1,5 +1,5 @@
 -- The answers of `slot`, and what it wrote, by what its line gave.
-use Rattle.std.proofs.Common.{◌≡◌, ◌≢◌, ◌<◌, ◌≤◌, ◌+◌, ◌-◌, ◌*◌, ◌^◌, ◌∙◌, ◌⊎◌, ℕ, zero, suc, List, [], ◌∷◌, ◌++◌, Option, Some, IfSome, length, take, refl, sym, ap, subst, inl, inr, arith, append-nil, append_assoc, length-append, lit≤}
+use Rattle.std.proofs.Common.{◌≡◌, ◌≢◌, ◌<◌, ◌≤◌, ◌+◌, ◌-◌, ◌*◌, ◌^◌, ◌∙◌, ◌⊎◌, ℕ, zero, suc, List, [], ◌∷◌, ◌++◌, Option, Some, IfSome, length, min, take, refl, sym, ap, subst, inl, inr, arith, append-nil, append_assoc, length-append, lit≤}
 use Rattle.std.specs.List.{flat_map}
 use Rattle.std.proofs.lemmas.Grind.{flat_map-append}
 use Rattle.std.proofs.lemmas.List.{take-append-le}
@@ -9,8 +9,10 @@ use Rattle.otn_ports.specs.Given.{IsGiven, Lives}
 use Rattle.otn_ports.specs.Reads.{HasEnded}
 use Rattle.otn_ports.specs.Views.{State, Empty, Live, Dead, InView}
 use Rattle.line_tool.specs.Runs.{Reports, HasRest, IsWell}
-use Rattle.line_tool.specs.SlotReport.{first_frames, frame_at, slot_bytes, slot_report, used_frames}
-use Rattle.line_tool.specs.SlotRuns.{SlotRun, GainsPart}
+use Rattle.line_side.specs.LineFile.{frame_at}
+use Rattle.line_tool.specs.SlotReport.{first_frames, slot_bytes, slot_report, used_frames}
+use Rattle.line_tool.specs.SlotRuns.{SlotRun, SlotEnds}
+use Rattle.line_tool.specs.Gains.{GainsPart}
 use Rattle.line_tool.specs.declared.status.Status.{Status}
 use Rattle.line_tool.specs.declared.status.Status.TheVariants.{Done, Unfinished, Words, Plan, PlanFault, ReportFault, Cut, Memory}
 use Rattle.line_tool.proofs.LineFrames.{slots_of-none, slot_report-whole, first_frames-more, first_frames-append}
@@ -166,7 +168,35 @@ unfinished_is (Plan error place) slot first now old new given h other is = absur
 counted : (old new n : ℕ) → new ≡ raised old n → new < 2 ^ 64 - 1 → new - old ≡ n
 counted old new n e below = omega arith
 
--- the same, by the place's number of bytes
+-- where all that was given is taken, and where a byte after the most came
+took_all : (taken given : List ℕ) → given ≡ taken → length taken ≤ 131072 * 16320 + 1 → length taken ≡ min (length given) (131072 * 16320 + 1)
+took_all taken given same few = omega (arith, ap length same, few)
+
+took_most : (taken given rest : List ℕ) → given ≡ taken ++ rest → length taken ≡ 131072 * 16320 + 1 → length taken ≡ min (length given) (131072 * 16320 + 1)
+took_most taken given rest parts many = omega (arith, ap length parts ∙ length-append taken rest, many)
+
+-- of what the line gave as many bytes are taken as there are, but of the most frames and one byte more at most
+pub slot_took_is : (status : Status) (slot : ℕ) (first now : InView) (old new : Option (List ℕ)) (given : List ℕ) → SlotRun slot first now old new status
+    → status ≢ ReportFault → IsGiven first now given → now.number < 2 ^ 64 - 1 → now.number - first.number ≡ min (length given) (131072 * 16320 + 1)
+slot_took_is status slot first now old new given h other is below =
+    counted first.number now.number (length h.taken) h.gave.takes.number below ∙ by_taken status h.ends other (given_of_gave first now h.taken given h.gave is)
+  where
+    by_taken : (status : Status) → SlotEnds status slot h.taken first now old new → status ≢ ReportFault → Beyond h.taken given now.state now.left
+        → length h.taken ≡ min (length given) (131072 * 16320 + 1)
+    by_taken Done ends other b = took_all h.taken given (all_given first now h.taken given b ends.2) ends.4
+    by_taken Cut ends other b = took_all h.taken given (dead_given first now h.taken given b ends.1) ends.2
+    by_taken Unfinished ends other b = by_end ends.3
+      where
+        by_end : HasEnded now.left ⊎ (length h.taken ≡ 131072 * 16320 + 1) → length h.taken ≡ min (length given) (131072 * 16320 + 1)
+        by_end (inl ended) = took_all h.taken given (all_given first now h.taken given b ended) ends.4
+        by_end (inr many) = took_most h.taken given b.rest b.parts many
+    by_taken ReportFault ends other b = absurd (other refl)
+    by_taken Words ends other b = absurd ends
+    by_taken Memory ends other b = absurd ends
+    by_taken PlanFault ends other b = absurd ends
+    by_taken (Plan error place) ends other b = absurd ends
+
+-- Unfinished by the place's number of bytes
 pub unfinished_counted : (status : Status) (slot : ℕ) (first now : InView) (old new : Option (List ℕ)) → SlotRun slot first now old new status
     → status ≢ ReportFault → now.number < 2 ^ 64 - 1
     → (status ≡ Unfinished → (now.state ≢ Dead) × HasRest (now.number - first.number)) × ((now.state ≢ Dead) × HasRest (now.number - first.number) → status ≡ Unfinished)

@@ -1,12 +1,12 @@
 -- Bytes outside a slot's own columns change nothing.
-use Rattle.std.proofs.Common.{◌≡◌, ◌<◌, ◌≤◌, ◌+◌, ◌*◌, ◌/◌, ◌∙◌, ℕ, zero, suc, Bool, true, false, cond, List, ◌∷◌, ◌++◌, length, map, filter, get_or, nat_eq, min, drop, refl, sym, ap, arith}
+use Rattle.std.proofs.Common.{◌≡◌, ◌<◌, ◌≤◌, ◌+◌, ◌/◌, ◌∙◌, ℕ, zero, suc, Bool, true, false, cond, List, ◌∷◌, ◌++◌, length, map, filter, get_or, nat_eq, min, refl, sym, ap, arith}
 use Rattle.std.proofs.lemmas.Bool.Decides.{Decides-eqb}
 use Rattle.std.specs.List.{flat_map, range_with_len}
-use Rattle.std.proofs.lemmas.List.{get_or-take, get_or-drop}
 use Rattle.frame_geometry.specs.Places.{place_of}
 use Rattle.odtu_columns.specs.Columns.{slot_of, columns_of, slot_row_of}
-use Rattle.line_tool.specs.Runs.{AgreeOnSlot, line_byte}
-use Rattle.line_tool.specs.SlotReport.{frame_at, first_frames, used_frames, slot_bytes, slot_report}
+use Rattle.line_tool.specs.Agreements.{AgreeOnSlot}
+use Rattle.line_side.specs.LineFile.{frame_at}
+use Rattle.line_tool.specs.SlotReport.{first_frames, used_frames, slot_bytes, slot_report}
 
 -- what is made of the numbers that pass a test is the same where it is the same at each of them
 rows_same : (p : ℕ → Bool) (g h : ℕ → ℕ) (a n : ℕ) → ((x : ℕ) → a ≤ x → x < a + n → p x ≡ true → g x ≡ h x)
@@ -29,23 +29,13 @@ flat_same g h a (suc n) same =
     let later = flat_same g h (a + 1) n (λ x low high. same x (omega arith) (omega arith)) in
     ap (λ xs. xs ++ flat_map g (range_with_len (a + 1) n)) (same a (omega arith) (omega arith)) ∙ ap (λ xs. h a ++ xs) later
 
--- a byte of a frame is a byte of the line
-frame_byte : (bytes : List ℕ) (f row column : ℕ) → row ≤ 4 → column ≤ 3824 → get_or (frame_at bytes f) (place_of 4080 row column) 0 ≡ line_byte bytes f row column
-frame_byte bytes f row column low high =
-    let within : place_of 4080 row column < 16320 = omega arith in
-    get_or-take 16320 (drop (f * 16320) bytes) (place_of 4080 row column) 0 within ∙ get_or-drop (f * 16320) bytes (place_of 4080 row column) 0
-
 row_same : (slot : ℕ) (one other : List ℕ) (f row : ℕ) → AgreeOnSlot slot one other → f < length one / 16320 → 1 ≤ row → row ≤ 4
     → slot_row_of 8 slot row (frame_at one f) ≡ slot_row_of 8 slot row (frame_at other f)
 unfolding columns_of
 row_same slot one other f row agree whole low high =
     rows_same (λ column. nat_eq (slot_of 8 column) slot) (λ column. get_or (frame_at one f) (place_of 4080 row column) 0)
     (λ column. get_or (frame_at other f) (place_of 4080 row column) 0) 17 3808
-    (λ column first last passes.
-    let within : column ≤ 3824 = omega arith in
-    frame_byte one f row column high within
-    ∙ agree.bytes f row column whole low high first within ((Decides-eqb (slot_of 8 column) slot).0 passes)
-    ∙ sym (frame_byte other f row column high within))
+    (λ column first last passes. agree.bytes f row column whole low high first (omega arith) ((Decides-eqb (slot_of 8 column) slot).0 passes))
 
 frame_same : (slot : ℕ) (one other : List ℕ) (f : ℕ) → AgreeOnSlot slot one other → f < length one / 16320
     → slot_bytes slot (frame_at one f) ≡ slot_bytes slot (frame_at other f)

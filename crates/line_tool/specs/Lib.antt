@@ -1,5 +1,11 @@
+pub mod Agreements
+pub mod Beyond
 pub mod Codes
+pub mod Gains
 pub mod PlanCheck
+pub mod PullReport
+pub mod PullRuns
+pub mod PullTurn
 pub mod Runs
 pub mod SlotReport
 pub mod SlotRuns

@@ -6,7 +6,7 @@ use Rattle.otn_ports.specs.Reads.{HasEnded}
 use Rattle.plan_file.specs.Answer.{plan_of_text}
 use Rattle.plan_file.specs.declared.error.NoPlan.TheVariants.{Refused}
 use Rattle.plan_file.specs.declared.plan.Plan.{Plan}
-use Rattle.line_tool.specs.SlotRuns.{GainsPart}
+use Rattle.line_tool.specs.Gains.{GainsPart}
 use Rattle.line_tool.specs.declared.status.Status.{Status}
 use Rattle.line_tool.specs.declared.status.Status.TheVariants as status
 

@@ -1,11 +1,8 @@
 -- What `slot` writes.
-use Rattle.std.specs.Prelude.{ℕ, ◌*◌, ◌/◌, min, List, length, take, drop, map}
+use Rattle.std.specs.Prelude.{ℕ, ◌/◌, min, List, length, map}
 use Rattle.std.specs.List.{flat_map, range_with_len}
+use Rattle.line_side.specs.LineFile.{frame_at}
 use Rattle.odtu_columns.specs.Columns.{slot_row_of}
-
--- G.709 clause 11.1: frame f, from 0, of the bytes of a line, of 16,320 bytes
-abbrev pub frame_at : List ℕ → (f : ℕ) → List ℕ
-frame_at bytes f = take 16320 (drop (f * 16320) bytes)
 
 -- the first n frames of the bytes of a line
 unfoldable pub first_frames : List ℕ → (n : ℕ) → List (List ℕ)

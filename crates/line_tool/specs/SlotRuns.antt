@@ -1,27 +1,23 @@
 -- How `slot` goes: what it took of its line, what its report gained, and why it ended.
-use Rattle.std.specs.Prelude.{◌≡◌, ◌≢◌, ◌<◌, ◌⊎◌, ◌+◌, ◌*◌, ℕ, List, [], Option, Some, None, length, take}
+use Rattle.std.specs.Prelude.{◌≡◌, ◌≢◌, ◌<◌, ◌≤◌, ◌⊎◌, ◌+◌, ◌*◌, ℕ, List, [], Option, Some, None, length}
 use Rattle.otn_ports.specs.Bytes.{after}
 use Rattle.otn_ports.specs.Given.{Gave}
 use Rattle.otn_ports.specs.Reads.{HasEnded}
 use Rattle.otn_ports.specs.Views.{InView, Dead}
+use Rattle.line_tool.specs.Gains.{GainsPart}
 use Rattle.line_tool.specs.SlotReport.{slot_bytes, slot_report, used_frames}
 use Rattle.line_tool.specs.declared.status.Status.{Status}
 use Rattle.line_tool.specs.declared.status.Status.TheVariants.{Done, Unfinished, Words, Plan, PlanFault, ReportFault, Cut, Memory}
 
--- a report gained a part of these bytes, from the front, and not all
-pub record GainsPart (old new : Option (List ℕ)) (bytes : List ℕ) : Type 0 where
-  pub went : ℕ
-  pub part : went < length bytes
-  pub gained : new ≡ after old (take went bytes)
-
--- the answer of a command that took these bytes of its line
+-- the answer of a command that took these bytes of its line; where no write failed, of the most frames and one byte more at most
 abbrev pub SlotEnds : Status → (slot : ℕ) → (taken : List ℕ) → (first now : InView) → (old new : Option (List ℕ)) → Type 0
 SlotEnds Done slot taken first now old new =
     (new ≡ after old (slot_report slot taken)) × (now.state ≢ Dead) × HasEnded now.left × (length taken ≡ used_frames (length taken) * 16320)
+    × (length taken ≤ 131072 * 16320 + 1)
 SlotEnds Unfinished slot taken first now old new =
     (new ≡ after old (slot_report slot taken)) × (now.state ≢ Dead) × (used_frames (length taken) * 16320 < length taken)
-    × (HasEnded now.left ⊎ (length taken ≡ 131072 * 16320 + 1))
-SlotEnds Cut slot taken first now old new = (new ≡ after old (slot_report slot taken)) × (now.state ≡ Dead)
+    × (HasEnded now.left ⊎ (length taken ≡ 131072 * 16320 + 1)) × (length taken ≤ 131072 * 16320 + 1)
+SlotEnds Cut slot taken first now old new = (new ≡ after old (slot_report slot taken)) × (now.state ≡ Dead) × (length taken ≤ 131072 * 16320 + 1)
 SlotEnds ReportFault slot taken first now old new = GainsPart old new (slot_report slot taken) × (now.state ≡ first.state)
 SlotEnds Words slot taken first now old new = ⊥
 SlotEnds Memory slot taken first now old new = ⊥
@@ -64,19 +60,3 @@ SlotWritten slot frame old new (Some Words) = ⊥
 SlotWritten slot frame old new (Some Memory) = ⊥
 SlotWritten slot frame old new (Some PlanFault) = ⊥
 SlotWritten slot frame old new (Some (Plan error place)) = ⊥
-
--- the answer to one byte more
-abbrev pub ByteEnds : Status → (taken : List ℕ) → (first now : InView) → Type 0
-ByteEnds Unfinished taken first now = (length taken ≡ 1) × (now.state ≡ first.state)
-ByteEnds Done taken first now = (taken ≡ []) × (now.state ≡ first.state) × HasEnded now.left
-ByteEnds Cut taken first now = (taken ≡ []) × (now.state ≡ Dead)
-ByteEnds ReportFault taken first now = ⊥
-ByteEnds Words taken first now = ⊥
-ByteEnds Memory taken first now = ⊥
-ByteEnds PlanFault taken first now = ⊥
-ByteEnds (Plan error place) taken first now = ⊥
-
-pub record ByteRun (first now : InView) (status : Status) : Type 0 where
-  pub taken : List ℕ
-  pub gave : Gave first taken now
-  pub ends : ByteEnds status taken first now

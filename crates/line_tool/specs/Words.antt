@@ -1,16 +1,28 @@
 -- The words of the commands.
 use Rattle.std.specs.Prelude.{◌≡◌, ◌+◌, ◌≤◌, ℕ, List, [], ◌∷◌, map, codes, string_bytes, String}
 use Rattle.std.specs.declared.alloc.Global.{Global}
+use Rattle.otn_base.specs.SlotList.{IsSlotList}
 use Rattle.line_tool.specs.declared.words.Command.{Command}
-use Rattle.line_tool.specs.declared.words.Command.TheVariants.{Slot, Check}
+use Rattle.line_tool.specs.declared.words.Command.TheVariants.{Slot, Pull, Check}
 
 -- the bytes of each word
 abbrev pub texts : List (String Global) → List (List ℕ)
 texts words = map string_bytes words
 
+-- the text of a number of one digit
+abbrev pub digit : ℕ → List ℕ
+digit n = (48 + n) ∷ []
+
+-- the text of a list of slots: their digits, with commas between them
+abbrev pub slots_text : List ℕ → List ℕ
+slots_text [] = []
+slots_text (slot ∷ []) = digit slot
+slots_text (slot ∷ next ∷ slots) = (48 + slot) ∷ 44 ∷ slots_text (next ∷ slots)
+
 -- the form of the words of each command
 abbrev pub IsForm : List (List ℕ) → Command → Type 0
-IsForm words (Slot slot) = (words ≡ codes "slot" ∷ ((48 + slot) ∷ []) ∷ []) × (1 ≤ slot) × (slot ≤ 8)
+IsForm words (Slot slot) = (words ≡ codes "slot" ∷ digit slot ∷ []) × (1 ≤ slot) × (slot ≤ 8)
+IsForm words (Pull port slots) = (words ≡ codes "pull" ∷ digit port ∷ slots_text slots ∷ []) × (1 ≤ port) × (port ≤ 8) × IsSlotList 8 slots
 IsForm words Check = words ≡ codes "check" ∷ []
 
 -- words that are the form of no command

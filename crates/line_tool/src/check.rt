@@ -4,9 +4,8 @@ ghost use Rattle.otn_ports.specs.Bytes.{HasFailed};
 ghost use Rattle.line_tool.specs.PlanCheck.{CheckRun, PlanTold, plan_text};
 
 use crate::Status;
-use crate::reading::read_whole;
 use otn_base::limits::MOST_PLAN_BYTES;
-use otn_ports::{Reading, Sink, Source, Written, write_whole};
+use otn_ports::{Reading, Sink, Source, Written, read_whole, write_whole};
 use plan_file::{NoPlan, Plan};
 use std::alloc::{AllocError, Global};
 

@@ -4,20 +4,23 @@
 //! - `status`: how it ended.
 //! - `words`: the words of the commands.
 //! - `check`: whether a plan is one.
-//! - `reading`: a whole read of a source that stands in no place, as the plan's.
 //! - `slot`: the payload bytes of one tributary slot of a line.
-//! - `laws`: what no call shows by itself: that other slots change nothing.
+//! - `pull`, `tap`: what the sink of a tributary on a line emits, turn by turn.
+//! - `beyond`: whether a line has more than a command reads.
+//! - `laws`: what no call shows by itself: that nothing else on a line changes a report.
 #![tactic(auto)]
 
+mod beyond;
 mod check;
 mod laws;
-mod reading;
+mod pull;
 mod slot;
 mod status;
+mod tap;
 mod top;
 mod words;
 
-pub use laws::slot_two_worlds;
+pub use laws::{pull_two_worlds, slot_two_worlds};
 pub use status::Status;
 pub use top::run;
 pub use words::{Command, command_of};

@@ -4,9 +4,10 @@ ghost use Rattle.otn_ports.specs.InPlace.{in_view};
 ghost use Rattle.otn_ports.specs.Bytes.{HasFailed};
 ghost use Rattle.otn_ports.specs.Views.{Dead};
 ghost use Rattle.line_tool.specs.SlotReport.{slot_bytes};
-ghost use Rattle.line_tool.specs.SlotRuns.{SlotRun, SlotStep, ByteRun, SlotWritten};
+ghost use Rattle.line_tool.specs.SlotRuns.{SlotRun, SlotStep, SlotWritten};
 
 use crate::Status;
+use crate::beyond::ask_for_more;
 use frame_geometry::Frame;
 use odtu_columns::slot_row;
 use otn_base::limits::{MOST_FRAMES, SLOT_COLUMNS, SLOT_FRAME_BYTES};
@@ -116,18 +117,5 @@ fn gather_slot(frame: &Frame<4080>, slot: u8, into: &mut [u8])
     for row in 0..4_u32 {
         let start = row as usize * SLOT_COLUMNS;
         slot_row(frame, slot, row + 1, &mut into[start..start + SLOT_COLUMNS]);
-    }
-}
-
-// After the most frames: whether a further byte comes.
-fn ask_for_more<I: Source>(line: &mut InPlaceOf<I>) -> Status
-    requires alive { (in_view I.Source line.old).state ≢ Dead }
-    ensures { ByteRun (in_view I.Source line.old) (in_view I.Source line.new) result }
-{
-    let mut byte = [0; 1];
-    match line.read_full(&mut byte) {
-        Reading::Full => Status::Unfinished,
-        Reading::End(_) => Status::Done,
-        Reading::Lost => Status::Cut,
     }
 }

@@ -8,9 +8,9 @@ use plan_file::PlanError;
 /// `ReportFault`, `Cut`, `Unfinished`, `Done`.
 #[derive(Clone, Copy, Debug, PartialEq, Eq)]
 pub enum Status {
-    /// Everything was carried.
+    /// All was done: the line has no byte behind those that the command used, or the plan is accepted.
     Done,
-    /// The line had bytes after its last whole frame, or more frames than are read.
+    /// The line had bytes after its last whole frame, or more of them than the command reads.
     Unfinished,
     /// The words are no command.
     Words,
@@ -21,9 +21,9 @@ pub enum Status {
     PlanFault,
     /// A write of the report failed, and ended the command.
     ReportFault,
-    /// The line input is dead: a read of it failed.
+    /// The line input is dead: a read of it failed, or it was handed in dead.
     Cut,
-    /// There was no memory, and nothing was done.
+    /// There was no memory: no place was asked, and nothing was written. `check` may have read the plan.
     Memory,
 }
 

@@ -1,10 +1,13 @@
 // Whole runs over ports in memory.
 mod check;
+mod pull;
 mod slot;
 
-use crate::Status;
-use otn_ports::{Failed, MemSource, Source};
+use crate::{Status, run};
+use otn_base::Memory;
+use otn_ports::{Failed, FirstReady, InPlaceOf, MemSink, MemSource, OutPlaceOf, Rack, Source};
 use plan_file::PlanError;
+use std::alloc::Global;
 
 /// A source in memory that fails at one of its calls, counted from 1.
 #[derive(Drop)]
@@ -41,6 +44,48 @@ impl Source for FailsAt {
         }
         self.inner.read(into)
     }
+}
+
+// What a run answered, what it wrote, how many bytes it took of its line, and whether the line died.
+#[derive(Drop)]
+struct Outcome {
+    status: Status,
+    written: Vec<u8>,
+    taken: u64,
+    dead: bool,
+}
+
+// A run with this line as line input 0, and room for so many bytes of the report.
+fn ran<S: Source>(alloc: Global, words: &[&str], line: S, room: usize) -> Result<Outcome, Memory> {
+    let mut texts = Vec::new(alloc);
+    for word in words {
+        texts.push(String::from_str(alloc, word)?)?;
+    }
+    let mut bays: Rack<S, MemSink> = Rack::new(alloc)?;
+    bays.set_line_in(0, InPlaceOf::Live(line, 0));
+    bays.set_line_out(0, OutPlaceOf::Empty);
+    let mut plan = MemSource::new(Vec::new(alloc));
+    let mut report = MemSink::with_room(alloc, room)?;
+    let mut chooser = FirstReady::new();
+    let status = run(
+        alloc,
+        &texts,
+        &mut plan,
+        &mut bays,
+        &mut chooser,
+        &mut report,
+    );
+    let (taken, dead) = match bays.line_in(0) {
+        InPlaceOf::Empty => (0, false),
+        InPlaceOf::Live(_, taken) => (*taken, false),
+        InPlaceOf::Dead(_, taken) => (*taken, true),
+    };
+    Ok(Outcome {
+        status,
+        written: report.into_bytes(),
+        taken,
+        dead,
+    })
 }
 
 #[test]

@@ -1,11 +1,13 @@
 // The top call of the program.
-ghost use Rattle.std.specs.Prelude.{◌≡◌, ◌≢◌, ◌<◌, ◌≤◌, ◌-◌, ◌^◌, ◌↔◌, ◌⊎◌, ℕ, List, Some, length};
+ghost use Rattle.std.specs.Prelude.{◌≡◌, ◌≢◌, ◌<◌, ◌≤◌, ◌+◌, ◌-◌, ◌*◌, ◌%◌, ◌^◌, ◌↔◌, ◌⊎◌, ℕ, List, Some, length, min};
 ghost use Rattle.otn_ports.specs.Bytes.{HasFailed};
 ghost use Rattle.otn_ports.specs.Given.{Gave, IsGiven};
 ghost use Rattle.otn_ports.specs.OnePlace.{OnlyLineIn};
 ghost use Rattle.otn_ports.specs.Racks.{bays_view};
 ghost use Rattle.otn_ports.specs.Views.{Dead, line_in_at};
 ghost use Rattle.line_tool.specs.PlanCheck.{CheckRun, CheckEnds};
+ghost use Rattle.line_tool.specs.PullReport.{LeavesBytes, bytes_taken, pull_report, tributary};
+ghost use Rattle.line_tool.specs.PullRuns.{PullRun};
 ghost use Rattle.line_tool.specs.Runs.{Reports, HasRest, IsWell, IsRefusal};
 ghost use Rattle.line_tool.specs.SlotReport.{slot_report};
 ghost use Rattle.line_tool.specs.SlotRuns.{SlotRun};
@@ -13,6 +15,7 @@ ghost use Rattle.line_tool.specs.Words.{IsForm, IsNoForm, texts};
 ghost use Rattle.plan_file.specs.declared.error.PlanError.{PlanError};
 
 use crate::check::check_plan;
+use crate::pull::write_pull;
 use crate::slot::write_slot;
 use crate::words::command_of;
 use crate::{Command, Status};
@@ -24,7 +27,10 @@ use std::alloc::Global;
 ///
 /// `slot K` writes the 1,904 payload bytes of tributary slot K, 1 to 8, row by row (G.709 clause 19.1), of
 /// each whole frame that line input 0 gives, in order, of 131,072 frames at most; after that many it asks
-/// for one byte more. `check` reads the plan, and writes `plan connections N turns T` where it is accepted.
+/// for one byte more. `pull PORT K,K` writes what the sink of these slots and this tributary port emits in each turn of
+/// line input 0, one multiframe each (G.709 clause 19.4 and Annex D), up to and with the turn in which the line ended, of
+/// 16,384 turns at most; where by then it has neither ended, nor shown its end, nor died, it asks for one byte more.
+/// `check` reads the plan, and writes `plan connections N turns T` where it is accepted.
 ///
 /// The clauses speak of line input 0 as it was and is: `line_in_at (bays_view ..) 0`.
 pub fn run<P: Source, K: Sink, C: Chooser, I: Source, O: Sink>(
@@ -48,7 +54,7 @@ pub fn run<P: Source, K: Sink, C: Chooser, I: Source, O: Sink>(
     ensures slot { (slot : ℕ) (given : List ℕ) → IsForm (texts words.now) (Command.Slot slot) → result ≢ Status.Memory
         → IsGiven (line_in_at (bays_view I.Source O.Sink bays.old) 0) (line_in_at (bays_view I.Source O.Sink bays.new) 0) given
         → Reports result (K.got report.old) (K.got report.new) (slot_report slot given) }
-    // Whether or not the line tells its bytes: some were taken of it, and these were written and answered for.
+    // Whether or not the line tells its bytes: there are bytes, as many as were taken, that were written and answered for.
     ensures slot_taken { (slot : ℕ) → IsForm (texts words.now) (Command.Slot slot) → result ≢ Status.Memory
         → SlotRun slot (line_in_at (bays_view I.Source O.Sink bays.old) 0) (line_in_at (bays_view I.Source O.Sink bays.new) 0)
         (K.got report.old) (K.got report.new) result }
@@ -66,6 +72,44 @@ pub fn run<P: Source, K: Sink, C: Chooser, I: Source, O: Sink>(
         → IsWell (line_in_at (bays_view I.Source O.Sink bays.old) 0).faults (line_in_at (bays_view I.Source O.Sink bays.new) 0).faults
         → (line_in_at (bays_view I.Source O.Sink bays.old) 0).state ≢ Dead
         → (result ≡ Status.Done) ⊎ (result ≡ Status.Unfinished) ⊎ (result ≡ Status.Memory) }
+    // As many bytes are taken as there are, but of the most frames and one byte more at most.
+    ensures slot_took { (slot : ℕ) (given : List ℕ) → IsForm (texts words.now) (Command.Slot slot) → result ≢ Status.Memory → result ≢ Status.ReportFault
+        → IsGiven (line_in_at (bays_view I.Source O.Sink bays.old) 0) (line_in_at (bays_view I.Source O.Sink bays.new) 0) given
+        → (line_in_at (bays_view I.Source O.Sink bays.new) 0).number < 2 ^ 64 - 1
+        → (line_in_at (bays_view I.Source O.Sink bays.new) 0).number - (line_in_at (bays_view I.Source O.Sink bays.old) 0).number
+        ≡ min (length given) (131072 * 16320 + 1) }
+
+    // `pull`: what the sink emits on the line that line input 0 gave is written, whole, or a part of it where a write failed.
+    ensures pull { (port : ℕ) (slots given : List ℕ) → IsForm (texts words.now) (Command.Pull port slots) → result ≢ Status.Memory
+        → IsGiven (line_in_at (bays_view I.Source O.Sink bays.old) 0) (line_in_at (bays_view I.Source O.Sink bays.new) 0) given
+        → Reports result (K.got report.old) (K.got report.new) (pull_report (tributary port slots) given) }
+    // Whether or not the line tells its bytes: there are bytes, as many as were taken, that were written and answered for.
+    ensures pull_taken { (port : ℕ) (slots : List ℕ) → IsForm (texts words.now) (Command.Pull port slots) → result ≢ Status.Memory
+        → PullRun (tributary port slots) (line_in_at (bays_view I.Source O.Sink bays.old) 0) (line_in_at (bays_view I.Source O.Sink bays.new) 0)
+        (K.got report.old) (K.got report.new) result }
+    ensures pull_cut { (port : ℕ) (slots : List ℕ) → IsForm (texts words.now) (Command.Pull port slots) → result ≢ Status.Memory → result ≢ Status.ReportFault
+        → (result ≡ Status.Cut) ↔ ((line_in_at (bays_view I.Source O.Sink bays.new) 0).state ≡ Dead) }
+    ensures pull_unfinished { (port : ℕ) (slots given : List ℕ) → IsForm (texts words.now) (Command.Pull port slots)
+        → result ≢ Status.Memory → result ≢ Status.ReportFault
+        → IsGiven (line_in_at (bays_view I.Source O.Sink bays.old) 0) (line_in_at (bays_view I.Source O.Sink bays.new) 0) given
+        → (result ≡ Status.Unfinished) ↔ (((line_in_at (bays_view I.Source O.Sink bays.new) 0).state ≢ Dead) × LeavesBytes given) }
+    // The same by the number of bytes taken, also where the line does not tell its bytes: a part of a frame was.
+    ensures pull_unfinished_by_number { (port : ℕ) (slots : List ℕ) → IsForm (texts words.now) (Command.Pull port slots)
+        → result ≢ Status.Memory → result ≢ Status.ReportFault
+        → (line_in_at (bays_view I.Source O.Sink bays.new) 0).number < 2 ^ 64 - 1
+        → (result ≡ Status.Unfinished) ↔ (((line_in_at (bays_view I.Source O.Sink bays.new) 0).state ≢ Dead)
+        × (0 < ((line_in_at (bays_view I.Source O.Sink bays.new) 0).number - (line_in_at (bays_view I.Source O.Sink bays.old) 0).number) % 16320)) }
+    ensures pull_complete { (port : ℕ) (slots : List ℕ) → IsForm (texts words.now) (Command.Pull port slots) → IsWell (K.faults report.old) (K.faults report.new)
+        → IsWell (line_in_at (bays_view I.Source O.Sink bays.old) 0).faults (line_in_at (bays_view I.Source O.Sink bays.new) 0).faults
+        → (line_in_at (bays_view I.Source O.Sink bays.old) 0).state ≢ Dead
+        → (result ≡ Status.Done) ⊎ (result ≡ Status.Unfinished) ⊎ (result ≡ Status.Memory) }
+
+    // It takes no more than its turns want, and one byte more at most.
+    ensures pull_took { (port : ℕ) (slots given : List ℕ) → IsForm (texts words.now) (Command.Pull port slots)
+        → result ≢ Status.Memory → result ≢ Status.ReportFault
+        → IsGiven (line_in_at (bays_view I.Source O.Sink bays.old) 0) (line_in_at (bays_view I.Source O.Sink bays.new) 0) given
+        → (line_in_at (bays_view I.Source O.Sink bays.new) 0).number < 2 ^ 64 - 1
+        → (line_in_at (bays_view I.Source O.Sink bays.new) 0).number - (line_in_at (bays_view I.Source O.Sink bays.old) 0).number ≡ bytes_taken given }
 
     // `check`: the plan is refused exactly where its text is, and the line is written where it is not.
     ensures check { (text : List ℕ) → IsForm (texts words.now) Command.Check → P.left plan.old ≡ Some text → result ≢ Status.Memory → result ≢ Status.PlanFault
@@ -75,12 +119,13 @@ pub fn run<P: Source, K: Sink, C: Chooser, I: Source, O: Sink>(
     ensures check_complete { IsForm (texts words.now) Command.Check → IsWell (K.faults report.old) (K.faults report.new) → IsWell (P.faults plan.old) (P.faults plan.new)
         → (result ≡ Status.Done) ⊎ ((error : PlanError) × (place : ℕ) × (result ≡ Status.Plan error place)) ⊎ (result ≡ Status.Memory) }
 
-    // What stays. Line input 0 alone is asked, and by `slot` alone; it keeps its port, and dies only where its port's count rose or
+    // What stays. Line input 0 alone is asked, and by `slot` and `pull` alone; it keeps its port, and dies only where its port's count rose or
     // stands at its end. The plan is read by `check` alone.
     ensures line { (taken : List ℕ) × Gave (line_in_at (bays_view I.Source O.Sink bays.old) 0) taken (line_in_at (bays_view I.Source O.Sink bays.new) 0) }
     ensures only { OnlyLineIn 0 (bays_view I.Source O.Sink bays.old) (bays_view I.Source O.Sink bays.new) }
     ensures untouched { IsForm (texts words.now) Command.Check → bays.new ≡ bays.old }
     ensures unread { (slot : ℕ) → IsForm (texts words.now) (Command.Slot slot) → plan.new ≡ plan.old }
+    ensures pull_unread { (port : ℕ) (slots : List ℕ) → IsForm (texts words.now) (Command.Pull port slots) → plan.new ≡ plan.old }
     ensures unused { chooser.new ≡ chooser.old }
     ensures faults { K.faults report.old ≤ K.faults report.new }
     ensures keeps { K.keeps report.new ≡ K.keeps report.old }
@@ -88,6 +133,9 @@ pub fn run<P: Source, K: Sink, C: Chooser, I: Source, O: Sink>(
 {
     match command_of(words) {
         Some(Command::Slot(slot)) => write_slot(alloc, slot, bays.line_in_mut(0), report),
+        Some(Command::Pull(port, slots)) => {
+            write_pull(alloc, port, &slots, bays.line_in_mut(0), report)
+        }
         Some(Command::Check) => check_plan(alloc, plan, report),
         None => Status::Words,
     }

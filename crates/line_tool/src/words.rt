@@ -1,37 +1,88 @@
 // The words of a command.
-ghost use Rattle.std.specs.Prelude.{◌≡◌, ℕ, ◌+◌, ◌≤◌, ◌∷◌, [], IfSome, IfNone};
-ghost use Rattle.line_tool.specs.Words.{IsForm, IsNoForm, texts};
+ghost use Rattle.std.specs.Prelude.{◌≡◌, ℕ, List, ◌+◌, ◌≤◌, ◌∷◌, [], ◌++◌, IfSome, IfNone, codes, length};
+ghost use Rattle.otn_base.specs.SlotList.{IsSlotList};
+ghost use Rattle.line_tool.specs.Words.{IsForm, IsNoForm, texts, digit, slots_text};
+
+use arrayvec::ArrayVec;
+use otn_base::Slots;
 
 /// A command of the program.
-#[derive(Clone, Copy, Debug, PartialEq, Eq)]
+#[derive(Clone, Debug, PartialEq, Eq, Drop)]
 pub enum Command {
     /// `slot K`: the payload bytes of one tributary slot, 1 to 8, of line input 0.
     Slot(u8),
+    /// `pull PORT K,K`: what a sink of these slots and this tributary port, 1 to 8, on line input 0 emits.
+    Pull(u8, Slots),
     /// `check`: whether the plan is one, and how large.
     Check,
 }
 
-/// The command whose form these words are. None where they are no form.
+/// The command whose form these words are. None where they are no command.
 pub fn command_of(words: &[String]) -> Option<Command>
     ensures form { IfSome result (IsForm (texts words.now)) }
     ensures no_form { IfNone result (IsNoForm (texts words.now)) }
 {
     match words {
-        [name, slot] if name.as_str() == "slot" => {
-            Some(Command::Slot(slot_digit(slot.as_bytes())?))
-        }
+        [name, slot] if name.as_str() == "slot" => slot_command(slot.as_str()),
+        [name, port, slots] if name.as_str() == "pull" => pull_command(
+            port.as_str(),
+            slots.as_str(),
+        ),
         [name] if name.as_str() == "check" => Some(Command::Check),
         _ => None,
     }
 }
 
-// The slot, 1 to 8, that this text is the digit of.
-fn slot_digit(text: &[u8]) -> Option<u8>
-    ensures digit { IfSome result (λ slot. (text.now ≡ (48 + slot) ∷ []) × (1 ≤ slot) × (slot ≤ 8)) }
-    ensures none { IfNone result ((slot : ℕ) → text.now ≡ (48 + slot) ∷ [] → 1 ≤ slot → slot ≤ 8 → ⊥) }
+// The command `slot` with this word after it.
+fn slot_command(slot: &str) -> Option<Command>
+    ensures form { IfSome result (IsForm (codes "slot" ∷ slot.now ∷ [])) }
+    ensures no_form { IfNone result (IsNoForm (codes "slot" ∷ slot.now ∷ [])) }
+{
+    Some(Command::Slot(one_digit(slot.as_bytes())?))
+}
+
+// The command `pull` with these words after it.
+fn pull_command(port: &str, slots: &str) -> Option<Command>
+    ensures form { IfSome result (IsForm (codes "pull" ∷ port.now ∷ slots.now ∷ [])) }
+    ensures no_form { IfNone result (IsNoForm (codes "pull" ∷ port.now ∷ slots.now ∷ [])) }
+{
+    let port = one_digit(port.as_bytes())?;
+    Some(Command::Pull(port, slot_digits(slots.as_bytes())?))
+}
+
+// The number, 1 to 8, that this text is the digit of.
+fn one_digit(text: &[u8]) -> Option<u8>
+    ensures digit { IfSome result (λ n. (text.now ≡ digit n) × (1 ≤ n) × (n ≤ 8)) }
+    ensures none { IfNone result ((n : ℕ) → text.now ≡ digit n → 1 ≤ n → n ≤ 8 → ⊥) }
 {
     match text {
         [digit @ b'1'..=b'8'] => Some(*digit - b'0'),
         _ => None,
     }
+}
+
+// The slots, 1 to 8 and rising, whose digits this text has, with commas between them.
+fn slot_digits(text: &[u8]) -> Option<Slots>
+    ensures slots { IfSome result (λ slots. (text.now ≡ slots_text slots) × IsSlotList 8 slots) }
+    ensures none { IfNone result ((slots : List ℕ) → text.now ≡ slots_text slots → IsSlotList 8 slots → ⊥) }
+{
+    let mut slots: ArrayVec<u8, 8> = ArrayVec::new();
+    let mut rest = text;
+    while rest.len() > 1 {
+        if rest[1] != b',' {
+            return None;
+        }
+        push_digit(&mut slots, &rest[..1])?;
+        rest = &rest[2..];
+    }
+    push_digit(&mut slots, rest)?;
+    Slots::new(slots.as_slice())
+}
+
+// Appends the number, 1 to 8, that this text is the digit of. None where it is none, or there are eight already.
+fn push_digit(slots: &mut ArrayVec<u8, 8>, text: &[u8]) -> Option<()>
+    ensures pushed { IfSome result (λ _. (n : ℕ) × (text.now ≡ digit n) × (slots.new.items ≡ slots.old.items ++ n ∷ [])) }
+    ensures none { IfNone result ((n : ℕ) → text.now ≡ digit n → 1 ≤ n → n ≤ 8 → length slots.old.items ≡ 8) }
+{
+    slots.try_push(one_digit(text)?).ok()
 }

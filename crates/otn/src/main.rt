@@ -18,12 +18,15 @@ use std::{fs, io, str};
 const HELP: &str = "\
 otn, an ODU2 multiplexer and cross-connect (ITU-T G.709)
 
-usage: otn slot K     the payload bytes of tributary slot K, 1 to 8, of each whole frame of line-0.in
-       otn check      whether plan.toml is a plan, and of how many connections and turns
+usage: otn slot K           the payload bytes of tributary slot K, 1 to 8, of each whole frame of line-0.in
+       otn pull PORT K,K    what the sink of tributary port PORT, 1 to 8, on the tributary slots K, 1 to 8
+                            and rising, with commas between them, emits in each turn of line-0.in
+       otn check            whether plan.toml is a plan, and of how many connections and turns
        otn --help
        otn --version
 
-It reads the files of the current folder and writes to standard output. It ends with
+It reads the files of the current folder and writes to standard output; of a line 131,072 frames at most
+(slot), or 16,384 turns of one multiframe each (pull). It ends with
 0 done  1 unfinished  2 words  3 plan refused  4 plan fault  5 report fault  6 cut  7 memory
 ";
 
@@ -64,14 +67,10 @@ fn serve(rt: &HostRuntime) -> Result<Status, Memory> {
     }
     let mut bays = Bays::new(alloc)?;
     for n in 0..LINES as u8 {
-        let path = format!(in alloc; "line-{n}.in")?;
-        let source = match fs::open(rt, path.as_str()) {
-            Ok(file) => FileSource::of(Some(file)),
-            Err(error) if error.kind() == ErrorKind::NotFound => continue,
-            Err(_) => FileSource::of(None),
-        };
-        let port: Box<dyn Source> = Box::new(alloc, source)?;
-        bays.set_line_in(n, InPlace::Live(InPort::Boxed(port), 0));
+        if let Some(source) = line_file(rt, n)? {
+            let port: Box<dyn Source> = Box::new(alloc, source)?;
+            bays.set_line_in(n, InPlace::Live(InPort::Boxed(port), 0));
+        }
     }
     let mut plan = FileSource::of(fs::open(rt, "plan.toml").ok());
     let mut report = StdoutSink::of(rt.stdout());
@@ -84,6 +83,16 @@ fn serve(rt: &HostRuntime) -> Result<Status, Memory> {
         &mut chooser,
         &mut report,
     ))
+}
+
+// The file of line input `n`: None where there is none. One that cannot be opened fails at its first read.
+fn line_file(rt: &HostRuntime, n: u8) -> Result<Option<FileSource>, AllocError> {
+    let path = format!(in rt.alloc(); "line-{n}.in")?;
+    match fs::open(rt, path.as_str()) {
+        Ok(file) => Ok(Some(FileSource::of(Some(file)))),
+        Err(error) if error.kind() == ErrorKind::NotFound => Ok(None),
+        Err(_) => Ok(Some(FileSource::of(None))),
+    }
 }
 
 // The pages that are no command.

@@ -1,51 +1,10 @@
 // The command `slot`.
-use super::FailsAt;
-use crate::{Status, run};
+use super::{FailsAt, ran};
+use crate::Status;
 use otn_base::Memory;
-use otn_ports::{FirstReady, InPlaceOf, MemSink, MemSource, OutPlaceOf, Rack, Source};
+use otn_ports::MemSource;
 use std::alloc::Global;
 use std::test::Fail;
-
-// What a run answered, what it wrote, how many bytes it took of its line, and whether the line died.
-#[derive(Drop)]
-struct Outcome {
-    status: Status,
-    written: Vec<u8>,
-    taken: u64,
-    dead: bool,
-}
-
-fn ran<S: Source>(alloc: Global, words: &[&str], line: S, room: usize) -> Result<Outcome, Memory> {
-    let mut texts = Vec::new(alloc);
-    for word in words {
-        texts.push(String::from_str(alloc, word)?)?;
-    }
-    let mut bays: Rack<S, MemSink> = Rack::new(alloc)?;
-    bays.set_line_in(0, InPlaceOf::Live(line, 0));
-    bays.set_line_out(0, OutPlaceOf::Empty);
-    let mut plan = MemSource::new(Vec::new(alloc));
-    let mut report = MemSink::with_room(alloc, room)?;
-    let mut chooser = FirstReady::new();
-    let status = run(
-        alloc,
-        &texts,
-        &mut plan,
-        &mut bays,
-        &mut chooser,
-        &mut report,
-    );
-    let (taken, dead) = match bays.line_in(0) {
-        InPlaceOf::Empty => (0, false),
-        InPlaceOf::Live(_, taken) => (*taken, false),
-        InPlaceOf::Dead(_, taken) => (*taken, true),
-    };
-    Ok(Outcome {
-        status,
-        written: report.into_bytes(),
-        taken,
-        dead,
-    })
-}
 
 // Frames in each of which the payload byte in column c is (c - 17) mod 256, and all others are 255;
 // then some more bytes.

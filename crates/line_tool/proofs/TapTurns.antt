@@ -1,0 +1,143 @@
+-- A turn of a sink on a line, from its pieces.
+use Rattle.std.proofs.Common.{◌≡◌, ◌≤◌, ◌+◌, ◌∙◌, ℕ, Bool, true, false, List, [], ◌∷◌, ◌++◌, Option, length, take, drop, refl, sym, ap, subst, arith, add-one, append-nil, append_assoc, length-append}
+use Rattle.std.specs.Prelude.{is_some}
+use Rattle.otn_ports.specs.Views.{InView}
+use Rattle.line_side.specs.LineFile.{mfas_of}
+use Rattle.line_side.specs.LineStands.{LineView, LineStands}
+use Rattle.line_side.specs.MayBe.{MayBe}
+use Rattle.multiframe.specs.LineTurns.{Standing, Hunting, Locked, Ended, standing, multiframe, has_ended}
+use Rattle.tributary_model.specs.Places.{Tributary, Taken, View}
+use Rattle.trib_sink.specs.Sink.{Sink, StandsAfter, ended_view}
+use Rattle.maintenance_signals.specs.Stream.{signal_byte}
+use Rattle.maintenance_signals.specs.declared.signal.Signal.TheVariants.{Ais}
+use Rattle.tributary_model.specs.Emission.{emission}
+use Rattle.line_tool.proofs.TurnFrames.{turn_frames}
+use Rattle.line_tool.specs.PullReport.{view_at, views_until, emitted_at}
+use Rattle.line_tool.specs.PullTurn.{frames_in, TapStands, TapMoves, TurnMoves}
+use Rattle.line_tool.specs.declared.tap.Tap.{Tap}
+
+-- nothing went by
+pub moves_none : (own : Tributary) (first now : InView) (taken : List ℕ) (t : ℕ) (tap : Tap) → TapStands own first now taken t tap → TapMoves own first now taken t tap tap
+moves_none own first now taken t tap h =
+    let all : taken ++ [] ≡ taken = append-nil taken in
+    record {
+      came = [];
+      stands = subst (λ xs. TapStands own first now xs t tap) (sym all) h;
+      earlier = λ given may. subst (λ xs. MayBe tap.line.reader.ending xs given) all may;
+    }
+
+-- some pieces and then some more
+pub moves_twice : (own : Tributary) (first was now : InView) (taken : List ℕ) (t : ℕ) (old mid new : Tap) → (m : TapMoves own first was taken t old mid)
+    → (TapStands own first was (taken ++ m.came) t mid → TapMoves own first now (taken ++ m.came) t mid new) → TapMoves own first now taken t old new
+moves_twice own first was now taken t old mid new m next =
+    let n = next m.stands in
+    let all : (taken ++ m.came) ++ n.came ≡ taken ++ (m.came ++ n.came) = append_assoc taken m.came n.came in
+    record {
+      came = m.came ++ n.came;
+      stands = subst (λ xs. TapStands own first now xs t new) all n.stands;
+      earlier = λ given may. m.earlier given (n.earlier given (subst (λ xs. MayBe new.line.reader.ending xs given) (sym all) may));
+    }
+
+-- before the first turn
+pub tap_begins : (own : Tributary) (tap : Tap) → tap.line.pieces ≡ 0 → ((first : InView) → LineStands first first [] 0 tap.line) → StandsAfter own [] [] tap.sink
+    → (first : InView) → TapStands own first first [] 0 tap
+unfolding views_until frames_in
+tap_begins own tap between line sink first = record {
+  line = line first;
+  sink = λ given may. subst (λ k. StandsAfter own [] (frames_in given 0 k) tap.sink) (sym between) sink;
+}
+
+-- whether the line has ended
+ended_is : (s : Standing) (ended : Bool) → (ended ≡ true → s ≡ Ended) × (s ≡ Ended → ended ≡ true) → ended ≡ has_ended s
+ended_is (Hunting i) true h = absurd (let e : Hunting i ≡ Ended = h.0 refl in cc)
+ended_is (Hunting i) false h = refl
+ended_is (Locked lock) true h = absurd (let e : Locked lock ≡ Ended = h.0 refl in cc)
+ended_is (Locked lock) false h = refl
+ended_is Ended true h = refl
+ended_is Ended false h = absurd (let e : false ≡ true = h.1 refl in cc)
+
+-- what is at the front of a buffer
+front : (new emitted old : List ℕ) (n : ℕ) → new ≡ emitted ++ drop n old → n ≡ length emitted → take n new ≡ emitted
+front new emitted old n e count = ap (take n) e ∙ ap (λ k. take k (emitted ++ drop n old)) count ∙ take_of emitted (drop n old)
+  where
+    take_of : (xs ys : List ℕ) → take (length xs) (xs ++ ys) ≡ xs
+    take_of [] ys = refl
+    take_of (x ∷ xs) ys = ap (λ zs. x ∷ zs) (take_of xs ys)
+
+-- it is no longer than the buffer
+pub front_within : (new emitted old : List ℕ) (n : ℕ) → new ≡ emitted ++ drop n old → n ≡ length emitted → length new ≡ length old → n ≤ length old
+front_within new emitted old n e count same =
+    let size : length new ≡ length emitted + length (drop n old) = ap length e ∙ length-append emitted (drop n old) in
+    omega (arith, size, count, same)
+
+-- before the first piece of a turn
+no_frames : (given : List ℕ) (t : ℕ) → frames_in given t 0 ≡ []
+unfolding frames_in
+no_frames given t = refl
+
+-- one turn more
+views_more : (own : Tributary) (given : List ℕ) (t : ℕ) → views_until own given (t + 1) ≡ view_at own given t ∷ views_until own given t
+unfolding views_until
+views_more own given t = rw (add-one t) refl
+
+-- what a turn shows, by the frames that its pieces took
+shown : (own : Tributary) (given : List ℕ) (t : ℕ) (whole : Bool) → whole ≡ is_some (multiframe 8 (mfas_of given) t)
+    → ended_view own whole (frames_in given t 8) ≡ view_at own given t
+shown own given t whole e = ap (λ b. ended_view own b (frames_in given t 8)) e ∙ turn_frames own given t
+
+-- what it emits
+emission_at : (own : Tributary) (given : List ℕ) (t : ℕ) → emission own (signal_byte Ais) (views_until own given t) (view_at own given t) ≡ emitted_at own given t
+unfolding emitted_at
+emission_at own given t = refl
+
+-- the end of a turn whose pieces are done
+pub turn_ends : (own : Tributary) (first now : InView) (taken : List ℕ) (t count : ℕ) (old mid : Tap) (whole : Bool) (line : LineView) (sink : Sink) (into room : List ℕ)
+    → (m : TapMoves own first now taken t old mid) → mid.line.pieces ≡ 8 → line.pieces ≡ 0 → line.reader.ending ≡ mid.line.reader.ending
+    → LineStands first now (taken ++ m.came) (t + 1) line
+    → ((given : List ℕ) → MayBe mid.line.reader.ending (taken ++ m.came) given → whole ≡ is_some (multiframe 8 (mfas_of given) t))
+    → ((given : List ℕ) → MayBe mid.line.reader.ending (taken ++ m.came) given
+    → (line.ended ≡ true → standing 8 (mfas_of given) (t + 1) ≡ Ended) × (standing 8 (mfas_of given) (t + 1) ≡ Ended → line.ended ≡ true))
+    → ((past : List (Option View)) (frames : List Taken) → StandsAfter own past frames mid.sink → StandsAfter own (ended_view own whole frames ∷ past) [] sink)
+    → ((past : List (Option View)) (frames : List Taken) → StandsAfter own past frames mid.sink
+    → into ≡ emission own (signal_byte Ais) past (ended_view own whole frames) ++ drop count room)
+    → ((past : List (Option View)) (frames : List Taken) → StandsAfter own past frames mid.sink → count ≡ length (emission own (signal_byte Ais) past (ended_view own whole frames)))
+    → TurnMoves own first now taken t old (record { line = line; sink = sink }) (take count into)
+turn_ends own first now taken t count old mid whole line sink into room m eight none ending stands multi ends sinks bytes counts =
+    let earlier : (given : List ℕ) → MayBe line.reader.ending (taken ++ m.came) given → MayBe mid.line.reader.ending (taken ++ m.came) given
+    = λ given may. subst (λ e. MayBe e (taken ++ m.came) given) ending may in
+    let took : (given : List ℕ) → MayBe mid.line.reader.ending (taken ++ m.came) given → StandsAfter own (views_until own given t) (frames_in given t 8) mid.sink
+    = λ given may. subst (λ k. StandsAfter own (views_until own given t) (frames_in given t k) mid.sink) eight (m.stands.sink given may) in
+    record {
+      came = m.came;
+      stands = record {
+        line = stands;
+        sink = λ given may.
+            let view = shown own given t whole (multi given (earlier given may)) in
+            let views = ap (λ v. v ∷ views_until own given t) view ∙ sym (views_more own given t) in
+            let frames = sym (ap (frames_in given (t + 1)) none ∙ no_frames given (t + 1)) in
+            subst (λ fs. StandsAfter own (views_until own given (t + 1)) fs sink) frames
+            (subst (λ vs. StandsAfter own vs [] sink) views (sinks (views_until own given t) (frames_in given t 8) (took given (earlier given may))));
+      };
+      earlier = λ given may. m.earlier given (earlier given may);
+      emits = λ given may.
+          let st = took given (earlier given may) in
+          let view = shown own given t whole (multi given (earlier given may)) in
+          front into (emission own (signal_byte Ais) (views_until own given t) (ended_view own whole (frames_in given t 8))) room count
+          (bytes (views_until own given t) (frames_in given t 8) st) (counts (views_until own given t) (frames_in given t 8) st)
+          ∙ ap (emission own (signal_byte Ais) (views_until own given t)) view ∙ emission_at own given t;
+      ended = λ given may. ended_is (standing 8 (mfas_of given) (t + 1)) line.ended (ends given (earlier given may));
+    }
+
+-- what a turn emits is within its buffer
+pub turn_within : (own : Tributary) (first now : InView) (taken : List ℕ) (t count : ℕ) (old mid : Tap) (whole : Bool) (into room : List ℕ)
+    → TapMoves own first now taken t old mid
+    → ((past : List (Option View)) (frames : List Taken) → StandsAfter own past frames mid.sink
+    → into ≡ emission own (signal_byte Ais) past (ended_view own whole frames) ++ drop count room)
+    → ((past : List (Option View)) (frames : List Taken) → StandsAfter own past frames mid.sink → count ≡ length (emission own (signal_byte Ais) past (ended_view own whole frames)))
+    → length into ≡ length room → count ≤ length room
+turn_within own first now taken t count old mid whole into room m bytes counts same =
+    let given = taken ++ m.came in
+    let may : MayBe mid.line.reader.ending (taken ++ m.came) given = record { rest = []; over = λ _. refl; parts = sym (append-nil (taken ++ m.came)) } in
+    let st = m.stands.sink given may in
+    front_within into (emission own (signal_byte Ais) (views_until own given t) (ended_view own whole (frames_in given t mid.line.pieces))) room count
+    (bytes (views_until own given t) (frames_in given t mid.line.pieces) st) (counts (views_until own given t) (frames_in given t mid.line.pieces) st) same

@@ -1,0 +1,74 @@
+use Rattle.std.proofs.Common.{◌≡◌, ◌+◌, ◌++◌, ◌∙◌, refl, subst, inl, inr, arith, true, false}
+use Rattle.otn_ports.specs.InPlace.{in_view}
+use Rattle.line_side.specs.LineStands.{LineView}
+use Rattle.line_tool.specs.PullRuns.{AnswerRun}
+use Rattle.line_tool.specs.declared.pull.After.TheVariants as next
+use Rattle.line_tool.proofs.PullLoop.{turns_none, turns_more, turns_lost, turns_end}
+use Rattle.line_tool.proofs.pull.write_turns.Goals as goal
+
+pub loop-init : goal.loop-init
+loop-init g c = record {
+  between = c.requires.between;
+  somewhere = c.requires.stands;
+  slots = refl;
+  so_far = λ own stands. turns_none own (in_view g.I.Source c.args.line.now) c.args.tap.now (g.K.Sink.got c.args.report.now) stands;
+  faults = omega arith;
+  keeps = refl;
+  same = refl;
+}
+
+pub loop-preserved : goal.loop-preserved
+loop-preserved g c =
+    let step = c.in-NextTurn.ensures in
+    let some = c.loop.invariant.somewhere in
+    let later = c.loop.invariant.faults in
+    record {
+      between = step.between;
+      somewhere = record {
+        own = some.own;
+        first = some.first;
+        taken = some.taken ++ (step.run some.own some.first some.taken some.t some.stands).moves.came;
+        t = some.t + 1;
+        stands = (step.run some.own some.first some.taken some.t some.stands).moves.stands;
+      };
+      slots = step.slots ∙ c.loop.invariant.slots;
+      so_far = λ own stands.
+          let first = in_view g.I.Source c.args.line.now in
+          let h = c.loop.invariant.so_far own stands in
+          let run = step.run own first h.0.taken c.loop.counter h.0.stands in
+          turns_more own first (in_view g.I.Source c.loop.line) (in_view g.I.Source c.write_turn.new.line) c.loop.counter c.loop.tap c.write_turn.new.tap
+          (g.K.Sink.got c.args.report.now) (g.K.Sink.got c.loop.report) (g.K.Sink.got c.write_turn.new.report) false next.NextTurn h.0 h.1 run run.wrote;
+      faults = omega (arith, later, step.faults);
+      keeps = step.keeps ∙ c.loop.invariant.keeps;
+      same = step.same ∙ c.loop.invariant.same;
+    }
+
+pub returns-in-ReportFailed-clause-run : goal.returns-in-ReportFailed-clause-run
+returns-in-ReportFailed-clause-run g c = λ own stands.
+    let first = in_view g.I.Source c.args.line.now in
+    let h = c.loop.invariant.so_far own stands in
+    turns_lost own first (in_view g.I.Source c.loop.line) (in_view g.I.Source c.write_turn.new.line) c.loop.counter c.loop.tap c.write_turn.new.tap
+    (g.K.Sink.got c.args.report.now) (g.K.Sink.got c.loop.report) (g.K.Sink.got c.write_turn.new.report) h.0 h.1 c.loop-test.true
+    (c.in-ReportFailed.ensures.run own first h.0.taken c.loop.counter h.0.stands)
+
+pub returns-in-LineEnded-clause-run : goal.returns-in-LineEnded-clause-run
+returns-in-LineEnded-clause-run g c = λ own stands.
+    let first = in_view g.I.Source c.args.line.now in
+    let now = in_view g.I.Source c.write_turn.new.line in
+    let h = c.loop.invariant.so_far own stands in
+    let run = c.in-LineEnded.ensures.run own first h.0.taken c.loop.counter h.0.stands in
+    let k = turns_more own first (in_view g.I.Source c.loop.line) now c.loop.counter c.loop.tap c.write_turn.new.tap
+    (g.K.Sink.got c.args.report.now) (g.K.Sink.got c.loop.report) (g.K.Sink.got c.write_turn.new.report) true next.LineEnded h.0 h.1 run run.wrote in
+    turns_end c.answer.result own first now (in_view g.I.Source c.answer.new.place) (c.loop.counter + 1) c.write_turn.new.tap
+    (g.K.Sink.got c.args.report.now) (g.K.Sink.got c.write_turn.new.report) k.0 (omega (arith, c.loop-test.true)) (λ given may. inl (k.1 given may)) c.in-LineEnded.ensures.between.pieces
+    (subst (λ (line : LineView). AnswerRun line now (in_view g.I.Source c.answer.new.place) c.answer.result) c.line.ensures c.answer.ensures)
+
+pub returns-clause-run : goal.returns-clause-run
+returns-clause-run g c = λ own stands.
+    let first = in_view g.I.Source c.args.line.now in
+    let now = in_view g.I.Source c.loop.line in
+    let h = c.loop.invariant.so_far own stands in
+    let last : c.loop.counter ≡ 16384 = omega (arith, c.loop-test.false, c.loop.auto.counter-end) in
+    turns_end c.answer-2.result own first now (in_view g.I.Source c.answer-2.new.place) c.loop.counter c.loop.tap
+    (g.K.Sink.got c.args.report.now) (g.K.Sink.got c.loop.report) h.0 c.loop.auto.counter-end (λ given may. inr last) c.loop.invariant.between.pieces
+    (subst (λ (line : LineView). AnswerRun line now (in_view g.I.Source c.answer-2.new.place) c.answer-2.result) c.line-2.ensures c.answer-2.ensures)

@@ -1,0 +1,21 @@
+use Rattle.std.proofs.Common.{◌≡◌, ◌≤◌, [], false}
+use Rattle.otn_ports.specs.InPlace.{in_view}
+use Rattle.otn_ports.specs.Views.{InView}
+use Rattle.tributary_model.specs.Places.{Tributary}
+use Rattle.line_tool.specs.PullTurn.{TapStands, StandsSomewhere, IsBetweenTurns}
+use Rattle.line_tool.proofs.PullLoop.{TurnsSoFar, HasLast}
+use Rattle.line_tool.proofs.pull.write_turns.Given as goal
+
+-- the turns so far, after the last of which the line goes on
+abbrev pub invariant-loop : goal.invariant-loop
+invariant-loop g l = record {
+  between : IsBetweenTurns l.tap;
+  somewhere : StandsSomewhere (in_view g.I.Source l.line) l.tap;
+  slots : l.tap.sink.slots ≡ l.fn.tap.sink.slots;
+  so_far : (own : Tributary) → ((first : InView) → TapStands own first first [] 0 l.fn.tap)
+      → (h : TurnsSoFar own (in_view g.I.Source l.fn.line) (in_view g.I.Source l.line) l.counter l.tap (g.K.Sink.got l.fn.report) (g.K.Sink.got l.report))
+      × HasLast own (in_view g.I.Source l.fn.line) (in_view g.I.Source l.line) l.counter l.tap (g.K.Sink.got l.fn.report) (g.K.Sink.got l.report) h false;
+  faults : g.K.Sink.faults l.fn.report ≤ g.K.Sink.faults l.report;
+  keeps : g.K.Sink.keeps l.report ≡ g.K.Sink.keeps l.fn.report;
+  same : g.K.Sink.boxed l.report ≡ g.K.Sink.boxed l.fn.report;
+}

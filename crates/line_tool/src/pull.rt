@@ -1,0 +1,137 @@
+// The command `pull`: what the sink of a tributary on a line emits, turn by turn.
+ghost use Rattle.std.specs.Prelude.{◌≡◌, ◌≢◌, ◌*◌, ◌≤◌, ℕ, List, [], IfOk, length, vec_len};
+ghost use Rattle.otn_ports.specs.Bytes.{HasFailed};
+ghost use Rattle.otn_ports.specs.InPlace.{in_view};
+ghost use Rattle.otn_ports.specs.Views.{InView};
+ghost use Rattle.tributary_model.specs.Places.{Tributary};
+ghost use Rattle.line_tool.specs.PullReport.{tributary};
+ghost use Rattle.line_tool.specs.PullTurn.{TapStands, StandsSomewhere, IsBetweenTurns};
+
+use crate::Status;
+use crate::beyond::ask_for_more;
+use crate::tap::Tap;
+use line_side::LineIn;
+use otn_base::Slots;
+use otn_base::limits::{GROUPS, MOST_TURNS};
+use otn_ports::{InPlaceOf, Sink, Source, Written, write_whole};
+use std::alloc::{AllocError, Global};
+
+// What comes after a turn.
+enum After {
+    NextTurn,
+    LineEnded,
+    ReportFailed,
+}
+
+ghost use Rattle.line_tool.specs.PullRuns.{PullRun, TurnRun, AnswerRun};
+
+/// Writes what a sink of these slots and this tributary port, 1 to 8, emits in each turn of the line, up to and with
+/// the turn in which the line ended, of 16,384 turns at most. Where its end was not seen and it is not dead, it is then asked
+/// for one byte more.
+pub(crate) fn write_pull<I: Source, K: Sink>(
+    alloc: Global,
+    port: u8,
+    slots: &Slots,
+    line: &mut InPlaceOf<I>,
+    report: &mut K,
+) -> Status
+    requires low { 1 ≤ port }
+    requires high { port ≤ 8 }
+    ensures memory { result ≡ Status.Memory → (line.new ≡ line.old) × (report.new ≡ report.old) }
+    ensures run { result ≢ Status.Memory
+        → PullRun (tributary port slots.now) (in_view I.Source line.old) (in_view I.Source line.new) (K.got report.old) (K.got report.new) result }
+    ensures report_fault { result ≡ Status.ReportFault → HasFailed (K.faults report.old) (K.faults report.new) }
+    ensures faults { K.faults report.old ≤ K.faults report.new }
+    ensures keeps { K.keeps report.new ≡ K.keeps report.old }
+    ensures same { K.boxed report.new ≡ K.boxed report.old }
+{
+    let Ok(mut tap) = Tap::new(alloc, port, slots) else {
+        return Status::Memory;
+    };
+    let Ok(mut room) = turn_room(alloc, slots) else {
+        return Status::Memory;
+    };
+    write_turns(&mut tap, line, report, &mut room)
+}
+
+// Takes room for what a turn emits: 15,233 bytes a slot, which is one more than the most in all.
+fn turn_room(alloc: Global, slots: &Slots) -> Result<Vec<u8>, AllocError>
+    ensures { IfOk result (λ room. vec_len room ≡ length slots.now * 15233) }
+{
+    vec![in alloc; 0; slots.count() as usize * (GROUPS + 1)]
+}
+
+// The turns, with a sink before the first one and room for what it emits.
+fn write_turns<I: Source, K: Sink>(
+    tap: &mut Tap,
+    line: &mut InPlaceOf<I>,
+    report: &mut K,
+    room: &mut [u8],
+) -> Status
+    requires between { IsBetweenTurns tap.old }
+    requires stands { StandsSomewhere (in_view I.Source line.old) tap.old }
+    requires room { length tap.old.sink.slots * 15233 ≤ length room.old }
+    ensures run { (own : Tributary) → ((first : InView) → TapStands own first first [] 0 tap.old)
+        → PullRun own (in_view I.Source line.old) (in_view I.Source line.new) (K.got report.old) (K.got report.new) result }
+    ensures report_fault { result ≡ Status.ReportFault → HasFailed (K.faults report.old) (K.faults report.new) }
+    ensures memory { result ≢ Status.Memory }
+    ensures faults { K.faults report.old ≤ K.faults report.new }
+    ensures keeps { K.keeps report.new ≡ K.keeps report.old }
+    ensures same { K.boxed report.new ≡ K.boxed report.old }
+{
+    for _ in 0..MOST_TURNS {
+        match write_turn(tap, line, report, room) {
+            After::NextTurn => {}
+            After::LineEnded => return answer(tap.line(), line),
+            After::ReportFailed => return Status::ReportFault,
+        }
+    }
+    answer(tap.line(), line)
+}
+
+// One turn.
+fn write_turn<I: Source, K: Sink>(
+    tap: &mut Tap,
+    line: &mut InPlaceOf<I>,
+    report: &mut K,
+    room: &mut [u8],
+) -> After
+    requires between { IsBetweenTurns tap.old }
+    requires room { length tap.old.sink.slots * 15233 ≤ length room.old }
+    requires stands { StandsSomewhere (in_view I.Source line.old) tap.old }
+    ensures run { (own : Tributary) (first : InView) (taken : List ℕ) (t : ℕ) → TapStands own first (in_view I.Source line.old) taken t tap.old
+        → TurnRun own first (in_view I.Source line.new) taken t tap.old tap.new (K.got report.old) (K.got report.new) result }
+    ensures between { IsBetweenTurns tap.new }
+    ensures slots { tap.new.sink.slots ≡ tap.old.sink.slots }
+    ensures report_fault { result ≡ After.ReportFailed → HasFailed (K.faults report.old) (K.faults report.new) }
+    ensures faults { K.faults report.old ≤ K.faults report.new }
+    ensures keeps { K.keeps report.new ≡ K.keeps report.old }
+    ensures same { K.boxed report.new ≡ K.boxed report.old }
+{
+    let count = tap.turn(line, room);
+    if write_whole(report, &room[..count]) == Written::Lost {
+        return After::ReportFailed;
+    }
+    if tap.line().ended() {
+        After::LineEnded
+    } else {
+        After::NextTurn
+    }
+}
+
+// How the command ends after its last turn.
+fn answer<I: Source>(line: &LineIn, place: &mut InPlaceOf<I>) -> Status
+    ensures { AnswerRun line.now (in_view I.Source place.old) (in_view I.Source place.new) result }
+{
+    if let InPlaceOf::Dead(..) = place {
+        return Status::Cut;
+    }
+    if !line.end_seen() {
+        return ask_for_more(place);
+    }
+    if line.counts().rest == 0 {
+        Status::Done
+    } else {
+        Status::Unfinished
+    }
+}

@@ -1,0 +1,95 @@
+// The sink of a tributary on an input line.
+ghost use Rattle.std.specs.Prelude.{◌≡◌, ◌+◌, ◌*◌, ◌<◌, ◌≤◌, ℕ, List, [], IfOk, length, take};
+ghost use Rattle.otn_ports.specs.InPlace.{in_view};
+ghost use Rattle.otn_ports.specs.Views.{InView};
+ghost use Rattle.tributary_model.specs.Places.{Tributary};
+ghost use Rattle.line_tool.specs.PullReport.{tributary};
+
+use line_side::LineIn;
+use otn_base::limits::MULTIFRAME;
+use otn_base::{Memory, Slots};
+use otn_ports::{InPlaceOf, Source};
+use std::alloc::Global;
+use trib_sink::TribSink;
+
+/// A sink that sees the turns of a line, from the first one on.
+#[derive(Drop)]
+pub(crate) struct Tap {
+    line: LineIn,
+    sink: TribSink,
+}
+
+ghost use Rattle.line_tool.specs.PullTurn.{TapStands, TapMoves, TurnMoves, StandsSomewhere, IsInStep, IsBetweenTurns};
+
+impl Tap {
+    /// A sink of these slots and this tributary port, 1 to 8, before the line's first turn. Takes all memory that it will
+    /// ever need; answers `Memory` where there is none.
+    pub(crate) fn new(alloc: Global, port: u8, slots: &Slots) -> Result<Tap, Memory>
+        requires low { 1 ≤ port }
+        requires high { port ≤ 8 }
+        ensures stands { IfOk result (λ tap. (first : InView) → TapStands (tributary port slots.now) first first [] 0 tap) }
+        ensures between { IfOk result IsBetweenTurns }
+        ensures slots { IfOk result (λ tap. tap.sink.slots ≡ slots.now) }
+    {
+        let line = LineIn::new(alloc)?;
+        let sink = TribSink::new(alloc, slots, port)?;
+        Ok(Tap { line, sink })
+    }
+
+    /// Does a turn. What the sink emits in it stands at the front of `into`, which has room for 15,233 bytes a slot, and the
+    /// answer is how many bytes that is.
+    pub(crate) fn turn<I: Source>(&mut self, place: &mut InPlaceOf<I>, into: &mut [u8]) -> usize
+        requires between { IsBetweenTurns self.old }
+        requires stands { StandsSomewhere (in_view I.Source place.old) self.old }
+        requires room { length self.old.sink.slots * 15233 ≤ length into.old }
+        ensures moves { (own : Tributary) (first : InView) (taken : List ℕ) (t : ℕ) → TapStands own first (in_view I.Source place.old) taken t self.old
+            → TurnMoves own first (in_view I.Source place.new) taken t self.old self.new (take result into.new) }
+        ensures within { result ≤ length into.old }
+        ensures between { IsBetweenTurns self.new }
+        ensures slots { self.new.sink.slots ≡ self.old.sink.slots }
+    {
+        self.take_frames(place);
+        let whole = self.line.end_turn();
+        self.sink.end_turn(whole, into)
+    }
+
+    // The eight pieces of a turn.
+    fn take_frames<I: Source>(&mut self, place: &mut InPlaceOf<I>)
+        requires between { IsBetweenTurns self.old }
+        ensures moves { (own : Tributary) (first : InView) (taken : List ℕ) (t : ℕ) → TapStands own first (in_view I.Source place.old) taken t self.old
+            → TapMoves own first (in_view I.Source place.new) taken t self.old self.new }
+        ensures pieces { self.new.line.pieces ≡ 8 }
+        ensures step { IsInStep self.new.sink.taken self.new }
+        ensures slots { self.new.sink.slots ≡ self.old.sink.slots }
+    {
+        let mut frames = 0;
+        for _ in 0..MULTIFRAME {
+            frames = self.take_piece(place, frames);
+        }
+    }
+
+    // A piece of a turn in which so many frames were taken, and how many then are.
+    fn take_piece<I: Source>(&mut self, place: &mut InPlaceOf<I>, frames: u8) -> u8
+        requires pieces { self.old.line.pieces < 8 }
+        requires step { IsInStep frames self.old }
+        ensures moves { (own : Tributary) (first : InView) (taken : List ℕ) (t : ℕ) → TapStands own first (in_view I.Source place.old) taken t self.old
+            → TapMoves own first (in_view I.Source place.new) taken t self.old self.new }
+        ensures pieces { self.new.line.pieces ≡ self.old.line.pieces + 1 }
+        ensures step { IsInStep result self.new }
+        ensures slots { self.new.sink.slots ≡ self.old.sink.slots }
+    {
+        if !self.line.piece(place) {
+            return frames;
+        }
+        self.sink
+            .take_frame(frames, self.line.frame(), self.line.expected());
+        frames + 1
+    }
+
+    /// The line.
+    pub(crate) fn line(&self) -> &LineIn
+        ensures { result.now ≡ self.now.line }
+    {
+        &self.line
+    }
+}

@@ -1,0 +1,236 @@
+// The command `pull`.
+use super::{FailsAt, ran};
+use crate::Status;
+use otn_base::Memory;
+use otn_ports::MemSource;
+use std::alloc::Global;
+use std::test::Fail;
+
+// How many groups of a multiframe carry data in these lines, of one byte each in one slot.
+const DATA_GROUPS: usize = 15_168;
+
+// A byte of a frame of this turn, from 1, of a line that carries a tributary of port 1 in slot 3. Its payload is the byte
+// that `fill` gives, or else the turn's number. What is not the tributary's is never 0.
+fn byte_of(fill: Option<u8>, turn: u8, mfas: u8, row: u32, column: u32) -> u8 {
+    let told = mfas % 8 == 2 && row < 4;
+    if row == 1 && column == 7 {
+        return mfas;
+    }
+    if row == 4 && column == 15 && mfas == 4 {
+        return 0x80;
+    }
+    if told && column == 15 {
+        return 0;
+    }
+    if told && column == 16 {
+        return message(turn, row);
+    }
+    if column % 8 == 3 && 17 <= column && column <= 3824 {
+        return fill.unwrap_or(turn);
+    }
+    (row.wrapping_mul(61).wrapping_add(column) % 255 + 1) as u8
+}
+
+// JC1 to JC3 in the rows 1 to 3: 15,168 groups, said in full in turn 1, and no change after it.
+fn message(turn: u8, row: u32) -> u8 {
+    match (turn, row) {
+        (_, 1) => 0xED,
+        (0..=1, 2) => 0x03,
+        (0..=1, _) => 0x2E,
+        (_, 2) => 0x00,
+        _ => 0x39,
+    }
+}
+
+fn push_frame(bytes: &mut Vec<u8>, fill: Option<u8>, turn: u8, mfas: u8) -> Result<(), Memory> {
+    for row in 1..5_u32 {
+        for column in 1..4081_u32 {
+            bytes.push(byte_of(fill, turn, mfas, row, column))?;
+        }
+    }
+    Ok(())
+}
+
+// A line: frames of these MFAS bytes, like those of turn 1 but with payload 0; so many frames of MFAS 0, 1, 2 and so on, of
+// the turns 1, 2 and so on; and then some more bytes.
+fn line(
+    alloc: Global,
+    fill: Option<u8>,
+    lead: &[u8],
+    frames: u8,
+    more: usize,
+) -> Result<Vec<u8>, Memory> {
+    let mut bytes = Vec::new(alloc);
+    for mfas in lead {
+        push_frame(&mut bytes, fill, 0, *mfas)?;
+    }
+    for n in 0..frames {
+        push_frame(&mut bytes, fill, n / 8 + 1, n)?;
+    }
+    for _ in 0..more {
+        bytes.push(7)?;
+    }
+    Ok(bytes)
+}
+
+// A byte of the AIS stream, counted from 0.
+fn ais_byte(place: usize) -> u8 {
+    match place % 15_296 {
+        0..=2 => 0xF6,
+        3..=5 => 0x28,
+        6 => (place / 15_296 % 256) as u8,
+        7..=13 | 3837 => 0,
+        _ => 0xFF,
+    }
+}
+
+// What is emitted, 15,168 bytes a turn: the payload of the turn with this number, or AIS where it is 0, which stands first.
+// At most so many bytes.
+fn emitted(alloc: Global, turns: &[u8], room: usize) -> Result<Vec<u8>, Memory> {
+    let mut bytes = Vec::new(alloc);
+    for turn in turns {
+        for _ in 0..DATA_GROUPS {
+            let place = bytes.len();
+            bytes.push(if *turn == 0 { ais_byte(place) } else { *turn })?;
+        }
+    }
+    bytes.truncate(room);
+    Ok(bytes)
+}
+
+#[test]
+fn pull_writes_what_the_sink_emits(rt: HostRuntime) -> Result<(), Fail> {
+    let alloc = rt.alloc();
+    let all = 100_000;
+    let again = [0, 1, 2, 3, 4, 5, 6, 7, 0, 1, 2, 3, 4, 5, 6, 7];
+    let cases: [(&str, &[u8], u8, usize, usize, Status, &[u8]); 19] = [
+        // Ends of the line.
+        ("1", &[], 0, 0, all, Status::Done, &[]),
+        ("1", &[], 0, 1, all, Status::Unfinished, &[]),
+        ("1", &[], 7, 0, all, Status::Done, &[]),
+        ("1", &[], 7, 1, all, Status::Unfinished, &[]),
+        ("1", &[], 8, 0, all, Status::Done, &[]),
+        ("1", &[], 11, 16_319, all, Status::Unfinished, &[]),
+        ("1", &[], 12, 0, all, Status::Done, &[]),
+        ("1", &[], 16, 0, all, Status::Done, &[2]),
+        ("1", &[], 27, 8000, all, Status::Unfinished, &[2, 3]),
+        ("1", &[], 40, 0, all, Status::Done, &[2, 3, 4, 5]),
+        // Hunts: AIS from the fourth turn on where none had a multiframe.
+        ("1", &[3; 7], 40, 0, all, Status::Done, &[2, 3, 4, 5]),
+        ("1", &[3; 32], 40, 0, all, Status::Done, &[0, 2, 3, 4, 5]),
+        ("1", &[3; 32], 0, 0, all, Status::Done, &[0, 0]),
+        ("1", &[3; 31], 0, 0, all, Status::Done, &[0]),
+        // Two MSI bytes of port 1.
+        ("1", &again, 16, 0, all, Status::Done, &[2]),
+        ("2", &again, 16, 0, all, Status::Done, &[0, 0, 0]),
+        // A report with too little room.
+        ("1", &[], 8, 0, 0, Status::Done, &[]),
+        ("1", &[], 40, 0, 20_000, Status::ReportFault, &[2, 3, 4, 5]),
+        ("1", &[], 40, 0, 0, Status::ReportFault, &[]),
+    ];
+    for (port, lead, frames, more, room, status, turns) in cases {
+        let source = MemSource::new(line(alloc, None, lead, frames, more)?);
+        let outcome = ran(alloc, &["pull", port, "3"], source, room)?;
+        assert_eq!(rt;
+            outcome.status,
+            status,
+            "port {port}: {lead:?}, {frames} frames and {more} bytes into {room}"
+        );
+        let wanted = emitted(alloc, turns, room)?;
+        assert!(rt;
+            outcome.written.as_slice() == wanted.as_slice(),
+            "port {port}: {lead:?}, {frames} frames and {more} bytes into {room}"
+        );
+        assert!(rt; !outcome.dead);
+    }
+    Ok(())
+}
+
+#[test]
+fn pull_writes_the_same_from_any_frame_on(rt: HostRuntime) -> Result<(), Fail> {
+    let alloc = rt.alloc();
+    let cases: [(&[u8], usize, Status); 2] = [
+        (&[], 0, Status::Done),
+        (&[5, 6, 7], 9, Status::Unfinished),
+    ];
+    for (lead, more, status) in cases {
+        let source = MemSource::new(line(alloc, Some(0xA5), lead, 40, more)?);
+        let outcome = ran(alloc, &["pull", "1", "3"], source, 100_000)?;
+        assert_eq!(rt; outcome.status, status, "after {lead:?}");
+        assert_eq!(rt; outcome.written.len(), 60_672, "after {lead:?}");
+        for byte in outcome.written.as_slice() {
+            assert_eq!(rt; *byte, 0xA5, "after {lead:?}");
+        }
+    }
+    Ok(())
+}
+
+#[test]
+fn pull_ends_where_its_line_fails(rt: HostRuntime) -> Result<(), Fail> {
+    let alloc = rt.alloc();
+    let ahead: &[u8] = &[
+        3, 3, 3, 3, 3, 3, 3, 3, 3, 3, 3, 3, 3, 3, 3, 3, 3, 3, 3, 3, 3, 3, 3, 3, 3, 3, 3, 3, 3, 3,
+        3, 8,
+    ];
+    let cases: [(&[u8], u32, usize, Status, &[u8]); 5] = [
+        (&[], 1, 100_000, Status::Cut, &[]),
+        (&[], 12, 100_000, Status::Cut, &[]),
+        (&[], 20, 100_000, Status::Cut, &[2]),
+        (&[], 20, 0, Status::ReportFault, &[]),
+        // The read that looks ahead: one more turn is done.
+        (ahead, 33, 100_000, Status::Cut, &[0, 0]),
+    ];
+    for (lead, call, room, status, turns) in cases {
+        let source = FailsAt::new(line(alloc, None, lead, 40, 0)?, call);
+        let outcome = ran(alloc, &["pull", "1", "3"], source, room)?;
+        assert_eq!(rt; outcome.status, status, "at call {call} into {room}");
+        let wanted = emitted(alloc, turns, room)?;
+        assert!(rt;
+            outcome.written.as_slice() == wanted.as_slice(),
+            "at call {call} into {room}"
+        );
+        assert!(rt; outcome.dead, "at call {call} into {room}");
+    }
+    Ok(())
+}
+
+#[test]
+fn pull_is_told_by_its_words(rt: HostRuntime) -> Result<(), Fail> {
+    let alloc = rt.alloc();
+    let forms: [&[&str]; 20] = [
+        &["pull"],
+        &["pull", "1"],
+        &["pull", "1", "3", "3"],
+        &["Pull", "1", "3"],
+        &["pull", "9", "3"],
+        &["pull", "0", "3"],
+        &["pull", "01", "3"],
+        &["pull", "", "3"],
+        &["pull", "1", ""],
+        &["pull", "1", "3,3"],
+        &["pull", "1", "4,3"],
+        &["pull", "1", "3,"],
+        &["pull", "1", ",3"],
+        &["pull", "1", "3,,4"],
+        &["pull", "1", "3;4"],
+        &["pull", "1", "34"],
+        &["pull", "1", "0"],
+        &["pull", "1", "9"],
+        &["pull", "1", "1,2,3,4,5,6,7,8,8"],
+        &["pull", "1", "1,2,3,4,5,6,7,8,9"],
+    ];
+    for words in forms {
+        let source = MemSource::new(line(alloc, None, &[], 1, 0)?);
+        let outcome = ran(alloc, words, source, 5000)?;
+        assert_eq!(rt; outcome.status, Status::Words, "{words:?}");
+        assert_eq!(rt; outcome.taken, 0, "{words:?}");
+        assert_eq!(rt; outcome.written.len(), 0, "{words:?}");
+    }
+    for (port, slots) in [("1", "8"), ("8", "1,2,8"), ("1", "1,2,3,4,5,6,7,8")] {
+        let source = MemSource::new(Vec::new(alloc));
+        let outcome = ran(alloc, &["pull", port, slots], source, 0)?;
+        assert_eq!(rt; outcome.status, Status::Done, "{port} {slots}");
+        assert_eq!(rt; outcome.written.len(), 0, "{port} {slots}");
+    }
+    Ok(())
+}
