@@ -2,6 +2,7 @@ pub mod LineFrames
 pub mod PlanChecks
 pub mod PullBays
 pub mod PullEnds
+pub mod PullExamples
 pub mod PullLoop
 pub mod PullTable
 pub mod PullTurns

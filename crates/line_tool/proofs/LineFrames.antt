@@ -51,11 +51,6 @@ pub slots_of-none : (slot : ℕ) → slots_of slot [] 0 ≡ []
 unfolding slots_of
 slots_of-none slot = ap (flat_map (slot_bytes slot)) (first_frames-none [])
 
--- the slot's bytes of the first frames stay where more bytes follow
-pub slots_of-append : (slot : ℕ) (bytes more : List ℕ) (i : ℕ) → i * 16320 ≤ length bytes → slots_of slot (bytes ++ more) i ≡ slots_of slot bytes i
-unfolding slots_of
-slots_of-append slot bytes more i there = ap (flat_map (slot_bytes slot)) (first_frames-append bytes more i there)
-
 -- one frame more
 pub slots_of-more : (slot : ℕ) (bytes frame : List ℕ) (i : ℕ) → length bytes ≡ i * 16320 → length frame ≡ 16320
     → slots_of slot (bytes ++ frame) (i + 1) ≡ slots_of slot bytes i ++ slot_bytes slot frame

@@ -46,7 +46,7 @@ pull_report own given = flat_map (emitted_at own given) (turns_of (mfas_of given
 abbrev pub frames_wanted : List ℕ → ℕ
 frames_wanted given = wanted 8 (mfas_of given) (length (turns_of (mfas_of given)))
 
--- how many bytes `pull` takes of a line: these frames, or all bytes where they are not all whole; one more where the end was not seen
+-- how many bytes `pull` takes of a line: these frames and the one byte more that it asks for, or all where there are fewer
 abbrev pub bytes_taken : List ℕ → ℕ
 bytes_taken given = min (length given) (16320 * frames_wanted given + 1)
 

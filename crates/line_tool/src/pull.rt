@@ -89,7 +89,7 @@ fn write_turns<I: Source, K: Sink>(
     answer(tap.line(), line)
 }
 
-// One turn.
+// Does a turn, writes what the sink emits in it, and says what comes after it.
 fn write_turn<I: Source, K: Sink>(
     tap: &mut Tap,
     line: &mut InPlaceOf<I>,

@@ -113,7 +113,7 @@ pub fn run<P: Source, K: Sink, C: Chooser, I: Source, O: Sink>(
         → IsWell (line_zero I.Source O.Sink bays.old).faults (line_zero I.Source O.Sink bays.new).faults
         → (line_zero I.Source O.Sink bays.old).state ≢ Dead
         → (result ≡ Status.Done) ⊎ (result ≡ Status.Unfinished) ⊎ (result ≡ Status.Memory) }
-    // It takes no more than its turns want, and one byte more at most.
+    // As many bytes are taken as its turns want and one more, or all that there are.
     ensures pull_took { (port : ℕ) (slots given : List ℕ) → IsForm (texts words.now) (Command.Pull port slots)
         → result ≢ Status.Memory → result ≢ Status.ReportFault
         → IsGiven (line_zero I.Source O.Sink bays.old) (line_zero I.Source O.Sink bays.new) given
