@@ -5,3 +5,4 @@ pub mod Heard
 pub mod Law
 pub mod Groups
 pub mod Views
+pub mod OneDamaged

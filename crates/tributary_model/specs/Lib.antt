@@ -5,3 +5,4 @@ pub mod Emission
 pub mod Carries
 pub mod Machine
 pub mod Laws
+pub mod Damage

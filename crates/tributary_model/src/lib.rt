@@ -1,10 +1,12 @@
 //! What a tributary is on a line (G.709 clause 19 and Annex D): its own places in a multiframe, its
 //! stretches, what its sink emits, and what it is to carry a client's bytes. The definitions are in
-//! `specs/`; the laws about them are the contracts of the functions in `laws`.
+//! `specs/`; the laws about them are the contracts of the functions in `laws` and `carriage`.
 #![tactic(auto)]
 
+mod carriage;
 mod laws;
 mod turns;
 
+pub use carriage::one_damaged_message;
 pub use laws::{most_bytes, most_groups, own_places_alone, sink_without_totals};
 pub use turns::{Hearing, Said, SinkState, Standing};
