@@ -5,6 +5,7 @@ use Rattle.std.specs.List.{range_with_len, flat_map}
 use Rattle.jc_codec.specs.Message.{says, hears, turned, inverted_at, number_of, same, one_more, one_less, two_more, two_less}
 use Rattle.cnd_codec.specs.Remainder.{says_rest, hears_rest}
 use Rattle.crc_small.specs.LongDivision.{crc8_of, crc5_of, check_of, remainder_from, low_bits, bits_of}
+use Rattle.tributary_model.specs.declared.turns.Hearing.TheVariants.{Damaged}
 use Rattle.tributary_model.specs.declared.turns.SinkState.{SinkState}
 use Rattle.tributary_model.specs.declared.turns.SinkState.TheVariants.{Waiting, Up, Down}
 use Rattle.tributary_model.specs.Places.{Tributary, View, Taken, msi_in}
@@ -126,3 +127,17 @@ msi_slots : (map (λ (x : ℕ × ℕ). x.0) (flat_map (msi_in three_slots) (map 
     × (map (λ (x : ℕ × ℕ). x.0) (flat_map (msi_in three_slots) (map empty_frame (range_with_len 248 8))) ≡ [])
 unfolding empty_frame three_slots
 msi_slots = (refl, refl, refl)
+
+-- Why the numbers are to be steady: of 4, 1 and 4 bytes the third turn emits 3 and not 4, since the second one completes no group
+-- with the fourth byte.
+unsteady_pairs : map {B = ℕ × ℕ} (λ t. (number_in 3 (4 ∷ 1 ∷ 4 ∷ []) t, rest_in 3 (4 ∷ 1 ∷ 4 ∷ []) t)) (range_with_len 0 3) ≡ (1, 1) ∷ (0, 2) ∷ (2, 0) ∷ []
+unsteady_pairs = refl
+
+unsteady : amounts flex (reverse (said_after None ((1, 1) ∷ (0, 2) ∷ (2, 0) ∷ []))) ≡ 0 ∷ 0 ∷ 3 ∷ []
+unfolding amounts emitted_total flex said_after with_message course came hears_message says says_rest hears hears_rest turned inverted_at number_of same one_more one_less two_more two_less crc8_of crc5_of check_of remainder_from low_bits bits_of
+unsteady = refl
+
+-- Why they are to bring at most the groups of a multiframe: the message of one more is damaged.
+too_many : hears_message None 1 (says None 15233 ++ says_rest 0) ≡ Damaged
+unfolding hears_message says says_rest hears hears_rest turned inverted_at number_of same one_more one_less two_more two_less crc8_of crc5_of check_of remainder_from low_bits bits_of
+too_many = refl

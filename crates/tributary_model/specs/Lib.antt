@@ -6,3 +6,4 @@ pub mod Carries
 pub mod Machine
 pub mod Laws
 pub mod Damage
+pub mod Carriage

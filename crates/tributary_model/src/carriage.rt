@@ -1,9 +1,28 @@
-// The laws of carriage, each the contract of a function: what becomes of damage to what the views of a
-// connection carry.
+// The laws of carriage, each the contract of a function: what becomes of a client's bytes that the views
+// of a connection carry, and of damage to them.
+ghost use Rattle.tributary_model.specs.Carriage.{EmitsWhatIsCarried, IsUpWhileCarried, EmitsTheRest, EmitsAfterDamage, IsUpAfterDamage, CanBeCarried};
 ghost use Rattle.tributary_model.specs.Damage.{IsAsIfRepeated};
 
 /// One damaged message, where no three in a row are damaged, is as the pair of the turn before, said
 /// again: every emission and every state is the same.
 pub fn one_damaged_message()
     ensures { IsAsIfRepeated }
+{}
+
+/// Where all turns of a connection carry a client's bytes, in steady numbers, its sink emits exactly
+/// these bytes, those of each turn two turns later, and is Up throughout. If then it is Down, it emits
+/// the rest of the whole groups that came. For all bytes in such numbers there are turns that carry them.
+pub fn intact_carriage()
+    ensures bytes { EmitsWhatIsCarried }
+    ensures state { IsUpWhileCarried }
+    ensures rest { EmitsTheRest }
+    ensures carried { CanBeCarried }
+{}
+
+/// Whatever came before, as soon as turns carry a client's bytes and one of them says its number
+/// without a former one while no slot is marked, the sink is Up, and from the third turn after it on
+/// it emits exactly these bytes.
+pub fn healing()
+    ensures bytes { EmitsAfterDamage }
+    ensures state { IsUpAfterDamage }
 {}
