@@ -13,4 +13,5 @@ pub mod CarriedMessage
 pub mod Unmarked
 pub mod CarriedTurns
 pub mod Intact
+pub mod Passing
 pub mod Sender

@@ -7,3 +7,4 @@ pub mod Machine
 pub mod Laws
 pub mod Damage
 pub mod Carriage
+pub mod Passing

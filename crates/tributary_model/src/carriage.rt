@@ -2,6 +2,7 @@
 // of a connection carry, and of damage to them.
 ghost use Rattle.tributary_model.specs.Carriage.{EmitsWhatIsCarried, IsUpWhileCarried, EmitsTheRest, EmitsAfterDamage, IsUpAfterDamage, CanBeCarried};
 ghost use Rattle.tributary_model.specs.Damage.{IsAsIfRepeated};
+ghost use Rattle.tributary_model.specs.Passing.{JoinsToWhatIsCarried, JoinsToWholeGroups, EmitsAsMany, CarriesAllByFronts, PassesOn, SaysThreeLater, CarriesToTheEnd};
 
 /// One damaged message, where no three in a row are damaged, is as the pair of the turn before, said
 /// again: every emission and every state is the same.
@@ -25,4 +26,23 @@ pub fn intact_carriage()
 pub fn healing()
     ensures bytes { EmitsAfterDamage }
     ensures state { IsUpAfterDamage }
+{}
+
+/// What the sink of such a connection emits, joined, is a front of the bytes, in as many bytes a turn
+/// as the sender took, and whole groups where it ended. A sender that carries what it took so far carries what it takes in all. Where a
+/// sender takes on what the sink emits, each turn's in the turn after it, its turns carry the same bytes
+/// three turns later, and say the same pairs.
+pub fn passing_on()
+    ensures joined { JoinsToWhatIsCarried }
+    ensures ended { JoinsToWholeGroups }
+    ensures count { EmitsAsMany }
+    ensures fronts { CarriesAllByFronts }
+    ensures carried { PassesOn }
+    ensures pairs { SaysThreeLater }
+{}
+
+/// Through any number of nodes that pass them on so the bytes are carried to the end, three turns later
+/// for each.
+pub fn chains()
+    ensures { CarriesToTheEnd }
 {}

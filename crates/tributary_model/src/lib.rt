@@ -7,6 +7,6 @@ mod carriage;
 mod laws;
 mod turns;
 
-pub use carriage::{healing, intact_carriage, one_damaged_message};
+pub use carriage::{chains, healing, intact_carriage, one_damaged_message, passing_on};
 pub use laws::{most_bytes, most_groups, own_places_alone, sink_without_totals};
 pub use turns::{Hearing, Said, SinkState, Standing};
