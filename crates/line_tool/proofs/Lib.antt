@@ -1,6 +1,8 @@
 pub mod LineFrames
 pub mod PlanChecks
 pub mod PullBays
+pub mod PullCarried
+pub mod PullDamaged
 pub mod PullEnds
 pub mod PullExamples
 pub mod PullLoop

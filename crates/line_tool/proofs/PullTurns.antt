@@ -48,7 +48,7 @@ after_ended ms (Locked lock) e = absurd (cc)
 after_ended ms Ended e = refl
 
 -- a line that has ended stays so
-stays_ended : (ms : List ℕ) (n k t : ℕ) → t ≡ n + k → has_ended (standing 8 ms n) ≡ true → has_ended (standing 8 ms t) ≡ true
+pub stays_ended : (ms : List ℕ) (n k t : ℕ) → t ≡ n + k → has_ended (standing 8 ms n) ≡ true → has_ended (standing 8 ms t) ≡ true
 unfolding standing
 stays_ended ms n zero t e ended = let same : n ≡ t = omega arith in subst (λ i. has_ended (standing 8 ms i) ≡ true) same ended
 stays_ended ms n (suc k) t e ended =

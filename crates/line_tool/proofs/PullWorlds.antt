@@ -15,7 +15,7 @@ use Rattle.line_tool.specs.Agreements.{AgreeOnTributary}
 use Rattle.line_tool.specs.PullReport.{tributary, member_at, frames_of, view_at, views_until, emitted_at, turns_of, pull_report}
 
 -- eight slots share the payload columns evenly
-is_tributary : (port : ℕ) (slots : List ℕ) → IsSlotList 8 slots → IsTributary (tributary port slots)
+pub is_tributary : (port : ℕ) (slots : List ℕ) → IsSlotList 8 slots → IsTributary (tributary port slots)
 is_tributary port slots h = record { slots = h; even = refl }
 
 -- the frames of a multiframe agree at the own places, from frame n on
@@ -61,7 +61,7 @@ same_emitted own one other t is agree =
     ∙ ap (λ view. emission own (signal_byte Ais) (views_until own other t) view) (same_view own one other t is agree)
 
 -- what is made of each number, one after another, is the same where it is the same at each number
-same_flat : (f g : ℕ → List ℕ) (xs : List ℕ) → ((x : ℕ) → f x ≡ g x) → flat_map f xs ≡ flat_map g xs
+pub same_flat : (f g : ℕ → List ℕ) (xs : List ℕ) → ((x : ℕ) → f x ≡ g x) → flat_map f xs ≡ flat_map g xs
 same_flat f g [] same = refl
 same_flat f g (x ∷ xs) same = ap (λ ys. ys ++ flat_map f xs) (same x) ∙ ap (λ ys. g x ++ ys) (same_flat f g xs same)
 

@@ -3,6 +3,8 @@ pub mod Beyond
 pub mod Codes
 pub mod Gains
 pub mod PlanCheck
+pub mod PullCarried
+pub mod PullDamaged
 pub mod PullReport
 pub mod PullRuns
 pub mod PullTurn

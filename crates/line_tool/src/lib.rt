@@ -20,7 +20,7 @@ mod tap;
 mod top;
 mod words;
 
-pub use laws::{pull_two_worlds, slot_two_worlds};
+pub use laws::{pull_of_carried, pull_of_one_damaged, pull_two_worlds, slot_two_worlds};
 pub use status::Status;
 pub use top::run;
 pub use words::{Command, command_of};
