@@ -3,13 +3,16 @@
 #![tactic(auto)]
 
 mod gfp;
+mod lanes;
 mod sink;
 mod words;
 
 use otn_base::Memory;
+use std::alloc::Global;
 use std::process::ExitCode;
 
-const USAGE: &str = "usage: bench_layers gfp-make|gfp-read BYTES TIMES, or sink SLOTS TURNS";
+const USAGE: &str =
+    "usage: bench_layers gfp-make|gfp-read|parity|mask BYTES TIMES, split|join|take|put 8|32 TIMES, take-several|put-several SLOTS TIMES, take-of-32|put-of-32 4 TIMES, or sink SLOTS TURNS";
 
 fn main(rt: HostRuntime) -> ExitCode {
     match serve(&rt) {
@@ -38,7 +41,65 @@ fn serve(rt: &HostRuntime) -> Result<Option<u32>, Memory> {
     match words::word(rt, 1, &mut buffer) {
         Some("gfp-make") => Ok(Some(gfp::make(alloc, size, times)?)),
         Some("gfp-read") => Ok(Some(gfp::read(alloc, size, times)?)),
+        Some("split") => Ok(Some(split(alloc, size, times)?)),
+        Some("join") => Ok(Some(join(alloc, size, times)?)),
+        Some("take") => Ok(Some(take(alloc, size, times)?)),
+        Some("put") => Ok(Some(put(alloc, size, times)?)),
+        Some("take-several") => Ok(Some(take_several(alloc, size as usize, times)?)),
+        Some("put-several") => Ok(Some(put_several(alloc, size as usize, times)?)),
+        Some("take-of-32") => Ok(Some(lanes::take_of_thirty_two(alloc, times)?)),
+        Some("put-of-32") => Ok(Some(lanes::put_of_thirty_two(alloc, times)?)),
+        Some("parity") => Ok(Some(lanes::parities(alloc, size, times)?)),
+        Some("mask") => Ok(Some(lanes::masked(alloc, size, times)?)),
         Some("sink") => Ok(Some(sink::take(alloc, size as usize, times)?)),
         _ => Ok(None),
+    }
+}
+
+// Over a line of 8 slots, or of 32.
+fn split(alloc: Global, slots: u32, times: u32) -> Result<u32, Memory> {
+    if slots == 8 {
+        lanes::split_rows::<8>(alloc, times)
+    } else {
+        lanes::split_rows::<32>(alloc, times)
+    }
+}
+
+fn join(alloc: Global, slots: u32, times: u32) -> Result<u32, Memory> {
+    if slots == 8 {
+        lanes::join_rows::<8>(alloc, times)
+    } else {
+        lanes::join_rows::<32>(alloc, times)
+    }
+}
+
+fn take(alloc: Global, slots: u32, times: u32) -> Result<u32, Memory> {
+    if slots == 8 {
+        lanes::take_rows::<8>(alloc, times)
+    } else {
+        lanes::take_rows::<32>(alloc, times)
+    }
+}
+
+fn put(alloc: Global, slots: u32, times: u32) -> Result<u32, Memory> {
+    if slots == 8 {
+        lanes::put_rows::<8>(alloc, times)
+    } else {
+        lanes::put_rows::<32>(alloc, times)
+    }
+}
+
+// Over so many of the first slots of a line of 8.
+fn take_several(alloc: Global, count: usize, times: u32) -> Result<u32, Memory> {
+    match sink::first_slots(count) {
+        Some(slots) => lanes::take_several(alloc, &slots, times),
+        None => Ok(0),
+    }
+}
+
+fn put_several(alloc: Global, count: usize, times: u32) -> Result<u32, Memory> {
+    match sink::first_slots(count) {
+        Some(slots) => lanes::put_several(alloc, &slots, times),
+        None => Ok(0),
     }
 }

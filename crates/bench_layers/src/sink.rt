@@ -25,7 +25,7 @@ pub(crate) fn take(alloc: Global, count: usize, turns: u32) -> Result<u32, Memor
 }
 
 // The first slots of a line, None where there are not so many.
-fn first_slots(count: usize) -> Option<Slots> {
+pub(crate) fn first_slots(count: usize) -> Option<Slots> {
     Slots::new(SLOT_NUMBERS.get(..count)?)
 }
 

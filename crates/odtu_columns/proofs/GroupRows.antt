@@ -1,11 +1,9 @@
 -- Groups out of the payload of a row: cycle by cycle, and as groups of the frame.
-use Rattle.std.proofs.Common.{◌≡◌, ℕ, zero, suc, ◌+◌, ◌-◌, ◌*◌, ◌<◌, ◌≤◌, List, [], ◌∷◌, ◌++◌, length, get_or, take, refl, ap, sym, ◌∙◌, arith, append-nil}
+use Rattle.std.proofs.Common.{◌≡◌, ℕ, zero, suc, ◌+◌, ◌-◌, ◌*◌, ◌<◌, ◌≤◌, List, [], ◌∷◌, ◌++◌, get_or, refl, ap, ◌∙◌, arith, append-nil}
 use Rattle.std.specs.Prelude.{All}
 use Rattle.std.specs.List.{range_with_len, flat_map}
-use Rattle.std.proofs.lemmas.List.{length-map, get_or_default}
+use Rattle.std.proofs.lemmas.List.{get_or_default}
 use Rattle.std.proofs.lemmas.List.Concat.{flat_map-append}
-use Rattle.std.proofs.lemmas.Slice.{take-put_mid}
-use borrow.Rule.Slice.PartMut.{put_mid}
 use Rattle.frame_geometry.specs.Places.{place_of, payload_row_of}
 use Rattle.otn_base.specs.SlotList.{IsSlotList}
 use Rattle.odtu_columns.specs.Groups.{group_at, row_groups_of}
@@ -24,17 +22,6 @@ payload_groups-more payload slots n =
     ap (flat_map group) (range-append 0 n 1)
     ∙ flat_map-append group (range_with_len 0 n) (range_with_len (0 + n) 1)
     ∙ ap (λ xs. flat_map group (range_with_len 0 n) ++ xs) (append-nil (group (0 + n)) ∙ ap group (let e : 0 + n ≡ n = omega arith in e))
-
--- one group more was written
-pub group_written : (payload slots into written : List ℕ) (cycle k : ℕ) → length slots * cycle ≤ length into → written ≡ payload_group payload slots cycle
-    → take (length slots * cycle) into ≡ payload_groups payload slots cycle
-    → take (length slots * (cycle + 1)) (put_mid (length slots * cycle) k into written) ≡ payload_groups payload slots (cycle + 1)
-group_written payload slots into written cycle k room is before =
-    let many : length written ≡ length slots = ap length is ∙ length-map slots (λ slot. get_or payload (8 * cycle + slot - 1) 0) in
-    let end : length slots * (cycle + 1) ≡ length slots * cycle + length written = omega arith in
-    take-put_mid (length slots * cycle) k into written (length slots * (cycle + 1)) end room
-    ∙ ap (λ xs. xs ++ written) before ∙ ap (λ xs. payload_groups payload slots cycle ++ xs) is
-    ∙ sym (payload_groups-more payload slots cycle)
 
 -- the slots of a list of slots
 pub each_slot : (slots : List ℕ) → IsSlotList 8 slots → All (λ slot. (1 ≤ slot) × (slot ≤ 8)) slots

@@ -1,4 +1,5 @@
 pub mod Cycles
 pub mod GroupRows
 pub mod Rows
+pub mod RunGroups
 pub mod WholeRows

@@ -9,3 +9,7 @@ payload_group payload slots cycle = map (λ slot. slice_index payload (8 * cycle
 -- those of the first n cycles
 unfoldable pub payload_groups : List ℕ → List ℕ → (n : ℕ) → List ℕ
 payload_groups payload slots n = flat_map (payload_group payload slots) (range_with_len 0 n)
+
+-- those of so many cycles from one on
+unfoldable pub run_groups : List ℕ → List ℕ → (first count : ℕ) → List ℕ
+run_groups payload slots first count = flat_map (payload_group payload slots) (range_with_len first count)

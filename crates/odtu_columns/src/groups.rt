@@ -1,9 +1,11 @@
 // The groups of the slots that one ODTU takes.
-ghost use Rattle.std.specs.Prelude.{◌≡◌, ◌+◌, ◌-◌, ◌*◌, ◌<◌, ◌≤◌, All, length, map, slice_index};
+ghost use Rattle.std.specs.Prelude.{◌≡◌, ℕ, ◌+◌, ◌-◌, ◌*◌, ◌<◌, ◌≤◌, All, length, map, slice_index};
 ghost use Rattle.odtu_columns.specs.Groups.{frame_group, row_groups_of};
-ghost use Rattle.odtu_columns.specs.Payload.{payload_group, payload_groups};
+ghost use Rattle.odtu_columns.specs.Payload.{payload_group, run_groups};
+ghost use Rattle.otn_base.specs.SlotList.{IsSlotList};
 
 use frame_geometry::Frame;
+use lane_kernels::{take_slot, take_slots};
 use otn_base::Slots;
 use otn_base::limits::{SLOT_COLUMNS, SLOTS};
 
@@ -17,7 +19,7 @@ pub fn group(frame: &Frame<4080>, g: u32, slots: &Slots, into: &mut [u8])
     let _rising = slots.count();
     let before = g as usize - 1;
     let row = (before / SLOT_COLUMNS) as u32 + 1;
-    put_group(
+    cycle_group(
         frame.payload_row(row),
         before % SLOT_COLUMNS,
         slots.as_slice(),
@@ -32,16 +34,19 @@ pub fn row_groups(frame: &Frame<4080>, row: u32, slots: &Slots, into: &mut [u8])
     requires size { length into.old ≡ 476 * length slots.now }
     ensures { into.new ≡ row_groups_of 8 slots.now row frame.now }
 {
-    let payload = frame.payload_row(row);
-    if slots.count() as usize == SLOTS {
-        into.copy_from_slice(payload);
-        return;
-    }
-    put_groups(payload, slots.as_slice(), into);
+    let _rising = slots.count();
+    cycle_groups(
+        frame.payload_row(row),
+        0,
+        SLOT_COLUMNS,
+        slots.as_slice(),
+        into,
+    );
 }
 
-// The group in cycle `cycle`, from 0, of the payload of a row.
-fn put_group(payload: &[u8], cycle: usize, slots: &[u8], into: &mut [u8])
+/// Writes the group of these slots (each 1 to 8) in one cycle, from 0, of the payload of a row, 3,808
+/// bytes.
+pub fn cycle_group(payload: &[u8], cycle: usize, slots: &[u8], into: &mut [u8])
     requires payload { length payload.now ≡ 3808 }
     requires cycle { cycle < 476 }
     requires slots { All (λ slot. (1 ≤ slot) × (slot ≤ 8)) slots.now }
@@ -53,15 +58,33 @@ fn put_group(payload: &[u8], cycle: usize, slots: &[u8], into: &mut [u8])
     }
 }
 
-// The groups of the payload of a row, one after the other.
-fn put_groups(payload: &[u8], slots: &[u8], into: &mut [u8])
+/// Writes the groups of these slots in `count` cycles of the payload of a row, 3,808 bytes, from cycle
+/// `first` (from 0) on, one after the other.
+pub fn cycle_groups(payload: &[u8], first: usize, count: usize, slots: &[u8], into: &mut [u8])
     requires payload { length payload.now ≡ 3808 }
-    requires slots { All (λ slot. (1 ≤ slot) × (slot ≤ 8)) slots.now }
-    requires size { length into.old ≡ 476 * length slots.now }
-    ensures { into.new ≡ payload_groups payload.now slots.now 476 }
+    requires cycles { first + count ≤ 476 }
+    requires slots { IsSlotList 8 slots.now }
+    requires size { length into.old ≡ length slots.now * count }
+    ensures { into.new ≡ run_groups payload.now slots.now first count }
 {
-    let m = slots.len();
-    for cycle in 0..SLOT_COLUMNS {
-        put_group(payload, cycle, slots, &mut into[m * cycle..m * cycle + m]);
+    let cycles = &payload[SLOTS * first..SLOTS * (first + count)];
+    if slots.len() == SLOTS {
+        into.copy_from_slice(cycles);
+        return;
     }
+    gather(cycles, count, slots, into);
+}
+
+// The bytes of these slots in some cycles, cycle by cycle.
+fn gather(cycles: &[u8], count: usize, slots: &[u8], into: &mut [u8])
+    requires cycles { length cycles.now ≡ 8 * count }
+    requires slots { IsSlotList 8 slots.now }
+    requires size { length into.old ≡ length slots.now * count }
+    ensures { (j p : ℕ) → j < count → p < length slots.now → slice_index into.new (length slots.now * j + p) ≡ slice_index cycles.now (8 * j + (slice_index slots.now p - 1)) }
+{
+    if slots.len() == 1 {
+        take_slot::<SLOTS>(cycles, slots[0], into);
+        return;
+    }
+    take_slots::<SLOTS>(cycles, count, slots, into);
 }

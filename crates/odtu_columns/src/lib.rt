@@ -11,6 +11,6 @@ mod slot;
 #[cfg(test)]
 mod tests;
 
-pub use groups::{group, row_groups};
+pub use groups::{cycle_group, cycle_groups, group, row_groups};
 pub use justification::message;
 pub use slot::slot_row;

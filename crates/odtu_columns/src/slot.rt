@@ -3,6 +3,7 @@ ghost use Rattle.std.specs.Prelude.{◌≡◌, ◌≤◌, length};
 ghost use Rattle.odtu_columns.specs.Columns.{slot_row_of};
 
 use frame_geometry::Frame;
+use lane_kernels::take_slot;
 use otn_base::limits::SLOTS;
 
 /// Writes the bytes of a slot (1 to 8) in a row (1 to 4) of a frame, 476 of them, in the order of their
@@ -15,9 +16,5 @@ pub fn slot_row(frame: &Frame<4080>, slot: u8, row: u32, into: &mut [u8])
     requires size { length into.old ≡ 476 }
     ensures { into.new ≡ slot_row_of 8 slot row frame.now }
 {
-    let payload = frame.payload_row(row);
-    let first = slot as usize - 1;
-    for (cycle, byte) in into.iter_mut().enumerate() {
-        *byte = payload[SLOTS * cycle + first];
-    }
+    take_slot::<SLOTS>(frame.payload_row(row), slot, into);
 }

@@ -1,6 +1,5 @@
 pub mod Rows
 pub mod Runs
-pub mod Apart
 pub mod Ring
 pub mod Fits
 pub mod Bytes

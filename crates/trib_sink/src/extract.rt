@@ -1,12 +1,13 @@
 // The bytes of the data groups of a row, out of its payload columns.
-ghost use Rattle.std.specs.Prelude.{◌≡◌, ◌+◌, ◌*◌, ◌-◌, ◌<◌, ◌≤◌, ◌++◌, ◌∷◌, [], if◌then◌else◌, ℕ, All, drop, length, slice_index, take};
+ghost use Rattle.std.specs.Prelude.{◌≡◌, ◌+◌, ◌*◌, ◌<◌, ◌≤◌, ◌++◌, [], if◌then◌else◌, All, length, take};
 ghost use Rattle.gmp_rule.specs.DataRule.{is_data_at};
 ghost use Rattle.odtu_columns.specs.Payload.{payload_group};
 ghost use Rattle.otn_base.specs.SlotList.{IsSlotList};
 ghost use Rattle.trib_sink.specs.Rows.{row_data, run_bytes};
 
 use gmp_rule::Runner;
-use otn_base::limits::{SLOT_COLUMNS, SLOTS};
+use odtu_columns::{cycle_group, cycle_groups};
+use otn_base::limits::SLOT_COLUMNS;
 
 /// Writes the data groups of a row, one after the other, to the front of `into`, and says how many bytes
 /// they have. The next group that the runner is asked about is the first of the row.
@@ -67,11 +68,8 @@ fn put_cycle(payload: &[u8], cycle: usize, slots: &[u8], into: &mut [u8], at: us
     ensures end { result ≡ at + length slots.now }
     ensures bytes { take result into.new ≡ take at into.old ++ payload_group payload.now slots.now cycle }
 {
-    let mut end = at;
-    for k in slots {
-        into[end] = payload[SLOTS * cycle + *k as usize - 1];
-        end += 1;
-    }
+    let end = at + slots.len();
+    cycle_group(payload, cycle, slots, &mut into[at..end]);
     end
 }
 
@@ -92,88 +90,7 @@ fn put_cycles(
     ensures end { result ≡ at + length slots.now * count }
     ensures bytes { take result into.new ≡ take at into.old ++ run_bytes payload.now slots.now first count }
 {
-    if slots.len() == 1 {
-        return put_slot(payload, first, count, slots[0], into, at);
-    }
-    if slots.len() == SLOTS {
-        return put_columns(payload, first, count, into, at);
-    }
-    put_each(payload, first, count, slots, into, at)
-}
-
-// Writes the bytes of slot `k` in the cycles.
-fn put_slot(payload: &[u8], first: usize, count: usize, k: u8, into: &mut [u8], at: usize) -> usize
-    requires payload { length payload.now ≡ 3808 }
-    requires cycles { first + count ≤ 476 }
-    requires low { 1 ≤ k }
-    requires high { k ≤ 8 }
-    requires room { at + count ≤ length into.old }
-    ensures end { result ≡ at + count }
-    ensures bytes { take result into.new ≡ take at into.old ++ run_bytes payload.now (k ∷ []) first count }
-{
-    for i in 0..count {
-        into[at + i] = payload[SLOTS * (first + i) + k as usize - 1];
-    }
-    at + count
-}
-
-// Writes all columns of the cycles, which lie side by side.
-fn put_columns(payload: &[u8], first: usize, count: usize, into: &mut [u8], at: usize) -> usize
-    requires payload { length payload.now ≡ 3808 }
-    requires cycles { first + count ≤ 476 }
-    requires room { at + 8 * count ≤ length into.old }
-    ensures end { result ≡ at + 8 * count }
-    ensures bytes { take result into.new ≡ take at into.old ++ take (8 * count) (drop (8 * first) payload.now) }
-{
-    let end = at + SLOTS * count;
-    into[at..end].copy_from_slice(&payload[SLOTS * first..SLOTS * (first + count)]);
+    let end = at + slots.len() * count;
+    cycle_groups(payload, first, count, slots, &mut into[at..end]);
     end
-}
-
-// Writes the bytes of the slots one slot after the other: those of each stand as far apart as there
-// are slots.
-fn put_each(
-    payload: &[u8],
-    first: usize,
-    count: usize,
-    slots: &[u8],
-    into: &mut [u8],
-    at: usize,
-) -> usize
-    requires payload { length payload.now ≡ 3808 }
-    requires cycles { first + count ≤ 476 }
-    requires slots { All (λ k. (1 ≤ k) × (k ≤ 8)) slots.now }
-    requires room { at + length slots.now * count ≤ length into.old }
-    ensures end { result ≡ at + length slots.now * count }
-    ensures bytes { take result into.new ≡ take at into.old ++ run_bytes payload.now slots.now first count }
-{
-    let apart = slots.len();
-    for (j, k) in slots.iter().enumerate() {
-        put_apart(payload, first, count, *k, apart, into, at + j);
-    }
-    at + apart * count
-}
-
-// Writes the bytes of slot `k` in the cycles so far apart.
-fn put_apart(
-    payload: &[u8],
-    first: usize,
-    count: usize,
-    k: u8,
-    apart: usize,
-    into: &mut [u8],
-    at: usize,
-)
-    requires payload { length payload.now ≡ 3808 }
-    requires cycles { first + count ≤ 476 }
-    requires low { 1 ≤ k }
-    requires high { k ≤ 8 }
-    requires apart { 1 ≤ apart }
-    requires room { at + apart * count < length into.old + apart }
-    ensures here { (i : ℕ) → i < count → slice_index into.new (at + apart * i) ≡ slice_index payload.now (8 * (first + i) + k - 1) }
-    ensures others { (n : ℕ) → ((i : ℕ) → i < count → n ≡ at + apart * i → ⊥) → slice_index into.new n ≡ slice_index into.old n }
-{
-    for i in 0..count {
-        into[at + apart * i] = payload[SLOTS * (first + i) + k as usize - 1];
-    }
 }

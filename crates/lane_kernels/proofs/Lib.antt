@@ -1,0 +1,9 @@
+pub mod Blocks
+pub mod Puts
+pub mod Cycles
+pub mod Rising
+pub mod SlotPlaces
+pub mod Spreads
+pub mod Takes
+pub mod Turns
+pub mod Xor

@@ -1,0 +1,8 @@
+use Rattle.std.proofs.Common.{◌≡◌, ◌≢◌, ℕ, ◌+◌, ◌*◌, ◌%◌, ◌<◌, get_or}
+use Rattle.lane_kernels.proofs.one_slot.put_slot.Given as goal
+
+abbrev pub invariant-loop-j : goal.invariant-loop-j
+invariant-loop-j g l = record {
+  here : (j : ℕ) → j < l.j → get_or l.row (g.row.SLOTS * j + l.first) 0 ≡ get_or l.bytes j 0;
+  others : (x : ℕ) → x % g.row.SLOTS ≢ l.first → get_or l.row x 0 ≡ get_or l.initial.row x 0;
+}

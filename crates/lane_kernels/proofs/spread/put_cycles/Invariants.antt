@@ -1,0 +1,9 @@
+use Rattle.std.proofs.Common.{◌≡◌, ◌≢◌, ℕ, ◌+◌, ◌-◌, ◌*◌, ◌%◌, ◌<◌, ◌≤◌, get_or, length}
+use Rattle.lane_kernels.proofs.spread.put_cycles.Given as goal
+
+abbrev pub invariant-loop-cycle : goal.invariant-loop-cycle
+invariant-loop-cycle l = record {
+  before : (n : ℕ) → n < l.line * l.from → get_or l.row n 0 ≡ get_or l.initial.row n 0;
+  rest : (j p : ℕ) → l.from ≤ j → j < l.cycle → p < length l.slots → get_or l.row (l.line * j + (get_or l.slots p 0 - 1)) 0 ≡ get_or l.bytes (length l.slots * j + p) 0;
+  others : (x : ℕ) → ((p : ℕ) → p < length l.slots → x % l.line + 1 ≢ get_or l.slots p 0) → get_or l.row x 0 ≡ get_or l.initial.row x 0;
+}

@@ -1,0 +1,8 @@
+use Rattle.std.proofs.Common.{◌≡◌, ◌≢◌, ℕ, ◌+◌, ◌-◌, ◌*◌, ◌%◌, ◌<◌, get_or, length}
+use Rattle.lane_kernels.proofs.spread.put_pairs.Given as goal
+
+abbrev pub invariant-loop-pair : goal.invariant-loop-pair
+invariant-loop-pair l = record {
+  here : (j p : ℕ) → j < 2 * l.pair → p < length l.slots → get_or l.row (8 * j + (get_or l.slots p 0 - 1)) 0 ≡ get_or l.bytes (length l.slots * j + p) 0;
+  others : (x : ℕ) → ((p : ℕ) → p < length l.slots → x % 8 + 1 ≢ get_or l.slots p 0) → get_or l.row x 0 ≡ get_or l.initial.row x 0;
+}

@@ -1,0 +1,4 @@
+pub mod Blocks
+pub mod Loans
+pub mod SlotPlaces
+pub mod Spread
