@@ -23,8 +23,92 @@ pub fn make(alloc: Global, size: u32, times: u32) -> Result<u32, Memory> {
     Ok(checksum)
 }
 
+/// Fills as many bytes as often with idle frames.
+pub fn make_idle(alloc: Global, size: u32, times: u32) -> Result<u32, Memory> {
+    let mut stream = packet(alloc, size)?;
+    let mut maker = GfpMaker::new(alloc)?;
+    let mut checksum = 0u32;
+    for _ in 0..times {
+        give(&mut maker, &mut stream);
+        checksum = mixed(checksum, &stream);
+    }
+    Ok(checksum)
+}
+
+/// Reads a stream of as many bytes of idle frames, as often.
+pub fn read_idle(alloc: Global, size: u32, times: u32) -> Result<u32, Memory> {
+    let mut stream = packet(alloc, size)?;
+    let mut maker = GfpMaker::new(alloc)?;
+    give(&mut maker, &mut stream);
+    let mut reader = GfpReader::new(alloc)?;
+    let mut checksum = 0u32;
+    for _ in 0..times {
+        reader.restart();
+        checksum = take(&mut reader, &stream, checksum);
+    }
+    Ok(checksum)
+}
+
+/// Reads as many bytes in which no frame is found, as often.
+pub fn hunt(alloc: Global, size: u32, times: u32) -> Result<u32, Memory> {
+    let stream = packet(alloc, size)?;
+    let mut reader = GfpReader::new(alloc)?;
+    let mut checksum = 0u32;
+    for _ in 0..times {
+        reader.restart();
+        checksum = take(&mut reader, &stream, checksum);
+    }
+    Ok(checksum)
+}
+
+/// Makes frames as [`make`] does, byte by byte.
+pub fn make_bytes(alloc: Global, size: u32, times: u32) -> Result<u32, Memory> {
+    let packet = packet(alloc, size)?;
+    let mut frame = Vec::new(alloc);
+    frame.resize(packet.len().min(MOST_PACKET) + AROUND, 0u8)?;
+    let mut maker = GfpMaker::new(alloc)?;
+    let mut checksum = 0u32;
+    give(&mut maker, &mut frame[..4]);
+    for _ in 0..times {
+        offer(&mut maker, &packet);
+        for byte in frame.iter_mut() {
+            *byte = maker.next_byte();
+        }
+        checksum = mixed(checksum, &frame);
+    }
+    Ok(checksum)
+}
+
 /// Reads the frames of 16 packets of this size with FCS, as often.
 pub fn read(alloc: Global, size: u32, times: u32) -> Result<u32, Memory> {
+    let stream = sixteen(alloc, size)?;
+    let mut reader = GfpReader::new(alloc)?;
+    let mut checksum = 0u32;
+    for _ in 0..times {
+        reader.restart();
+        checksum = take(&mut reader, &stream, checksum);
+    }
+    Ok(checksum)
+}
+
+/// Reads frames as [`read`] does, byte by byte.
+pub fn read_bytes(alloc: Global, size: u32, times: u32) -> Result<u32, Memory> {
+    let stream = sixteen(alloc, size)?;
+    let mut reader = GfpReader::new(alloc)?;
+    let mut checksum = 0u32;
+    for _ in 0..times {
+        reader.restart();
+        for byte in &stream {
+            if let Some(packet) = reader.take(*byte) {
+                checksum = mixed(checksum, packet);
+            }
+        }
+    }
+    Ok(checksum)
+}
+
+// An idle frame, and the frames of 16 packets of this size with FCS.
+fn sixteen(alloc: Global, size: u32) -> Result<Vec<u8>, Memory> {
     let packet = packet(alloc, size)?;
     let mut frame = Vec::new(alloc);
     frame.resize(packet.len().min(MOST_PACKET) + AROUND, 0u8)?;
@@ -37,17 +121,11 @@ pub fn read(alloc: Global, size: u32, times: u32) -> Result<u32, Memory> {
         give(&mut maker, &mut frame);
         stream.extend_from_slice(&frame)?;
     }
-    let mut reader = GfpReader::new(alloc)?;
-    let mut checksum = 0u32;
-    for _ in 0..times {
-        reader.restart();
-        checksum = take(&mut reader, &stream, checksum);
-    }
-    Ok(checksum)
+    Ok(stream)
 }
 
 // A packet of 1 to 65,527 bytes.
-fn packet(alloc: Global, size: u32) -> Result<Vec<u8>, Memory> {
+pub(crate) fn packet(alloc: Global, size: u32) -> Result<Vec<u8>, Memory> {
     let mut packet = Vec::new(alloc);
     for n in 0..size.min(65_527).max(1) {
         packet.push((n % 251) as u8)?;
@@ -62,24 +140,28 @@ fn offer(maker: &mut GfpMaker, packet: &[u8]) {
 }
 
 fn give(maker: &mut GfpMaker, bytes: &mut [u8]) {
-    for byte in bytes.iter_mut() {
-        *byte = maker.next_byte();
-    }
+    maker.fill(bytes);
 }
 
 // The checksum after the packets that these bytes deliver.
 fn take(reader: &mut GfpReader, bytes: &[u8], checksum: u32) -> u32 {
     let mut mix = checksum;
-    for byte in bytes {
-        if let Some(packet) = reader.take(*byte) {
+    let mut rest = bytes;
+    for _ in 0..bytes.len() {
+        let (count, packet) = reader.take_some(rest);
+        if let Some(packet) = packet {
             mix = mixed(mix, packet);
+        }
+        rest = &rest[count..];
+        if rest.is_empty() {
+            break;
         }
     }
     mix
 }
 
 // A checksum that looks at the last byte.
-fn mixed(checksum: u32, bytes: &[u8]) -> u32 {
+pub(crate) fn mixed(checksum: u32, bytes: &[u8]) -> u32 {
     let last = bytes.last().copied().unwrap_or(0);
     checksum.wrapping_mul(31).wrapping_add(last as u32)
 }

@@ -2,6 +2,7 @@
 //! checksum. What it takes is measured outside the gate, by `bench/run`.
 #![tactic(auto)]
 
+mod bits;
 mod gfp;
 mod lanes;
 mod sink;
@@ -12,7 +13,7 @@ use std::alloc::Global;
 use std::process::ExitCode;
 
 const USAGE: &str =
-    "usage: bench_layers gfp-make|gfp-read|parity|mask BYTES TIMES, split|join|take|put 8|32 TIMES, take-several|put-several SLOTS TIMES, take-of-32|put-of-32 4 TIMES, or sink SLOTS TURNS";
+    "usage: bench_layers gfp-make|gfp-read|gfp-make-bytes|gfp-read-bytes|idle-make|idle-read|hunt|crc32|scramble|descramble|parity|mask BYTES TIMES, split|join|take|put 8|32 TIMES, take-several|put-several SLOTS TIMES, take-of-32|put-of-32 4 TIMES, or sink SLOTS TURNS";
 
 fn main(rt: HostRuntime) -> ExitCode {
     match serve(&rt) {
@@ -51,6 +52,14 @@ fn serve(rt: &HostRuntime) -> Result<Option<u32>, Memory> {
         Some("put-of-32") => Ok(Some(lanes::put_of_thirty_two(alloc, times)?)),
         Some("parity") => Ok(Some(lanes::parities(alloc, size, times)?)),
         Some("mask") => Ok(Some(lanes::masked(alloc, size, times)?)),
+        Some("gfp-make-bytes") => Ok(Some(gfp::make_bytes(alloc, size, times)?)),
+        Some("gfp-read-bytes") => Ok(Some(gfp::read_bytes(alloc, size, times)?)),
+        Some("idle-make") => Ok(Some(gfp::make_idle(alloc, size, times)?)),
+        Some("idle-read") => Ok(Some(gfp::read_idle(alloc, size, times)?)),
+        Some("hunt") => Ok(Some(gfp::hunt(alloc, size, times)?)),
+        Some("crc32") => Ok(Some(bits::check(alloc, size, times)?)),
+        Some("scramble") => Ok(Some(bits::scramble(alloc, size, times)?)),
+        Some("descramble") => Ok(Some(bits::descramble(alloc, size, times)?)),
         Some("sink") => Ok(Some(sink::take(alloc, size as usize, times)?)),
         _ => Ok(None),
     }

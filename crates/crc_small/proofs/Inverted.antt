@@ -1,12 +1,12 @@
 -- A register that begins with ones inverts the first bits.
-use Rattle.std.proofs.Common.{◌≡◌, ℕ, zero, suc, ◌+◌, ◌*◌, ◌^◌, ◌-◌, ◌<◌, ◌≤◌, List, [], ◌∷◌, ◌++◌, length, get_or, take, drop, refl, ap, ◌∙◌, sym, arith, length-append, length-drop}
+use Rattle.std.proofs.Common.{◌≡◌, ℕ, zero, suc, ◌+◌, ◌*◌, ◌/◌, ◌%◌, ◌^◌, ◌-◌, ◌<◌, ◌≤◌, List, [], ◌∷◌, ◌++◌, length, get_or, take, drop, refl, ap, ◌∙◌, sym, arith, length-append, length-drop}
 use Rattle.std.specs.Prelude.{bit_xor, fold, replicate, All}
 use Rattle.std.specs.Int.Bits.{xor_zero_r, xor_assoc}
 use Rattle.std.proofs.lemmas.Nat.{xor_comm, xor_lt}
 use Rattle.std.proofs.Math.Seq.{take-length}
 use Rattle.std.proofs.lemmas.List.{length-take-le, get_or-take, get_or-drop, take_more}
 use Rattle.crc_small.specs.LongDivision.{bring_down, remainder_from, check_of, low_bits, bits_of, inverted, crc32_of}
-use Rattle.crc_small.specs.Shifted.{take_in, after_byte}
+use Rattle.crc_small.specs.Shifted.{take_in, after_byte, after_word}
 use Rattle.crc_small.proofs.Linear.{Generator, zeros, bring_down-xor, bring_down-lt, check-append, check-nil, first_bit, other_bits, bit_at_top}
 use Rattle.crc_small.proofs.Register.{bits_of-bits, bits_of-push, fed}
 use Rattle.std.proofs.lemmas.List.Sums.{fold-append}
@@ -135,6 +135,44 @@ register-four bytes i h =
     let two = ap (λ k. register_32 (take k bytes)) (sym e2) ∙ register-more bytes (i + 1) (omega arith) ∙ ap (λ r. after r (b (i + 1))) one in
     let three = ap (λ k. register_32 (take k bytes)) (sym e3) ∙ register-more bytes (i + 2) (omega arith) ∙ ap (λ r. after r (b (i + 2))) two in
     ap (λ k. register_32 (take k bytes)) (sym e4) ∙ register-more bytes (i + 3) (omega arith) ∙ ap (λ r. after r (b (i + 3))) three
+
+-- the same, where the four bytes are those of a word
+pub register-word : (bytes : List ℕ) (i v : ℕ) → i + 4 ≤ length bytes → v / 2 ^ 24 ≡ get_or bytes i 0 → v / 2 ^ 16 % 2 ^ 8 ≡ get_or bytes (i + 1) 0
+    → v / 2 ^ 8 % 2 ^ 8 ≡ get_or bytes (i + 2) 0 → v % 2 ^ 8 ≡ get_or bytes (i + 3) 0
+    → register_32 (take (i + 4) bytes) ≡ after_word 31 0x104C11DB7 (register_32 (take i bytes)) v
+unfolding after_word
+register-word bytes i v h e0 e1 e2 e3 =
+    let after = after_byte 31 0x104C11DB7 in
+    let r = register_32 (take i bytes) in
+    register-four bytes i h
+    ∙ ap (λ x. after (after (after (after r x) (get_or bytes (i + 1) 0)) (get_or bytes (i + 2) 0)) (get_or bytes (i + 3) 0)) (sym e0)
+    ∙ ap (λ x. after (after (after (after r (v / 2 ^ 24)) x) (get_or bytes (i + 2) 0)) (get_or bytes (i + 3) 0)) (sym e1)
+    ∙ ap (λ x. after (after (after (after r (v / 2 ^ 24)) (v / 2 ^ 16 % 2 ^ 8)) x) (get_or bytes (i + 3) 0)) (sym e2)
+    ∙ ap (λ x. after (after (after (after r (v / 2 ^ 24)) (v / 2 ^ 16 % 2 ^ 8)) (v / 2 ^ 8 % 2 ^ 8)) x) (sym e3)
+
+-- the number whose bytes stand at this place
+pub record IsWordAt (bytes : List ℕ) (i v : ℕ) : Type 0 where
+  pub first : v / 2 ^ 24 ≡ get_or bytes i 0
+  pub second : v / 2 ^ 16 % 2 ^ 8 ≡ get_or bytes (i + 1) 0
+  pub third : v / 2 ^ 8 % 2 ^ 8 ≡ get_or bytes (i + 2) 0
+  pub fourth : v % 2 ^ 8 ≡ get_or bytes (i + 3) 0
+
+pub word_more : (bytes : List ℕ) (i j v r : ℕ) → i + 4 ≤ length bytes → i + 4 ≡ j → IsWordAt bytes i v → r ≡ register_32 (take i bytes)
+    → after_word 31 0x104C11DB7 r v ≡ register_32 (take j bytes)
+word_more bytes i j v r h e is was =
+    ap (λ x. after_word 31 0x104C11DB7 x v) was
+    ∙ sym (register-word bytes i v h is.first is.second is.third is.fourth)
+    ∙ ap (λ k. register_32 (take k bytes)) e
+
+pub four_words_more : (bytes : List ℕ) (i v0 v1 v2 v3 r : ℕ) → i + 16 ≤ length bytes
+    → IsWordAt bytes i v0 → IsWordAt bytes (i + 4) v1 → IsWordAt bytes (i + 8) v2 → IsWordAt bytes (i + 12) v3 → r ≡ register_32 (take i bytes)
+    → let after = after_word 31 0x104C11DB7 in after (after (after (after r v0) v1) v2) v3 ≡ register_32 (take (i + 16) bytes)
+four_words_more bytes i v0 v1 v2 v3 r h w0 w1 w2 w3 was =
+    let after = after_word 31 0x104C11DB7 in
+    let one = word_more bytes i (i + 4) v0 r (omega arith) (omega arith) w0 was in
+    let two = word_more bytes (i + 4) (i + 8) v1 (after r v0) (omega arith) (omega arith) w1 one in
+    let three = word_more bytes (i + 8) (i + 12) v2 (after (after r v0) v1) (omega arith) (omega arith) w2 two in
+    word_more bytes (i + 12) (i + 16) v3 (after (after (after r v0) v1) v2) (omega arith) (omega arith) w3 three
 
 rest_length : (bytes : List ℕ) (at : ℕ) → length (take (length bytes - at) (drop at bytes)) ≡ length bytes - at
 rest_length bytes at = let e : length (drop at bytes) ≡ length bytes - at = length-drop at bytes in length-take-le (length bytes - at) (drop at bytes) (omega arith)

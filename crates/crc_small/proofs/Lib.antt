@@ -4,3 +4,4 @@ pub mod Inverted
 pub mod Linear
 pub mod LookUps
 pub mod Register
+pub mod Words

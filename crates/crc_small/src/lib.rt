@@ -8,6 +8,7 @@
 #![tactic(auto)]
 
 mod frame_check;
+mod frame_tables;
 mod header_check;
 mod message_check;
 mod steps;

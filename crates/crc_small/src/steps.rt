@@ -1,9 +1,11 @@
-// What one byte does to a register, or four: look-ups in tables.
+// What some bytes do to a register: look-ups in tables.
 
 ghost use Rattle.std.specs.Prelude.{◌≡◌};
-ghost use Rattle.crc_small.specs.Shifted.{after_byte};
+ghost use Rattle.crc_small.specs.Shifted.{after_byte, after_word};
+ghost use Rattle.crc_small.specs.LookUp.{looked_up};
 
-use crate::tables::{FRAME_FOUR, FRAME_ONE, FRAME_THREE, FRAME_TWO, HEADER_STEPS};
+use crate::frame_tables::FRAME_STEPS;
+use crate::tables::HEADER_STEPS;
 
 /// The register of the check of 16 bits after one byte more.
 #[inline]
@@ -20,21 +22,75 @@ pub(crate) fn byte32(register: u32, byte: u8) -> u32
     ensures { result ≡ after_byte 31 0x104C11DB7 register byte }
 {
     let top = (register >> 24) as u8 ^ byte;
-    FRAME_ONE[top as usize] ^ (register << 8)
+    FRAME_STEPS[0][top as usize] ^ (register << 8)
 }
 
 /// The register of the check of 32 bits after four bytes more, by four look-ups that do not wait for one another.
+/// A word has its first byte the most significant one.
 #[inline]
-pub(crate) fn four_bytes32(register: u32, first: u8, second: u8, third: u8, fourth: u8) -> u32
-    ensures { let two = after_byte 31 0x104C11DB7 (after_byte 31 0x104C11DB7 register first) second in
-        result ≡ after_byte 31 0x104C11DB7 (after_byte 31 0x104C11DB7 two third) fourth }
+pub(crate) fn word32(register: u32, word: u32) -> u32
+    ensures { result ≡ after_word 31 0x104C11DB7 register word }
 {
-    let one = (register >> 24) as u8 ^ first;
-    let two = (register >> 16 & 0xFF) as u8 ^ second;
-    let three = (register >> 8 & 0xFF) as u8 ^ third;
-    let four = (register & 0xFF) as u8 ^ fourth;
-    FRAME_FOUR[one as usize]
-        ^ FRAME_THREE[two as usize]
-        ^ FRAME_TWO[three as usize]
-        ^ FRAME_ONE[four as usize]
+    look_up(
+        register ^ word,
+        &FRAME_STEPS[3],
+        &FRAME_STEPS[2],
+        &FRAME_STEPS[1],
+        &FRAME_STEPS[0],
+    )
+}
+
+/// The register of the check of 32 bits after sixteen bytes more, by sixteen look-ups that do not wait for one
+/// another. Those that wait for the register stand last, and so are added last: the other twelve, of the next
+/// sixteen bytes too, go on beside them.
+#[inline]
+pub(crate) fn four_words32(register: u32, first: u32, second: u32, third: u32, fourth: u32) -> u32
+    ensures { let after = after_word 31 0x104C11DB7 in result ≡ after (after (after (after register first) second) third) fourth }
+{
+    let two = look_up(
+        second,
+        &FRAME_STEPS[11],
+        &FRAME_STEPS[10],
+        &FRAME_STEPS[9],
+        &FRAME_STEPS[8],
+    );
+    let three = look_up(
+        third,
+        &FRAME_STEPS[7],
+        &FRAME_STEPS[6],
+        &FRAME_STEPS[5],
+        &FRAME_STEPS[4],
+    );
+    let four = look_up(
+        fourth,
+        &FRAME_STEPS[3],
+        &FRAME_STEPS[2],
+        &FRAME_STEPS[1],
+        &FRAME_STEPS[0],
+    );
+    let one = look_up(
+        register ^ first,
+        &FRAME_STEPS[15],
+        &FRAME_STEPS[14],
+        &FRAME_STEPS[13],
+        &FRAME_STEPS[12],
+    );
+    one ^ two ^ three ^ four
+}
+
+/// What four tables have for the four bytes of a word, added up.
+#[inline]
+fn look_up(
+    word: u32,
+    four: &[u32; 256],
+    three: &[u32; 256],
+    two: &[u32; 256],
+    one: &[u32; 256],
+) -> u32
+    ensures { result ≡ looked_up four.now three.now two.now one.now word }
+{
+    four[(word >> 24) as usize]
+        ^ three[(word >> 16 & 0xFF) as usize]
+        ^ two[(word >> 8 & 0xFF) as usize]
+        ^ one[(word & 0xFF) as usize]
 }

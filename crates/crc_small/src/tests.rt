@@ -7,6 +7,11 @@ fn frame_checks(rt: HostRuntime) {
     // CRC-32/BZIP2 of the catalogue, which has this generator, inverts both ends and reflects nothing.
     assert_eq!(rt; crc32(b"123456789"), 0xFC89_1918);
     assert_eq!(rt; crc32(b""), 0);
+    // The CRC that bzip2 writes of these 43 bytes.
+    assert_eq!(rt;
+        crc32(b"The quick brown fox jumps over the lazy dog"),
+        0x459D_EE61
+    );
 }
 
 #[test]

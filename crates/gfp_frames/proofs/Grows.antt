@@ -1,6 +1,6 @@
 -- What a list delivers stays delivered, whatever comes after the list.
 use Rattle.std.proofs.Common.{◌≡◌, ℕ, zero, suc, ◌+◌, ◌-◌, ◌<◌, ◌≤◌, ◌⊎◌, List, [], ◌∷◌, ◌++◌, Bool, true, false, cond, Option, Some, None, length, take, drop, refl, ap, ◌∙◌, sym, arith, inl, inr, append_assoc, length-append, length-drop, length-take}
-use Rattle.std.specs.Prelude.{nat_lt, ◌||◌, flat_map, option_to_list}
+use Rattle.std.specs.Prelude.{nat_lt, ◌||◌, option_to_list}
 use Rattle.std.proofs.lemmas.List.{take-append-le, drop-append-le, take-append-drop}
 use Rattle.std.proofs.lemmas.Grind.{flat_map-append}
 use Rattle.std.proofs.lemmas.Bool.{cases_lt, le-ltb}

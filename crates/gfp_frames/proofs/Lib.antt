@@ -9,3 +9,5 @@ pub mod Streams
 pub mod PlaceRuns
 pub mod BitLists
 pub mod Grows
+pub mod Idles
+pub mod Over

@@ -101,10 +101,10 @@ plain_areas-cons r area areas =
 -- ---- steps
 
 -- what comes is told by the areas alone
-same_to_come : (register : ℕ) (areas others : List (List ℕ)) → areas ≡ others → packets_in (plain_areas register areas) ≡ packets_in (plain_areas register others)
+pub same_to_come : (register : ℕ) (areas others : List (List ℕ)) → areas ≡ others → packets_in (plain_areas register areas) ≡ packets_in (plain_areas register others)
 same_to_come register areas others e = ap (λ y. packets_in (plain_areas register y)) e
 
-none_to_come : (register : ℕ) (areas : List (List ℕ)) → areas ≡ [] → packets_in (plain_areas register areas) ≡ []
+pub none_to_come : (register : ℕ) (areas : List (List ℕ)) → areas ≡ [] → packets_in (plain_areas register areas) ≡ []
 none_to_come register areas e = same_to_come register areas [] e ∙ ap packets_in (plain_areas-none register)
 
 -- a step that delivers nothing
@@ -125,21 +125,21 @@ is_four : (n : ℕ) → (n == 4) ≡ true → n ≡ 4
 is_four n e = grind (arith, nat_tests)
 
 -- a phase that waits for a header waits for four bytes
-abbrev four_if : Phase → ℕ → Bool
+abbrev pub four_if : Phase → ℕ → Bool
 four_if Hunt n = n == 4
 four_if PresyncArea n = true
 four_if Presync n = n == 4
 four_if SyncArea n = true
 four_if Sync n = n == 4
 
-four_wanted : (phase : Phase) (n : ℕ) → may_want phase n ≡ true → four_if phase n ≡ true
+pub four_wanted : (phase : Phase) (n : ℕ) → may_want phase n ≡ true → four_if phase n ≡ true
 four_wanted Hunt n e = e
 four_wanted PresyncArea n e = refl
 four_wanted Presync n e = e
 four_wanted SyncArea n e = refl
 four_wanted Sync n e = e
 
-waits : (phase : Phase) (wanted : ℕ) (held : List ℕ) → four_if phase wanted ≡ true → length held < wanted → areas_from phase wanted held ≡ []
+pub waits : (phase : Phase) (wanted : ℕ) (held : List ℕ) → four_if phase wanted ≡ true → length held < wanted → areas_from phase wanted held ≡ []
 waits Hunt wanted held four short = hunt_short held (let e = is_four wanted four in omega arith)
 waits PresyncArea wanted held four short = ap from_presync (all_dropped held wanted (omega arith)) ∙ nothing_after 0
 waits Presync wanted held four short = presync_short held (let e = is_four wanted four in omega arith)
@@ -147,7 +147,7 @@ waits SyncArea wanted held four short =
     ap (λ y. y ++ from_sync (drop wanted held)) (area_short wanted held short) ∙ ap from_sync (all_dropped held wanted (omega arith)) ∙ nothing_in_sync 0
 waits Sync wanted held four short = sync_short held (let e = is_four wanted four in omega arith)
 
-waits_more : (phase : Phase) (wanted : ℕ) (held : List ℕ) → four_if phase wanted ≡ true → length held < wanted → areas_from phase wanted (held ++ []) ≡ []
+pub waits_more : (phase : Phase) (wanted : ℕ) (held : List ℕ) → four_if phase wanted ≡ true → length held < wanted → areas_from phase wanted (held ++ []) ≡ []
 waits_more phase wanted held four short = ap (areas_from phase wanted) (append-nil held) ∙ waits phase wanted held four short
 
 pub goes_kept : (old : ReaderState) (byte : ℕ) → may_want old.phase old.wanted ≡ true → length old.held + 1 < old.wanted → Goes old byte false (kept old byte)

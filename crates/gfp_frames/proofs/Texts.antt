@@ -46,7 +46,7 @@ laid_out-push sent rest (g ∷ frames) frame e all =
     ∙ ap (λ y. core_header m ++ take m sent ++ y) (laid_out-push (drop m sent) rest frames frame left all)
     ∙ sym (append_assoc (core_header m ++ take m sent) (laid_out (drop m sent) frames) (core_header (length (area_of frame)) ++ rest))
 
-areas-push : (frames : List Frame) (frame : Frame) → areas_of (frames ++ frame ∷ []) ≡ areas_of frames ++ area_of frame
+pub areas-push : (frames : List Frame) (frame : Frame) → areas_of (frames ++ frame ∷ []) ≡ areas_of frames ++ area_of frame
 areas-push frames frame = flat_map-append area_of frames (frame ∷ []) ∙ ap (λ y. areas_of frames ++ y) (append-nil (area_of frame))
 
 pub text-push : (frames : List Frame) (frame : Frame)

@@ -1,5 +1,5 @@
 -- A maker of GFP frames, as contracts see it.
-use Rattle.std.specs.Prelude.{◌≡◌, ℕ, List, [], ◌∷◌, ◌++◌, length}
+use Rattle.std.specs.Prelude.{◌≡◌, ℕ, ◌+◌, ◌-◌, ◌/◌, List, [], ◌∷◌, ◌++◌, length, flat_map, replicate}
 use Rattle.gfp_scrambler.specs.Register.{last_bits, scrambled}
 use Rattle.gfp_frames.specs.CoreHeader.{core_header}
 use Rattle.gfp_frames.specs.GfpText.{Frame, Idle, areas_of, text_of}
@@ -23,6 +23,14 @@ begun (byte ∷ hand) = []
 abbrev pub in_hand : (hand : List ℕ) → List ℕ
 in_hand [] = core_header 0
 in_hand (byte ∷ hand) = byte ∷ hand
+
+-- how many idle frames begin as n bytes are given, where no packet is offered meanwhile
+abbrev pub idles_begun : (hand : List ℕ) (n : ℕ) → ℕ
+idles_begun hand n = (n - length hand + 3) / 4
+
+-- the bytes of so many idle frames
+abbrev pub idle_bytes : ℕ → List ℕ
+idle_bytes count = flat_map core_header (replicate count 0)
 
 -- a maker after its start
 abbrev pub fresh : MakerState

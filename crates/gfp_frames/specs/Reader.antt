@@ -1,5 +1,5 @@
 -- A reader of GFP frames, as contracts see it.
-use Rattle.std.specs.Prelude.{◌≡◌, ℕ, ◌==◌, nat_lt, nat_le, ◌&&◌, Bool, if◌then◌else◌, List, [], ◌∷◌, ◌++◌, drop}
+use Rattle.std.specs.Prelude.{◌≡◌, ℕ, ◌/◌, ◌%◌, ◌^◌, ◌<◌, ◌==◌, nat_lt, nat_le, ◌&&◌, Bool, if◌then◌else◌, List, [], ◌∷◌, ◌++◌, length, take, drop}
 use Rattle.gfp_scrambler.specs.Register.{last_bits}
 use Rattle.gfp_frames.specs.Delineation.{whole_area, from_hunt, from_presync, from_sync}
 use Rattle.gfp_frames.specs.Delivered.{plain_areas, packets_in, delivered}
@@ -49,9 +49,21 @@ hunts = record { phase = Hunt; wanted = 4; held = []; register = 0; packet = [] 
 abbrev pub kept : ReaderState → ℕ → ReaderState
 kept reader byte = record reader { held = reader.held ++ byte ∷ []; packet = [] }
 
+-- some bytes more, and no more news
+abbrev pub kept_some : ReaderState → List ℕ → ReaderState
+kept_some reader bytes = record reader { held = reader.held ++ bytes; packet = [] }
+
 -- no header here: the hunt goes on one byte further
 abbrev pub slid : ReaderState → ℕ → ReaderState
 slid reader byte = record { phase = Hunt; wanted = 4; held = drop 1 (reader.held ++ byte ∷ []); register = reader.register; packet = [] }
+
+-- a number of 24 bits as bytes, the most significant first
+abbrev pub three_bytes : ℕ → List ℕ
+three_bytes n = n / 2 ^ 16 ∷ n / 2 ^ 8 % 2 ^ 8 ∷ n % 2 ^ 8 ∷ []
+
+-- a hunt in which these three bytes came last
+abbrev pub hunts_after : (three register : ℕ) → ReaderState
+hunts_after three register = record { phase = Hunt; wanted = 4; held = three_bytes three; register = register; packet = [] }
 
 -- a header was found: its area comes, or where it has none the next header
 abbrev pub after_header : ReaderState → (pli : ℕ) → (next area : Phase) → ReaderState
@@ -82,3 +94,9 @@ news found reader = if found then reader.packet ∷ [] else []
 pub record Goes (old : ReaderState) (byte : ℕ) (found : Bool) (new : ReaderState) : Type 0 where
   pub each : (more : List ℕ) → to_come old (byte ∷ more) ≡ news found new ++ to_come new more
   pub none : to_come new [] ≡ []
+
+-- the same of several bytes, of which no one before the last gives a packet
+pub record GoesOver (old : ReaderState) (bytes : List ℕ) (found : Bool) (new : ReaderState) : Type 0 where
+  pub each : (more : List ℕ) → to_come old (bytes ++ more) ≡ news found new ++ to_come new more
+  pub none : to_come new [] ≡ []
+  pub before : (k : ℕ) → k < length bytes → to_come old (take k bytes) ≡ []

@@ -7,6 +7,9 @@ use crc_small::{crc16, fix_one_bit};
 /// What a core header is XORed with on the way (G.7041 clause 6.1.1.3).
 pub const PATTERN: u32 = 0xB6AB_31E0;
 
+/// An idle frame (G.7041 clause 6.2.1): the core header with PLI 0.
+pub const IDLE_FRAME: [u8; 4] = [0xB6, 0xAB, 0x31, 0xE0];
+
 /// The two bytes of a number, the most significant first.
 pub fn bytes_of_16(n: u16) -> [u8; 2]
     ensures { result ≡ two_bytes n }

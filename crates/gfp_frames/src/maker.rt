@@ -1,15 +1,15 @@
 // Packets into frames.
-ghost use Rattle.std.specs.Prelude.{◌≡◌, ◌≢◌, ℕ, ◌+◌, ◌≤◌, List, [], ◌∷◌, ◌++◌, ◌↔◌, IsTrue, IfOk, length, take, drop, vec_len};
+ghost use Rattle.std.specs.Prelude.{◌≡◌, ◌≢◌, ℕ, ◌+◌, ◌/◌, ◌%◌, ◌≤◌, min, List, [], ◌∷◌, ◌++◌, ◌↔◌, IsTrue, IfOk, length, take, drop, replicate, vec_len};
 ghost use Rattle.std.specs.Vec.{vec_capacity};
 ghost use Rattle.gfp_scrambler.specs.Register.{last_bits, scrambled};
 ghost use Rattle.gfp_frames.specs.CoreHeader.{core_header};
 ghost use Rattle.gfp_frames.specs.Area.{client_area};
 ghost use Rattle.gfp_frames.specs.GfpText.{Frame, Idle, Client};
-ghost use Rattle.gfp_frames.specs.Maker.{MakerState, HasMade, begun, made_frame, in_hand, fresh};
+ghost use Rattle.gfp_frames.specs.Maker.{MakerState, HasMade, begun, made_frame, in_hand, idles_begun, idle_bytes, fresh};
 
 use crate::area::append_client_area;
 use crate::buffer::append;
-use crate::core_header::header_bytes;
+use crate::core_header::{IDLE_FRAME, header_bytes};
 use gfp_scrambler::Scrambler;
 use otn_base::Memory;
 use std::alloc::Global;
@@ -17,6 +17,9 @@ use std::marker::Model;
 
 /// Bytes of a frame at most: a core header and an area of 65,535 bytes.
 const MOST_FRAME: usize = 65_539;
+
+/// Bytes of a core header, and of an idle frame.
+const HEADER: usize = 4;
 
 /// Makes the bytes of a stream of GFP frames, one after another. Contracts see what is left of the
 /// frame in hand, and the scrambler's register.
@@ -90,7 +93,36 @@ impl GfpMaker {
         ensures register { self.new.register ≡ self.old.register }
     {
         self.take_up();
-        self.give()
+        self.give_byte()
+    }
+
+    /// The next bytes of the frame in hand, as many as there is room for: how many. Where no frame is in hand it
+    /// gives none, and a packet may be offered.
+    pub fn give(&mut self, into: &mut [u8]) -> usize
+        ensures made { (frames : List Frame) (given : List ℕ) → HasMade frames given self.old →
+            HasMade frames (given ++ take result into.new) self.new }
+        ensures count { result ≡ min (length self.old.hand) (length into.old) }
+        ensures bytes { take result into.new ++ self.new.hand ≡ self.old.hand }
+        ensures register { self.new.register ≡ self.old.register }
+        ensures others { drop result into.new ≡ drop result into.old }
+    {
+        let count = into.len().min(self.frame.len() - self.given);
+        copy_front(into, &self.frame[self.given..self.given + count]);
+        self.given += count;
+        count
+    }
+
+    /// The next bytes of the stream, as many as the slice has: the frame in hand, and then idle frames.
+    pub fn fill(&mut self, into: &mut [u8])
+        ensures made { (frames : List Frame) (given : List ℕ) → HasMade frames given self.old →
+            HasMade (frames ++ replicate (idles_begun self.old.hand (length into.old)) Idle) (given ++ into.new) self.new }
+        ensures bytes { into.new ++ self.new.hand ≡ self.old.hand ++ idle_bytes (idles_begun self.old.hand (length into.old)) }
+        ensures register { self.new.register ≡ self.old.register }
+    {
+        let count = self.give(into);
+        if count < into.len() {
+            self.idle_on(&mut into[count..]);
+        }
     }
 }
 
@@ -127,7 +159,7 @@ impl GfpMaker {
         scramble_area(&mut self.scrambler, &mut self.frame);
     }
 
-    fn give(&mut self) -> u8
+    fn give_byte(&mut self) -> u8
         requires { self.old.hand ≢ [] }
         ensures byte { self.old.hand ≡ result ∷ self.new.hand }
         ensures register { self.new.register ≡ self.old.register }
@@ -135,6 +167,40 @@ impl GfpMaker {
         let byte = self.frame[self.given];
         self.given += 1;
         byte
+    }
+
+    // Idle frames, where no frame is in hand; the last of them may stay in hand in part.
+    fn idle_on(&mut self, into: &mut [u8])
+        requires { self.old.hand ≡ [] }
+        ensures bytes { into.new ++ self.new.hand ≡ idle_bytes ((length into.old + 3) / 4) }
+        ensures register { self.new.register ≡ self.old.register }
+    {
+        let whole = into.len() / HEADER * HEADER;
+        put_idles(&mut into[..whole]);
+        if whole < into.len() {
+            self.put_idle();
+            self.give(&mut into[whole..]);
+        }
+    }
+}
+
+// Puts the bytes at the front of a slice.
+fn copy_front(into: &mut [u8], bytes: &[u8])
+    requires { length bytes.now ≤ length into.old }
+    ensures { into.new ≡ bytes.now ++ drop (length bytes.now) into.old }
+{
+    into[..bytes.len()].copy_from_slice(bytes);
+}
+
+// Whole idle frames.
+fn put_idles(into: &mut [u8])
+    requires { length into.old % 4 ≡ 0 }
+    ensures { into.new ≡ idle_bytes (length into.old / 4) }
+{
+    let mut at = 0;
+    while at < into.len() {
+        into[at..at + HEADER].copy_from_slice(&IDLE_FRAME);
+        at += HEADER;
     }
 }
 

@@ -1,11 +1,12 @@
 // Packets out of any list of bytes.
-ghost use Rattle.std.specs.Prelude.{◌≡◌, ℕ, ◌+◌, ◌≤◌, ◌<◌, List, [], ◌∷◌, ◌++◌, IfOk, IfSome, IsTrue, length, take, drop, vec_len, option_copied, option_map, option_to_list};
+ghost use Rattle.std.specs.Prelude.{◌≡◌, ℕ, ◌+◌, ◌-◌, ◌/◌, ◌%◌, ◌^◌, ◌≤◌, ◌<◌, min, false, IsNone, List, [], ◌∷◌, ◌++◌, IfOk, IfSome, IsTrue, length, take, drop, vec_len, option_copied, option_map, option_to_list};
 ghost use Rattle.std.specs.Option.{option_map_or};
 ghost use Rattle.gfp_scrambler.specs.Register.{last_bits, descrambled};
-ghost use Rattle.gfp_frames.specs.CoreHeader.{header_in, right_pli, near_pli};
+ghost use Rattle.gfp_frames.specs.CoreHeader.{four_bytes, header_in, right_pli, near_pli};
 ghost use Rattle.gfp_frames.specs.Area.{packet_in};
 ghost use Rattle.gfp_frames.specs.Delivered.{delivered};
-ghost use Rattle.gfp_frames.specs.Reader.{ReaderState, may_want, HasRead, kept, slid, after_header, presync_after, sync_after, area_after, news, Goes};
+ghost use Rattle.gfp_frames.specs.Reader.{ReaderState, may_want, HasRead, kept, kept_some, three_bytes, hunts_after, slid, after_header, presync_after, sync_after, area_after, news, Goes, GoesOver};
+ghost use Rattle.gfp_frames.specs.Maker.{idle_bytes};
 
 use crate::area::packet_size;
 use crate::core_header::{PATTERN, near, right};
@@ -54,7 +55,7 @@ impl Model for GfpReader {
 
 impl GfpReader {
     ghost use Rattle.std.specs.Borrow.{sem};
-    ghost use Rattle.gfp_frames.specs.Lending.{EndsHavingRead};
+    ghost use Rattle.gfp_frames.specs.Lending.{EndsHavingRead, EndsHavingReadAll};
 
     /// A reader that hunts. All memory is taken here.
     pub fn new(alloc: Global) -> Result<GfpReader, Memory>
@@ -91,9 +92,125 @@ impl GfpReader {
             None
         }
     }
+
+    /// Takes bytes up to and with the one that delivers a packet, or all where none does: how many, and the packet.
+    pub fn take_some(&mut self, bytes: &[u8]) -> (usize, Option<&[u8]>)
+        // Of every list of bytes since the start the packets are those that the list delivers, each with its last byte.
+        ensures* read { sem 𝓛 (EndsHavingReadAll self.entry (take result.0 bytes.now)) }
+        ensures packets { (taken : List ℕ) → HasRead taken self.old →
+            delivered (taken ++ take result.0 bytes.now) ≡ delivered taken ++ option_to_list (option_copied result.1) }
+        ensures none_before { (taken : List ℕ) (k : ℕ) → HasRead taken self.old → k < result.0 →
+            delivered (taken ++ take k bytes.now) ≡ delivered taken }
+        ensures within { result.0 ≤ length bytes.now }
+        ensures all { IsNone result.1 → result.0 ≡ length bytes.now }
+        ensures some { 1 ≤ length bytes.now → 1 ≤ result.0 }
+    {
+        let (count, found) = self.advance_over(bytes);
+        let packet = if found {
+            Some(&self.buffer[HEADER..HEADER + self.packet])
+        } else {
+            None
+        };
+        (count, packet)
+    }
 }
 
 impl GfpReader {
+    // Goes on over bytes up to and with the one that delivers a packet, or over all: how many, and whether one does.
+    fn advance_over(&mut self, bytes: &[u8]) -> (usize, bool)
+        ensures goes { GoesOver self.old (take result.0 bytes.now) result.1 self.new }
+        ensures within { result.0 ≤ length bytes.now }
+        ensures all { result.1 ≡ false → result.0 ≡ length bytes.now }
+        ensures some { 1 ≤ length bytes.now → 1 ≤ result.0 }
+    {
+        let mut at = self.pass_over(bytes);
+        while at < bytes.len() {
+            at += self.keep_some(&bytes[at..]);
+            if at < bytes.len() {
+                let found = self.advance(bytes[at]);
+                at += 1;
+                if found {
+                    return (at, true);
+                }
+                at += self.pass_over(&bytes[at..]);
+            }
+        }
+        (at, false)
+    }
+
+    // Passes what delivers nothing at the front, as far as it is seen at once: how many bytes.
+    fn pass_over(&mut self, bytes: &[u8]) -> usize
+        ensures goes { GoesOver self.old (take result bytes.now) false self.new }
+        ensures within { result ≤ length bytes.now }
+    {
+        let idle = self.skip_idles(bytes);
+        idle + self.hunt_on(&bytes[idle..])
+    }
+
+    // Passes the idle frames at the front, where a header is awaited in sync: how many bytes.
+    fn skip_idles(&mut self, bytes: &[u8]) -> usize
+        ensures goes { GoesOver self.old (take result bytes.now) false self.new }
+        ensures within { result ≤ length bytes.now }
+    {
+        let sync = matches!(self.phase, Phase::Sync);
+        if sync && self.held == 0 {
+            self.packet = 0;
+            idles_before(bytes)
+        } else {
+            0
+        }
+    }
+
+    // Hunts where three bytes came, up to the byte that ends a right header: how many bytes are before it.
+    fn hunt_on(&mut self, bytes: &[u8]) -> usize
+        ensures goes { GoesOver self.old (take result bytes.now) false self.new }
+        ensures within { result ≤ length bytes.now }
+    {
+        let hunts = matches!(self.phase, Phase::Hunt);
+        if hunts && self.held == HEADER - 1 {
+            let (count, last) = hunted(self.last_three(), bytes);
+            self.put_three(last);
+            count
+        } else {
+            0
+        }
+    }
+
+    // The three bytes that came, as one number.
+    fn last_three(&self) -> u32
+        requires { length self.now.held ≡ 3 }
+        ensures bytes { three_bytes result ≡ self.now.held }
+        ensures small { result < 2 ^ 24 }
+    {
+        self.buffer[0] as u32 * 0x1_0000 + self.buffer[1] as u32 * 0x100 + self.buffer[2] as u32
+    }
+
+    // Puts three others in their place.
+    fn put_three(&mut self, three: u32)
+        requires held { length self.old.held ≡ 3 }
+        requires small { three < 2 ^ 24 }
+        ensures { self.new ≡ record self.old { held = three_bytes three; packet = [] } }
+    {
+        self.buffer[0] = (three >> 16) as u8;
+        self.buffer[1] = (three >> 8 & 0xFF) as u8;
+        self.buffer[2] = (three & 0xFF) as u8;
+        self.packet = 0;
+    }
+
+    // Keeps bytes as long as they do not end the header or area that is awaited: how many.
+    fn keep_some(&mut self, bytes: &[u8]) -> usize
+        ensures state { self.new ≡ kept_some self.old (take result bytes.now) }
+        ensures count { result ≡ min (self.old.wanted - length self.old.held - 1) (length bytes.now) }
+        ensures wants { IsTrue (may_want self.old.phase self.old.wanted) }
+        ensures waits { length self.old.held < self.old.wanted }
+    {
+        let count = bytes.len().min(self.wanted - self.held - 1);
+        put_at(&mut self.buffer, self.held, &bytes[..count]);
+        self.held += count;
+        self.packet = 0;
+        count
+    }
+
     // Whether a packet is delivered with this byte.
     fn advance(&mut self, byte: u8) -> bool
         ensures { Goes self.old byte result self.new }
@@ -276,6 +393,54 @@ fn descramble_front(descrambler: &mut Descrambler, buffer: &mut [u8], size: usiz
 {
     let (area, _) = buffer.split_at_mut(size);
     descrambler.descramble(area);
+}
+
+// Bytes of the idle frames at the front.
+fn idles_before(bytes: &[u8]) -> usize
+    ensures idle { take result bytes.now ≡ idle_bytes (result / 4) }
+    ensures frames { result % 4 ≡ 0 }
+    ensures within { result ≤ length bytes.now }
+{
+    let mut at = 0;
+    while bytes.len() - at >= HEADER && header_at(bytes, at) == PATTERN {
+        at += HEADER;
+    }
+    at
+}
+
+// Goes over bytes that follow these three, up to the one that ends a right header, or over all: how many, and the
+// last three bytes then.
+fn hunted(three: u32, bytes: &[u8]) -> (usize, u32)
+    requires { three < 2 ^ 24 }
+    ensures goes { (register : ℕ) → GoesOver (hunts_after three register) (take result.0 bytes.now) false (hunts_after result.1 register) }
+    ensures within { result.0 ≤ length bytes.now }
+    ensures small { result.1 < 2 ^ 24 }
+{
+    let mut last = three;
+    for (i, byte) in bytes.iter().enumerate() {
+        let header = last * 256 + *byte as u32;
+        if right(header ^ PATTERN).is_some() {
+            return (i, last);
+        }
+        last = header % 0x100_0000;
+    }
+    (bytes.len(), last)
+}
+
+// The header that begins at this place, with the pattern.
+fn header_at(bytes: &[u8], at: usize) -> u32
+    requires { at + 4 ≤ length bytes.now }
+    ensures { four_bytes result ≡ take 4 (drop at bytes.now) }
+{
+    u32::from_be_bytes([bytes[at], bytes[at + 1], bytes[at + 2], bytes[at + 3]])
+}
+
+// Puts bytes into the buffer.
+fn put_at(buffer: &mut [u8], at: usize, bytes: &[u8])
+    requires { at + length bytes.now ≤ length buffer.old }
+    ensures { buffer.new ≡ take at buffer.old ++ (bytes.now ++ drop (at + length bytes.now) buffer.old) }
+{
+    buffer[at..at + bytes.len()].copy_from_slice(bytes);
 }
 
 fn zeros(alloc: Global, n: usize) -> Result<Vec<u8>, Memory>

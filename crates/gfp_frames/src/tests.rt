@@ -38,6 +38,76 @@ fn read(reader: &mut GfpReader, bytes: &[u8], packets: &mut Vec<u8>) -> Result<(
     Ok(())
 }
 
+// The same stream in pieces: an idle frame, a frame in two parts, whole frames, and what comes after the last.
+#[test]
+fn stream_is_made_in_pieces(rt: HostRuntime) -> Result<(), Fail> {
+    let mut maker = GfpMaker::new(rt.alloc())?;
+    let mut made = [0u8; 48];
+    assert_eq!(rt; maker.give(&mut made), 4);
+    offer_two(&mut maker, 0x11);
+    assert_eq!(rt; maker.give(&mut made[4..9]), 5);
+    assert_eq!(rt; maker.give(&mut made[9..]), 5);
+    offer_two(&mut maker, 0x22);
+    assert_eq!(rt; maker.give(&mut made[14..]), 10);
+    offer_two(&mut maker, 0x33);
+    assert_eq!(rt; maker.give(&mut made[24..]), 10);
+    assert_eq!(rt; maker.give(&mut made[34..]), 0);
+    offer_two(&mut maker, 0x44);
+    maker.fill(&mut made[34..]);
+    assert!(rt; made == STREAM);
+    Ok(())
+}
+
+// A packet of the same byte twice, where no frame is in hand.
+fn offer_two(maker: &mut GfpMaker, byte: u8) {
+    if maker.idle() {
+        maker.offer(&[byte, byte], false);
+    }
+}
+
+// What is left of an idle frame is given before the next one.
+#[test]
+fn idle_frames_go_on(rt: HostRuntime) -> Result<(), Fail> {
+    let mut maker = GfpMaker::new(rt.alloc())?;
+    let mut made = [0u8; 11];
+    maker.fill(&mut made[..3]);
+    maker.fill(&mut made[3..]);
+    assert!(rt;
+        made == [
+            0xB6u8, 0xAB, 0x31, 0xE0, 0xB6, 0xAB, 0x31, 0xE0, 0xB6, 0xAB, 0x31
+        ]
+    );
+    assert_eq!(rt; maker.next_byte(), 0xE0);
+    Ok(())
+}
+
+#[test]
+fn stream_is_read_in_pieces(rt: HostRuntime) -> Result<(), Fail> {
+    let mut reader = GfpReader::new(rt.alloc())?;
+    for size in &[1usize, 5, 13, 48] {
+        reader.restart();
+        let mut packets = Vec::new(rt.alloc());
+        for piece in STREAM.chunks((*size).max(1)) {
+            read_piece(&mut reader, piece, &mut packets)?;
+        }
+        assert!(rt; packets.as_slice() == PACKETS.as_slice());
+    }
+    Ok(())
+}
+
+// Puts the packets that these bytes deliver one after another.
+fn read_piece(reader: &mut GfpReader, bytes: &[u8], packets: &mut Vec<u8>) -> Result<(), Fail> {
+    let mut rest = bytes;
+    for _ in 0..bytes.len() {
+        let (count, packet) = reader.take_some(rest);
+        if let Some(packet) = packet {
+            packets.extend_from_slice(packet)?;
+        }
+        rest = &rest[count..];
+    }
+    Ok(())
+}
+
 #[test]
 fn stream_is_read_with_wrong_bits(rt: HostRuntime) -> Result<(), Fail> {
     let mut reader = GfpReader::new(rt.alloc())?;

@@ -1,3 +1,5 @@
 pub mod Steps
 pub mod History
 pub mod Rules
+pub mod EightBytes
+pub mod Runs

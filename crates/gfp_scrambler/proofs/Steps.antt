@@ -62,11 +62,11 @@ all_done s rest k e none = ap (λ n. take n s ++ rest) e ∙ ap (λ front. front
 nothing_left : (s : List ℕ) (k : ℕ) → k ≡ length s → drop k s ≡ []
 nothing_left s k e = ap (λ n. drop n s) e ∙ drop-length s
 
-scrambled-none : (r : ℕ) → scrambled r [] ≡ []
+pub scrambled-none : (r : ℕ) → scrambled r [] ≡ []
 unfolding scrambled
 scrambled-none r = refl
 
-descrambled-none : (r : ℕ) → descrambled r [] ≡ []
+pub descrambled-none : (r : ℕ) → descrambled r [] ≡ []
 unfolding descrambled
 descrambled-none r = refl
 

@@ -1,9 +1,11 @@
 // The receiver's side.
-ghost use Rattle.std.specs.Prelude.{◌≡◌, ℕ, ◌<◌, ◌++◌, ◌^◌, List, []};
+ghost use Rattle.std.specs.Prelude.{◌≡◌, ℕ, ◌<◌, ◌%◌, ◌++◌, ◌^◌, List, []};
+ghost use Rattle.std.specs.Int.{to_be_bytes, w64};
 ghost use Rattle.gfp_scrambler.specs.BitList.{AreBytes, IsDescrambled};
 ghost use Rattle.gfp_scrambler.specs.Register.{HasTaken, descrambled, last_bits, shifted};
 
-use crate::register::BELOW_KEY;
+use crate::register::{BELOW_KEY, REGISTER};
+use crate::words::{WORD, put_word, word_at};
 use std::marker::Model;
 
 /// A descrambler: contracts see its register, the last 43 bits that came, the latest the least
@@ -49,6 +51,34 @@ fn descramble_from(register: u64, bytes: &mut [u8]) -> u64
     ensures register { result ≡ last_bits register bytes.old }
     ensures small { result < 2 ^ 43 }
     ensures came { AreBytes bytes.old }
+{
+    let mut last = register;
+    let mut at = 0;
+    while bytes.len() - at >= WORD {
+        let got = word_at(bytes, at);
+        put_word(bytes, at, descramble_word(last, got));
+        last = got % REGISTER;
+        at += WORD;
+    }
+    descramble_bytes(last, &mut bytes[at..])
+}
+
+// Eight bytes at once: the first 43 of their bits wait for the register, and the others for these as they came.
+#[inline]
+fn descramble_word(register: u64, word: u64) -> u64
+    requires { register < 2 ^ 43 }
+    ensures bytes { to_be_bytes w64 result ≡ descrambled register (to_be_bytes w64 word) }
+    ensures register { word % 2 ^ 43 ≡ last_bits register (to_be_bytes w64 word) }
+{
+    word ^ (register << 21) ^ (word >> 43)
+}
+
+// The bytes that are no whole word.
+fn descramble_bytes(register: u64, bytes: &mut [u8]) -> u64
+    requires { register < 2 ^ 43 }
+    ensures bytes { bytes.new ≡ descrambled register bytes.old }
+    ensures register { result ≡ last_bits register bytes.old }
+    ensures small { result < 2 ^ 43 }
 {
     let mut last = register;
     for byte in bytes.iter_mut() {

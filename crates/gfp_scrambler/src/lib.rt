@@ -8,6 +8,7 @@ mod register;
 mod scrambler;
 #[cfg(test)]
 mod tests;
+mod words;
 
 pub use descrambler::Descrambler;
 pub use laws::{descrambling_undoes, is_the_bit_rule};

@@ -1,9 +1,11 @@
 // The sender's side.
-ghost use Rattle.std.specs.Prelude.{◌≡◌, ℕ, ◌<◌, ◌++◌, ◌^◌, List, []};
+ghost use Rattle.std.specs.Prelude.{◌≡◌, ℕ, ◌<◌, ◌%◌, ◌++◌, ◌^◌, List, []};
+ghost use Rattle.std.specs.Int.{to_be_bytes, w64};
 ghost use Rattle.gfp_scrambler.specs.BitList.{AreBytes, IsScrambled};
 ghost use Rattle.gfp_scrambler.specs.Register.{HasSent, last_bits, scrambled, shifted};
 
-use crate::register::BELOW_KEY;
+use crate::register::{BELOW_KEY, REGISTER};
+use crate::words::{WORD, put_word, word_at};
 use std::marker::Model;
 
 /// A scrambler: contracts see its register, the last 43 bits that it sent, the latest the least
@@ -49,6 +51,35 @@ fn scramble_from(register: u64, bytes: &mut [u8]) -> u64
     ensures register { result ≡ last_bits register bytes.new }
     ensures small { result < 2 ^ 43 }
     ensures came { AreBytes bytes.old }
+{
+    let mut last = register;
+    let mut at = 0;
+    while bytes.len() - at >= WORD {
+        let sent = scramble_word(last, word_at(bytes, at));
+        put_word(bytes, at, sent);
+        last = sent % REGISTER;
+        at += WORD;
+    }
+    scramble_bytes(last, &mut bytes[at..])
+}
+
+// Eight bytes at once: the first 43 of their bits wait for the register alone, and the others for these.
+#[inline]
+fn scramble_word(register: u64, word: u64) -> u64
+    requires { register < 2 ^ 43 }
+    ensures bytes { to_be_bytes w64 result ≡ scrambled register (to_be_bytes w64 word) }
+    ensures register { result % 2 ^ 43 ≡ last_bits register (to_be_bytes w64 result) }
+{
+    let keyed = word ^ (register << 21);
+    keyed ^ (keyed >> 43)
+}
+
+// The bytes that are no whole word.
+fn scramble_bytes(register: u64, bytes: &mut [u8]) -> u64
+    requires { register < 2 ^ 43 }
+    ensures bytes { bytes.new ≡ scrambled register bytes.old }
+    ensures register { result ≡ last_bits register bytes.new }
+    ensures small { result < 2 ^ 43 }
 {
     let mut last = register;
     for byte in bytes.iter_mut() {

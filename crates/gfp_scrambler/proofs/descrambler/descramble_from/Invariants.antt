@@ -1,12 +1,16 @@
-use Rattle.std.proofs.Common.{◌≡◌, ◌<◌, ◌^◌, ◌++◌, take, drop}
+use Rattle.std.proofs.Common.{◌≡◌, ◌-◌, ◌<◌, ◌≤◌, ◌^◌, ◌++◌, length, take, drop}
 use Rattle.gfp_scrambler.specs.BitList.{AreBytes}
 use Rattle.gfp_scrambler.specs.Register.{last_bits, descrambled}
 use Rattle.gfp_scrambler.proofs.descrambler.descramble_from.Given as goal
 
-abbrev pub invariant-loop-byte : goal.invariant-loop-byte
-invariant-loop-byte l = record {
-  done : take l.byte-index l.bytes ++ descrambled l.last (drop l.byte-index l.bytes) ≡ descrambled l.fn.register l.fn.bytes;
-  register : last_bits l.last (drop l.byte-index l.bytes) ≡ last_bits l.fn.register l.fn.bytes;
+abbrev pub invariant-loop-bytes : goal.invariant-loop-bytes
+invariant-loop-bytes l = record {
+  within : l.at ≤ length l.bytes;
+  done : take l.at l.bytes ++ descrambled l.last (drop l.at l.bytes) ≡ descrambled l.fn.register l.fn.bytes;
+  register : last_bits l.last (drop l.at l.bytes) ≡ last_bits l.fn.register l.fn.bytes;
   small : l.last < 2 ^ 43;
   came : AreBytes l.fn.bytes;
 }
+
+abbrev pub decreases-loop-bytes : goal.decreases-loop-bytes
+decreases-loop-bytes l = length l.initial.bytes - l.at

@@ -1,29 +1,38 @@
-use Rattle.std.proofs.Common.{◌≡◌, ◌/◌, ◌^◌, ◌<◌, length, get_or, refl, ap, sym, ◌∙◌, arith}
-use Rattle.std.specs.Prelude.{bit_xor}
-use Rattle.std.proofs.lemmas.Nat.{xor_of_8}
-use Rattle.gfp_scrambler.specs.Register.{shifted}
-use Rattle.gfp_scrambler.proofs.Steps.{sent_more, sent_all, last_more, last_bits-none}
+use Rattle.std.proofs.Common.{◌+◌, ◌%◌, ◌^◌, ◌≤◌, length, refl, ap, sym, ◌∙◌, arith}
+use Rattle.std.specs.Int.{to_be_bytes, w64}
+use Rattle.gfp_scrambler.specs.Register.{scrambled}
+use Rattle.gfp_scrambler.proofs.Steps.{last_bits-none}
+use Rattle.gfp_scrambler.proofs.Runs.{Puts, puts, sent_eight, last_eight, sent_end, last_end}
 use Rattle.gfp_scrambler.proofs.scrambler.scramble_from.Goals as goal
 
-pub loop-byte-init : goal.loop-byte-init
-loop-byte-init c = record { done = refl; register = sym (last_bits-none c.args.register); small = c.requires; came = λ k. omega (arith, c.type_inv.bytes k) }
+pub loop-bytes-init : goal.loop-bytes-init
+loop-bytes-init c = record { within = omega arith; done = refl; register = sym (last_bits-none c.args.register); small = c.requires; came = λ k. omega (arith, c.type_inv.bytes k) }
 
-pub loop-byte-preserved : goal.loop-byte-preserved
-loop-byte-preserved c =
-    let s = c.loop-byte.bytes in
-    let k = c.loop-byte.byte-index in
-    let r = c.loop-byte.last in
-    let within : k < length s = omega arith in
-    let v = bit_xor (get_or s k 0) (r / 2 ^ 35) in
-    let small : v < 256 = xor_of_8 (get_or s k 0) (r / 2 ^ 35) (omega arith) (let below = c.loop-byte.invariant.small in omega arith) in
+pub loop-bytes-preserved : goal.loop-bytes-preserved
+loop-bytes-preserved c =
+    let s = c.loop-bytes.bytes in
+    let k = c.loop-bytes.at in
+    let r = c.loop-bytes.last in
+    let n = c.scramble_word-sent.result in
+    let sent = to_be_bytes w64 n in
+    let within : k + 8 ≤ length s = omega arith in
+    let put : Puts s k sent c.put_word.new.bytes = puts s k sent c.put_word.new.bytes within refl c.put_word.ensures in
     record {
-      done = sent_more s k r within ∙ c.loop-byte.invariant.done;
-      register = ap (λ x. shifted x v) c.loop-byte.invariant.register ∙ sym (last_more s k c.args.register v within);
+      within = (let e = put.size in omega arith);
+      done =
+          sent_eight s k r (n % 2 ^ 43) sent c.put_word.new.bytes put (c.scramble_word-sent.ensures.bytes ∙ ap (scrambled r) c.word_at.ensures) c.scramble_word-sent.ensures.register
+          ∙ c.loop-bytes.invariant.done;
+      register = last_eight s k c.args.register r (n % 2 ^ 43) sent c.put_word.new.bytes put c.loop-bytes.invariant.register c.scramble_word-sent.ensures.register;
       small = omega arith;
-      came = c.loop-byte.invariant.came;
+      came = c.loop-bytes.invariant.came;
     }
 
 pub returns-clause-bytes : goal.returns-clause-bytes
 returns-clause-bytes c =
-    let all : c.loop-byte.byte-index ≡ length c.loop-byte.bytes = omega arith in
-    sym (sent_all c.loop-byte.bytes c.loop-byte.byte-index c.loop-byte.last all) ∙ c.loop-byte.invariant.done
+    sent_end c.loop-bytes.bytes c.loop-bytes.at c.loop-bytes.last c.scramble_bytes.new.bytes c.loop-bytes.invariant.within c.scramble_bytes.ensures.bytes
+    ∙ c.loop-bytes.invariant.done
+
+pub returns-clause-register : goal.returns-clause-register
+returns-clause-register c =
+    last_end c.loop-bytes.bytes c.loop-bytes.at c.args.register c.loop-bytes.last c.scramble_bytes.result c.scramble_bytes.new.bytes c.loop-bytes.invariant.within c.scramble_bytes.ensures.bytes
+    c.loop-bytes.invariant.register c.scramble_bytes.ensures.register

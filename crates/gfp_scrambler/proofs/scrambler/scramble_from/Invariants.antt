@@ -1,12 +1,16 @@
-use Rattle.std.proofs.Common.{◌≡◌, ◌<◌, ◌^◌, ◌++◌, take, drop}
+use Rattle.std.proofs.Common.{◌≡◌, ◌-◌, ◌<◌, ◌≤◌, ◌^◌, ◌++◌, length, take, drop}
 use Rattle.gfp_scrambler.specs.BitList.{AreBytes}
 use Rattle.gfp_scrambler.specs.Register.{last_bits, scrambled}
 use Rattle.gfp_scrambler.proofs.scrambler.scramble_from.Given as goal
 
-abbrev pub invariant-loop-byte : goal.invariant-loop-byte
-invariant-loop-byte l = record {
-  done : take l.byte-index l.bytes ++ scrambled l.last (drop l.byte-index l.bytes) ≡ scrambled l.fn.register l.fn.bytes;
-  register : l.last ≡ last_bits l.fn.register (take l.byte-index l.bytes);
+abbrev pub invariant-loop-bytes : goal.invariant-loop-bytes
+invariant-loop-bytes l = record {
+  within : l.at ≤ length l.bytes;
+  done : take l.at l.bytes ++ scrambled l.last (drop l.at l.bytes) ≡ scrambled l.fn.register l.fn.bytes;
+  register : l.last ≡ last_bits l.fn.register (take l.at l.bytes);
   small : l.last < 2 ^ 43;
   came : AreBytes l.fn.bytes;
 }
+
+abbrev pub decreases-loop-bytes : goal.decreases-loop-bytes
+decreases-loop-bytes l = length l.initial.bytes - l.at

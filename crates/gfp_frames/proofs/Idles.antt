@@ -1,0 +1,138 @@
+-- Idle frames one after another.
+use Rattle.std.proofs.Common.{◌≡◌, ℕ, zero, suc, ◌+◌, ◌-◌, ◌*◌, ◌/◌, ◌%◌, ◌<◌, ◌≤◌, List, [], ◌∷◌, ◌++◌, length, take, drop, refl, ap, ◌∙◌, sym, arith, append_assoc, length-append, length-drop}
+use Rattle.std.specs.Prelude.{replicate, min}
+use Rattle.std.proofs.Math.Seq.{take-length}
+use Rattle.std.proofs.lemmas.List.{append-nil, take_at, take-append-drop, drop-drop, length-take-le}
+use Rattle.std.proofs.lemmas.Slice.{take-put_mid}
+use borrow.Rule.Slice.PartMut.{put_mid}
+use Rattle.gfp_scrambler.specs.Register.{last_bits, scrambled}
+use Rattle.gfp_frames.specs.CoreHeader.{core_header}
+use Rattle.gfp_frames.specs.GfpText.{Frame, Idle, areas_of, text_of}
+use Rattle.gfp_frames.specs.Maker.{MakerState, HasMade, idles_begun, idle_bytes}
+use Rattle.gfp_frames.proofs.Lists.{all_dropped}
+use Rattle.gfp_frames.proofs.Texts.{text-push, areas-push, header_size}
+use Rattle.crc_small.specs.LongDivision.{crc16_of, check_of, remainder_from, bits_of, low_bits}
+
+pub idle_frame : core_header 0 ≡ 0xB6 ∷ 0xAB ∷ 0x31 ∷ 0xE0 ∷ []
+unfolding core_header crc16_of check_of remainder_from bits_of low_bits
+idle_frame = refl
+
+-- one more idle frame, at the end
+pub idle-push : (n : ℕ) → idle_bytes (suc n) ≡ idle_bytes n ++ core_header 0
+idle-push zero = append-nil (core_header 0)
+idle-push (suc n) = ap (λ y. core_header 0 ++ y) (idle-push n) ∙ sym (append_assoc (core_header 0) (idle_bytes n) (core_header 0))
+
+pub idle_more : (n m : ℕ) → n % 4 ≡ 0 → m ≡ n + 4 → idle_bytes (n / 4) ++ core_header 0 ≡ idle_bytes (m / 4)
+idle_more n m h e = sym (idle-push (n / 4)) ∙ ap idle_bytes (let f : suc (n / 4) ≡ m / 4 = omega arith in f)
+
+pub idle_size : (n : ℕ) → length (idle_bytes n) ≡ 4 * n
+idle_size zero = refl
+idle_size (suc n) = length-append (core_header 0) (idle_bytes n) ∙ (let h = header_size 0 in let r = idle_size n in omega arith)
+
+-- ---- a maker
+
+one_idle : (frames : List Frame) → text_of (frames ++ Idle ∷ []) ≡ text_of frames ++ core_header 0
+unfolding scrambled
+one_idle frames = text-push frames Idle ∙ ap (λ y. text_of frames ++ y) (append-nil (core_header 0))
+
+first_of_idles : (frames : List Frame) (n : ℕ) → frames ++ replicate (suc n) Idle ≡ (frames ++ Idle ∷ []) ++ replicate n Idle
+first_of_idles frames n = sym (append_assoc frames (Idle ∷ []) (replicate n Idle))
+
+text_idle : (n : ℕ) (frames : List Frame) → text_of (frames ++ replicate n Idle) ≡ text_of frames ++ idle_bytes n
+text_idle zero frames = ap text_of (append-nil frames) ∙ sym (append-nil (text_of frames))
+text_idle (suc n) frames =
+    ap text_of (first_of_idles frames n) ∙ text_idle n (frames ++ Idle ∷ [])
+    ∙ ap (λ y. y ++ idle_bytes n) (one_idle frames)
+    ∙ append_assoc (text_of frames) (core_header 0) (idle_bytes n)
+
+areas_idle : (n : ℕ) (frames : List Frame) → areas_of (frames ++ replicate n Idle) ≡ areas_of frames
+areas_idle zero frames = ap areas_of (append-nil frames)
+areas_idle (suc n) frames =
+    ap areas_of (first_of_idles frames n) ∙ areas_idle n (frames ++ Idle ∷ []) ∙ areas-push frames Idle ∙ append-nil (areas_of frames)
+
+-- some bytes of the frame in hand
+pub some_given : (frames : List Frame) (given bytes : List ℕ) (old new : MakerState) → HasMade frames given old → bytes ++ new.hand ≡ old.hand → new.register ≡ old.register
+    → HasMade frames (given ++ bytes) new
+some_given frames given bytes old new made e same = record {
+  text = append_assoc given bytes new.hand ∙ ap (λ y. given ++ y) e ∙ made.text;
+  last = same ∙ made.last;
+}
+
+-- the frame in hand, and then idle frames
+pub idles_given : (frames : List Frame) (given bytes : List ℕ) (old new : MakerState) (n : ℕ) → HasMade frames given old → bytes ++ new.hand ≡ old.hand ++ idle_bytes n → new.register ≡ old.register
+    → HasMade (frames ++ replicate n Idle) (given ++ bytes) new
+idles_given frames given bytes old new n made e same = record {
+  text =
+      append_assoc given bytes new.hand ∙ ap (λ y. given ++ y) e ∙ sym (append_assoc given old.hand (idle_bytes n))
+      ∙ ap (λ y. y ++ idle_bytes n) made.text ∙ sym (text_idle n frames);
+  last = same ∙ made.last ∙ ap (λ a. last_bits 0 (scrambled 0 a)) (sym (areas_idle n frames));
+}
+
+-- one more idle frame, put in its place
+pub idle_put : (s : List ℕ) (at k : ℕ) (four : List ℕ) → at + 4 ≤ length s → k ≡ 4 → four ≡ 0xB6 ∷ 0xAB ∷ 0x31 ∷ 0xE0 ∷ [] → at % 4 ≡ 0 → take at s ≡ idle_bytes (at / 4)
+    → (at + 4 ≤ length (put_mid at k s four)) × (take (at + 4) (put_mid at k s four) ≡ idle_bytes ((at + 4) / 4))
+idle_put s at k four h size is whole before =
+    let few : length four ≡ 4 = ap length is in
+    let front : length (take at s) ≡ at = length-take-le at s (omega arith) in
+    let long = length-append (take at s) (four ++ drop k (drop at s)) in
+    let long_too = length-append four (drop k (drop at s)) in (
+      omega arith,
+      take-put_mid at k s four (at + 4) (omega arith) (omega arith)
+          ∙ ap (λ y. y ++ four) before ∙ ap (λ y. idle_bytes (at / 4) ++ y) (is ∙ sym idle_frame)
+          ∙ idle_more at (at + 4) whole refl,
+    )
+
+-- the front of what is left of a frame, and the rest of it
+pub front_given : (items new rest hand : List ℕ) (given count k : ℕ) → k ≡ count → given + count ≤ length items → drop given items ≡ hand → new ≡ take k (drop given items) ++ rest
+    → take count new ++ drop (given + count) items ≡ hand
+front_given items new rest hand given count k same within is e =
+    let part = take count (drop given items) in
+    let size : length part ≡ count = length-take-le count (drop given items) (let d = length-drop given items in omega arith) in
+    ap (λ y. take count y ++ drop (given + count) items) (e ∙ ap (λ n. take n (drop given items) ++ rest) same)
+    ∙ ap (λ y. y ++ drop (given + count) items) (take_at part rest count size)
+    ∙ ap (λ y. part ++ y) (sym (drop-drop count given items))
+    ∙ take-append-drop count (drop given items)
+    ∙ is
+
+-- ---- parts of a slice
+
+pub none_of_length : {X : Type 0} (xs : List X) → length xs ≡ 0 → xs ≡ []
+none_of_length [] e = refl
+none_of_length (x ∷ xs) e = absurd (omega arith)
+
+-- the end of a list, put in its place
+pub end_put : (s : List ℕ) (k : ℕ) (ys : List ℕ) → put_mid k (length s - k) s ys ≡ take k s ++ ys
+end_put s k ys =
+    let none : drop (length s - k) (drop k s) ≡ [] = all_dropped (drop k s) (length s - k) (let e = length-drop k s in omega arith) in
+    ap (λ y. take k s ++ (ys ++ y)) none ∙ ap (λ y. take k s ++ y) (append-nil ys)
+
+-- whole idle frames, and the front of one more
+pub idle_end : (whole_frames others ys hand : List ℕ) (n whole count : ℕ) → whole ≡ n / 4 * 4 → whole < n → length whole_frames ≡ whole → whole_frames ≡ idle_bytes (whole / 4)
+    → length ys ≡ n - whole → count ≡ n - whole → take count ys ++ hand ≡ core_header 0
+    → put_mid whole (length (whole_frames ++ others) - whole) (whole_frames ++ others) ys ++ hand ≡ idle_bytes ((n + 3) / 4)
+idle_end whole_frames others ys hand n whole count is part size idles rest all last =
+    let same : take count ys ≡ ys = ap (λ k. take k ys) (all ∙ sym rest) ∙ take-length ys in
+    ap (λ y. y ++ hand) (end_put (whole_frames ++ others) whole ys ∙ ap (λ y. y ++ ys) (take_at whole_frames others whole size))
+    ∙ append_assoc whole_frames ys hand
+    ∙ ap (λ y. whole_frames ++ (y ++ hand)) (sym same)
+    ∙ ap (λ y. whole_frames ++ y) last
+    ∙ ap (λ y. y ++ core_header 0) idles
+    ∙ sym (idle-push (whole / 4))
+    ∙ ap idle_bytes (let e : suc (whole / 4) ≡ (n + 3) / 4 = omega arith in e)
+
+-- the frame in hand to its end, and idle frames after it
+pub filled : (frames : List Frame) (given : List ℕ) (old mid new : MakerState) (into rest : List ℕ) (n count m : ℕ) → HasMade frames given old
+    → count ≡ min (length old.hand) n → count < n → length into ≡ n → take count into ++ mid.hand ≡ old.hand → mid.register ≡ old.register
+    → m ≡ n - count → rest ++ new.hand ≡ idle_bytes ((m + 3) / 4) → new.register ≡ mid.register
+    → HasMade (frames ++ replicate (idles_begun old.hand n) Idle) (given ++ put_mid count (length into - count) into rest) new
+filled frames given old mid new into rest n count m made is short size front same left idles same_too =
+    let given_all : count ≡ length old.hand = omega arith in
+    let taken : length (take count into) ≡ count = length-take-le count into (omega arith) in
+    let none : mid.hand ≡ [] = none_of_length mid.hand (let e = length-append (take count into) mid.hand in let f = ap length front in omega arith) in
+    let hand : take count into ≡ old.hand = sym (append-nil (take count into)) ∙ ap (λ y. take count into ++ y) (sym none) ∙ front in
+    let bytes : put_mid count (length into - count) into rest ++ new.hand ≡ old.hand ++ idle_bytes (idles_begun old.hand n) =
+    ap (λ y. y ++ new.hand) (end_put into count rest ∙ ap (λ y. y ++ rest) hand)
+    ∙ append_assoc old.hand rest new.hand
+    ∙ ap (λ y. old.hand ++ y) idles
+    ∙ ap (λ k. old.hand ++ idle_bytes ((k + 3) / 4)) (left ∙ ap (λ k. n - k) given_all) in
+    idles_given frames given (put_mid count (length into - count) into rest) old new (idles_begun old.hand n) made bytes (same_too ∙ same)

@@ -1,0 +1,11 @@
+use Rattle.std.proofs.Common.{◌≡◌, ◌+◌, ◌-◌, arith}
+use Rattle.gfp_frames.proofs.Idles.{idle_put}
+use Rattle.gfp_frames.proofs.maker.put_idles.Goals as goal
+
+pub loop-at-preserved : goal.loop-at-preserved
+loop-at-preserved c =
+    let at = c.loop-at.at in
+    let four : at + 4 - at ≡ 4 = omega arith in
+    let put =
+    idle_put c.loop-at.into at (at + 4 - at) c.copy_from_slice.new.self (omega arith) four c.copy_from_slice.ensures.after c.loop-at.invariant.frames c.loop-at.invariant.idle in
+    record { within = put.0; frames = omega arith; idle = put.1 }

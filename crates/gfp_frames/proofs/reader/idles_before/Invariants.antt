@@ -1,0 +1,13 @@
+use Rattle.std.proofs.Common.{◌≡◌, ◌-◌, ◌/◌, ◌%◌, ◌≤◌, length, take}
+use Rattle.gfp_frames.specs.Maker.{idle_bytes}
+use Rattle.gfp_frames.proofs.reader.idles_before.Given as goal
+
+abbrev pub invariant-loop-at : goal.invariant-loop-at
+invariant-loop-at l = record {
+  within : l.at ≤ length l.bytes;
+  frames : l.at % 4 ≡ 0;
+  idle : take l.at l.bytes ≡ idle_bytes (l.at / 4);
+}
+
+abbrev pub decreases-loop-at : goal.decreases-loop-at
+decreases-loop-at l = length l.bytes - l.at
