@@ -6,6 +6,7 @@ mod bits;
 mod gfp;
 mod lanes;
 mod sink;
+mod source;
 mod words;
 
 use otn_base::Memory;
@@ -13,7 +14,7 @@ use std::alloc::Global;
 use std::process::ExitCode;
 
 const USAGE: &str =
-    "usage: bench_layers gfp-make|gfp-read|gfp-make-bytes|gfp-read-bytes|idle-make|idle-read|hunt|crc32|scramble|descramble|parity|mask BYTES TIMES, split|join|take|put 8|32 TIMES, take-several|put-several SLOTS TIMES, take-of-32|put-of-32 4 TIMES, or sink SLOTS TURNS";
+    "usage: bench_layers gfp-make|gfp-read|gfp-make-bytes|gfp-read-bytes|idle-make|idle-read|hunt|crc32|scramble|descramble|parity|mask BYTES TIMES, split|join|take|put 8|32 TIMES, take-several|put-several SLOTS TIMES, take-of-32|put-of-32 4 TIMES, or sink|source SLOTS TURNS";
 
 fn main(rt: HostRuntime) -> ExitCode {
     match serve(&rt) {
@@ -61,6 +62,7 @@ fn serve(rt: &HostRuntime) -> Result<Option<u32>, Memory> {
         Some("scramble") => Ok(Some(bits::scramble(alloc, size, times)?)),
         Some("descramble") => Ok(Some(bits::descramble(alloc, size, times)?)),
         Some("sink") => Ok(Some(sink::take(alloc, size as usize, times)?)),
+        Some("source") => Ok(Some(source::put(alloc, size as usize, times)?)),
         _ => Ok(None),
     }
 }

@@ -24,7 +24,7 @@ pub(crate) fn take(alloc: Global, count: usize, turns: u32) -> Result<u32, Memor
     Ok(checksum)
 }
 
-// The first slots of a line, None where there are not so many.
+/// The first slots of a line, None where there are not so many.
 pub(crate) fn first_slots(count: usize) -> Option<Slots> {
     Slots::new(SLOT_NUMBERS.get(..count)?)
 }

@@ -3,3 +3,7 @@ pub mod GroupRows
 pub mod Rows
 pub mod RunGroups
 pub mod WholeRows
+pub mod PutRows
+pub mod PutMessage
+pub mod PutBack
+pub mod PutGroup

@@ -6,7 +6,7 @@ use Rattle.odtu_columns.specs.Payload.{payload_group, payload_groups}
 use Rattle.odtu_columns.proofs.GroupRows.{payload_groups-none, payload_groups-more}
 
 -- eight slots are all slots
-eight_slots : (slots : List ℕ) → IsSlotList 8 slots → length slots ≡ 8
+pub eight_slots : (slots : List ℕ) → IsSlotList 8 slots → length slots ≡ 8
     → (get_or slots 0 0 ≡ 1) × (get_or slots 1 0 ≡ 2) × (get_or slots 2 0 ≡ 3) × (get_or slots 3 0 ≡ 4)
     × (get_or slots 4 0 ≡ 5) × (get_or slots 5 0 ≡ 6) × (get_or slots 6 0 ≡ 7) × (get_or slots 7 0 ≡ 8)
 eight_slots slots list eight =
@@ -21,7 +21,7 @@ eight_slots slots list eight =
     let high = list.high 7 (omega arith) in
     (omega arith, omega arith, omega arith, omega arith, omega arith, omega arith, omega arith, omega arith)
 
-all_slots : (slots : List ℕ) → IsSlotList 8 slots → length slots ≡ 8 → (i : ℕ) → i < 8 → get_or slots i 0 ≡ i + 1
+pub all_slots : (slots : List ℕ) → IsSlotList 8 slots → length slots ≡ 8 → (i : ℕ) → i < 8 → get_or slots i 0 ≡ i + 1
 all_slots slots list eight zero h = (eight_slots slots list eight).0
 all_slots slots list eight (suc zero) h = (eight_slots slots list eight).1
 all_slots slots list eight (suc (suc zero)) h = (eight_slots slots list eight).2

@@ -2,3 +2,4 @@ pub mod Columns
 pub mod Groups
 pub mod Message
 pub mod Payload
+pub mod Put

@@ -1,5 +1,6 @@
 // The justification bytes of an ODTU.
-ghost use Rattle.std.specs.Prelude.{◌≡◌};
+ghost use Rattle.std.specs.Prelude.{◌≡◌, ◌≤◌, ℕ, slice_index};
+ghost use Rattle.frame_geometry.specs.Places.{place_of};
 ghost use Rattle.odtu_columns.specs.Message.{message_of};
 
 use frame_geometry::Frame;
@@ -16,4 +17,18 @@ pub fn message(frame: &Frame<4080>) -> [u8; 6]
         frame.get(2, 15),
         frame.get(3, 15),
     ]
+}
+
+/// Writes JC1 to JC6 of a frame, in this order; every other byte stays.
+pub fn put_message(frame: &mut Frame<4080>, bytes: [u8; 6])
+    ensures message { message_of frame.new ≡ bytes }
+    ensures kept { (place : ℕ) → ((row column : ℕ) → 1 ≤ row → row ≤ 3 → 15 ≤ column → column ≤ 16 → place ≡ place_of 4080 row column → ⊥) → slice_index frame.new place ≡ slice_index frame.old place }
+{
+    let _whole = frame.as_bytes();
+    frame.set(1, 16, bytes[0]);
+    frame.set(2, 16, bytes[1]);
+    frame.set(3, 16, bytes[2]);
+    frame.set(1, 15, bytes[3]);
+    frame.set(2, 15, bytes[4]);
+    frame.set(3, 15, bytes[5]);
 }

@@ -2,15 +2,18 @@
 //!
 //! - `slot`: the bytes of one tributary slot.
 //! - `groups`: a byte of each of the slots that one ODTU takes, cycle by cycle.
+//! - `put`: the same, written.
 //! - `justification`: its justification bytes.
 #![tactic(auto)]
 
 mod groups;
 mod justification;
+mod put;
 mod slot;
 #[cfg(test)]
 mod tests;
 
 pub use groups::{cycle_group, cycle_groups, group, row_groups};
-pub use justification::message;
+pub use justification::{message, put_message};
+pub use put::{put_group, put_row_groups, put_slot_row};
 pub use slot::slot_row;

@@ -1,7 +1,9 @@
 // Worked values: where the payload byte in column c is (c - 17) mod 256.
 ghost use Rattle.std.specs.Prelude.{◌≤◌};
 
-use super::{group, message, row_groups, slot_row};
+use super::{
+    group, message, put_group, put_message, put_row_groups, put_slot_row, row_groups, slot_row,
+};
 use frame_geometry::Frame;
 use otn_base::Slots;
 use std::test::Fail;
@@ -112,5 +114,64 @@ fn message_columns(rt: HostRuntime) -> Result<(), Fail> {
         frame.set(row, col, byte);
     }
     assert_eq!(rt; message(&frame), [0xED, 0x03, 0x2E, 4, 5, 6]);
+    Ok(())
+}
+
+#[test]
+fn put_and_read_rows(rt: HostRuntime) -> Result<(), Fail> {
+    let mut from = Frame::<4080>::new(rt.alloc())?;
+    let mut frame = Frame::<4080>::new(rt.alloc())?;
+    number_columns(&mut from, 3);
+    let slots = Slots::new(&[2, 5]).ok_or("two slots that rise")?;
+    let mut row = [255u8; 952];
+    if slots.count() == 2 {
+        row_groups(&from, 3, &slots, &mut row);
+        put_row_groups(&mut frame, 3, &slots, &row);
+    }
+    for (col, byte) in [
+        (18u32, 1u8),
+        (21, 4),
+        (26, 9),
+        (3818, 0xD9),
+        (17, 0),
+        (19, 0),
+    ] {
+        assert_eq!(rt; frame.get(3, col.clamp(1, 4080)), byte, "column {col}");
+    }
+    Ok(())
+}
+
+#[test]
+fn put_into_columns(rt: HostRuntime) -> Result<(), Fail> {
+    let mut frame = Frame::<4080>::new(rt.alloc())?;
+    let slots = Slots::new(&[1, 3, 8]).ok_or("three slots that rise")?;
+    frame.as_bytes_mut().fill(0xEE);
+    if slots.count() == 3 {
+        put_group(&mut frame, 479, &slots, &[1, 3, 8]);
+    }
+    put_slot_row(&mut frame, 4, 2, &[4; 476]);
+    put_message(&mut frame, [0x11, 0x12, 0x13, 0x14, 0x15, 0x16]);
+    for (row, col, byte) in [
+        // Group 479 is in cycle 2 of row 2.
+        (2u32, 33u32, 1u8),
+        (2, 34, 0xEE),
+        (2, 35, 3),
+        (2, 40, 8),
+        (1, 33, 0xEE),
+        // Slot 4 is in column 20 first, and in column 3820 last.
+        (2, 20, 4),
+        (2, 3820, 4),
+        (2, 36, 4),
+        (2, 21, 0xEE),
+        (3, 20, 0xEE),
+        (1, 16, 0x11),
+        (3, 15, 0x16),
+        (4, 15, 0xEE),
+        (1, 17, 0xEE),
+        (1, 14, 0xEE),
+    ] {
+        let there = frame.get(row.clamp(1, 4), col.clamp(1, 4080));
+        assert_eq!(rt; there, byte, "row {row}, column {col}");
+    }
     Ok(())
 }

@@ -7,12 +7,12 @@ use Rattle.tributary_model.specs.Emission.{emission, emitted_so_far}
 use Rattle.tributary_model.specs.Laws.{EmitsAtMost, CompletesAtMost}
 use Rattle.tributary_model.proofs.Law.{emitted_in, turn_after, course_next, few_bytes}
 
-total_next : (own : Tributary) (ais : ℕ → ℕ) (past : List (Option View)) (view : Option View)
+pub total_next : (own : Tributary) (ais : ℕ → ℕ) (past : List (Option View)) (view : Option View)
     → emitted_so_far own ais (view ∷ past) ≡ emitted_so_far own ais past + length (emission own ais past view)
 unfolding emitted_so_far
 total_next own ais past view = refl
 
-total_start : (own : Tributary) (ais : ℕ → ℕ) → emitted_so_far own ais [] ≡ 0
+pub total_start : (own : Tributary) (ais : ℕ → ℕ) → emitted_so_far own ais [] ≡ 0
 unfolding emitted_so_far
 total_start own ais = refl
 

@@ -15,3 +15,7 @@ pub mod CarriedTurns
 pub mod Intact
 pub mod Passing
 pub mod Sender
+pub mod PutPlaces
+pub mod PutCarries
+pub mod PutOn
+pub mod PutApart

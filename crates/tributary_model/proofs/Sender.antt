@@ -50,7 +50,7 @@ group_length m c q bytes j h enough = go (is_data_at c j) refl
         omega arith
     go false e = length-replicate m 0
 
-get_made : (f : ℕ → List ℕ) (a n k : ℕ) → k < n → slice_get (map f (range_with_len a n)) k ≡ Some (f (a + k))
+pub get_made : (f : ℕ → List ℕ) (a n k : ℕ) → k < n → slice_get (map f (range_with_len a n)) k ≡ Some (f (a + k))
 get_made f a zero k h = absurd (omega arith)
 get_made f a (suc n) zero h = ap (λ i. Some (f i)) (let e : a ≡ a + 0 = omega arith in e)
 get_made f a (suc n) (suc k) h = get_made f (a + 1) n k (omega arith) ∙ ap (λ i. Some (f i)) (let e : a + 1 + k ≡ a + suc k = omega arith in e)
@@ -82,7 +82,7 @@ small_check : (d : ℕ) → d < 32 → crc5_of d < 32
 unfolding crc5_of check_of remainder_from low_bits
 small_check d h = ltb-true (crc5_of d) 32 (agree_below_at (λ d. nat_lt (crc5_of d) 32) (λ d. true) 32 d refl h)
 
-clear_already : (former : Option ℕ) (c d : ℕ) → d < 32 → cleared (says former c ++ says_rest d) ≡ says former c ++ says_rest d
+pub clear_already : (former : Option ℕ) (c d : ℕ) → d < 32 → cleared (says former c ++ says_rest d) ≡ says former c ++ says_rest d
 unfolding says says_rest
 clear_already former c d h =
     let a : d / 32 % 32 ≡ d / 32 = omega arith in
@@ -114,7 +114,7 @@ sent_carries own bytes p t some few =
     }
 
 -- the groups of a turn lie in the bytes of the turns before it
-turn_within : (m : ℕ) (p : List ℕ) (t : ℕ) → 0 < m → m * (sent p (t - 1) / m + number_before m p t) ≤ sent p t
+pub turn_within : (m : ℕ) (p : List ℕ) (t : ℕ) → 0 < m → m * (sent p (t - 1) / m + number_before m p t) ≤ sent p t
 turn_within m p zero h = (let e = div-add-mod 0 m in omega arith)
 turn_within m p (suc t) h =
     let before : suc t - 1 ≡ t = omega arith in

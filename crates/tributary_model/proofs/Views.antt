@@ -15,11 +15,11 @@ use Rattle.tributary_model.proofs.Sizes.{All_first, All_rest}
 
 -- ---- lists made alike
 
-map_alike : {X Y : Type 0} (f g : X → Y) (xs : List X) → All (λ x. f x ≡ g x) xs → map f xs ≡ map g xs
+pub map_alike : {X Y : Type 0} (f g : X → Y) (xs : List X) → All (λ x. f x ≡ g x) xs → map f xs ≡ map g xs
 map_alike f g [] h = refl
 map_alike f g (x ∷ xs) h = let a : f x ≡ g x = All_first (λ x. f x ≡ g x) x xs h in let b = map_alike f g xs (All_rest (λ x. f x ≡ g x) x xs h) in cc
 
-range_alike : {Y : Type 0} (f g : ℕ → Y) (a n : ℕ) → ((x : ℕ) → a ≤ x → x < a + n → f x ≡ g x) → map f (range_with_len a n) ≡ map g (range_with_len a n)
+pub range_alike : {Y : Type 0} (f g : ℕ → Y) (a n : ℕ) → ((x : ℕ) → a ≤ x → x < a + n → f x ≡ g x) → map f (range_with_len a n) ≡ map g (range_with_len a n)
 range_alike f g a zero h = refl
 range_alike f g a (suc n) h =
     let first : f a ≡ g a = h a (omega arith) (omega arith) in
@@ -29,7 +29,7 @@ range_alike f g a (suc n) h =
 -- ---- slots
 
 -- what holds of each slot that the list contains holds of all
-of_slots : (P : ℕ → Type 0) (slots : List ℕ) → ((k : ℕ) → Contains slots k → P k) → All P slots
+pub of_slots : (P : ℕ → Type 0) (slots : List ℕ) → ((k : ℕ) → Contains slots k → P k) → All P slots
 of_slots P slots h = λ i d l. h (get_or slots i d) (All-contains_itself slots i d l)
 
 pub slot_low : (n : ℕ) (slots : List ℕ) (k : ℕ) → IsSlotList n slots → Contains slots k → 1 ≤ k
@@ -49,7 +49,7 @@ slot_high n slots k h c =
 -- ---- own places
 
 -- a slot's column in a cycle is one of its own
-own_column : (s x k : ℕ) → 1 ≤ k → k ≤ s → (16 + s * x + k - 17) % s + 1 ≡ k
+pub own_column : (s x k : ℕ) → 1 ≤ k → k ≤ s → (16 + s * x + k - 17) % s + 1 ≡ k
 own_column s x k low high =
     let places : 16 + s * x + k - 17 ≡ s * x + (k - 1) = omega arith in
     let round : (s * x + (k - 1)) % s ≡ (k - 1) % s = mul-add-mod_self_left s x (k - 1) in
@@ -57,7 +57,7 @@ own_column s x k low high =
     ap (λ n. n % s + 1) places ∙ omega arith
 
 -- and within the payload
-last_column : (s x k : ℕ) → s * (3808 / s) ≡ 3808 → x < 3808 / s → k ≤ s → 16 + s * x + k ≤ 3824
+pub last_column : (s x k : ℕ) → s * (3808 / s) ≡ 3808 → x < 3808 / s → k ≤ s → 16 + s * x + k ≤ 3824
 last_column s x k even less high =
     let most : s * (x + 1) ≤ s * (3808 / s) = mul-le-mul_left s (let h : x + 1 ≤ 3808 / s = omega arith in h) in
     omega arith
@@ -102,7 +102,7 @@ same_groups own n (one ∷ frames) (other ∷ others) t same =
     let b = same_groups own (suc n) frames others t same.1 in
     cc
 
-tested : (a b : ℕ) → (a == b) ≡ true → a ≡ b
+pub tested : (a b : ℕ) → (a == b) ≡ true → a ≡ b
 tested a b e = grind (arith, nat_tests)
 
 -- the MSI bytes
@@ -153,7 +153,7 @@ same_message_at own n zero (one ∷ frames) (other ∷ others) e same =
     cc
 same_message_at own n (suc i) (one ∷ frames) (other ∷ others) e same = same_message_at own (suc n) i frames others (omega arith) same.1
 
-some_greatest : (n : ℕ) (slots : List ℕ) → IsSlotList n slots → 1 ≤ greatest slots
+pub some_greatest : (n : ℕ) (slots : List ℕ) → IsSlotList n slots → 1 ≤ greatest slots
 some_greatest n [] h = absurd (let t = h.taken in let bad : ⊥ = omega arith in bad)
 some_greatest n (k ∷ slots) h = let low : 1 ≤ k = h.low 0 (omega arith) in omega arith
 

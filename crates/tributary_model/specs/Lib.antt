@@ -8,3 +8,5 @@ pub mod Laws
 pub mod Damage
 pub mod Carriage
 pub mod Passing
+pub mod Puts
+pub mod Sending

@@ -5,8 +5,10 @@
 
 mod carriage;
 mod laws;
+mod sending;
 mod turns;
 
 pub use carriage::{chains, healing, intact_carriage, one_damaged_message, passing_on};
 pub use laws::{most_bytes, most_groups, own_places_alone, sink_without_totals};
+pub use sending::{put_apart, sent_on, what_is_put};
 pub use turns::{Hearing, Said, SinkState, Standing};

@@ -1,0 +1,9 @@
+use Rattle.std.proofs.Common.{◌≡◌, ◌*◌, length, vec_len}
+use Rattle.bench_layers.proofs.source.put.Given as goal
+
+abbrev pub invariant-loop-turn : goal.invariant-loop-turn
+invariant-loop-turn l = record {
+  rest : l.source.rest ≡ 0;
+  slots : l.source.slots ≡ l.initial.source.slots;
+  size : vec_len l.bytes ≡ length l.source.slots * 15168;
+}

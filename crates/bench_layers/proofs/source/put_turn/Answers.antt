@@ -1,0 +1,17 @@
+use Rattle.std.proofs.Common.{◌≡◌, ℕ, ◌+◌, ◌*◌, ◌%◌, ◌∙◌, ap, arith, length}
+use Rattle.std.proofs.Math.Nat.{mul-mod_right}
+use Rattle.bench_layers.proofs.source.put_turn.Goals as goal
+
+none_over : (rest n m k : ℕ) → rest ≡ 0 → n ≡ m * k → (rest + n) % m ≡ 0
+none_over rest n m k e f = ap (λ x. x % m) (let g : rest + n ≡ m * k = omega arith in g) ∙ mul-mod_right m k
+
+pub loop-n-init : goal.loop-n-init
+loop-n-init c =
+    let turn = c.begin_turn.ensures in
+    let source = c.args.source.now in
+    record {
+      filled = turn.filled;
+      begun = turn.begun;
+      rest = turn.rest ∙ none_over source.rest (length c.args.bytes.now) (length source.slots) 15168 c.requires.rest c.requires.size;
+      slots = turn.slots;
+    }

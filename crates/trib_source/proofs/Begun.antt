@@ -1,0 +1,234 @@
+-- A source with one turn more.
+use Rattle.std.proofs.Common.{◌≡◌, ℕ, zero, suc, ◌+◌, ◌*◌, ◌/◌, ◌%◌, ◌-◌, ◌<◌, ◌≤◌, List, [], ◌∷◌, ◌++◌, length, take, drop, Option, Some, None, refl, ap, ◌∙◌, sym, subst, arith, append-nil, length-append}
+use Rattle.std.specs.Prelude.{min, sum}
+use Rattle.std.specs.Option.{ForSome}
+use Rattle.std.specs.List.{concat}
+use Rattle.std.proofs.lemmas.List.{length-drop, drop-drop, drop-append-le, take_all, take-append-le, map-append, length-map}
+use Rattle.std.proofs.lemmas.List.Folds.{concat-append}
+use Rattle.std.proofs.lemmas.List.Sums.{sum_by_push}
+use Rattle.std.proofs.Math.Nat.{div-add-mod, mod-lt, mul-add-div, mul-add-mod_self_left, mul-le-mul_left, lt-mul-div-succ}
+use Rattle.circular_buffer.specs.Buffer.{keep_last}
+use Rattle.gmp_rule.specs.DataRule.{Progress, data_count}
+use Rattle.jc_codec.specs.Message.{says}
+use Rattle.cnd_codec.specs.Remainder.{says_rest}
+use Rattle.tributary_model.specs.Places.{Tributary}
+use Rattle.tributary_model.specs.Carries.{sent, number_in, rest_in, number_before, former_of}
+use Rattle.tributary_model.specs.Puts.{lengths_of, message_put}
+use Rattle.tributary_model.proofs.Totals.{groups_next}
+use Rattle.tributary_model.proofs.PutCarries.{sent_inside}
+use Rattle.trib_source.specs.Rows.{AreLeft}
+use Rattle.trib_source.specs.Source.{Source, IsSource, StandsAfter, said_number}
+use Rattle.trib_source.proofs.Counts.{count_low}
+
+-- ---- the ring
+
+-- the turn's groups that were not put are at most all of them
+put_low : (s : Source) (capacity scratch : ℕ) → IsSource s capacity scratch → length s.slots * data_count s.number s.asked ≤ length s.slots * s.number
+put_low s capacity scratch h =
+    let filled = h.filled_low in
+    let asked = h.asked_is in
+    mul-le-mul_left (length s.slots) (count_low s.number s.asked h.number_low (omega arith))
+
+-- so behind them are the bytes of the last turn's groups and those over
+kept_long : (s : Source) (capacity scratch : ℕ) → IsSource s capacity scratch
+    → length (keep_last (length s.slots * said_number s.said + s.rest) s.left) ≡ length s.slots * said_number s.said + s.rest
+kept_long s capacity scratch h =
+    let low = put_low s capacity scratch h in
+    let is = h.left_is in
+    let long = length-drop (length s.left - (length s.slots * said_number s.said + s.rest)) s.left in
+    omega arith
+
+said_low : (said : Option ℕ) → ForSome said (λ n. n ≤ 15232) → said_number said ≤ 15232
+said_low None h = omega arith
+said_low (Some n) h = h n refl
+
+-- all bytes of the turn fit behind them
+room : (m said rest n : ℕ) → 0 < m → said ≤ 15232 → (rest + n) / m ≤ 15232 → m * said + rest + n ≤ m * 30465
+room m said rest n some low fits =
+    let past : rest + n < m * ((rest + n) / m + 1) = lt-mul-div-succ (rest + n) some in
+    let most : m * ((rest + n) / m + 1) ≤ m * 15233 = mul-le-mul_left m (omega arith) in
+    let before : m * said ≤ m * 15232 = mul-le-mul_left m low in
+    omega arith
+
+all_taken : (bytes : List ℕ) (capacity k r : ℕ) → r ≡ min (length bytes) (capacity - k) → k + length bytes ≤ capacity → take r bytes ≡ bytes
+all_taken bytes capacity k r e h = take_all r bytes (omega arith)
+
+pub ring_begun : (s : Source) (capacity scratch m number r : ℕ) (bytes kept items : List ℕ) → IsSource s capacity scratch → m ≡ length s.slots → number ≡ said_number s.said
+    → (s.rest + length bytes) / length s.slots ≤ 15232 → kept ≡ keep_last (m * number + s.rest) s.left → r ≡ min (length bytes) (capacity - length kept) → items ≡ kept ++ take r bytes
+    → items ≡ keep_last (length s.slots * said_number s.said + s.rest) s.left ++ bytes
+ring_begun s capacity scratch m number r bytes kept items h many said fits is count put =
+    let some : 0 < length s.slots = (let low = h.rest_low in omega arith) in
+    let same : kept ≡ keep_last (length s.slots * said_number s.said + s.rest) s.left = is ∙ ap (λ k. keep_last (k * number + s.rest) s.left) many ∙ ap (λ k. keep_last (length s.slots * k + s.rest) s.left) said in
+    let long : length kept ≡ length s.slots * said_number s.said + s.rest = ap length same ∙ kept_long s capacity scratch h in
+    let wide = room (length s.slots) (said_number s.said) s.rest (length bytes) some (said_low s.said h.said_low) fits in
+    let most = h.capacity_is in
+    put ∙ ap (λ y. kept ++ y) (all_taken bytes capacity (length kept) r count (omega arith)) ∙ ap (λ y. y ++ bytes) same
+
+-- ---- what holds of it
+
+abbrev pub begun : (s : Source) (m : ℕ) (r : Progress) (bytes items message : List ℕ) → Source
+begun s m r bytes items message = record {
+  slots = s.slots;
+  said = Some ((s.rest + length bytes) / m);
+  number = r.number;
+  asked = r.asked;
+  left = items;
+  rest = (s.rest + length bytes) % m;
+  message = message;
+  filled = 0;
+}
+
+pub is_begun : (s : Source) (capacity scratch m number : ℕ) (r : Progress) (bytes items message : List ℕ) → IsSource s capacity scratch → m ≡ length s.slots → number ≡ said_number s.said
+    → (s.rest + length bytes) / length s.slots ≤ 15232 → items ≡ keep_last (length s.slots * said_number s.said + s.rest) s.left ++ bytes → r.number ≡ number → r.asked ≡ 0
+    → IsSource (begun s m r bytes items message) capacity scratch
+is_begun s capacity scratch m number r bytes items message h many said fits is by none =
+    let some : 0 < length s.slots = (let low = h.rest_low in omega arith) in
+    let low = said_low s.said h.said_low in
+    let kept = kept_long s capacity scratch h in
+    let long : length items ≡ length s.slots * said_number s.said + s.rest + length bytes = ap length is ∙ length-append (keep_last (length s.slots * said_number s.said + s.rest) s.left) bytes ∙ omega arith in
+    let split : length s.slots * ((s.rest + length bytes) / length s.slots) + (s.rest + length bytes) % length s.slots ≡ s.rest + length bytes = div-add-mod (s.rest + length bytes) (length s.slots) in
+    let nothing : data_count r.number r.asked ≡ 0 = ap (data_count r.number) none in
+    let nothing_out : length s.slots * data_count r.number r.asked ≡ 0 = ap (λ k. length s.slots * k) nothing ∙ omega arith in
+    let groups : length s.slots * r.number ≡ length s.slots * said_number s.said = ap (λ k. length s.slots * k) (by ∙ said) in
+    subst (λ k. IsSource (begun s k r bytes items message) capacity scratch) (sym many) (record {
+      said_low = λ x e. (let same : (s.rest + length bytes) / length s.slots ≡ x = ap said_number e in omega arith);
+      number_low = omega arith;
+      filled_low = omega arith;
+      asked_is = omega arith;
+      rest_low = mod-lt (s.rest + length bytes) some;
+      left_is = omega arith;
+      capacity_is = h.capacity_is;
+      scratch_is = h.scratch_is;
+    })
+
+-- ---- the totals with one turn more
+
+lengths_more : (turns : List (List ℕ)) (bytes : List ℕ) → lengths_of (turns ++ bytes ∷ []) ≡ lengths_of turns ++ length bytes ∷ []
+lengths_more turns bytes = map-append length turns (bytes ∷ [])
+
+sent_same : (p : List ℕ) (b i : ℕ) → i ≤ length p → sent (p ++ b ∷ []) i ≡ sent p i
+sent_same p b i h = ap (λ xs. sum xs) (take-append-le i p (b ∷ []) h)
+
+sent_last : (p : List ℕ) (b n : ℕ) → n ≡ length p → sent (p ++ b ∷ []) (n + 1) ≡ sent p n + b
+sent_last p b n e =
+    let long = length-append p (b ∷ []) in
+    ap (λ xs. sum xs) (take_all (n + 1) (p ++ b ∷ []) (omega arith))
+    ∙ sum_by_push (λ k. k) p b
+    ∙ ap (λ xs. sum xs + b) (sym (take_all n p (omega arith)))
+
+-- the whole groups that a turn completes, by the bytes over of the turn before it alone: so its number fits where this does
+pub next_number : (m a b : ℕ) → 0 < m → (a % m + b) / m ≡ (a + b) / m - a / m
+next_number m a b h =
+    let split : m * (a / m) + a % m ≡ a = div-add-mod a m in
+    let whole : (m * (a / m) + (a % m + b)) / m ≡ a / m + (a % m + b) / m = mul-add-div h (a / m) (a % m + b) in
+    let same : (a + b) / m ≡ (m * (a / m) + (a % m + b)) / m = ap (λ k. k / m) (let e : a + b ≡ m * (a / m) + (a % m + b) = omega arith in e) in
+    omega arith
+
+next_rest : (m a b : ℕ) → (a % m + b) % m ≡ (a + b) % m
+next_rest m a b =
+    let split : m * (a / m) + a % m ≡ a = div-add-mod a m in
+    sym (mul-add-mod_self_left m (a / m) (a % m + b)) ∙ ap (λ k. k % m) (let e : m * (a / m) + (a % m + b) ≡ a + b = omega arith in e)
+
+-- the number before, and the former one
+former_same : (m : ℕ) (p : List ℕ) (b n : ℕ) → n ≤ length p → former_of m (p ++ b ∷ []) n ≡ former_of m p n
+former_same m p b zero h = refl
+former_same m p b (suc i) h =
+    ap (λ x. Some (x / m - sent (p ++ b ∷ []) i / m)) (sent_same p b (i + 1) (omega arith)) ∙ ap (λ x. Some (sent p (i + 1) / m - x / m)) (sent_same p b i (omega arith))
+
+before_is : (m : ℕ) (p : List ℕ) (n : ℕ) → said_number (former_of m p n) ≡ number_before m p n
+before_is m p zero = refl
+before_is m p (suc i) = refl
+
+-- the whole groups up to a turn
+groups_at : (m : ℕ) (p : List ℕ) (t : ℕ) → 0 < m → t ≤ length p → sent p (t - 1) / m + number_before m p t ≡ sent p t / m
+groups_at m p zero h l = omega arith
+groups_at m p (suc t) h l =
+    ap (λ k. sent p k / m + number_in m p t) (let e : suc t - 1 ≡ t = omega arith in e)
+    ∙ groups_next m p t h (omega arith)
+    ∙ ap (λ k. sent p k / m) (let e : t + 1 ≡ suc t = omega arith in e)
+
+-- ---- the bytes that are left
+
+left_begun : (s : Source) (capacity scratch : ℕ) (p bytes all : List ℕ) (t : ℕ) → IsSource s capacity scratch → t ≤ length p → s.number ≡ number_before (length s.slots) p t
+    → AreLeft (length s.slots) s.number (sent p (t - 1) / length s.slots) all s.asked s.left → sent p t ≤ length all
+    → keep_last (length s.slots * said_number s.said + s.rest) s.left ++ bytes ≡ drop (length s.slots * (sent p t / length s.slots)) (all ++ bytes)
+left_begun s capacity scratch p bytes all t h short number left enough =
+    let m = length s.slots in
+    let some : 0 < m = (let low = h.rest_low in omega arith) in
+    let k = m * said_number s.said + s.rest in
+    let q = sent p (t - 1) / m in
+    let d = data_count s.number s.asked in
+    let is = h.left_is in
+    let low = put_low s capacity scratch h in
+    let groups : q + s.number ≡ sent p t / m = ap (λ k. q + k) number ∙ groups_at m p t some short in
+    let wide : m * (q + s.number) ≡ m * (sent p t / m) = ap (λ k. m * k) groups in
+    let place : m * (q + d) + (length s.left - k) ≡ m * (sent p t / m) = omega arith in
+    let split = div-add-mod (sent p t) m in
+    let out : keep_last k s.left ≡ drop (m * (sent p t / m)) all =
+    ap (drop (length s.left - k)) left ∙ drop-drop (length s.left - k) (m * (q + d)) all ∙ ap (λ n. drop n all) place in
+    ap (λ y. y ++ bytes) out ∙ sym (drop-append-le (m * (sent p t / m)) all bytes (omega arith))
+
+-- ---- how it stands
+
+stands_of : (own : Tributary) (turns : List (List ℕ)) (filled : ℕ) (s : Source) (capacity scratch m number : ℕ) (r : Progress) (bytes items message : List ℕ)
+    → IsSource s capacity scratch → m ≡ length own.slots → number ≡ said_number s.said
+    → items ≡ keep_last (length s.slots * said_number s.said + s.rest) s.left ++ bytes → r.number ≡ number → r.asked ≡ 0
+    → message ≡ says s.said ((s.rest + length bytes) / m) ++ says_rest ((s.rest + length bytes) % m)
+    → StandsAfter own turns filled s → StandsAfter own (turns ++ bytes ∷ []) 0 (begun s (length own.slots) r bytes items message)
+unfolding message_put
+stands_of own turns filled s capacity scratch m number r bytes items message h many said is by none told stands =
+    let M = length own.slots in
+    let p = lengths_of turns in
+    let n = length turns in
+    let b = length bytes in
+    let new = turns ++ bytes ∷ [] in
+    let some : 0 < M = stands.slots.taken in
+    let long : n ≡ length p = sym (length-map turns length) in
+    let lengths = lengths_more turns bytes in
+    let turn : length new ≡ suc n = length-append turns (bytes ∷ []) ∙ omega arith in
+    let last : length new - 1 ≡ n = omega arith in
+    let before : sent (p ++ b ∷ []) n ≡ sent p n = sent_same p b n (omega arith) in
+    let now : sent (p ++ b ∷ []) (n + 1) ≡ sent p n + b = sent_last p b n long in
+    let next : (s.rest + b) / M ≡ number_in M (p ++ b ∷ []) n =
+    ap (λ k. (k + b) / M) stands.rest ∙ next_number M (sent p n) b some ∙ ap (λ x. x / M - sent p n / M) (sym now) ∙ ap (λ x. sent (p ++ b ∷ []) (n + 1) / M - x / M) (sym before) in
+    let rest : (s.rest + b) % M ≡ rest_in M (p ++ b ∷ []) n = ap (λ k. (k + b) % M) stands.rest ∙ next_rest M (sent p n) b ∙ ap (λ x. x % M) (sym now) in
+    let former : s.said ≡ former_of M (p ++ b ∷ []) n = stands.said ∙ sym (former_same M p b n (omega arith)) in
+    let slots : length s.slots ≡ M = ap length (sym stands.own_is) in
+    record {
+      line = stands.line;
+      own_is = stands.own_is;
+      slots = stands.slots;
+      filled_is = refl;
+      said = ap (λ k. Some k) next ∙ ap (λ q. Some (number_in M q n)) (sym lengths) ∙ ap (former_of M (lengths_of new)) (sym turn);
+      number = by ∙ said ∙ ap said_number former ∙ before_is M (p ++ b ∷ []) n ∙ ap (λ q. number_before M q n) (sym lengths) ∙ ap (number_before M (lengths_of new)) (sym last);
+      rest = rest ∙ ap (λ k. sent (p ++ b ∷ []) k % M) (let e : n + 1 ≡ length new = omega arith in e) ∙ ap (λ q. sent q (length new) % M) (sym lengths);
+      left =
+          is
+          ∙ left_begun s capacity scratch p bytes (concat turns) (n - 1) h (omega arith)
+          (stands.number ∙ ap (λ k. number_before k p (n - 1)) (sym slots))
+          (subst (λ k. AreLeft k s.number (sent p (n - 1 - 1) / k) (concat turns) s.asked s.left) (sym slots) stands.left) (sent_inside turns (n - 1))
+          ∙ ap (λ k. drop (k * (sent p (n - 1) / k)) (concat turns ++ bytes)) slots
+          ∙ ap (λ x. drop (M * (x / M)) (concat turns ++ bytes)) (sym (sent_same p b (n - 1) (omega arith)))
+          ∙ ap (λ q. drop (M * (sent q (n - 1) / M)) (concat turns ++ bytes)) (sym lengths)
+          ∙ ap (λ k. drop (M * (sent (lengths_of new) (k - 1) / M)) (concat turns ++ bytes)) (sym last)
+          ∙ ap (λ k. drop (M * k) (concat turns ++ bytes)) (let zero_put : data_count r.number r.asked ≡ 0 = ap (data_count r.number) none in let e : sent (lengths_of new) (length new - 1 - 1) / M ≡ sent (lengths_of new) (length new - 1 - 1) / M + data_count r.number r.asked = omega arith in e)
+          ∙ ap (drop (M * (sent (lengths_of new) (length new - 1 - 1) / M + data_count r.number r.asked))) (ap (λ y. concat turns ++ y) (sym (append-nil bytes)) ∙ sym (concat-append turns (bytes ∷ [])));
+      message = λ more.
+          told
+          ∙ ap (λ k. says s.said ((s.rest + b) / k) ++ says_rest ((s.rest + b) % k)) many
+          ∙ ap (λ o. says o ((s.rest + b) / M) ++ says_rest ((s.rest + b) % M)) former
+          ∙ ap (λ k. says (former_of M (p ++ b ∷ []) n) k ++ says_rest ((s.rest + b) % M)) next
+          ∙ ap (λ k. says (former_of M (p ++ b ∷ []) n) (number_in M (p ++ b ∷ []) n) ++ says_rest k) rest
+          ∙ ap (λ q. says (former_of M q n) (number_in M q n) ++ says_rest (rest_in M q n)) (sym lengths)
+          ∙ ap (message_put M new) (sym last);
+    }
+
+pub stands_begun : (own : Tributary) (turns : List (List ℕ)) (filled : ℕ) (s : Source) (capacity scratch m number : ℕ) (r : Progress) (bytes items message : List ℕ)
+    → IsSource s capacity scratch → m ≡ length s.slots → number ≡ said_number s.said
+    → items ≡ keep_last (length s.slots * said_number s.said + s.rest) s.left ++ bytes → r.number ≡ number → r.asked ≡ 0
+    → message ≡ says s.said ((s.rest + length bytes) / m) ++ says_rest ((s.rest + length bytes) % m)
+    → StandsAfter own turns filled s → StandsAfter own (turns ++ bytes ∷ []) 0 (begun s m r bytes items message)
+stands_begun own turns filled s capacity scratch m number r bytes items message h many said is by none told stands =
+    let same : m ≡ length own.slots = many ∙ ap length (sym stands.own_is) in
+    subst (λ k. StandsAfter own (turns ++ bytes ∷ []) 0 (begun s k r bytes items message)) (sym same)
+    (stands_of own turns filled s capacity scratch m number r bytes items message h same said is by none told stands)

@@ -1,0 +1,16 @@
+//! The source of a tributary: it puts a client's bytes into the multiframes of a line (G.709 clause 19
+//! and Annex D).
+//!
+//! - `source`: the source itself, by turns of eight frames.
+//! - `message`: what it says in a turn.
+//! - `rows`, `lay`: the groups of the rows of a frame, out of the bytes that are left.
+#![tactic(auto)]
+
+mod lay;
+mod message;
+mod rows;
+mod source;
+#[cfg(test)]
+mod tests;
+
+pub use source::TribSource;

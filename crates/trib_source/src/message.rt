@@ -1,0 +1,47 @@
+// The message of a turn.
+ghost use Rattle.std.specs.Prelude.{◌≡◌, ◌≢◌, ◌+◌, ◌<◌, ◌≤◌, ◌++◌, ◌∷◌, [], ℕ, slice_index};
+ghost use Rattle.std.specs.List.{Contains};
+ghost use Rattle.std.specs.Option.{ForSome};
+ghost use Rattle.frame_geometry.specs.Places.{place_of};
+ghost use Rattle.odtu_columns.specs.Message.{message_of};
+ghost use Rattle.jc_codec.specs.Message.{says};
+ghost use Rattle.cnd_codec.specs.Remainder.{says_rest};
+ghost use Rattle.tributary_model.specs.Places.{greatest};
+
+use cnd_codec::say_d;
+use frame_geometry::Frame;
+use jc_codec::say;
+use odtu_columns::put_message;
+use otn_base::Slots;
+
+/// The six bytes that say a number after a former one, or without one, and the bytes over.
+pub(crate) fn say_turn(former: Option<u16>, number: u16, rest: u16) -> [u8; 6]
+    requires former { ForSome former (λ n. n ≤ 15232) }
+    requires number { number ≤ 15232 }
+    requires rest { rest < 1024 }
+    ensures { result ≡ says former number ++ says_rest rest }
+{
+    let [jc1, jc2, jc3] = say(former, number);
+    let [jc4, jc5, jc6] = say_d(rest);
+    [jc1, jc2, jc3, jc4, jc5, jc6]
+}
+
+/// Puts the message into frame `n` where it is the frame of the greatest slot, and bytes 0 into its place
+/// where it is that of another one; every other byte stays.
+#[tactic(auto, using(crate::proofs::Greatest::greatest_is_last))]
+pub(crate) fn put_own_message(slots: &Slots, n: u8, message: [u8; 6], frame: &mut Frame<4080>)
+    requires { n < 8 }
+    ensures greatest { n + 1 ≡ greatest slots.now → message_of frame.new ≡ message }
+    ensures other { Contains slots.now (n + 1) → n + 1 ≢ greatest slots.now → message_of frame.new ≡ 0 ∷ 0 ∷ 0 ∷ 0 ∷ 0 ∷ 0 ∷ [] }
+    ensures kept { (place : ℕ) → (Contains slots.now (n + 1) → (row column : ℕ) → 1 ≤ row → row ≤ 3 → 15 ≤ column → column ≤ 16 → place ≡ place_of 4080 row column → ⊥)
+        → slice_index frame.new place ≡ slice_index frame.old place }
+{
+    let _rising = slots.count();
+    if n + 1 == slots.last() {
+        put_message(frame, message);
+        return;
+    }
+    if slots.has(n + 1) {
+        put_message(frame, [0; 6]);
+    }
+}
