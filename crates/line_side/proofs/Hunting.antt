@@ -72,6 +72,7 @@ raised_wanted given n u w w' r more up h = let within = h.within in record {
   over = λ c. (let o = h.over c in (o.0, o.1, omega arith));
   frames = h.frames;
   rest = h.rest;
+  seen = h.seen;
 }
 
 wanted_locked : (ms : List ℕ) (i m w : ℕ) → max (hunt_wanted ms i m w) (i + m + 1 + 1) ≡ max w (i + m + 2)

@@ -14,3 +14,4 @@ pub mod Standing
 pub mod Ended
 pub mod Exits
 pub mod Members
+pub mod Made

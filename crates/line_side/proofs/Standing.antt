@@ -9,6 +9,7 @@ use Rattle.multiframe.specs.LineTurns.{Standing, lock_of, standing, multiframe}
 use Rattle.multiframe.specs.Alignment.{Alignment}
 use Rattle.line_side.specs.LineFile.{mfas_of}
 use Rattle.line_side.specs.MayBe.{MayBe}
+use Rattle.line_side.specs.Counted.{HasCounted}
 use Rattle.line_side.specs.Reader.{ReaderView, ReadStep, EndedAs}
 use Rattle.line_side.specs.LineStands.{LineView, IsLine, LineStands, PieceStands}
 use Rattle.line_side.specs.LineMoves.{TakesNext, Hunts, Waits, StepMoves, EndMoves}
@@ -115,15 +116,15 @@ at_turn given n t line h = record { read = h.read; alignment = h.alignment; memb
 -- ---- the three laws
 
 -- a new line stands before its first turn on any place
-pub new_stands : (first : InView) (line : LineView) → line.alignment ≡ None → line.reader.ahead ≡ None → line.reader.ending ≡ Open → line.reader.frames ≡ 0 → line.reader.rest ≡ 0
+pub new_stands : (first : InView) (line : LineView) → line.alignment ≡ None → line.reader.ahead ≡ None → line.reader.ending ≡ Open → line.reader.frames ≡ 0 → line.reader.rest ≡ 0 → HasCounted [] line.reader.seen
     → line.ended ≡ false → line.lead_in ≡ 0 → line.lost ≡ 0 → line.pieces ≡ 0 → line.member ≡ false → LineStands first first [] 0 line
-new_stands first line alignment ahead opened frames rest ended lead lost pieces member = record {
+new_stands first line alignment ahead opened frames rest seen ended lead lost pieces member = record {
   gave = gave_none first;
   ending = record { died = λ d. absurd (cc); seen = λ s. absurd (cc) };
   over = λ closed. absurd (closed opened);
   told = λ given m.
       let fresh : LineIs given 0 0 (standing 8 (mfas_of given) 0) 0 line = (let P : Standing → Type 0 = λ s. LineIs given 0 0 s 0 line in
-      subst P (sym (standing_none (mfas_of given))) (turn_first given line alignment ahead opened frames rest ended lead lost)) in
+      subst P (sym (standing_none (mfas_of given))) (turn_first given line alignment ahead opened frames rest seen ended lead lost)) in
       let P : ℕ → Type 0 = λ k. IsLine given 0 0 (with_pieces line k line.member) in
       let Q : Bool → Type 0 = λ b. IsLine given 0 0 (with_pieces line 0 b) in
       subst P (sym pieces) (subst Q (sym member) (at_turn given 0 0 line fresh));

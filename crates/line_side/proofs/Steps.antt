@@ -1,12 +1,13 @@
 -- What a step of the reader does, over plain views.
-use Rattle.std.proofs.Common.{◌≡◌, ◌≢◌, ◌<◌, ◌+◌, ◌-◌, ◌*◌, ◌%◌, ◌^◌, min, max, ℕ, Bool, true, false, List, [], ◌++◌, Option, Some, None, length, arith, refl, sym, ap, ◌∙◌, length-append, append-nil, append_assoc, subst}
+use Rattle.std.proofs.Common.{◌≡◌, ◌≢◌, ◌<◌, ◌+◌, ◌-◌, ◌*◌, ◌%◌, ◌^◌, min, max, ℕ, suc, Bool, true, false, List, [], ◌∷◌, ◌++◌, Option, Some, None, length, arith, refl, sym, ap, ◌∙◌, length-append, append-nil, append_assoc, subst}
 use Rattle.std.specs.Prelude.{IfSome, IsTrue, ◌↔◌, if◌then◌else◌}
 use Rattle.otn_ports.specs.Views.{InView}
 use Rattle.otn_ports.specs.declared.in_place.Reading.{Reading}
 use Rattle.otn_ports.specs.declared.in_place.Reading.TheVariants.{Full, End, Lost}
 use Rattle.line_side.specs.declared.ending.Ending.{Ending}
 use Rattle.line_side.specs.declared.ending.Ending.TheVariants.{Open}
-use Rattle.line_side.specs.LineFile.{frame_at, whole_frames}
+use Rattle.line_side.specs.LineFile.{frame_at, first_frames, whole_frames}
+use Rattle.line_side.specs.Counted.{Counted, HasCounted, CountsOn}
 use Rattle.line_side.specs.Reader.{ReaderView, HasRead, FrameRead, Advanced, LookedAhead, Advances, LooksAhead, with_ahead, taking, with_reading, ending_after, left_after, stopped, count_of, rest_of, ReadStep}
 use Rattle.line_side.proofs.Giving.{step_none}
 use Rattle.line_side.proofs.Frames.{frame_here, whole_here, short_here}
@@ -14,9 +15,17 @@ use Rattle.line_side.proofs.Frames.{frame_here, whole_here, short_here}
 stopped_twice : (u f : ℕ) → f ≡ stopped u → min (f + 1) (2 ^ 64 - 1) ≡ stopped (u + 1)
 stopped_twice u f e = omega arith
 
+-- one frame more was counted
+one_more : (given frame : List ℕ) (u : ℕ) (old new : Counted) → frame ≡ frame_at given u → CountsOn old frame new → HasCounted (first_frames given u) old → HasCounted (first_frames given (u + 1)) new
+unfolding first_frames
+one_more given frame u old new here sees h =
+    let P : List ℕ → Type 0 = λ f. HasCounted (first_frames given u ++ f ∷ []) new in
+    let Q : ℕ → Type 0 = λ n. HasCounted (first_frames given n) new in
+    subst Q (let e : suc u ≡ u + 1 = omega arith in e) (subst P here (sees (first_frames given u) h))
+
 -- nothing was taken, and the frame that was looked ahead at is in hand
-took_ahead : (given frame : List ℕ) (n u w : ℕ) (old : ReaderView) → old.ahead ≡ Some frame → HasRead given n u w old → Advanced given n u (max w (u + 1)) true (taking (Some frame) old)
-took_ahead given frame n u w old e h =
+took_ahead : (given frame : List ℕ) (n u w : ℕ) (old : ReaderView) (seen : Counted) → old.ahead ≡ Some frame → CountsOn old.seen frame seen → HasRead given n u w old → Advanced given n u (max w (u + 1)) true (taking (Some frame) seen old)
+took_ahead given frame n u w old seen e sees h =
     let one : count_of old.ahead ≡ 1 = ap count_of e in
     let here : frame ≡ frame_at given u = (let P : Option (List ℕ) → Type 0 = λ a. IfSome a (λ frame. frame ≡ frame_at given u) in subst P e h.ahead) in
     let within = h.within in
@@ -30,6 +39,7 @@ took_ahead given frame n u w old e h =
           over = λ closed. (let o = h.over closed in (omega arith, o.1, omega arith));
           frames = stopped_twice u old.frames h.frames;
           rest = h.rest;
+          seen = one_more given frame u old.seen seen here sees h.seen;
         },
         omega arith,
         here,
@@ -42,14 +52,14 @@ ended_already : (given : List ℕ) (n u w : ℕ) (old : ReaderView) → old.ahea
 ended_already given n u w old e closed h =
     let zero : count_of old.ahead ≡ 0 = ap count_of e in
     let o = h.over closed in
-    (record { within = h.within; ahead = h.ahead; still = λ opened. absurd (closed opened); over = λ _. (o.0, o.1, omega arith); frames = h.frames; rest = h.rest }, omega arith)
+    (record { within = h.within; ahead = h.ahead; still = λ opened. absurd (closed opened); over = λ _. (o.0, o.1, omega arith); frames = h.frames; rest = h.rest; seen = h.seen }, omega arith)
 
 -- a read gave no whole frame
 short_read : (taken came rest : List ℕ) (u w : ℕ) (old new : ReaderView) → HasRead (taken ++ (came ++ rest)) (length taken) u w old
     → old.ahead ≡ None → old.ending ≡ Open → length came < 16320 → rest ≡ []
-    → new.ahead ≡ None → new.ending ≢ Open → new.frames ≡ old.frames → new.rest ≡ rest_of new.ending (taken ++ (came ++ rest))
+    → new.ahead ≡ None → new.ending ≢ Open → new.frames ≡ old.frames → new.rest ≡ rest_of new.ending (taken ++ (came ++ rest)) → new.seen ≡ old.seen
     → HasRead (taken ++ (came ++ rest)) (length (taken ++ came)) u (max w (u + 1)) new × (u ≡ whole_frames (taken ++ (came ++ rest)))
-short_read taken came rest u w old new h e opened less none f closed frames left =
+short_read taken came rest u w old new h e opened less none f closed frames left seen =
     let zero : count_of old.ahead ≡ 0 = ap count_of e in
     let zero' : count_of new.ahead ≡ 0 = ap count_of f in
     let s = h.still opened in
@@ -61,6 +71,7 @@ short_read taken came rest u w old new h e opened less none f closed frames left
         over = λ _. (omega (arith, here.0), here.1, omega (arith, here.0));
         frames = frames ∙ h.frames;
         rest = left;
+        seen = (let P : Counted → Type 0 = λ s. HasCounted (first_frames (taken ++ (came ++ rest)) u) s in subst P (sym seen) h.seen);
       },
       here.0,
     )
@@ -72,10 +83,10 @@ rest_after Full given came r zero other end e = absurd (other refl)
 rest_after (End k) given came r zero other end e = end k refl ∙ sym e
 rest_after Lost given came r zero other end e = zero
 
-with_reading_ahead : (reading : Reading) (r : ReaderView) → ((with_reading reading r).ahead ≡ r.ahead) × ((with_reading reading r).frames ≡ r.frames) × ((with_reading reading r).hand ≡ r.hand)
-with_reading_ahead Full r = (refl, refl, refl)
-with_reading_ahead (End k) r = (refl, refl, refl)
-with_reading_ahead Lost r = (refl, refl, refl)
+with_reading_ahead : (reading : Reading) (r : ReaderView) → ((with_reading reading r).ahead ≡ r.ahead) × ((with_reading reading r).frames ≡ r.frames) × ((with_reading reading r).hand ≡ r.hand) × ((with_reading reading r).seen ≡ r.seen)
+with_reading_ahead Full r = (refl, refl, refl, refl)
+with_reading_ahead (End k) r = (refl, refl, refl, refl)
+with_reading_ahead Lost r = (refl, refl, refl, refl)
 
 pub closed_rest : (given : List ℕ) (n u w : ℕ) (r : ReaderView) → r.ending ≡ Open → HasRead given n u w r → r.rest ≡ 0
 closed_rest given n u w r opened h = h.rest ∙ ap (λ e. rest_of e given) opened
@@ -94,13 +105,14 @@ whole_step reading ending was is frame opened f = record { gave = f.gave; quiet 
 
 -- ---- the steps as the reader's calls make them
 
-pub advance_ahead : (old : ReaderView) (was : InView) (frame : List ℕ) → old.ahead ≡ Some frame → Advances true old was (with_ahead old) was
-advance_ahead old was frame e = rw (ap (λ a. taking a old) e) (record {
+pub advance_ahead : (old : ReaderView) (was : InView) (frame : List ℕ) (seen : Counted) → old.ahead ≡ Some frame → IfSome old.ahead (λ frame. CountsOn old.seen frame seen) → Advances true old was (with_ahead seen old) was
+advance_ahead old was frame seen e sees = rw (ap (λ a. taking a seen old) e) (record {
   came = [];
   step = step_none old.ending was;
   told = λ given taken u w may h.
-      let P : List ℕ → Type 0 = λ g. HasRead g (length taken) u w old → Advanced g (length (taken ++ [])) u (max w (u + 1)) true (taking (Some frame) old) in
-      subst P (sym (may.parts ∙ append_assoc taken [] may.rest)) (λ h. rw (append-nil taken) (took_ahead (taken ++ may.rest) frame (length taken) u w old e h)) h;
+      let P : List ℕ → Type 0 = λ g. HasRead g (length taken) u w old → Advanced g (length (taken ++ [])) u (max w (u + 1)) true (taking (Some frame) seen old) in
+      let A : Option (List ℕ) → Type 0 = λ a. IfSome a (λ frame. CountsOn old.seen frame seen) in
+      subst P (sym (may.parts ∙ append_assoc taken [] may.rest)) (λ h. rw (append-nil taken) (took_ahead (taken ++ may.rest) frame (length taken) u w old seen e (subst A e sees) h)) h;
 })
 
 pub advance_over : (old : ReaderView) (was : InView) → old.ahead ≡ None → old.ending ≢ Open → Advances false old was old was
@@ -130,17 +142,17 @@ advance_short reading old was is frame new e opened other f same = let closed = 
       let r = record old { hand = frame } in
       let kept = with_reading_ahead reading r in
       let after = rest_after reading (taken ++ (f.came ++ may.rest)) f.came r zero other (λ k q. (f.end k q).0) here.2 in
-      let read = short_read taken f.came may.rest u w old (with_reading reading r) h e opened short.0 none (kept.0 ∙ e) closed kept.1 after in
+      let read = short_read taken f.came may.rest u w old (with_reading reading r) h e opened short.0 none (kept.0 ∙ e) closed kept.1 after kept.3 in
       record { alone = kept.0 ∙ e; frame = λ t. absurd (cc); none = λ _. (read.0, read.1, closed) }) h;
 })
 
-pub advance_whole : (reading : Reading) (old : ReaderView) (was is : InView) (frame : List ℕ) (new : ReaderView) → old.ahead ≡ None → old.ending ≡ Open → reading ≡ Full → FrameRead reading was frame is
-    → new ≡ record { hand = frame; ahead = None; ending = old.ending; frames = stopped (old.frames + 1); rest = old.rest } → Advances true old was new is
-advance_whole reading old was is frame new e opened full f same = rw same (record {
+pub advance_whole : (reading : Reading) (old : ReaderView) (was is : InView) (frame : List ℕ) (new : ReaderView) (seen : Counted) → CountsOn old.seen frame seen → old.ahead ≡ None → old.ending ≡ Open → reading ≡ Full → FrameRead reading was frame is
+    → new ≡ record { hand = frame; ahead = None; ending = old.ending; frames = stopped (old.frames + 1); rest = old.rest; seen = seen } → Advances true old was new is
+advance_whole reading old was is frame new seen sees e opened full f same = rw same (record {
   came = f.came;
   step = whole_step reading old.ending was is frame opened f;
   told = λ given taken u w may h.
-      let P : List ℕ → Type 0 = λ g. HasRead g (length taken) u w old → Advanced g (length (taken ++ f.came)) u (max w (u + 1)) true (record { hand = frame; ahead = None; ending = old.ending; frames = stopped (old.frames + 1); rest = old.rest }) in
+      let P : List ℕ → Type 0 = λ g. HasRead g (length taken) u w old → Advanced g (length (taken ++ f.came)) u (max w (u + 1)) true (record { hand = frame; ahead = None; ending = old.ending; frames = stopped (old.frames + 1); rest = old.rest; seen = seen }) in
       subst P (sym (may.parts ∙ append_assoc taken f.came may.rest)) (λ h.
       let whole = f.whole full in
       let size = h.still opened in
@@ -159,6 +171,7 @@ advance_whole reading old was is frame new e opened full f same = rw same (recor
             over = λ closed. absurd (closed opened);
             frames = stopped_twice u old.frames h.frames;
             rest = h.rest;
+            seen = one_more (taken ++ (f.came ++ may.rest)) frame u old.seen seen (sym (here ∙ whole.0)) sees h.seen;
           },
           there,
           sym (here ∙ whole.0),
@@ -195,7 +208,7 @@ look_short reading old was is frame new e opened other f same = let closed = clo
       let here = short_here taken f.came may.rest u (omega arith) short.0 none in
       let kept = with_reading_ahead reading old in
       let after = rest_after reading (taken ++ (f.came ++ may.rest)) f.came old zero other (λ k q. (f.end k q).0) here.2 in
-      let read = short_read taken f.came may.rest u w old (with_reading reading old) h e opened short.0 none (kept.0 ∙ e) closed kept.1 after in
+      let read = short_read taken f.came may.rest u w old (with_reading reading old) h e opened short.0 none (kept.0 ∙ e) closed kept.1 after kept.3 in
       record { read = read.0; frame = λ t. absurd (cc); none = λ _. (read.1, kept.0 ∙ e) }) h;
 })
 
@@ -223,6 +236,7 @@ look_whole reading old was is frame new e opened full f same = rw same (record {
           over = λ closed. absurd (closed opened);
           frames = h.frames;
           rest = h.rest;
+          seen = h.seen;
         };
         frame = λ _. (there, ap Some (sym (here ∙ whole.0)));
         none = λ t. absurd (cc);
@@ -230,13 +244,14 @@ look_whole reading old was is frame new e opened full f same = rw same (record {
 })
 
 -- two views are equal where their fields are
-pub same_view : (r s : ReaderView) → r.hand ≡ s.hand → r.ahead ≡ s.ahead → r.ending ≡ s.ending → r.frames ≡ s.frames → r.rest ≡ s.rest → r ≡ s
-same_view r s a b c d e =
-    ap (λ x. record { hand = x; ahead = r.ahead; ending = r.ending; frames = r.frames; rest = r.rest }) a
-    ∙ ap (λ x. record { hand = s.hand; ahead = x; ending = r.ending; frames = r.frames; rest = r.rest }) b
-    ∙ ap (λ x. record { hand = s.hand; ahead = s.ahead; ending = x; frames = r.frames; rest = r.rest }) c
-    ∙ ap (λ x. record { hand = s.hand; ahead = s.ahead; ending = s.ending; frames = x; rest = r.rest }) d
-    ∙ ap (λ x. record { hand = s.hand; ahead = s.ahead; ending = s.ending; frames = s.frames; rest = x }) e
+pub same_view : (r s : ReaderView) → r.hand ≡ s.hand → r.ahead ≡ s.ahead → r.ending ≡ s.ending → r.frames ≡ s.frames → r.rest ≡ s.rest → r.seen ≡ s.seen → r ≡ s
+same_view r s a b c d e f =
+    ap (λ x. record { hand = x; ahead = r.ahead; ending = r.ending; frames = r.frames; rest = r.rest; seen = r.seen }) a
+    ∙ ap (λ x. record { hand = s.hand; ahead = x; ending = r.ending; frames = r.frames; rest = r.rest; seen = r.seen }) b
+    ∙ ap (λ x. record { hand = s.hand; ahead = s.ahead; ending = x; frames = r.frames; rest = r.rest; seen = r.seen }) c
+    ∙ ap (λ x. record { hand = s.hand; ahead = s.ahead; ending = s.ending; frames = x; rest = r.rest; seen = r.seen }) d
+    ∙ ap (λ x. record { hand = s.hand; ahead = s.ahead; ending = s.ending; frames = s.frames; rest = x; seen = r.seen }) e
+    ∙ ap (λ x. record { hand = s.hand; ahead = s.ahead; ending = s.ending; frames = s.frames; rest = s.rest; seen = x }) f
 
 false_not_true : false ≢ true
 false_not_true e = cc
@@ -259,9 +274,9 @@ is_opened ending false e h = absurd (cc)
 
 -- the reading says whether there is a frame
 pub look_by : (reading : Reading) (result : Bool) (old : ReaderView) (was is : InView) (frame : List ℕ) (new : ReaderView) → (IsTrue result ↔ (reading ≡ Full)) → old.ahead ≡ None → old.ending ≡ Open → FrameRead reading was frame is
-    → new.hand ≡ old.hand → new.ahead ≡ (if result then Some frame else None) → new.ending ≡ ending_after reading old.ending → new.frames ≡ old.frames → new.rest ≡ left_after reading old.rest → LooksAhead result old was new is
-look_by reading true old was is frame new said e opened f hand ahead ending frames rest =
+    → new.hand ≡ old.hand → new.ahead ≡ (if result then Some frame else None) → new.ending ≡ ending_after reading old.ending → new.frames ≡ old.frames → new.rest ≡ left_after reading old.rest → new.seen ≡ old.seen → LooksAhead result old was new is
+look_by reading true old was is frame new said e opened f hand ahead ending frames rest seen =
     let full = said.0 refl in
-    look_whole reading old was is frame new e opened full f (same_view new (record old { ahead = Some frame }) hand ahead (ending ∙ ap (λ r. ending_after r old.ending) full) frames (rest ∙ ap (λ r. left_after r old.rest) full))
-look_by reading false old was is frame new said e opened f hand ahead ending frames rest =
-    look_short reading old was is frame new e opened (λ full. false_not_true (said.1 full)) f (same_view new (with_reading reading old) hand (ahead ∙ sym e) ending frames rest)
+    look_whole reading old was is frame new e opened full f (same_view new (record old { ahead = Some frame }) hand ahead (ending ∙ ap (λ r. ending_after r old.ending) full) frames (rest ∙ ap (λ r. left_after r old.rest) full) seen)
+look_by reading false old was is frame new said e opened f hand ahead ending frames rest seen =
+    look_short reading old was is frame new e opened (λ full. false_not_true (said.1 full)) f (same_view new (with_reading reading old) hand (ahead ∙ sym e) ending frames rest seen)

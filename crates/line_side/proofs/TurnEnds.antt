@@ -1,10 +1,11 @@
 -- The end of any turn, of a line of which all bytes are fixed.
-use Rattle.std.proofs.Common.{◌≡◌, ◌≤◌, ◌+◌, ◌-◌, ◌/◌, ◌%◌, ◌^◌, min, max, ℕ, suc, Bool, true, false, cond, ltb, leb, List, Option, Some, None, length, take, drop, arith, refl, sym, ap, ◌∙◌, subst}
+use Rattle.std.proofs.Common.{[], ◌≡◌, ◌≤◌, ◌+◌, ◌-◌, ◌/◌, ◌%◌, ◌^◌, min, max, ℕ, suc, Bool, true, false, cond, ltb, leb, List, Option, Some, None, length, take, drop, arith, refl, sym, ap, ◌∙◌, subst}
 use Rattle.std.specs.Prelude.{slice_index, IsTrue, IfSome, is_some}
 use Rattle.std.proofs.lemmas.Bool.{ltb-true, ltb-false, lt-ltb, le-ltb, leb-true, leb-false}
 use Rattle.multiframe.specs.LineTurns.{Lock, Standing, Hunting, Locked, Ended, Outcome, CutShort, Lost, Whole, one_if, least_start, lock_from, lock_of, outcome_of, after_outcome, after_turn, used_in, used_at, wanted_in, wanted_from, wanted, lead_in, lead_in_of, lost_count, lost_at, is_lost, kept_if, after_hunt, standing, wrong_count, multiframe_at}
 use Rattle.multiframe.specs.Alignment.{taken_of, IsAlignmentOf}
-use Rattle.line_side.specs.LineFile.{frame_at, mfas_of}
+use Rattle.line_side.specs.LineFile.{first_frames, frame_at, mfas_of}
+use Rattle.line_side.specs.Counted.{HasCounted}
 use Rattle.line_side.specs.Reader.{ReaderView, HasRead, stopped, count_of, rest_of}
 use Rattle.line_side.specs.declared.ending.Ending.TheVariants.{Open}
 use Rattle.multiframe.specs.TurnPieces.{ended_in, AlignedIn}
@@ -229,10 +230,10 @@ turn_end given n t Ended result old new e h m =
     }
 
 -- before the first turn nothing was read
-pub turn_first : (given : List ℕ) (line : LineView) → line.alignment ≡ None → line.reader.ahead ≡ None → line.reader.ending ≡ Open → line.reader.frames ≡ 0 → line.reader.rest ≡ 0
+pub turn_first : (given : List ℕ) (line : LineView) → line.alignment ≡ None → line.reader.ahead ≡ None → line.reader.ending ≡ Open → line.reader.frames ≡ 0 → line.reader.rest ≡ 0 → HasCounted [] line.reader.seen
     → line.ended ≡ false → line.lead_in ≡ 0 → line.lost ≡ 0 → LineIs given 0 0 (Hunting 0) 0 line
-unfolding wanted lead_in lost_count
-turn_first given line alignment ahead opened frames rest ended lead lost =
+unfolding wanted lead_in lost_count first_frames
+turn_first given line alignment ahead opened frames rest seen ended lead lost =
     let none : count_of line.reader.ahead ≡ 0 = ap count_of ahead in
     record {
       read = record {
@@ -242,6 +243,7 @@ turn_first given line alignment ahead opened frames rest ended lead lost =
         over = λ closed. absurd (closed opened);
         frames = omega arith;
         rest = rest ∙ sym (ap (λ e. rest_of e given) opened);
+        seen = seen;
       };
       alignment = alignment;
       ended = ended;

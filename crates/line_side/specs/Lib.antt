@@ -4,3 +4,6 @@ pub mod Reader
 pub mod LineStands
 pub mod LineMoves
 pub mod Laws
+pub mod LineOutput
+pub mod Rows
+pub mod Counted

@@ -19,6 +19,11 @@ unfoldable pub first_mfas : List ℕ → ℕ → List ℕ
 first_mfas bytes zero = []
 first_mfas bytes (suc n) = first_mfas bytes n ++ frame_mfas (frame_at bytes n) ∷ []
 
+-- the first n frames
+unfoldable pub first_frames : List ℕ → ℕ → List (List ℕ)
+first_frames bytes zero = []
+first_frames bytes (suc n) = first_frames bytes n ++ frame_at bytes n ∷ []
+
 -- the MFAS bytes of all whole frames
 abbrev pub mfas_of : List ℕ → List ℕ
 mfas_of bytes = first_mfas bytes (whole_frames bytes)

@@ -5,7 +5,7 @@ use Rattle.otn_ports.specs.Given.{Gave}
 use Rattle.otn_ports.specs.Reads.{HasEnded}
 use Rattle.multiframe.specs.LineTurns.{standing, used_in, wanted_so_far, lost_count}
 use Rattle.multiframe.specs.Alignment.{Alignment}
-use Rattle.line_side.specs.LineFile.{frame_at, mfas_of}
+use Rattle.line_side.specs.LineFile.{frame_at, first_frames, mfas_of}
 use Rattle.line_side.specs.MayBe.{MayBe}
 use Rattle.line_side.specs.Reader.{ReaderView, HasRead, EndedAs, stopped}
 use Rattle.line_side.specs.declared.ending.Ending.TheVariants.{Open}
@@ -29,6 +29,11 @@ taken_count (Some a) = length a.taken
 -- how many of the pieces of this turn came to a frame of a multiframe
 abbrev pub members : LineView → ℕ
 members line = taken_count line.alignment
+
+-- the frames of the line that these bytes are which are used after so many pieces of turn t + 1: lead-in among them, and a
+-- frame that was looked ahead at once its turn takes it or passes over it
+abbrev pub used_frames : (given : List ℕ) → (t pieces : ℕ) → List (List ℕ)
+used_frames given t pieces = first_frames given (used_in 8 (mfas_of given) (standing 8 (mfas_of given) t) pieces)
 
 -- The line is in turn t + 1 of the line that these bytes are, after line.pieces of its pieces. Of the bytes n were read:
 -- so many frames as the turns so far want, or all where they want one that is not whole.

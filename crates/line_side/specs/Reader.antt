@@ -5,20 +5,22 @@ use Rattle.otn_ports.specs.Given.{Gave}
 use Rattle.otn_ports.specs.Reads.{HasEnded}
 use Rattle.otn_ports.specs.declared.in_place.Reading.{Reading}
 use Rattle.otn_ports.specs.declared.in_place.Reading.TheVariants.{Full, End, Lost}
-use Rattle.line_side.specs.LineFile.{frame_at, whole_frames, mfas_of}
+use Rattle.line_side.specs.LineFile.{frame_at, first_frames, whole_frames, mfas_of}
+use Rattle.line_side.specs.Counted.{Counted, HasCounted}
 use Rattle.multiframe.specs.LineTurns.{one_if, looked_ahead, is_start}
 use Rattle.line_side.specs.MayBe.{MayBe}
 use Rattle.line_side.specs.declared.ending.Ending.{Ending}
 use Rattle.line_side.specs.declared.ending.Ending.TheVariants.{Open, Seen, Died}
 
 -- what is seen of a reader: the frame in hand, the frame looked ahead at, whether and how the bytes ended, how many
--- frames were used, and how many bytes came after the last whole one
+-- frames were used, how many bytes came after the last whole one, and what was counted of the overhead of those used
 pub record ReaderView : Type 0 where
   pub hand : List ℕ
   pub ahead : Option (List ℕ)
   pub ending : Ending
   pub frames : ℕ
   pub rest : ℕ
+  pub seen : Counted
 
 -- a count that stops at the end of a u64
 abbrev pub stopped : ℕ → ℕ
@@ -44,6 +46,7 @@ pub record HasRead (given : List ℕ) (n u w : ℕ) (r : ReaderView) : Type 0 wh
   pub over : r.ending ≢ Open → (u + count_of r.ahead ≡ whole_frames given) × (n ≡ length given) × (whole_frames given < w)
   pub frames : r.frames ≡ stopped u
   pub rest : r.rest ≡ rest_of r.ending given
+  pub seen : HasCounted (first_frames given u) r.seen
 
 -- what a read of a frame says: a whole frame came, or the place gives no more
 pub record FrameRead (reading : Reading) (was : InView) (frame : List ℕ) (is : InView) : Type 0 where
@@ -54,13 +57,13 @@ pub record FrameRead (reading : Reading) (was : InView) (frame : List ℕ) (is :
   pub end : (k : ℕ) → reading ≡ End k → (k ≡ length came) × (is.state ≢ Dead)
   pub lost : reading ≡ Lost → is.state ≡ Dead
 
-abbrev pub taking : Option (List ℕ) → ReaderView → ReaderView
-taking None r = r
-taking (Some frame) r = record { hand = frame; ahead = None; ending = r.ending; frames = stopped (r.frames + 1); rest = r.rest }
+abbrev pub taking : Option (List ℕ) → Counted → ReaderView → ReaderView
+taking None seen r = r
+taking (Some frame) seen r = record { hand = frame; ahead = None; ending = r.ending; frames = stopped (r.frames + 1); rest = r.rest; seen = seen }
 
--- the frame that was looked ahead at is in hand
-abbrev pub with_ahead : ReaderView → ReaderView
-with_ahead r = taking r.ahead r
+-- the frame that was looked ahead at is in hand, and so much was counted with it
+abbrev pub with_ahead : Counted → ReaderView → ReaderView
+with_ahead seen r = taking r.ahead seen r
 
 -- the bytes have ended where no whole frame came
 abbrev pub ending_after : Reading → Ending → Ending

@@ -11,4 +11,10 @@ pub struct LineCounts {
     pub lost: u64,
     /// Bytes after the last whole frame, where the end was seen.
     pub rest: u64,
+    /// Used frames with a wrong FAS.
+    pub fas: u64,
+    /// Used frames with a wrong SM parity, of which the first two are not checked.
+    pub sm: u64,
+    /// Used frames with a wrong PM parity, of which the first two are not checked.
+    pub pm: u64,
 }

@@ -47,7 +47,9 @@ impl Model for LineIn {
 }
 
 impl LineIn {
-    ghost use Rattle.line_side.specs.LineStands.{LineStands, PieceStands, members};
+    ghost use Rattle.line_side.specs.LineStands.{LineStands, PieceStands, members, used_frames};
+    ghost use Rattle.frame_overhead.specs.TwoBefore.{stopped, wrong_parities};
+    ghost use Rattle.otu_overhead.specs.Section.{wrong_fas};
     ghost use Rattle.line_side.specs.LineMoves.{TakesNext, Tries, Hunts, StepMoves, EndMoves, is_locked};
     ghost use Rattle.line_side.specs.Reader.{EndedAs};
     ghost use Rattle.line_side.specs.MayBe.{MayBe};
@@ -172,12 +174,22 @@ impl LineIn {
         ensures lead_in { result.lead_in ≡ self.now.lead_in }
         ensures lost { result.lost ≡ self.now.lost }
         ensures rest { result.rest ≡ self.now.reader.rest }
+        ensures fas { (first now : InView) (taken given : List ℕ) (t : ℕ) → LineStands first now taken t self.now → MayBe self.now.reader.ending taken given
+            → result.fas ≡ stopped (wrong_fas (used_frames given t self.now.pieces)) }
+        ensures sm { (first now : InView) (taken given : List ℕ) (t : ℕ) → LineStands first now taken t self.now → MayBe self.now.reader.ending taken given
+            → result.sm ≡ stopped (wrong_parities 4080 1 9 (used_frames given t self.now.pieces)) }
+        ensures pm { (first now : InView) (taken given : List ℕ) (t : ℕ) → LineStands first now taken t self.now → MayBe self.now.reader.ending taken given
+            → result.pm ≡ stopped (wrong_parities 4080 3 11 (used_frames given t self.now.pieces)) }
     {
+        let seen = self.reader.seen();
         LineCounts {
             frames: self.reader.frames(),
             lead_in: self.lead_in,
             lost: self.lost,
             rest: self.reader.rest(),
+            fas: seen.fas(),
+            sm: seen.sm(),
+            pm: seen.pm(),
         }
     }
 

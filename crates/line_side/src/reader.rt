@@ -1,7 +1,8 @@
 // The frames of a line, one after the other, with one frame looked ahead at.
-ghost use Rattle.std.specs.Prelude.{◌≡◌, ◌≢◌, ◌%◌, true, IfOk, IfSome, IsTrue, ◌↔◌, None};
+ghost use Rattle.std.specs.Prelude.{◌≡◌, ◌≢◌, ◌%◌, [], true, IfOk, IfSome, IsTrue, ◌↔◌, None};
 ghost use Rattle.otn_ports.specs.InPlace.{in_view};
 
+use crate::checks::FrameChecks;
 use crate::ending::Ending;
 use frame_geometry::Frame;
 use multiframe::starts;
@@ -26,6 +27,7 @@ pub(crate) struct LineReader {
     ending: Ending,
     frames: u64,
     rest: u64,
+    seen: FrameChecks,
 }
 
 impl Model for LineReader {
@@ -34,7 +36,7 @@ impl Model for LineReader {
 
     ghost Value = { ReaderView };
 
-    ghost view = { λ r. record { hand = r.hand; ahead = if r.is_ahead then Some r.next else None; ending = r.ending; frames = r.frames; rest = r.rest } };
+    ghost view = { λ r. record { hand = r.hand; ahead = if r.is_ahead then Some r.next else None; ending = r.ending; frames = r.frames; rest = r.rest; seen = r.seen } };
 }
 
 ghost use Rattle.line_side.specs.Reader.{FrameRead};
@@ -55,12 +57,15 @@ ghost use Rattle.line_side.specs.LineFile.{frame_mfas};
 ghost use Rattle.line_side.specs.declared.ending.Ending.TheVariants.{Open, Seen};
 
 impl LineReader {
+    ghost use Rattle.line_side.specs.Counted.{HasCounted, CountsOn};
+
     /// A reader that has read nothing.
     pub(crate) fn new(alloc: Global) -> Result<LineReader, Memory>
         ensures ahead { IfOk result (λ r. r.ahead ≡ None) }
         ensures ending { IfOk result (λ r. r.ending ≡ Open) }
         ensures frames { IfOk result (λ r. r.frames ≡ 0) }
         ensures rest { IfOk result (λ r. r.rest ≡ 0) }
+        ensures seen { IfOk result (λ r. HasCounted [] r.seen) }
     {
         Ok(LineReader {
             hand: Frame::new(alloc)?,
@@ -69,6 +74,7 @@ impl LineReader {
             ending: Ending::Open,
             frames: 0,
             rest: 0,
+            seen: FrameChecks::new(),
         })
     }
 
@@ -157,6 +163,13 @@ impl LineReader {
         self.rest
     }
 
+    /// What was counted of the overhead of the frames that were taken into the hand.
+    pub(crate) fn seen(&self) -> &FrameChecks
+        ensures { result.now ≡ self.now.seen }
+    {
+        &self.seen
+    }
+
     // The MFAS of the frame that was looked ahead at.
     fn next_mfas(&self) -> u8
         ensures { IfSome self.now.ahead (λ frame. result ≡ frame_mfas frame) }
@@ -166,12 +179,14 @@ impl LineReader {
 
     // Takes the frame that was looked ahead at into the hand.
     fn take_ahead(&mut self)
-        ensures { self.new ≡ with_ahead self.old }
+        ensures taken { self.new ≡ with_ahead self.new.seen self.old }
+        ensures seen { IfSome self.old.ahead (λ frame. CountsOn self.old.seen frame self.new.seen) }
     {
         if self.is_ahead {
             mem::swap(&mut self.hand, &mut self.next);
             self.is_ahead = false;
             self.frames = self.frames.saturating_add(1);
+            self.seen.take(&self.hand);
         }
     }
 
@@ -191,6 +206,7 @@ impl LineReader {
             return false;
         }
         self.frames = self.frames.saturating_add(1);
+        self.seen.take(&self.hand);
         true
     }
 

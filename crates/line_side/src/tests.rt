@@ -1,9 +1,11 @@
 // Whole lines, piece by piece.
 ghost use Rattle.std.specs.Prelude.{None};
 
-use crate::{LineCounts, LineIn};
+use crate::{LineCounts, LineIn, LineOut};
+use msi_table::SlotMap;
+use otn_base::Slots;
 use otn_base::limits::LINE_FRAME_BYTES;
-use otn_ports::{Failed, InPlaceOf, MemSource, Source};
+use otn_ports::{Failed, InPlaceOf, MemSink, MemSource, OutPlaceOf, Source};
 use std::alloc::{AllocError, Global};
 use std::test::Fail;
 
@@ -97,7 +99,10 @@ fn lead_in_and_rest(rt: HostRuntime) -> Result<(), Fail> {
             frames: 69,
             lead_in: 5,
             lost: 0,
-            rest: 100
+            rest: 100,
+            fas: 69,
+            sm: 66,
+            pm: 66
         }
     );
     assert!(rt; end_seen);
@@ -107,7 +112,7 @@ fn lead_in_and_rest(rt: HostRuntime) -> Result<(), Fail> {
 #[test]
 fn short_lines(rt: HostRuntime) -> Result<(), Fail> {
     let alloc = rt.alloc();
-    for count in [0, 7] {
+    for (count, wrong) in [(0, 0), (7, 4)] {
         let mfas = from(alloc, 0, count)?;
         let (firsts, counts, end_seen) = turns(alloc, MemSource::new(line(alloc, &mfas, 0)?))?;
         assert_eq!(rt; firsts.as_slice(), [255].as_slice());
@@ -117,7 +122,10 @@ fn short_lines(rt: HostRuntime) -> Result<(), Fail> {
                 frames: count as u64,
                 lead_in: 0,
                 lost: 0,
-                rest: 0
+                rest: 0,
+                fas: count as u64,
+                sm: wrong,
+                pm: wrong
             }
         );
         assert!(rt; end_seen);
@@ -140,7 +148,10 @@ fn lost_and_found(rt: HostRuntime) -> Result<(), Fail> {
             frames: 32,
             lead_in: 0,
             lost: 1,
-            rest: 0
+            rest: 0,
+            fas: 32,
+            sm: 29,
+            pm: 29
         }
     );
     Ok(())
@@ -163,9 +174,90 @@ fn dies_in_a_turn(rt: HostRuntime) -> Result<(), Fail> {
             frames: 12,
             lead_in: 0,
             lost: 0,
-            rest: 0
+            rest: 0,
+            fas: 12,
+            sm: 9,
+            pm: 9
         }
     );
     assert!(rt; !end_seen);
+    Ok(())
+}
+
+// The byte at a place.
+fn at(bytes: &[u8], place: usize) -> u8 {
+    match bytes.get(place) {
+        Some(byte) => *byte,
+        None => 255,
+    }
+}
+
+// Writes so many frames of line 2, each with one payload byte, to a sink with this room. Says what the sink got, and how
+// many frames count.
+fn written(
+    alloc: Global,
+    frames: u8,
+    room: usize,
+    map: &SlotMap,
+) -> Result<(Vec<u8>, u64), AllocError> {
+    let mut out = LineOut::new(alloc, 2).map_err(|_memory| AllocError)?;
+    let mut place = OutPlaceOf::Live(
+        MemSink::with_room(alloc, room).map_err(|_memory| AllocError)?,
+        0,
+    );
+    for mfas in 0..frames {
+        out.begin().set(4, 3825, 9);
+        out.finish(mfas, map, &mut place);
+    }
+    let bytes = match place {
+        OutPlaceOf::Empty => Vec::new(alloc),
+        OutPlaceOf::Live(sink, _) => sink.into_bytes(),
+        OutPlaceOf::Dead(sink, _) => sink.into_bytes(),
+    };
+    Ok((bytes, out.frames()))
+}
+
+#[test]
+fn frames_of_a_free_line(rt: HostRuntime) -> Result<(), Fail> {
+    let alloc = rt.alloc();
+    let (bytes, frames) = written(alloc, 9, 200_000, &SlotMap::new())?;
+    assert_eq!(rt; frames, 9);
+    assert_eq!(rt; bytes.len(), 9 * LINE_FRAME_BYTES);
+    for (frame, tti, bip) in [
+        (0_usize, 0_u8, 0_u8),
+        (1, b'L', 0),
+        (2, b'I', 0x21),
+        (3, b'N', 0),
+        (4, b'E', 0xC0),
+        (5, b'-', 0xC0),
+        (6, b'2', 0xC0),
+        (7, 0, 0xC0),
+    ] {
+        let start = LINE_FRAME_BYTES * frame;
+        assert_eq!(rt; at(&bytes, start), 0xF6);
+        assert_eq!(rt; at(&bytes, start + 6), frame as u8);
+        assert_eq!(rt; at(&bytes, start + 7), tti, "SM TTI of frame {frame}");
+        assert_eq!(rt; at(&bytes, start + 8), bip, "SM BIP-8 of frame {frame}");
+        assert_eq!(rt; at(&bytes, start + 8169), tti, "PM TTI of frame {frame}");
+        assert_eq!(rt; at(&bytes, start + 8170), bip, "PM BIP-8 of frame {frame}");
+        assert_eq!(rt; at(&bytes, start + 8171), 1, "STAT of frame {frame}");
+        assert_eq!(rt; at(&bytes, start + 16064), 0, "FEC of frame {frame}");
+    }
+    let (_, counts, _) = turns(alloc, MemSource::new(bytes))?;
+    assert_eq!(rt; counts.frames, 9);
+    assert_eq!(rt; (counts.fas, counts.sm, counts.pm), (0, 0, 0));
+    Ok(())
+}
+
+#[test]
+fn a_line_that_dies(rt: HostRuntime) -> Result<(), Fail> {
+    let alloc = rt.alloc();
+    let mut map = SlotMap::new();
+    let slots = Slots::new(&[1, 2, 8]).ok_or("three slots that rise")?;
+    map.allot(&slots, 2);
+    let (bytes, frames) = written(alloc, 4, 2 * LINE_FRAME_BYTES + 7, &map)?;
+    assert_eq!(rt; frames, 2);
+    assert_eq!(rt; bytes.len(), 2 * LINE_FRAME_BYTES + 7);
+    assert_eq!(rt; at(&bytes, 12254), 0x21, "PSI[0]");
     Ok(())
 }

@@ -1,5 +1,7 @@
-// Worked values of the marks.
-use super::MsiWatch;
+// Worked values of the marks and of the PSI.
+use super::{MsiWatch, SlotMap, psi_byte};
+use otn_base::Slots;
+use std::test::Fail;
 
 #[test]
 fn two_wrong_bytes_mark(rt: HostRuntime) {
@@ -20,4 +22,32 @@ fn two_wrong_bytes_mark(rt: HostRuntime) {
         watch.take(byte);
         assert_eq!(rt; watch.marked(), marked, "after {byte}");
     }
+}
+
+#[test]
+fn psi_of_two_tributaries(rt: HostRuntime) -> Result<(), Fail> {
+    let odu0 = Slots::new(&[3]).ok_or("one slot")?;
+    let flex = Slots::new(&[1, 2, 8]).ok_or("three slots that rise")?;
+    let mut map = SlotMap::new();
+    map.allot(&odu0, 1);
+    map.free(&flex);
+    map.allot(&flex, 2);
+    for (mfas, byte) in [
+        (0_u8, 0x21_u8),
+        (1, 0),
+        (2, 0x81),
+        (3, 0x81),
+        (4, 0x80),
+        (5, 0xC0),
+        (8, 0xC0),
+        (9, 0x81),
+        (10, 0),
+        (255, 0),
+    ] {
+        assert_eq!(rt; psi_byte(mfas, &map), byte, "PSI[{mfas}]");
+    }
+    map.free(&odu0);
+    assert_eq!(rt; map.port(3), 0);
+    assert_eq!(rt; map.port(8), 2);
+    Ok(())
 }

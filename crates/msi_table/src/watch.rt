@@ -4,7 +4,7 @@ ghost use Rattle.std.specs.Prelude.{◌≡◌, ◌≤◌, ℕ, List, [], ◌∷�
 use std::marker::Model;
 
 // Bits 1 and 2 of an MSI byte, for an ODTU2.ts.
-const ODTU2_TS: u8 = 0x80;
+pub(crate) const ODTU2_TS: u8 = 0x80;
 
 /// The watch over the MSI bytes of a slot. Two wrong ones in a row mark it, and a right one clears it.
 /// Contracts say which bytes came so far.

@@ -12,4 +12,4 @@ returns-clause-looks g c =
     let e = c.has_come-self-inside.ensures in
     look_by _ _ _ _ _ c.read_frame-reading.new.frame _ e.whole c.requires (is_opened _ _ c.if-not-is_open.false c.is_open.ensures) c.read_frame-reading.ensures
     (ap (λ (r : ReaderView). r.hand) v) refl (e.ending ∙ ap (λ (r : ReaderView). ending_after c.read_frame-reading.result r.ending) v) (ap (λ (r : ReaderView). r.frames) v)
-    (e.rest ∙ ap (λ (r : ReaderView). left_after c.read_frame-reading.result r.rest) v)
+    (e.rest ∙ ap (λ (r : ReaderView). left_after c.read_frame-reading.result r.rest) v) (ap (λ (r : ReaderView). r.seen) v)

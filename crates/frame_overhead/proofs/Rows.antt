@@ -1,0 +1,61 @@
+-- The parity of a frame out of its rows.
+use Rattle.std.proofs.Common.{◌≡◌, ℕ, ◌+◌, ◌-◌, ◌*◌, ◌<◌, ◌≤◌, List, [], ◌∷◌, ◌++◌, length, get_or, take, drop, refl, ap, sym, ◌∙◌, arith, length-drop}
+use Rattle.std.proofs.lemmas.List.{length-take-le, get_or-take, get_or-drop, ext_get_or}
+use Rattle.frame_geometry.specs.Places.{place_of}
+use Rattle.std.specs.Prelude.{fold, bit_xor}
+use Rattle.frame_overhead.specs.Parity.{opu_row_of, parity_of}
+
+pub fold-append : (a : ℕ) (xs ys : List ℕ) → fold bit_xor (fold bit_xor a xs) ys ≡ fold bit_xor a (xs ++ ys)
+fold-append a [] ys = refl
+fold-append a (x ∷ xs) ys = fold-append (bit_xor a x) xs ys
+
+-- row by row
+pub by_rows : (cols one two three four : ℕ) (a b c d frame : List ℕ)
+    → a ≡ opu_row_of cols 1 frame → b ≡ opu_row_of cols 2 frame → c ≡ opu_row_of cols 3 frame → d ≡ opu_row_of cols 4 frame
+    → one ≡ fold bit_xor 0 a → two ≡ fold bit_xor one b → three ≡ fold bit_xor two c → four ≡ fold bit_xor three d
+    → four ≡ parity_of cols frame
+unfolding parity_of
+by_rows cols one two three four a b c d frame ea eb ec ed e1 e2 e3 e4 =
+    e4 ∙ ap (λ p. fold bit_xor p d) (e3 ∙ ap (λ p. fold bit_xor p c) (e2 ∙ ap (λ p. fold bit_xor p b) e1))
+    ∙ fold-append (fold bit_xor (fold bit_xor 0 a) b) c d
+    ∙ fold-append (fold bit_xor 0 a) b (c ++ d)
+    ∙ fold-append 0 a (b ++ (c ++ d))
+    ∙ ap (λ xs. fold bit_xor 0 (xs ++ (b ++ (c ++ d)))) ea
+    ∙ ap (λ xs. fold bit_xor 0 (opu_row_of cols 1 frame ++ (xs ++ (c ++ d)))) eb
+    ∙ ap (λ xs. fold bit_xor 0 (opu_row_of cols 1 frame ++ (opu_row_of cols 2 frame ++ (xs ++ d)))) ec
+    ∙ ap (λ xs. fold bit_xor 0 (opu_row_of cols 1 frame ++ (opu_row_of cols 2 frame ++ (opu_row_of cols 3 frame ++ xs)))) ed
+
+-- a row's OPU area as it is lent
+pub opu_row_is : (cols row a e : ℕ) (bytes frame : List ℕ) → bytes ≡ frame → a ≡ place_of cols row 15 → e ≡ a + 3810 → take (e - a) (drop a bytes) ≡ opu_row_of cols row frame
+opu_row_is cols row a e bytes frame same at end =
+    let size : e - a ≡ 3810 = omega (arith, end) in
+    ap (λ n. take n (drop a bytes)) size ∙ ap (λ n. take 3810 (drop n bytes)) at ∙ ap (λ xs. take 3810 (drop (place_of cols row 15) xs)) same
+
+same_row : (cols row : ℕ) (old new : List ℕ) → 3824 ≤ cols → length old ≡ 4 * cols → length new ≡ 4 * cols → 1 ≤ row → row ≤ 4
+    → ((col : ℕ) → 15 ≤ col → col ≤ 3824 → get_or new (place_of cols row col) 0 ≡ get_or old (place_of cols row col) 0)
+    → opu_row_of cols row new ≡ opu_row_of cols row old
+same_row cols row old new wide sized size low high same =
+    let start = place_of cols row 15 in
+    let room : start + 3810 ≤ 4 * cols = grind arith in
+    let many : length (take 3810 (drop start new)) ≡ 3810 = length-take-le 3810 (drop start new) (omega (arith, length-drop start new, room)) in
+    let wanted : length (take 3810 (drop start old)) ≡ 3810 = length-take-le 3810 (drop start old) (omega (arith, length-drop start old, room)) in
+    ext_get_or 0 (take 3810 (drop start new)) (take 3810 (drop start old)) (many ∙ sym wanted) (λ i h.
+    let below : i < 3810 = omega (arith, many, h) in
+    let here : start + i ≡ place_of cols row (15 + i) = omega arith in
+    get_or-take 3810 (drop start new) i 0 below ∙ get_or-drop start new i 0
+    ∙ ap (λ place. get_or new place 0) here
+    ∙ same (15 + i) (omega arith) (omega (arith, below))
+    ∙ sym (get_or-take 3810 (drop start old) i 0 below ∙ get_or-drop start old i 0 ∙ ap (λ place. get_or old place 0) here))
+
+-- the parity of a frame rests on its OPU area alone
+pub same_parity : (cols : ℕ) (old new : List ℕ) → 3824 ≤ cols → length old ≡ 4 * cols → length new ≡ 4 * cols
+    → ((row col : ℕ) → 1 ≤ row → row ≤ 4 → 15 ≤ col → col ≤ 3824 → get_or new (place_of cols row col) 0 ≡ get_or old (place_of cols row col) 0)
+    → parity_of cols new ≡ parity_of cols old
+unfolding parity_of
+same_parity cols old new wide sized size same =
+    let row : (r : ℕ) → 1 ≤ r → r ≤ 4 → opu_row_of cols r new ≡ opu_row_of cols r old = λ r low high. same_row cols r old new wide sized size low high (λ col a b. same r col low high a b) in
+    ap (fold bit_xor 0)
+    (ap (λ xs. xs ++ (opu_row_of cols 2 new ++ (opu_row_of cols 3 new ++ opu_row_of cols 4 new))) (row 1 (omega arith) (omega arith))
+    ∙ ap (λ xs. opu_row_of cols 1 old ++ (xs ++ (opu_row_of cols 3 new ++ opu_row_of cols 4 new))) (row 2 (omega arith) (omega arith))
+    ∙ ap (λ xs. opu_row_of cols 1 old ++ (opu_row_of cols 2 old ++ (xs ++ opu_row_of cols 4 new))) (row 3 (omega arith) (omega arith))
+    ∙ ap (λ xs. opu_row_of cols 1 old ++ (opu_row_of cols 2 old ++ (opu_row_of cols 3 old ++ xs))) (row 4 (omega arith) (omega arith)))

@@ -1,0 +1,18 @@
+-- What is counted of the overhead of the frames that a line has used.
+use Rattle.std.specs.Prelude.{ℕ, List, [], ◌∷◌, ◌++◌}
+use Rattle.frame_overhead.specs.TwoBefore.{Checked, HasChecked}
+use Rattle.otu_overhead.specs.Section.{Taken, HasTaken}
+
+-- what the checks of section and path overhead keep
+pub record Counted : Type 0 where
+  pub section : Taken
+  pub path : Checked
+
+-- These frames were taken. The PM parity stands in row 3, column 11.
+pub record HasCounted (frames : List (List ℕ)) (seen : Counted) : Type 0 where
+  pub section : HasTaken frames seen.section
+  pub path : HasChecked 4080 3 11 frames seen.path
+
+-- one frame more was taken, whatever was before it
+abbrev pub CountsOn : (old : Counted) → (frame : List ℕ) → (new : Counted) → Type 0
+CountsOn old frame new = (frames : List (List ℕ)) → HasCounted frames old → HasCounted (frames ++ frame ∷ []) new

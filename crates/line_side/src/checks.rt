@@ -1,0 +1,70 @@
+// What is counted of the overhead of a line's frames.
+ghost use Rattle.std.specs.Prelude.{◌≡◌, ℕ, List, []};
+ghost use Rattle.frame_overhead.specs.TwoBefore.{stopped, wrong_parities};
+ghost use Rattle.otu_overhead.specs.Section.{wrong_fas};
+
+use frame_geometry::Frame;
+use frame_overhead::parity;
+use odu_path::PathCheck;
+use otn_base::limits::LINE_COLUMNS;
+use otu_overhead::OtuCheck;
+use std::marker::Model;
+
+/// Counts the frames with a wrong FAS, SM parity or PM parity. Contracts say which frames were taken so far.
+#[derive(Drop)]
+pub(crate) struct FrameChecks {
+    section: OtuCheck,
+    path: PathCheck,
+}
+
+impl Model for FrameChecks {
+    ghost use Rattle.line_side.specs.Counted.{Counted};
+
+    ghost Value = { Counted };
+
+    ghost view = { λ c. record { section = c.section; path = c.path } };
+}
+
+impl FrameChecks {
+    ghost use Rattle.line_side.specs.Counted.{HasCounted, CountsOn};
+
+    /// No frame was taken.
+    pub(crate) fn new() -> FrameChecks
+        ensures { HasCounted [] result }
+    {
+        FrameChecks {
+            section: OtuCheck::new(),
+            path: PathCheck::new(),
+        }
+    }
+
+    /// Takes the next frame, whose parity is computed once for both.
+    pub(crate) fn take(&mut self, frame: &Frame<LINE_COLUMNS>)
+        ensures { CountsOn self.old frame.now self.new }
+    {
+        let parity = parity(frame);
+        self.section.take_with(frame, parity);
+        self.path.take_with(frame, parity);
+    }
+
+    /// How many frames had a wrong FAS.
+    pub(crate) fn fas(&self) -> u64
+        ensures { (frames : List (List ℕ)) → HasCounted frames self.now → result ≡ stopped (wrong_fas frames) }
+    {
+        self.section.fas()
+    }
+
+    /// How many frames had a wrong SM parity.
+    pub(crate) fn sm(&self) -> u64
+        ensures { (frames : List (List ℕ)) → HasCounted frames self.now → result ≡ stopped (wrong_parities 4080 1 9 frames) }
+    {
+        self.section.sm()
+    }
+
+    /// How many frames had a wrong PM parity.
+    pub(crate) fn pm(&self) -> u64
+        ensures { (frames : List (List ℕ)) → HasCounted frames self.now → result ≡ stopped (wrong_parities 4080 3 11 frames) }
+    {
+        self.path.pm()
+    }
+}

@@ -1,0 +1,145 @@
+// An output line: it gives a frame to be filled, adds the overhead and writes it.
+ghost use Rattle.std.specs.Prelude.{◌≡◌, ◌<◌, ℕ, List, [], IfOk, length, slice_index};
+ghost use Rattle.otn_ports.specs.OutPlace.{out_view};
+ghost use Rattle.otn_ports.specs.Views.{OutView};
+
+use frame_geometry::Frame;
+use frame_overhead::parity;
+use msi_table::{SlotMap, psi_byte};
+use odu_path::PathWriter;
+use otn_base::limits::LINE_COLUMNS;
+use otn_base::{Memory, Trace};
+use otn_ports::{OutPlaceOf, Sink, Written};
+use otu_overhead::OtuWriter;
+use std::alloc::Global;
+use std::marker::Model;
+
+// Where the PSI byte stands (G.709 clause 15.9.2.1).
+const PSI_ROW: u32 = 4;
+
+const PSI_COLUMN: u32 = 15;
+
+/// An output line of a node. Each of its frames is put into the frame that `begin` gives, and written by `finish`.
+#[derive(Drop)]
+pub struct LineOut {
+    trace: Trace,
+    frame: Frame<LINE_COLUMNS>,
+    section: OtuWriter,
+    path: PathWriter,
+    frames: u64,
+}
+
+impl Model for LineOut {
+    ghost use Rattle.line_side.specs.LineOutput.{LineOutView};
+
+    ghost Value = { LineOutView };
+
+    ghost view = { λ l. record { sapi = l.trace; frame = l.frame; section = l.section; path = l.path; frames = l.frames } };
+}
+
+impl LineOut {
+    ghost use Rattle.std.specs.Borrow.{Lends, sem};
+    ghost use Rattle.line_side.specs.contracts.line_out.LineOut.{the_row};
+    ghost use Rattle.line_side.specs.Rows.{frame_row};
+    ghost use Rattle.line_side.specs.LineOutput.{LineMade, MadeMore};
+
+    /// Line output n, 0 to 3, before its first frame.
+    pub fn new(alloc: Global, line: u8) -> Result<LineOut, Memory>
+        requires { line < 4 }
+        ensures { IfOk result (λ out. (first : OutView) → LineMade line first first [] [] out) }
+    {
+        Ok(LineOut {
+            trace: trace_of(line),
+            frame: Frame::new(alloc)?,
+            section: OtuWriter::new(),
+            path: PathWriter::new(),
+            frames: 0,
+        })
+    }
+
+    /// The next frame, all 0, to be filled.
+    pub fn begin(&mut self) -> &mut Frame<LINE_COLUMNS>
+        ensures* writes_back { sem 𝓛 (Lends the_row frame_row self.entry result (λ w. record self.entry.now { frame = w })) }
+        ensures zero { (place : ℕ) → slice_index result.now place ≡ 0 }
+        ensures size { length result.now ≡ 16320 }
+    {
+        self.frame.clear();
+        &mut self.frame
+    }
+
+    /// Adds the overhead to the frame, which has this MFAS on a line whose slots are used so, and writes it.
+    pub fn finish<K: Sink>(&mut self, mfas: u8, map: &SlotMap, place: &mut OutPlaceOf<K>)
+        ensures { (n : ℕ) (first : OutView) (made : List (List ℕ)) (went : List ℕ) → LineMade n first (out_view K.Sink place.old) made went self.old
+            → MadeMore n map.now mfas first (out_view K.Sink place.new) made went self.old self.new }
+    {
+        self.frame.set(PSI_ROW, PSI_COLUMN, psi_byte(mfas, map));
+        let parity = parity(&self.frame);
+        self.path
+            .write_with(&mut self.frame, mfas, &self.trace, parity);
+        self.section
+            .write_with(&mut self.frame, mfas, &self.trace, parity);
+        let counts = send(place, self.frame.as_bytes());
+        self.frames = self.frames.saturating_add(one_if(counts));
+    }
+
+    /// How many frames were written whole or, on an empty place, made. The count stops at 2^64-1.
+    pub fn frames(&self) -> u64
+        ensures { result ≡ self.now.frames }
+    {
+        self.frames
+    }
+}
+
+ghost use Rattle.line_side.specs.LineOutput.{line_sapi, Writes};
+
+// The trace of line n.
+fn trace_of(line: u8) -> Trace
+    requires { line < 4 }
+    ensures { result ≡ line_sapi line }
+{
+    match Trace::new(&[b'L', b'I', b'N', b'E', b'-', b'0' + line]) {
+        Some(trace) => trace,
+        None => unreachable!(),
+    }
+}
+
+// Writes a frame, and says whether it counts: it went out whole, or the place is empty.
+fn send<K: Sink>(place: &mut OutPlaceOf<K>, frame: &[u8]) -> bool
+    ensures { Writes result (out_view K.Sink place.old) frame.now (out_view K.Sink place.new) }
+{
+    if is_dead(place) {
+        return false;
+    }
+    is_whole(place.write_all(frame))
+}
+
+ghost use Rattle.std.specs.Prelude.{◌↔◌, IsTrue, true, false};
+ghost use Rattle.otn_ports.specs.Views.{Dead};
+
+fn is_dead<K: Sink>(place: &OutPlaceOf<K>) -> bool
+    ensures { IsTrue result ↔ ((out_view K.Sink place.now).state ≡ Dead) }
+{
+    match place {
+        OutPlaceOf::Empty => false,
+        OutPlaceOf::Live(..) => false,
+        OutPlaceOf::Dead(..) => true,
+    }
+}
+
+fn is_whole(written: Written) -> bool
+    ensures whole { result ≡ true → written ≡ Written.Whole }
+    ensures lost { result ≡ false → written ≡ Written.Lost }
+{
+    match written {
+        Written::Whole => true,
+        Written::Lost => false,
+    }
+}
+
+ghost use Rattle.multiframe.specs.LineTurns.{one_if as one_of};
+
+fn one_if(counts: bool) -> u64
+    ensures { result ≡ one_of counts }
+{
+    if counts { 1 } else { 0 }
+}

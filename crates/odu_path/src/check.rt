@@ -1,0 +1,77 @@
+// The check of the path overhead of frames.
+ghost use Rattle.std.specs.Prelude.{◌≡◌, ◌<◌, ℕ, List, [], ◌∷◌, ◌++◌};
+ghost use Rattle.frame_overhead.specs.Parity.{parity_of};
+ghost use Rattle.odu_path.specs.Path.{stat_of};
+
+use frame_geometry::Frame;
+use frame_overhead::{ParityCheck, parity};
+use std::marker::Model;
+
+// Where the BIP-8 and STAT of PM stand (G.709 clause 15.8).
+const PM_ROW: u32 = 3;
+
+const BIP_COLUMN: u32 = 11;
+
+const STAT_COLUMN: u32 = 12;
+
+/// Counts the frames of a line or a client with a wrong PM parity, of which the first two are not checked. Contracts say
+/// which frames were taken so far.
+#[derive(Clone, Copy, Drop)]
+pub struct PathCheck {
+    pm: ParityCheck,
+}
+
+impl Model for PathCheck {
+    ghost use Rattle.frame_overhead.specs.TwoBefore.{Checked};
+
+    ghost Value = { Checked };
+
+    ghost view = { λ c. c.pm };
+
+    ghost inverse = { λ pm. record { pm = pm } };
+}
+
+impl PathCheck {
+    ghost use Rattle.frame_overhead.specs.TwoBefore.{HasChecked, stopped, wrong_parities};
+
+    /// No frame was taken.
+    pub fn new() -> PathCheck
+        ensures { (cols : ℕ) → HasChecked cols 3 11 [] result }
+    {
+        PathCheck {
+            pm: ParityCheck::new(),
+        }
+    }
+
+    /// Takes the next frame.
+    pub fn take<const COLS: usize>(&mut self, frame: &Frame<COLS>)
+        ensures { (frames : List (List ℕ)) → HasChecked COLS 3 11 frames self.old → HasChecked COLS 3 11 (frames ++ frame.now ∷ []) self.new }
+    {
+        self.take_with(frame, parity(frame));
+    }
+
+    /// As `take`, for a frame whose parity is known.
+    pub fn take_with<const COLS: usize>(&mut self, frame: &Frame<COLS>, parity: u8)
+        requires { parity ≡ parity_of COLS frame.now }
+        ensures { (frames : List (List ℕ)) → HasChecked COLS 3 11 frames self.old → HasChecked COLS 3 11 (frames ++ frame.now ∷ []) self.new }
+    {
+        let _bytes = frame.as_bytes();
+        self.pm.take(frame.get(PM_ROW, BIP_COLUMN), parity);
+    }
+
+    /// How many frames had a wrong PM parity. The count stops at 2^64-1.
+    pub fn pm(&self) -> u64
+        ensures { (cols : ℕ) (frames : List (List ℕ)) → HasChecked cols 3 11 frames self.now → result ≡ stopped (wrong_parities cols 3 11 frames) }
+    {
+        self.pm.wrong()
+    }
+}
+
+/// STAT of a frame, 0 to 7: 1 is a normal path signal, 5 is LCK, 6 is OCI and 7 is AIS.
+pub fn stat<const COLS: usize>(frame: &Frame<COLS>) -> u8
+    ensures stat { result ≡ stat_of COLS frame.now }
+    ensures bound { result < 8 }
+{
+    let _bytes = frame.as_bytes();
+    frame.get(PM_ROW, STAT_COLUMN) % 8
+}

@@ -1,0 +1,36 @@
+// The path overhead of worked frames.
+use crate::{PathCheck, PathWriter, stat};
+use frame_geometry::Frame;
+use otn_base::Trace;
+use std::test::Fail;
+
+#[test]
+fn path_of_a_client(rt: HostRuntime) -> Result<(), Fail> {
+    let trace = Trace::new(b"east").ok_or("refused")?;
+    let mut writer = PathWriter::new();
+    let mut check = PathCheck::new();
+    let mut mfas = 0_u8;
+    for (psi, tti, bip) in [
+        (0x05_u8, 0_u8, 0_u8),
+        (0x00, b'e', 0x00),
+        (0x00, b'a', 0x05),
+        (0x11, b's', 0x00),
+    ] {
+        let mut frame = Frame::<3824>::new(rt.alloc())?;
+        frame.set(4, 15, psi);
+        frame.set(2, 14, 9);
+        writer.write(&mut frame, mfas, &trace);
+        assert_eq!(rt; frame.get(2, 14), 0);
+        assert_eq!(rt; frame.get(3, 10), tti);
+        assert_eq!(rt; frame.get(3, 11), bip);
+        assert_eq!(rt; frame.get(3, 12), 1);
+        assert_eq!(rt; stat(&frame), 1);
+        if mfas == 2 {
+            frame.set(3, 11, 4);
+        }
+        check.take(&frame);
+        mfas = mfas.wrapping_add(1);
+    }
+    assert_eq!(rt; check.pm(), 1);
+    Ok(())
+}

@@ -1,0 +1,92 @@
+// The check of the overhead of OTU2 frames.
+ghost use Rattle.std.specs.Prelude.{◌≡◌, ℕ, List, [], ◌∷◌, ◌++◌};
+ghost use Rattle.frame_overhead.specs.Parity.{parity_of};
+
+use frame_geometry::Frame;
+use frame_overhead::{ParityCheck, parity};
+use otn_base::limits::LINE_COLUMNS;
+use std::marker::Model;
+
+/// Counts the frames of a line with a wrong FAS, and those with a wrong SM parity, of which the first two are not checked.
+/// Contracts say which frames were taken so far.
+#[derive(Clone, Copy, Drop)]
+pub struct OtuCheck {
+    fas: u64,
+    sm: ParityCheck,
+}
+
+impl Model for OtuCheck {
+    ghost use Rattle.otu_overhead.specs.Section.{Taken};
+
+    ghost Value = { Taken };
+
+    ghost view = { λ c. record { fas = c.fas; sm = c.sm } };
+
+    ghost inverse = { λ c. record { fas = c.fas; sm = c.sm } };
+}
+
+impl OtuCheck {
+    ghost use Rattle.frame_overhead.specs.TwoBefore.{stopped, wrong_parities};
+    ghost use Rattle.otu_overhead.specs.Section.{HasTaken, wrong_fas};
+
+    /// No frame was taken.
+    pub fn new() -> OtuCheck
+        ensures { HasTaken [] result }
+    {
+        OtuCheck {
+            fas: 0,
+            sm: ParityCheck::new(),
+        }
+    }
+
+    /// Takes the next frame.
+    pub fn take(&mut self, frame: &Frame<LINE_COLUMNS>)
+        ensures { (frames : List (List ℕ)) → HasTaken frames self.old → HasTaken (frames ++ frame.now ∷ []) self.new }
+    {
+        self.take_with(frame, parity(frame));
+    }
+
+    /// As `take`, for a frame whose parity is known.
+    pub fn take_with(&mut self, frame: &Frame<LINE_COLUMNS>, parity: u8)
+        requires { parity ≡ parity_of 4080 frame.now }
+        ensures { (frames : List (List ℕ)) → HasTaken frames self.old → HasTaken (frames ++ frame.now ∷ []) self.new }
+    {
+        self.fas = self.fas.saturating_add(fas_wrong(frame));
+        self.sm.take(frame.get(1, 9), parity);
+    }
+
+    /// How many frames had a wrong FAS. The count stops at 2^64-1.
+    pub fn fas(&self) -> u64
+        ensures { (frames : List (List ℕ)) → HasTaken frames self.now → result ≡ stopped (wrong_fas frames) }
+    {
+        self.fas
+    }
+
+    /// How many frames had a wrong SM parity. The count stops at 2^64-1.
+    pub fn sm(&self) -> u64
+        ensures { (frames : List (List ℕ)) → HasTaken frames self.now → result ≡ stopped (wrong_parities 4080 1 9 frames) }
+    {
+        self.sm.wrong()
+    }
+}
+
+ghost use Rattle.otu_overhead.specs.Section.{has_fas, fas_wrong as wrong_of};
+
+// 1 where the FAS is wrong.
+fn fas_wrong(frame: &Frame<LINE_COLUMNS>) -> u64
+    ensures { result ≡ wrong_of frame.now }
+{
+    if has_fas(frame) { 0 } else { 1 }
+}
+
+// Whether columns 1 to 6 of row 1 are the FAS.
+fn has_fas(frame: &Frame<LINE_COLUMNS>) -> bool
+    ensures { result ≡ has_fas frame.now }
+{
+    frame.get(1, 1) == 0xF6
+        && frame.get(1, 2) == 0xF6
+        && frame.get(1, 3) == 0xF6
+        && frame.get(1, 4) == 0x28
+        && frame.get(1, 5) == 0x28
+        && frame.get(1, 6) == 0x28
+}

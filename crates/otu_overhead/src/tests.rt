@@ -1,0 +1,40 @@
+// The overhead of worked frames.
+use crate::{OtuCheck, OtuWriter};
+use frame_geometry::Frame;
+use otn_base::Trace;
+use std::test::Fail;
+
+#[test]
+fn section_of_five_frames(rt: HostRuntime) -> Result<(), Fail> {
+    let trace = Trace::new(b"LINE-2").ok_or("refused")?;
+    let mut writer = OtuWriter::new();
+    let mut check = OtuCheck::new();
+    let mut mfas = 0_u8;
+    for (psi, tti, bip) in [
+        (0x21_u8, 0_u8, 0_u8),
+        (0x00, b'L', 0x00),
+        (0xC0, b'I', 0x21),
+        (0xC0, b'N', 0x00),
+        (0xC0, b'E', 0xC0),
+    ] {
+        let mut frame = Frame::<4080>::new(rt.alloc())?;
+        frame.set(4, 15, psi);
+        frame.set(2, 4080, 7);
+        frame.set(2, 3824, 0);
+        writer.write(&mut frame, mfas, &trace);
+        assert_eq!(rt; frame.get(1, 6), 0x28);
+        assert_eq!(rt; frame.get(1, 7), mfas);
+        assert_eq!(rt; frame.get(1, 8), tti);
+        assert_eq!(rt; frame.get(1, 9), bip);
+        assert_eq!(rt; frame.get(2, 4080), 0);
+        if mfas == 3 {
+            frame.set(1, 9, 1);
+            frame.set(1, 1, 0);
+        }
+        check.take(&frame);
+        mfas = mfas.wrapping_add(1);
+    }
+    assert_eq!(rt; check.fas(), 1);
+    assert_eq!(rt; check.sm(), 1);
+    Ok(())
+}
