@@ -1,0 +1,3 @@
+pub mod Arriving
+pub mod Fronts
+pub mod Aligning

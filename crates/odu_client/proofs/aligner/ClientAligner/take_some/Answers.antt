@@ -1,0 +1,31 @@
+use Rattle.std.proofs.Common.{rules, ◌≡◌, ◌≤◌, ◌+◌, List, ℕ, length, take, arith, ap, ◌∙◌}
+use Rattle.odu_client.specs.View.{frames_after}
+use Rattle.odu_client.specs.declared.aligned.Aligned.TheVariants.{Nothing}
+use Rattle.odu_client.proofs.Aligning.{passed_on, stepped_on, none_on}
+use Rattle.odu_client.proofs.aligner.ClientAligner.take_some.Goals as goal
+
+pub loop-done-preserved : goal.loop-done-preserved
+loop-done-preserved c =
+    let i = c.loop-done.invariant in
+    let p = c.pass-done.ensures in
+    let t = c.take-aligned.ensures in
+    let nothing : c.take-aligned.result ≡ Nothing = search rules in
+    record {
+      within = omega arith;
+      aligned = λ taken h.
+          let a = i.aligned taken h in
+          let b = passed_on taken _ _ _ _ _ _ _ a (p.goes _ a.aligned) in
+          none_on taken _ _ _ _ _ nothing (stepped_on taken _ _ _ _ _ _ _ (omega arith) b (t.aligned _ b.aligned));
+      frames = t.frames ∙ ap (frames_after c.pass-done.new.self.frames) nothing ∙ p.frames ∙ i.frames;
+    }
+
+pub returns-then-ne-clause-aligned : goal.returns-then-ne-clause-aligned
+returns-then-ne-clause-aligned c = λ taken h.
+    let a = c.loop-done.invariant.aligned taken h in
+    let b = passed_on taken _ _ _ _ _ _ _ a (c.pass-done.ensures.goes _ a.aligned) in
+    stepped_on taken _ _ _ _ _ _ _ (omega arith) b (c.take-aligned.ensures.aligned _ b.aligned)
+
+pub returns-then-done-bytes-clause-aligned : goal.returns-then-done-bytes-clause-aligned
+returns-then-done-bytes-clause-aligned c = λ taken h.
+    let a = c.loop-done.invariant.aligned taken h in
+    passed_on taken _ _ _ _ _ _ _ a (c.pass-done.ensures.goes _ a.aligned)

@@ -1,0 +1,3 @@
+pub mod AlignedRuns
+pub mod Aligner
+pub mod View

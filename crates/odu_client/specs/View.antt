@@ -1,0 +1,19 @@
+-- What is seen of an aligner.
+use Rattle.std.specs.Prelude.{ℕ, ◌+◌, ◌-◌, ◌^◌, min, List}
+use Rattle.odu_client.specs.Aligner.{AlignerState}
+use Rattle.odu_client.specs.declared.aligned.Aligned.{Aligned}
+use Rattle.odu_client.specs.declared.aligned.Aligned.TheVariants.{Nothing, Whole, Break}
+use Rattle.odu_client.specs.declared.aligner.ClientAligner.{ClientAligner}
+
+abbrev pub aligner_state : ClientAligner → AlignerState
+aligner_state a = record { searches = a.searching; misses = a.misses; held = a.held.items }
+
+-- the frame that was handed on last
+abbrev pub handed : ClientAligner → List ℕ
+handed a = a.frame
+
+-- a count of whole frames, which stops at its end
+abbrev pub frames_after : ℕ → Aligned → ℕ
+frames_after frames Nothing = frames
+frames_after frames Whole = min (frames + 1) (2 ^ 64 - 1)
+frames_after frames Break = frames

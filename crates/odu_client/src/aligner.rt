@@ -1,0 +1,170 @@
+// The frames of a client in the bytes that arrive.
+ghost use Rattle.std.specs.Prelude.{◌≡◌, ◌<◌, ◌≤◌, ℕ, List, [], true, false, length, take, vec_len, IfOk};
+ghost use Rattle.std.specs.Vec.{vec_capacity};
+ghost use Rattle.odu_client.specs.AlignedRuns.{misses_after};
+
+use crate::Aligned;
+use crate::buffer::append;
+use crate::fas::{FAS_BYTES, begins, count, has_signal, is_given_up};
+use frame_geometry::Frame;
+use otn_base::Memory;
+use otn_base::limits::{CLIENT_COLUMNS, CLIENT_FRAME_BYTES};
+use std::alloc::Global;
+
+/// Finds client frames in the bytes that arrive. In a search it looks for the first FAS; then frames follow one another, until five
+/// in a row begin otherwise.
+#[derive(Drop)]
+pub struct ClientAligner {
+    searching: bool,
+    misses: u8,
+    held: Vec<u8>,
+    frame: Frame<CLIENT_COLUMNS>,
+    frames: u64,
+    ghost room: { 15296 ≤ vec_capacity held },
+    ghost few: { misses < 5 },
+    ghost held_short: { vec_len held ≤ 15295 },
+    ghost search_short: { searching ≡ true → vec_len held ≤ 5 },
+    ghost going: { 6 ≤ vec_len held → misses_after misses held.items < 5 },
+}
+
+impl ClientAligner {
+    ghost use Rattle.odu_client.specs.Aligner.{AlignerState, HasAligned, Aligns, AlignsBy, Goes, GoesBy, searches_anew};
+    ghost use Rattle.odu_client.specs.View.{aligner_state, handed, frames_after};
+
+    /// An aligner that searches. All memory is taken here.
+    pub fn new(alloc: Global) -> Result<ClientAligner, Memory>
+        ensures aligned { IfOk result (λ aligner. HasAligned [] (aligner_state aligner)) }
+        ensures fresh { IfOk result (λ aligner. aligner_state aligner ≡ searches_anew) }
+        ensures frames { IfOk result (λ aligner. aligner.frames ≡ 0) }
+    {
+        Ok(ClientAligner {
+            searching: true,
+            misses: 0,
+            held: Vec::with_capacity(alloc, CLIENT_FRAME_BYTES)?,
+            frame: Frame::new(alloc)?,
+            frames: 0,
+        })
+    }
+
+    /// Begins anew with a search.
+    pub fn restart(&mut self)
+        ensures aligned { HasAligned [] (aligner_state self.new) }
+        ensures fresh { aligner_state self.new ≡ searches_anew }
+        ensures frames { self.new.frames ≡ 0 }
+    {
+        self.held.clear();
+        self.searching = true;
+        self.misses = 0;
+        self.frames = 0;
+    }
+
+    /// The next byte. Whole: a frame to be used ended with it. Break: a frame with AIS, OCI or LCK ended with it, or a search begins
+    /// behind it.
+    pub fn take(&mut self, byte: u8) -> Aligned
+        ensures aligned { (taken : List ℕ) → HasAligned taken (aligner_state self.old) → Aligns taken byte result (handed self.new) (aligner_state self.new) }
+        ensures frames { self.new.frames ≡ frames_after self.old.frames result }
+    {
+        if self.searching {
+            return self.search(byte);
+        }
+        self.go_on(byte)
+    }
+
+    /// Takes bytes up to and with the first that ends in Whole or Break, and says how many; where none does, all, and the answer is
+    /// Nothing.
+    pub fn take_some(&mut self, bytes: &[u8]) -> (Aligned, usize)
+        ensures within { result.1 ≤ length bytes.now }
+        ensures all { result.0 ≡ Aligned.Nothing → result.1 ≡ length bytes.now }
+        ensures aligned { (taken : List ℕ) → HasAligned taken (aligner_state self.old) → AlignsBy taken (take result.1 bytes.now) result.0 (handed self.new) (aligner_state self.new) }
+        ensures frames { self.new.frames ≡ frames_after self.old.frames result.0 }
+    {
+        let mut done = 0;
+        while done < bytes.len() {
+            done += self.pass(&bytes[done..]);
+            if done >= bytes.len() {
+                break;
+            }
+            let aligned = self.take(bytes[done]);
+            done += 1;
+            if aligned != Aligned::Nothing {
+                return (aligned, done);
+            }
+        }
+        (Aligned::Nothing, done)
+    }
+
+    // Goes on with the frame by as many bytes as make no news, and says how many.
+    fn pass(&mut self, bytes: &[u8]) -> usize
+        ensures within { result ≤ length bytes.now }
+        ensures goes { (taken : List ℕ) → HasAligned taken (aligner_state self.old) → AlignsBy taken (take result bytes.now) Aligned.Nothing (handed self.new) (aligner_state self.new) }
+        ensures frames { self.new.frames ≡ self.old.frames }
+    {
+        if self.searching {
+            return 0;
+        }
+        if self.held.len() < FAS_BYTES {
+            return 0;
+        }
+        let count = bytes.len().min(CLIENT_FRAME_BYTES - 1 - self.held.len());
+        append(&mut self.held, &bytes[..count]);
+        count
+    }
+
+    /// The frame of the last answer `Whole`.
+    pub fn frame(&self) -> &Frame<CLIENT_COLUMNS>
+        ensures { result.now ≡ handed self.now }
+    {
+        &self.frame
+    }
+
+    /// How often the answer was `Whole`.
+    pub fn frames(&self) -> u64
+        ensures { result ≡ self.now.frames }
+    {
+        self.frames
+    }
+
+    fn search(&mut self, byte: u8) -> Aligned
+        requires { self.old.searching ≡ true }
+        ensures goes { Goes (aligner_state self.old) byte result (handed self.new) (aligner_state self.new) }
+        ensures frames { self.new.frames ≡ self.old.frames }
+        ensures nothing { result ≡ Aligned.Nothing }
+    {
+        append(&mut self.held, &[byte]);
+        if self.held.len() < FAS_BYTES {
+            return Aligned::Nothing;
+        }
+        if begins(&self.held) {
+            self.searching = false;
+            self.misses = 0;
+            return Aligned::Nothing;
+        }
+        let _first = self.held.remove(0);
+        Aligned::Nothing
+    }
+
+    fn go_on(&mut self, byte: u8) -> Aligned
+        requires { self.old.searching ≡ false }
+        ensures goes { Goes (aligner_state self.old) byte result (handed self.new) (aligner_state self.new) }
+        ensures frames { self.new.frames ≡ frames_after self.old.frames result }
+    {
+        append(&mut self.held, &[byte]);
+        if is_given_up(self.misses, &self.held) {
+            self.held.clear();
+            self.misses = 0;
+            self.searching = true;
+            return Aligned::Break;
+        }
+        if self.held.len() < CLIENT_FRAME_BYTES {
+            return Aligned::Nothing;
+        }
+        self.misses = count(self.misses, &self.held);
+        self.frame.fill_from(&self.held);
+        self.held.clear();
+        if has_signal(self.frame.as_bytes()) {
+            return Aligned::Break;
+        }
+        self.frames = self.frames.saturating_add(1);
+        Aligned::Whole
+    }
+}

@@ -1,0 +1,237 @@
+-- What the steps of a cutter meet.
+use Rattle.std.proofs.Common.{◌≡◌, ◌≢◌, ◌<◌, ◌≤◌, ◌+◌, ◌-◌, ◌%◌, ℕ, Bool, true, false, List, [], ◌∷◌, ◌++◌, length, take, drop, arith, refl, sym, ap, ◌∙◌, append_assoc, append-nil, length-append, add-one}
+use Rattle.std.proofs.lemmas.List.{drop-drop, drop_at, take_at, length-take-le, take-append-drop, drop-take}
+use Rattle.std.proofs.Math.Seq.{take-length, drop-length}
+use Rattle.otn_ports.specs.Views.{InView, Live, Dead}
+use Rattle.otn_ports.specs.Given.{Gave}
+use Rattle.otn_ports.specs.Reads.{HasEnded}
+use Rattle.otn_ports.proofs.GivenLaws.{gave_none, gave_twice, dead_not_live}
+use Rattle.otn_ports.specs.declared.in_place.Reading.{Reading}
+use Rattle.otn_ports.specs.declared.in_place.Reading.TheVariants as reading
+use Rattle.packet_text.specs.TextLines.{has_lf}
+use Rattle.packet_text.specs.Blocks.{BlockRead}
+use Rattle.packet_text.specs.Carrying.{Carried, NoneCarried}
+use Rattle.packet_text.specs.Cutting.{CutView, all_of, at_line, GoesOnBy, LostIn, Cuts, CutsSome}
+use Rattle.packet_text.specs.declared.cutter.Cut.{Cut}
+use Rattle.packet_text.specs.declared.cutter.Cut.TheVariants.{More, Line, Last, Long, End, Lost}
+use Rattle.packet_text.proofs.Lists.{clean_both}
+
+-- the bytes behind a part of those in hand
+pub hand_after : (block : List ℕ) (at end n : ℕ) → end ≤ length block → at + n ≤ end → take (end - (at + n)) (drop (at + n) block) ≡ drop n (take (end - at) (drop at block))
+hand_after block at end n within fits =
+    let front : List ℕ = take n (drop at block) in
+    let e : drop n (drop at block) ≡ drop (at + n) block = drop-drop n at block in
+    let m : end - at ≡ n + (end - (at + n)) = omega arith in
+    rw (m, ← e) (sym (drop-take n (end - (at + n)) (drop at block)))
+
+-- the bytes in hand up to an LF went on with the line
+pub by_some : (line line' hand hand' : List ℕ) (ended : Bool) (n : ℕ) → Carried line hand n line' → hand' ≡ drop (n + 1) hand
+    → GoesOnBy true (record { line = line; hand = hand; ended = ended }) (record { line = line'; hand = hand'; ended = ended })
+by_some line line' hand hand' ended n h rest = record {
+  ended = refl;
+  clean = λ k. rw h.line (clean_both line (take n hand) k h.clean);
+  lf = λ _. rw (rest, h.line) (ap (λ bytes. line ++ bytes) h.parts ∙ sym (append_assoc line (take n hand) (10 ∷ drop (n + 1) hand)));
+  all = λ e. absurd (cc);
+}
+
+pub by_none : (line line' hand hand' : List ℕ) (ended : Bool) → NoneCarried line hand line' → hand' ≡ []
+    → GoesOnBy false (record { line = line; hand = hand; ended = ended }) (record { line = line'; hand = hand'; ended = ended })
+by_none line line' hand hand' ended h none = record {
+  ended = refl;
+  clean = λ k. rw h.line (clean_both line hand k h.clean);
+  lf = λ e. absurd (cc);
+  all = λ _. (h.line, none);
+}
+
+-- the line's LF was met
+pub cuts_line : (found : Bool) (old new : CutView) (was : InView) → found ≡ true → GoesOnBy found old new → CutsSome Line old was new was
+cuts_line found old new was met h = record {
+  came = [];
+  cuts = record {
+    gave = gave_none was;
+    quiet = λ e. (refl, h.ended ∙ e, refl);
+    over = λ f e live. f (sym h.ended ∙ e) live;
+    alive = λ _. refl;
+    blocks = λ _ _. refl;
+    clean = h.clean;
+    more = λ e. absurd (cc);
+    ends_line = λ _. ap (λ bytes. old.line ++ bytes) (append-nil old.hand) ∙ h.lf met;
+    last = λ e. absurd (cc);
+    long = λ e. absurd (cc);
+    end = λ e. absurd (cc);
+    lost = λ e. absurd (cc);
+  };
+}
+
+-- the line is too long
+pub cuts_long : (found : Bool) (old new : CutView) (was : InView) → found ≡ false → GoesOnBy found old new → 131055 < length new.line → CutsSome Long old was new was
+cuts_long found old new was no_lf h long = record {
+  came = [];
+  cuts = record {
+    gave = gave_none was;
+    quiet = λ e. (refl, h.ended ∙ e, refl);
+    over = λ f e live. f (sym h.ended ∙ e) live;
+    alive = λ _. refl;
+    blocks = λ _ _. refl;
+    clean = h.clean;
+    more = λ e. absurd (cc);
+    ends_line = λ e. absurd (cc);
+    last = λ e. absurd (cc);
+    long = λ _. (let g = h.all no_lf in rw (g.0, g.1) (ap (λ bytes. old.line ++ bytes) (append-nil old.hand) ∙ sym (append-nil (old.line ++ old.hand))), long);
+    end = λ e. absurd (cc);
+    lost = λ e. absurd (cc);
+  };
+}
+
+-- the text has ended behind a last line
+pub cuts_last : (found : Bool) (old new : CutView) (was : InView) → found ≡ false → GoesOnBy found old new → new.ended ≡ true → new.line ≢ [] → CutsSome Last old was new was
+cuts_last found old new was no_lf h ended some = record {
+  came = [];
+  cuts = record {
+    gave = gave_none was;
+    quiet = λ e. (refl, ended, refl);
+    over = λ f e live. f (sym h.ended ∙ e) live;
+    alive = λ _. refl;
+    blocks = λ _ _. refl;
+    clean = h.clean;
+    more = λ e. absurd (cc);
+    ends_line = λ e. absurd (cc);
+    last = λ _. (let g = h.all no_lf in (ap (λ bytes. old.line ++ bytes) (append-nil old.hand) ∙ sym g.0, g.1, ended, some));
+    long = λ e. absurd (cc);
+    end = λ e. absurd (cc);
+    lost = λ e. absurd (cc);
+  };
+}
+
+-- the text has ended where a line would begin
+pub cuts_end : (found : Bool) (old new : CutView) (was : InView) → found ≡ false → GoesOnBy found old new → new.ended ≡ true → new.line ≡ [] → CutsSome End old was new was
+cuts_end found old new was no_lf h ended none = record {
+  came = [];
+  cuts = record {
+    gave = gave_none was;
+    quiet = λ e. (refl, ended, refl);
+    over = λ f e live. f (sym h.ended ∙ e) live;
+    alive = λ _. refl;
+    blocks = λ _ _. refl;
+    clean = h.clean;
+    more = λ e. absurd (cc);
+    ends_line = λ e. absurd (cc);
+    last = λ e. absurd (cc);
+    long = λ e. absurd (cc);
+    end = λ _. (let g = h.all no_lf in (ap (λ bytes. old.line ++ bytes) (append-nil old.hand) ∙ sym g.0 ∙ none, ended));
+    lost = λ e. absurd (cc);
+  };
+}
+
+-- the text has ended
+pub cuts_close : (r : Cut) (found : Bool) (old new : CutView) (was : InView) → found ≡ false → GoesOnBy found old new → new.ended ≡ true
+    → (new.line ≢ [] → r ≡ Last) → (new.line ≡ [] → r ≡ End) → CutsSome r old was new was
+cuts_close r found old new was no_lf h ended last end = by_line new.line refl
+  where
+    by_line : (line : List ℕ) → new.line ≡ line → CutsSome r old was new was
+    by_line [] e = rw (end e) (cuts_end found old new was no_lf h ended e)
+    by_line (x ∷ xs) e = let some : new.line ≢ [] = λ none. (let f : x ∷ xs ≡ [] = sym e ∙ none in cc) in rw (last some) (cuts_last found old new was no_lf h ended some)
+
+-- the bytes in hand are used
+pub goes_more : (found : Bool) (old new : CutView) (was : InView) → found ≡ false → GoesOnBy found old new → CutsSome More old was new was
+goes_more found old new was no_lf h = record {
+  came = [];
+  cuts = record {
+    gave = gave_none was;
+    quiet = λ e. (refl, h.ended ∙ e, refl);
+    over = λ f e live. f (sym h.ended ∙ e) live;
+    alive = λ _. refl;
+    blocks = λ _ _. refl;
+    clean = h.clean;
+    more = λ _. (let g = h.all no_lf in rw (g.0, g.1) (ap (λ bytes. old.line ++ bytes) (append-nil old.hand) ∙ sym (append-nil (old.line ++ old.hand))));
+    ends_line = λ e. absurd (cc);
+    last = λ e. absurd (cc);
+    long = λ e. absurd (cc);
+    end = λ e. absurd (cc);
+    lost = λ e. absurd (cc);
+  };
+}
+
+-- a block came
+pub reads_more : (old new : CutView) (r : Reading) (was is : InView) (block : List ℕ) → BlockRead r was block is → r ≡ reading.Full → length block ≡ 4096
+    → old.hand ≡ [] → old.ended ≡ false → new.line ≡ old.line → new.hand ≡ block → new.ended ≡ false → CutsSome More old was new is
+reads_more old new r was is block h full size none still_open line hand still = record {
+  came = h.came;
+  cuts = record {
+    gave = h.gave;
+    quiet = λ e. absurd (cc);
+    over = λ f e live. absurd (cc);
+    alive = λ _. h.alive (λ e. cc);
+    blocks = λ _ _. rw (h.whole full, size) refl;
+    clean = λ k. rw line k;
+    more = λ _. rw (none, line, hand, h.whole full) refl;
+    ends_line = λ e. absurd (cc);
+    last = λ e. absurd (cc);
+    long = λ e. absurd (cc);
+    end = λ e. absurd (cc);
+    lost = λ e. absurd (cc);
+  };
+}
+
+-- the last bytes came
+pub reads_end : (old new : CutView) (r : Reading) (n : ℕ) (was is : InView) (block : List ℕ) → BlockRead r was block is → r ≡ reading.End n
+    → old.hand ≡ [] → old.ended ≡ false → new.line ≡ old.line → new.hand ≡ take n block → new.ended ≡ true → CutsSome More old was new is
+reads_end old new r n was is block h end none still_open line hand seen = record {
+  came = h.came;
+  cuts = record {
+    gave = h.gave;
+    quiet = λ e. absurd (cc);
+    over = λ f e live. h.over n end live;
+    alive = λ _. h.alive (λ e. cc);
+    blocks = λ _ e. absurd (cc);
+    clean = λ k. rw line k;
+    more = λ _. rw (none, line, hand, (h.end n end).0) refl;
+    ends_line = λ e. absurd (cc);
+    last = λ e. absurd (cc);
+    long = λ e. absurd (cc);
+    end = λ e. absurd (cc);
+    lost = λ e. absurd (cc);
+  };
+}
+
+-- the place died
+pub reads_lost : (old new : CutView) (r : Reading) (was is : InView) (block : List ℕ) → BlockRead r was block is → r ≡ reading.Lost
+    → old.hand ≡ [] → old.ended ≡ false → new.line ≡ old.line → new.ended ≡ false → CutsSome Lost old was new is
+reads_lost old new r was is block h lost none still_open line still = record {
+  came = h.came;
+  cuts = record {
+    gave = h.gave;
+    quiet = λ e. absurd (cc);
+    over = λ f e live. absurd (cc);
+    alive = λ e. absurd (e refl);
+    blocks = λ e _. absurd (e refl);
+    clean = λ k. rw line k;
+    more = λ e. absurd (cc);
+    ends_line = λ e. absurd (cc);
+    last = λ e. absurd (cc);
+    long = λ e. absurd (cc);
+    end = λ e. absurd (cc);
+    lost = λ _. (
+      let g = h.lost lost in record {
+        whole = [];
+        part = h.came;
+        parts = refl;
+        blocks = refl;
+        short = g.0;
+        line = rw (none, line) (append-nil old.line);
+        live = g.1;
+        dead = g.2;
+      },
+      still,
+    );
+  };
+}
+
+pub hand_none : (n : ℕ) (bytes : List ℕ) → take (n - n) bytes ≡ []
+hand_none n bytes = let e : n - n ≡ 0 = omega arith in rw e refl
+
+pub hand_from : (n : ℕ) (bytes : List ℕ) → take (n - 0) (drop 0 bytes) ≡ take n bytes
+hand_from n bytes = let e : n - 0 ≡ n = omega arith in rw e refl
+
+pub hand_all : (n : ℕ) (items block : List ℕ) → n ≡ length block → items ≡ block → take (n - 0) (drop 0 items) ≡ block
+hand_all n items block size e = hand_from n items ∙ ap (take n) e ∙ rw size (take-length block)

@@ -1,0 +1,45 @@
+-- What a place gave is among the texts that its lines may have.
+use Rattle.std.proofs.Common.{◌≡◌, ◌≢◌, ℕ, Bool, true, false, List, [], ◌∷◌, ◌++◌, Option, Some, None, refl, sym, ap, ◌∙◌, append_assoc, append-nil}
+use Rattle.otn_ports.specs.Views.{State, Empty, Live, Dead, InView}
+use Rattle.otn_ports.specs.Given.{IsGiven}
+use Rattle.otn_ports.specs.Reads.{HasEnded}
+use Rattle.otn_ports.proofs.GivenLaws.{Beyond, given_of_gave, dead_not_live}
+use Rattle.packet_text.specs.TextLines.{full_lines, text_of_dead}
+use Rattle.packet_text.specs.LinesStand.{LinesView, Begins, may_be, MayBe, LinesStand}
+use Rattle.packet_text.specs.Laws.{GivenIsAmong}
+use Rattle.packet_text.specs.declared.line.Line.{Line}
+use Rattle.packet_text.specs.declared.line.Line.TheVariants.{Packet, End, Bad, Lost}
+use Rattle.packet_text.proofs.Texts.{Front, full_lines-front}
+
+ended_none : (left : Option (List ℕ)) (rest : List ℕ) → left ≡ Some rest → HasEnded left → rest ≡ []
+ended_none left rest e h = rw e at h
+
+same : (taken given : List ℕ) (now : InView) → (b : Beyond taken given now.state now.left) → b.rest ≡ [] → given ≡ taken
+same taken given now b e = b.parts ∙ ap (λ bytes. taken ++ bytes) e ∙ append-nil taken
+
+nothing_left : (now : InView) (rest : List ℕ) → (now.state ≡ Live → now.left ≡ Some rest) → (now.state ≢ Live → rest ≡ []) → (now.state ≡ Live → HasEnded now.left) → rest ≡ []
+nothing_left now rest live other over = by_state now.state refl
+  where
+    by_state : (s : State) → now.state ≡ s → rest ≡ []
+    by_state Live e = ended_none now.left rest (live e) (over e)
+    by_state Empty e = other (λ l. (let f : Empty ≡ Live = sym e ∙ l in cc))
+    by_state Dead e = other (λ l. dead_not_live (sym e ∙ l))
+
+among : (ended : Bool) (a : Line) (taken given rest : List ℕ) → given ≡ taken ++ rest → (ended ≡ true → rest ≡ []) → (a ≡ End → ended ≡ true) → a ≢ Lost → may_be ended a taken given
+among true a taken given rest parts none end alive = parts ∙ ap (λ bytes. taken ++ bytes) (none refl) ∙ append-nil taken
+among false Packet taken given rest parts none end alive =
+    let f = full_lines-front taken in
+    record { rest = f.rest ++ rest; parts = parts ∙ ap (λ bytes. bytes ++ rest) f.parts ∙ append_assoc (full_lines taken) f.rest rest }
+among false (Bad n) taken given rest parts none end alive = record { rest = rest; parts = parts }
+among false End taken given rest parts none end alive = absurd (let e = end refl in cc)
+among false Lost taken given rest parts none end alive = absurd (alive refl)
+
+dead_text : (ended : Bool) (a : Line) (taken given : List ℕ) → ended ≡ false → a ≡ Lost → given ≡ taken → may_be ended a taken (text_of_dead given)
+dead_text ended a taken given e f g = rw (e, f, g) refl
+
+pub given_among : GivenIsAmong
+given_among = λ first now taken given packets view h given_is.
+    let b = given_of_gave first now taken given h.gave given_is in (
+      λ alive. among view.ended view.answer taken given b.rest b.parts (λ e. nothing_left now b.rest b.live b.other (h.over e)) h.ended alive,
+      λ lost. (let l = h.lost lost in dead_text view.ended view.answer taken given l.0 lost (same taken given now b (b.other (λ live. dead_not_live (sym l.1 ∙ live))))),
+    )

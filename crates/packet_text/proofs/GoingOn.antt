@@ -1,0 +1,144 @@
+-- How the lines of a place go on.
+use Rattle.std.proofs.Common.{◌≡◌, ◌≢◌, ◌<◌, ◌≤◌, ◌+◌, ◌%◌, ℕ, Bool, true, false, List, [], ◌∷◌, ◌++◌, length, Option, Some, None, arith, refl, sym, ap, ◌∙◌, length-append, append_assoc, append-nil}
+use Rattle.otn_ports.specs.Views.{InView, Live, Dead}
+use Rattle.otn_ports.proofs.GivenLaws.{dead_not_live}
+use Rattle.packet_text.specs.TextLines.{has_lf, lines_of, full_lines, whole_blocks, text_of_dead}
+use Rattle.packet_text.specs.PacketText.{line_gives, bytes_of_line, Packets, TextEnding, Ended, BadAt, behind, with_line, packets_behind, packets_of, empty_lines}
+use Rattle.packet_text.specs.LinesStand.{LinesView, stopped, Begins, HasBad, GoesOn}
+use Rattle.packet_text.specs.Finding.{Counts, Judges, Finds}
+use Rattle.packet_text.specs.Cutting.{CutView, all_of, LostIn, Cuts, CutsSome}
+use Rattle.packet_text.specs.declared.cutter.Cut.{Cut}
+use Rattle.packet_text.specs.declared.cutter.Cut.TheVariants as cut
+use Rattle.packet_text.specs.declared.found.Found.{Found}
+use Rattle.packet_text.specs.declared.found.Found.TheVariants as found
+use Rattle.packet_text.proofs.Texts.{lines_of-line, lines_of-long, lines_of-last, LongLine, full_lines-line, full_lines-none, whole_blocks-part}
+use Rattle.packet_text.proofs.Judging.{bad_gives, long_gives}
+
+-- a cutter at the end of the lines so far
+abbrev pub start : LinesView → CutView
+start view = record { line = []; hand = view.hand; ended = view.ended }
+
+flag : (b : Bool) → (b ≡ true → ⊥) → b ≡ false
+flag true f = absurd (f refl)
+flag false f = refl
+
+-- while a cutter has not seen the end, it had not before
+pub was_open : {r : Cut} {old new : CutView} {was is : InView} {came : List ℕ} → Cuts r old was came new is → new.ended ≡ false → old.ended ≡ false
+was_open {old = old} k still = flag old.ended (λ e. let q = (k.quiet e).1 in cc)
+
+-- the lines of all that was taken
+pub all_lines : {r : Cut} {new : CutView} {was is : InView} {came taken : List ℕ} {packets : List (List ℕ)} {old : LinesView} → (h : GoesOn taken packets old) → Cuts r (start old) was came new is
+    → lines_of (taken ++ came) ≡ h.lines ++ lines_of (old.hand ++ came)
+all_lines {came = came} {taken = taken} {old = old} h k = by_flag old.ended refl
+  where
+    by_flag : (t : Bool) → old.ended ≡ t → lines_of (taken ++ came) ≡ h.lines ++ lines_of (old.hand ++ came)
+    by_flag true e = let q = (k.quiet e).0 in rw (q, append-nil taken, append-nil old.hand) (h.over e)
+    by_flag false e = ap (λ bytes. lines_of (bytes ++ came)) h.parts ∙ ap lines_of (append_assoc h.used old.hand came) ∙ h.split e (old.hand ++ came)
+
+-- the lines of a text that begins with all that was taken
+pub record TextLines (text taken came hand : List ℕ) (lines : List (List ℕ)) (ended : Bool) : Type 0 where
+  pub rest : List ℕ
+  pub over : ended ≡ true → rest ≡ []
+  pub parts : lines_of text ≡ lines ++ lines_of ((hand ++ came) ++ rest)
+
+pub text_lines : {r : Cut} {new : CutView} {was is : InView} {came taken : List ℕ} {packets : List (List ℕ)} {old : LinesView} → (h : GoesOn taken packets old) → Cuts r (start old) was came new is
+    → (text : List ℕ) → (new.ended ≡ true → text ≡ taken ++ came) → Begins (taken ++ came) text → TextLines text taken came old.hand h.lines new.ended
+text_lines {new = new} {came = came} {taken = taken} {old = old} h k text whole begins = by_flag new.ended refl
+  where
+    by_flag : (t : Bool) → new.ended ≡ t → TextLines text taken came old.hand h.lines new.ended
+    by_flag true e = record { rest = []; over = λ _. refl; parts = ap lines_of (whole e) ∙ all_lines h k ∙ ap (λ bytes. h.lines ++ lines_of bytes) (sym (append-nil (old.hand ++ came))) }
+    by_flag false e =
+        let was = was_open k e in
+        let joined : text ≡ h.used ++ ((old.hand ++ came) ++ begins.rest) = begins.parts ∙ ap (λ bytes. (bytes ++ came) ++ begins.rest) h.parts ∙ (rw (append_assoc, append_assoc, append_assoc) refl) in
+        record { rest = begins.rest; over = λ f. absurd (cc); parts = ap lines_of joined ∙ h.split was ((old.hand ++ came) ++ begins.rest) }
+
+-- an empty line, and one with a packet, behind lines that gave these packets
+pub sound_empty : (lines : List (List ℕ)) (line : List ℕ) (packets : List (List ℕ)) → ((later : List (List ℕ)) → packets_behind [] (lines ++ later) ≡ behind packets (packets_behind lines later))
+    → line_gives lines line ≡ Some [] → (later : List (List ℕ)) → packets_behind [] ((lines ++ line ∷ []) ++ later) ≡ behind packets (packets_behind (lines ++ line ∷ []) later)
+unfolding packets_behind
+sound_empty lines line packets h gives later =
+    ap (packets_behind []) (append_assoc lines (line ∷ []) later) ∙ h (line ∷ later) ∙ ap (λ g. behind packets (with_line (length lines + 1) g (packets_behind (lines ++ line ∷ []) later))) gives
+
+pub with_packet : (n : ℕ) (packet : List ℕ) (later : Packets) → packet ≢ [] → with_line n (Some packet) later ≡ behind (packet ∷ []) later
+with_packet n [] later some = absurd (some refl)
+with_packet n (x ∷ xs) later some = refl
+
+pub behind_twice : (a b : List (List ℕ)) (text : Packets) → behind a (behind b text) ≡ behind (a ++ b) text
+behind_twice a b text = ap (λ packets. let p : Packets = record { packets = packets; ending = text.ending } in p) (sym (append_assoc a b text.packets))
+
+pub sound_packet : (lines : List (List ℕ)) (line packet : List ℕ) (packets : List (List ℕ)) → ((later : List (List ℕ)) → packets_behind [] (lines ++ later) ≡ behind packets (packets_behind lines later))
+    → line_gives lines line ≡ Some packet → packet ≢ [] → (later : List (List ℕ)) → packets_behind [] ((lines ++ line ∷ []) ++ later) ≡ behind (packets ++ packet ∷ []) (packets_behind (lines ++ line ∷ []) later)
+unfolding packets_behind
+sound_packet lines line packet packets h gives some later =
+    let next = packets_behind (lines ++ line ∷ []) later in
+    ap (packets_behind []) (append_assoc lines (line ∷ []) later) ∙ h (line ∷ later) ∙ ap (λ g. behind packets (with_line (length lines + 1) g next)) gives
+    ∙ ap (behind packets) (with_packet (length lines + 1) packet next some) ∙ behind_twice packets (packet ∷ []) next
+
+-- the text has a bad line behind the lines so far
+pub has_bad : {taken : List ℕ} {packets : List (List ℕ)} {old : LinesView} → (h : GoesOn taken packets old) → (text line : List ℕ) (later : List (List ℕ)) (number : ℕ)
+    → lines_of text ≡ h.lines ++ (line ∷ later) → line_gives h.lines line ≡ None → number ≡ stopped (length h.lines + 1) → HasBad packets number (packets_of text)
+unfolding packets_of packets_behind
+has_bad {packets = packets} h text line later number lines none counted = record {
+  line = length h.lines + 1;
+  counted = counted;
+  ends = ap (packets_behind []) lines ∙ h.sound (line ∷ later) ∙ ap (λ g. behind packets (with_line (length h.lines + 1) g (packets_behind (h.lines ++ line ∷ []) later))) none
+      ∙ ap (λ ps. let p : Packets = record { packets = ps; ending = BadAt (length h.lines + 1) } in p) (append-nil packets);
+}
+
+-- the text has ended behind the lines so far
+pub has_ended : {taken : List ℕ} {packets : List (List ℕ)} {old : LinesView} → (h : GoesOn taken packets old) → (text : List ℕ) → lines_of text ≡ h.lines ++ []
+    → packets_of text ≡ record { packets = packets; ending = Ended }
+unfolding packets_of packets_behind
+has_ended {packets = packets} h text lines =
+    ap (packets_behind []) lines ∙ h.sound [] ∙ ap (λ ps. let p : Packets = record { packets = ps; ending = Ended } in p) (append-nil packets)
+
+-- a line that ends with LF is used
+pub line_goes : {taken came : List ℕ} {packets : List (List ℕ)} {old new : LinesView} {cnew : CutView} {was is : InView} → (h : GoesOn taken packets old) → Cuts cut.Line (start old) was came cnew is
+    → new.hand ≡ cnew.hand → new.ended ≡ cnew.ended → (given : List (List ℕ))
+    → ((later : List (List ℕ)) → packets_behind [] ((h.lines ++ cnew.line ∷ []) ++ later) ≡ behind given (packets_behind (h.lines ++ cnew.line ∷ []) later))
+    → Counts (h.lines ++ cnew.line ∷ []) new → GoesOn (taken ++ came) given new
+unfolding has_lf
+line_goes {taken = taken} {came = came} {old = old} {new = new} {cnew = cnew} h k hand ended given sound counts =
+    let line = cnew.line in
+    let lf = line ++ 10 ∷ [] in
+    let all : old.hand ++ came ≡ line ++ 10 ∷ cnew.hand = k.ends_line refl in
+    let clean : has_lf line ≡ false = k.clean refl in
+    let behind_lf = λ (rest : List ℕ). append_assoc h.used lf rest ∙ ap (λ b. h.used ++ b) (append_assoc line (10 ∷ []) rest) in
+    let was = λ (still : new.ended ≡ false). was_open k (sym ended ∙ still) in
+    record {
+      lines = h.lines ++ line ∷ [];
+      used = h.used ++ lf;
+      parts = ap (λ b. b ++ came) h.parts ∙ append_assoc h.used old.hand came ∙ ap (λ b. h.used ++ b) (all ∙ ap (λ b. line ++ 10 ∷ b) (sym hand)) ∙ sym (behind_lf new.hand);
+      split = λ still rest. ap lines_of (behind_lf rest) ∙ h.split (was still) (line ++ 10 ∷ rest) ∙ ap (λ ls. h.lines ++ ls) (lines_of-line line rest clean) ∙ sym (append_assoc h.lines (line ∷ []) (lines_of rest));
+      full = λ still rest. ap full_lines (behind_lf rest) ∙ h.full (was still) (line ++ 10 ∷ rest) ∙ ap (λ b. h.used ++ b) (full_lines-line line rest) ∙ sym (append_assoc h.used lf (full_lines rest));
+      over = λ e. all_lines h k ∙ ap (λ b. h.lines ++ lines_of b) (all ∙ ap (λ b. line ++ 10 ∷ b) (sym hand)) ∙ ap (λ ls. h.lines ++ ls) (lines_of-line line new.hand clean) ∙ sym (append_assoc h.lines (line ∷ []) (lines_of new.hand));
+      sound = sound;
+      number = counts.number;
+      empty = counts.empty;
+      blocks = λ still. rw (length-append taken came) (let a = h.blocks (was still) in let b = k.blocks (λ e. cc) (sym ended ∙ still) in omega arith);
+    }
+
+-- a last line without LF is used
+pub last_goes : {taken came : List ℕ} {packets : List (List ℕ)} {old new : LinesView} {cnew : CutView} {was is : InView} → (h : GoesOn taken packets old) → Cuts cut.Last (start old) was came cnew is
+    → new.hand ≡ cnew.hand → new.ended ≡ cnew.ended → (given : List (List ℕ))
+    → ((later : List (List ℕ)) → packets_behind [] ((h.lines ++ cnew.line ∷ []) ++ later) ≡ behind given (packets_behind (h.lines ++ cnew.line ∷ []) later))
+    → Counts (h.lines ++ cnew.line ∷ []) new → GoesOn (taken ++ came) given new
+unfolding has_lf lines_of
+last_goes {taken = taken} {came = came} {old = old} {new = new} {cnew = cnew} h k hand ended given sound counts =
+    let line = cnew.line in
+    let last = k.last refl in
+    let none : new.hand ≡ [] = hand ∙ last.1 in
+    let over : new.ended ≡ true = ended ∙ last.2 in
+    let clean : has_lf line ≡ false = k.clean refl in
+    record {
+      lines = h.lines ++ line ∷ [];
+      used = taken ++ came;
+      parts = rw none (sym (append-nil (taken ++ came)));
+      split = λ still rest. absurd (cc);
+      full = λ still rest. absurd (cc);
+      over = λ e. all_lines h k ∙ ap (λ b. h.lines ++ lines_of b) last.0 ∙ ap (λ ls. h.lines ++ ls) (lines_of-last line clean last.3) ∙ rw none (sym (append-nil (h.lines ++ line ∷ [])));
+      sound = sound;
+      number = counts.number;
+      empty = counts.empty;
+      blocks = λ still. absurd (cc);
+    }

@@ -1,0 +1,12 @@
+pub mod Lists
+pub mod LineBytes
+pub mod Cuts
+pub mod CutsThen
+pub mod Texts
+pub mod LineEnds
+pub mod Judging
+pub mod GoingOn
+pub mod FindingLines
+pub mod StandingLines
+pub mod ReadingBack
+pub mod GivenTexts

@@ -1,0 +1,15 @@
+-- Bytes that go on with a line.
+use Rattle.std.specs.Prelude.{◌≡◌, ◌<◌, ◌+◌, ℕ, false, List, ◌∷◌, ◌++◌, length, take, drop}
+use Rattle.packet_text.specs.TextLines.{has_lf}
+
+-- all of them: there is no LF
+pub record NoneCarried (old bytes new : List ℕ) : Type 0 where
+  pub line : new ≡ old ++ bytes
+  pub clean : has_lf bytes ≡ false
+
+-- those before the first LF, which is byte n
+pub record Carried (old bytes : List ℕ) (n : ℕ) (new : List ℕ) : Type 0 where
+  pub within : n < length bytes
+  pub line : new ≡ old ++ take n bytes
+  pub clean : has_lf (take n bytes) ≡ false
+  pub parts : bytes ≡ take n bytes ++ 10 ∷ drop (n + 1) bytes

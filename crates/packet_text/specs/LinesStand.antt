@@ -1,0 +1,109 @@
+-- Where the lines of a place stand.
+use Rattle.std.specs.Prelude.{◌≡◌, ◌≢◌, ◌%◌, ◌^◌, ◌-◌, if◌then◌else◌, min, ℕ, Bool, true, false, List, [], ◌∷◌, ◌++◌, length, take}
+use Rattle.otn_ports.specs.Views.{InView, Live, Dead}
+use Rattle.otn_ports.specs.Given.{Gave}
+use Rattle.otn_ports.specs.Reads.{HasEnded}
+use Rattle.packet_text.specs.TextLines.{lines_of, full_lines, text_of_dead}
+use Rattle.packet_text.specs.PacketText.{Packets, TextEnding, Ended, BadAt, behind, packets_behind, packets_of, empty_lines}
+use Rattle.packet_text.specs.Cutting.{CutView, cut_view}
+use Rattle.packet_text.specs.declared.line.Line.{Line}
+use Rattle.packet_text.specs.declared.line.Line.TheVariants.{Packet, End, Bad, Lost}
+use Rattle.packet_text.specs.declared.packet_lines.PacketLines.{PacketLines}
+
+-- what is seen of the lines of a place: the bytes that were read and not used, whether the end was seen, the last answer and its
+-- packet, how many lines there were, and how many empty ones in a row at the end of them
+pub record LinesView : Type 0 where
+  pub hand : List ℕ
+  pub ended : Bool
+  pub answer : Line
+  pub packet : List ℕ
+  pub number : ℕ
+  pub empty : ℕ
+
+abbrev pub lines_view : PacketLines → LinesView
+lines_view p = record { hand = (cut_view p.cutter).hand; ended = p.cutter.ended; answer = p.answer; packet = take p.len p.packet.items; number = p.number; empty = p.empty }
+
+-- a count that stops at the end of a u64
+abbrev pub stopped : ℕ → ℕ
+stopped n = min n (2 ^ 64 - 1)
+
+-- a text that begins with these bytes
+pub record Begins (bytes text : List ℕ) : Type 0 where
+  pub rest : List ℕ
+  pub parts : text ≡ bytes ++ rest
+
+-- The texts that a place may turn out to have, of which these bytes were taken: once the end was seen, these bytes; while nothing is
+-- decided, any text that begins with their whole lines; behind a bad line anything; and of a place that died, what is left of it.
+abbrev pub may_be : Bool → Line → List ℕ → List ℕ → Type 0
+may_be true answer taken text = text ≡ taken
+may_be false Packet taken text = Begins (full_lines taken) text
+may_be false (Bad n) taken text = Begins taken text
+may_be false End taken text = text ≡ taken
+may_be false Lost taken text = text ≡ text_of_dead taken
+
+abbrev pub MayBe : LinesView → List ℕ → List ℕ → Type 0
+MayBe view taken text = may_be view.ended view.answer taken text
+
+-- what an answer says of the packets of a text, when these were given
+pub record GoesOnWith (packets : List (List ℕ)) (text : Packets) : Type 0 where
+  pub later : Packets
+  pub parts : text ≡ behind packets later
+
+pub record HasBad (packets : List (List ℕ)) (number : ℕ) (text : Packets) : Type 0 where
+  pub line : ℕ
+  pub counted : number ≡ stopped line
+  pub ends : text ≡ record { packets = packets; ending = BadAt line }
+
+abbrev pub Told : Line → List (List ℕ) → Packets → Type 0
+Told Packet packets text = GoesOnWith packets text
+Told End packets text = text ≡ record { packets = packets; ending = Ended }
+Told (Bad n) packets text = HasBad packets n text
+Told Lost packets text = text ≡ record { packets = packets; ending = Ended }
+
+-- The lines so far, which gave these packets, are used; the rest of what was taken is in hand.
+pub record GoesOn (taken : List ℕ) (packets : List (List ℕ)) (view : LinesView) : Type 0 where
+  pub lines : List (List ℕ)
+  pub used : List ℕ
+  pub parts : taken ≡ used ++ view.hand
+  pub split : view.ended ≡ false → (rest : List ℕ) → lines_of (used ++ rest) ≡ lines ++ lines_of rest
+  pub full : view.ended ≡ false → (rest : List ℕ) → full_lines (used ++ rest) ≡ used ++ full_lines rest
+  pub over : view.ended ≡ true → lines_of taken ≡ lines ++ lines_of view.hand
+  pub sound : (later : List (List ℕ)) → packets_behind [] (lines ++ later) ≡ behind packets (packets_behind lines later)
+  pub number : view.number ≡ stopped (length lines)
+  pub empty : view.empty ≡ empty_lines lines
+  pub blocks : view.ended ≡ false → length taken % 4096 ≡ 0
+
+-- `first` and `now` are views of a place, between which these bytes were taken, and these packets given: whatever text it may turn
+-- out to have, they are its first packets, and the last answer is right.
+pub record LinesStand (first now : InView) (taken : List ℕ) (packets : List (List ℕ)) (view : LinesView) : Type 0 where
+  pub gave : Gave first taken now
+  pub over : view.ended ≡ true → now.state ≡ Live → HasEnded now.left
+  pub alive : view.answer ≢ Lost → now.state ≡ first.state
+  pub ended : view.answer ≡ End → view.ended ≡ true
+  pub lost : view.answer ≡ Lost → (view.ended ≡ false) × (now.state ≡ Dead)
+  pub goes : view.answer ≡ Packet → GoesOn taken packets view
+  pub told : (text : List ℕ) → MayBe view taken text → Told view.answer packets (packets_of text)
+
+-- what the lines of a place are before anything was read
+abbrev pub fresh_lines : LinesView
+fresh_lines = record { hand = []; ended = false; answer = Packet; packet = []; number = 0; empty = 0 }
+
+-- a last answer Packet has one packet more
+abbrev pub given_by : Line → List ℕ → List (List ℕ)
+given_by Packet packet = packet ∷ []
+given_by End packet = []
+given_by (Bad n) packet = []
+given_by Lost packet = []
+
+abbrev pub is_packet : Line → Bool
+is_packet Packet = true
+is_packet End = false
+is_packet (Bad n) = false
+is_packet Lost = false
+
+-- after an answer: more bytes were taken, there is a packet more where it is Packet, and a text that the place may have from then on it
+-- might have before
+pub record TakeStands (first : InView) (taken : List ℕ) (packets : List (List ℕ)) (old new : LinesView) (now : InView) : Type 0 where
+  pub came : List ℕ
+  pub stands : LinesStand first now (taken ++ came) (packets ++ (if is_packet old.answer then given_by new.answer new.packet else [])) new
+  pub earlier : (text : List ℕ) → MayBe new (taken ++ came) text → MayBe old taken text

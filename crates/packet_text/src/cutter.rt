@@ -1,0 +1,199 @@
+// A text is read by blocks and cut into lines.
+ghost use Rattle.std.specs.Prelude.{◌≡◌, ◌≢◌, ◌<◌, ◌≤◌, ◌+◌, ◌*◌, ℕ, List, [], ◌∷◌, ◌++◌, true, false, length, take, drop, vec_len, IfOk, MatchOption};
+ghost use Rattle.std.specs.Vec.{vec_capacity};
+ghost use Rattle.otn_ports.specs.InPlace.{in_view};
+ghost use Rattle.packet_text.specs.Blocks.{BlockRead};
+ghost use Rattle.packet_text.specs.Carrying.{NoneCarried, Carried};
+
+use crate::buffer::append;
+use memchr::memchr;
+use otn_base::Memory;
+use otn_ports::{InPlaceOf, Reading, Source};
+use std::alloc::Global;
+
+// Bytes of a block.
+const BLOCK: usize = 4096;
+
+// Bytes of a line at most, without its LF: the most digits, and CR.
+const MOST_LINE: usize = 131_055;
+
+const LF: u8 = b'\n';
+
+// What was met behind a line's beginning: a block that goes on with it, its LF, the end of the text behind a last line
+// without LF, too many bytes without LF, the end of the text where a line would begin, or the place's death.
+#[derive(Clone, Copy, Debug, PartialEq, Eq)]
+pub(crate) enum Cut {
+    More,
+    Line,
+    Last,
+    Long,
+    End,
+    Lost,
+}
+
+/// Cuts a text into lines.
+#[derive(Drop)]
+pub(crate) struct Cutter {
+    block: Vec<u8>,
+    at: usize,
+    end: usize,
+    line: Vec<u8>,
+    ended: bool,
+    ghost block_size: { vec_len block ≡ 4096 },
+    ghost at_within: { at ≤ end },
+    ghost end_within: { end ≤ 4096 },
+    ghost room: { 135151 ≤ vec_capacity line },
+}
+
+// The bytes up to the first LF go to the end of the line, or all where there is none. Says how many there are before it.
+fn carry(line: &mut Vec<u8>, bytes: &[u8]) -> Option<usize>
+    requires { vec_len line.old + length bytes.now ≤ vec_capacity line.old }
+    ensures line { MatchOption result (NoneCarried line.old.items bytes.now line.new.items) (λ n. Carried line.old.items bytes.now n line.new.items) }
+    ensures capacity { vec_capacity line.old ≤ vec_capacity line.new }
+{
+    match memchr(LF, bytes) {
+        Some(n) => {
+            append(line, &bytes[..n]);
+            Some(n)
+        }
+        None => {
+            append(line, bytes);
+            None
+        }
+    }
+}
+
+// Reads a block.
+fn read_block<P: Source>(place: &mut InPlaceOf<P>, block: &mut [u8]) -> Reading
+    requires { length block.old ≡ 4096 }
+    ensures { BlockRead result (in_view P.Source place.old) block.new (in_view P.Source place.new) }
+{
+    place.read_full(block)
+}
+
+impl Cutter {
+    ghost use Rattle.packet_text.specs.Cutting.{cut_view, fresh_cut, at_line, GoesOnBy, CutsSome, blocks_left};
+
+    /// A cutter that has read nothing.
+    pub(crate) fn new(alloc: Global) -> Result<Cutter, Memory>
+        ensures { IfOk result (λ cutter. cut_view cutter ≡ fresh_cut) }
+    {
+        Ok(Cutter {
+            block: vec![in alloc; 0u8; BLOCK]?,
+            at: 0,
+            end: 0,
+            line: Vec::with_capacity(alloc, MOST_LINE + BLOCK)?,
+            ended: false,
+        })
+    }
+
+    /// Begins anew.
+    pub(crate) fn restart(&mut self)
+        ensures { cut_view self.new ≡ fresh_cut }
+    {
+        self.at = 0;
+        self.end = 0;
+        self.line.clear();
+        self.ended = false;
+    }
+
+    /// The line that was cut last, without its LF.
+    pub(crate) fn line(&self) -> &[u8]
+        ensures { result.now ≡ (cut_view self.now).line }
+    {
+        &self.line
+    }
+
+    /// Goes to the end of the next line. A block is read only where all bytes in hand are used.
+    pub(crate) fn next<P: Source>(&mut self, place: &mut InPlaceOf<P>) -> Cut
+        ensures cuts { CutsSome result (at_line (cut_view self.old)) (in_view P.Source place.old) (cut_view self.new) (in_view P.Source place.new) }
+        ensures whole { result ≢ Cut.More }
+        ensures near { self.new.end < self.new.at + 4096 }
+        ensures quiet { self.old.ended ≡ true → place.new ≡ place.old }
+    {
+        self.line.clear();
+        loop {
+            let cut = self.step(place);
+            if cut != Cut::More {
+                return cut;
+            }
+        }
+    }
+
+    fn step<P: Source>(&mut self, place: &mut InPlaceOf<P>) -> Cut
+        requires { length self.old.line.items ≤ 131055 }
+        ensures cuts { CutsSome result (cut_view self.old) (in_view P.Source place.old) (cut_view self.new) (in_view P.Source place.new) }
+        ensures short { result ≡ Cut.More → length self.new.line.items ≤ 131055 }
+        ensures nearer { result ≡ Cut.More → blocks_left (cut_view self.new) < blocks_left (cut_view self.old) }
+        ensures near { result ≢ Cut.More → self.new.end < self.new.at + 4096 }
+        ensures quiet { self.old.ended ≡ true → place.new ≡ place.old }
+    {
+        if self.go_on() {
+            return Cut::Line;
+        }
+        if self.line.len() > MOST_LINE {
+            return Cut::Long;
+        }
+        if self.ended {
+            return self.close();
+        }
+        self.read(place)
+    }
+
+    // Goes on with the line by the bytes in hand, and says whether its LF was met.
+    fn go_on(&mut self) -> bool
+        requires { length self.old.line.items ≤ 131055 }
+        ensures goes { GoesOnBy result (cut_view self.old) (cut_view self.new) }
+        ensures near { self.new.end < self.new.at + 4096 }
+    {
+        match carry(&mut self.line, &self.block[self.at..self.end]) {
+            Some(n) => {
+                self.at += n + 1;
+                true
+            }
+            None => {
+                self.at = self.end;
+                false
+            }
+        }
+    }
+
+    // What the end of the text means for the line.
+    fn close(&self) -> Cut
+        ensures last { (cut_view self.now).line ≢ [] → result ≡ Cut.Last }
+        ensures end { (cut_view self.now).line ≡ [] → result ≡ Cut.End }
+    {
+        if self.line.is_empty() {
+            return Cut::End;
+        }
+        Cut::Last
+    }
+
+    // Reads the next block.
+    fn read<P: Source>(&mut self, place: &mut InPlaceOf<P>) -> Cut
+        requires short { length self.old.line.items ≤ 131055 }
+        requires hand { (cut_view self.old).hand ≡ [] }
+        requires open { self.old.ended ≡ false }
+        ensures cuts { CutsSome result (cut_view self.old) (in_view P.Source place.old) (cut_view self.new) (in_view P.Source place.new) }
+        ensures line { self.new.line.items ≡ self.old.line.items }
+        ensures near { result ≢ Cut.More → self.new.end < self.new.at + 4096 }
+        ensures nearer { result ≡ Cut.More → blocks_left (cut_view self.new) < blocks_left (cut_view self.old) }
+    {
+        self.at = 0;
+        match read_block(place, &mut self.block) {
+            Reading::Full => {
+                self.end = self.block.len();
+                Cut::More
+            }
+            Reading::End(n) => {
+                self.end = n;
+                self.ended = true;
+                Cut::More
+            }
+            Reading::Lost => {
+                self.end = 0;
+                Cut::Lost
+            }
+        }
+    }
+}

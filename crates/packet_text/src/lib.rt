@@ -1,0 +1,18 @@
+//! Packets as text: lines of hex digits, read from a place and written to one.
+#![tactic(auto)]
+
+mod buffer;
+mod cutter;
+mod digits;
+mod found;
+mod laws;
+mod line;
+mod packet_lines;
+#[cfg(test)]
+mod tests;
+mod writing;
+
+pub use laws::{given_is_among, written_reads_back};
+pub use line::Line;
+pub use packet_lines::PacketLines;
+pub use writing::write_packet;

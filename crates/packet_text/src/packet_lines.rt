@@ -1,0 +1,175 @@
+// The packets of a text, line by line.
+ghost use Rattle.std.specs.Prelude.{◌≡◌, ◌≢◌, ◌<◌, ◌≤◌, ◌+◌, ℕ, List, [], ◌∷◌, ◌++◌, true, false, length, take, vec_len, IfOk};
+ghost use Rattle.otn_ports.specs.InPlace.{in_view};
+ghost use Rattle.otn_ports.specs.Views.{InView, Live, Dead};
+ghost use Rattle.otn_ports.specs.Given.{Gave};
+
+use crate::Line;
+use crate::cutter::{Cut, Cutter};
+use crate::digits::{MOST_DIGITS, read_line};
+use crate::found::{Found, answer_for, pass};
+use otn_base::Memory;
+use otn_ports::{InPlaceOf, Source};
+use std::alloc::Global;
+
+// Bytes of a packet at most: half as many as a line has digits.
+const MOST_PACKET: usize = MOST_DIGITS / 2;
+
+/// Reads the packets of a text from a place, line by line. It reads blocks of 4,096 bytes, one only when the last is used up.
+#[derive(Drop)]
+pub struct PacketLines {
+    cutter: Cutter,
+    packet: Vec<u8>,
+    len: usize,
+    number: u64,
+    empty: usize,
+    answer: Line,
+    ghost packet_size: { vec_len packet ≡ 65527 },
+    ghost len_within: { len ≤ 65527 },
+    ghost empty_within: { empty ≤ 65536 },
+}
+
+impl PacketLines {
+    ghost use Rattle.packet_text.specs.LinesStand.{stopped, LinesView, lines_view, fresh_lines, LinesStand, MayBe, Told, TakeStands, GoesOn};
+    ghost use Rattle.packet_text.specs.Cutting.{cut_view};
+    ghost use Rattle.packet_text.specs.Finding.{Finds, Judges, Counts};
+    ghost use Rattle.packet_text.specs.PacketText.{packets_of};
+
+    /// Lines of which nothing was read. All memory is taken here.
+    pub fn new(alloc: Global) -> Result<PacketLines, Memory>
+        ensures stands { IfOk result (λ lines. (first : InView) → LinesStand first first [] [] (lines_view lines)) }
+        ensures fresh { IfOk result (λ lines. lines_view lines ≡ fresh_lines) }
+    {
+        Ok(PacketLines {
+            cutter: Cutter::new(alloc)?,
+            packet: vec![in alloc; 0u8; MOST_PACKET]?,
+            len: 0,
+            number: 0,
+            empty: 0,
+            answer: Line::Packet,
+        })
+    }
+
+    /// Begins anew, as for another place.
+    pub fn restart(&mut self)
+        ensures stands { (first : InView) → LinesStand first first [] [] (lines_view self.new) }
+        ensures fresh { lines_view self.new ≡ fresh_lines }
+    {
+        self.cutter.restart();
+        self.len = 0;
+        self.number = 0;
+        self.empty = 0;
+        self.answer = Line::Packet;
+    }
+
+    /// The next line that counts. Bad has its number, from 1. After Bad, End or Lost the same answer is given again, and nothing
+    /// is read.
+    pub fn take<P: Source>(&mut self, place: &mut InPlaceOf<P>) -> Line
+        ensures answer { (lines_view self.new).answer ≡ result }
+        ensures stands { (first : InView) (taken : List ℕ) (packets : List (List ℕ)) → LinesStand first (in_view P.Source place.old) taken packets (lines_view self.old)
+            → TakeStands first taken packets (lines_view self.old) (lines_view self.new) (in_view P.Source place.new) }
+
+        // Lost comes only where the place died in this call
+        ensures lost { result ≡ Line.Lost → (lines_view self.old).answer ≡ Line.Packet → ((in_view P.Source place.old).state ≡ Live) × ((in_view P.Source place.new).state ≡ Dead) }
+
+        // a block is read only where the last is used up: fewer bytes than a block are in hand
+        ensures near { (lines_view self.old).answer ≡ Line.Packet → length (lines_view self.new).hand < 4096 }
+
+        // once the last answer was given it is given again, and nothing is read
+        ensures over { (lines_view self.old).answer ≢ Line.Packet → (self.new ≡ self.old) × (place.new ≡ place.old) }
+        ensures quiet { (lines_view self.old).ended ≡ true → place.new ≡ place.old }
+    {
+        match self.answer {
+            Line::Packet => self.go_on(place),
+            answer => answer,
+        }
+    }
+
+    /// The packet of the last answer `Packet`.
+    pub fn packet(&self) -> &[u8]
+        ensures { result.now ≡ (lines_view self.now).packet }
+    {
+        &self.packet[..self.len]
+    }
+
+    fn go_on<P: Source>(&mut self, place: &mut InPlaceOf<P>) -> Line
+        requires { (lines_view self.old).answer ≡ Line.Packet }
+        ensures answer { (lines_view self.new).answer ≡ result }
+        ensures stands { (first : InView) (taken : List ℕ) (packets : List (List ℕ)) → LinesStand first (in_view P.Source place.old) taken packets (lines_view self.old)
+            → TakeStands first taken packets (lines_view self.old) (lines_view self.new) (in_view P.Source place.new) }
+        ensures lost { result ≡ Line.Lost → ((in_view P.Source place.old).state ≡ Live) × ((in_view P.Source place.new).state ≡ Dead) }
+        ensures near { self.new.cutter.end < self.new.cutter.at + 4096 }
+        ensures quiet { (lines_view self.old).ended ≡ true → place.new ≡ place.old }
+    {
+        let found = self.search(place);
+        self.answer = answer_for(found, self.number);
+        self.answer
+    }
+
+    // Passes over empty lines.
+    fn search<P: Source>(&mut self, place: &mut InPlaceOf<P>) -> Found
+        ensures finds { (taken : List ℕ) (packets : List (List ℕ)) → GoesOn taken packets (lines_view self.old)
+            → Finds result taken packets (lines_view self.old) (in_view P.Source place.old) (lines_view self.new) (in_view P.Source place.new) }
+        ensures counts { result ≢ Found.Empty }
+        ensures alive { result ≢ Found.Lost → (in_view P.Source place.new).state ≡ (in_view P.Source place.old).state }
+        ensures lost { result ≡ Found.Lost → ((in_view P.Source place.old).state ≡ Live) × ((in_view P.Source place.new).state ≡ Dead) }
+        ensures near { self.new.cutter.end < self.new.cutter.at + 4096 }
+        ensures quiet { (lines_view self.old).ended ≡ true → place.new ≡ place.old }
+    {
+        loop {
+            let found = self.find(place);
+            if found != Found::Empty {
+                return found;
+            }
+        }
+    }
+
+    // The next line.
+    fn find<P: Source>(&mut self, place: &mut InPlaceOf<P>) -> Found
+        ensures finds { (taken : List ℕ) (packets : List (List ℕ)) → GoesOn taken packets (lines_view self.old)
+            → Finds result taken packets (lines_view self.old) (in_view P.Source place.old) (lines_view self.new) (in_view P.Source place.new) }
+        ensures rises { result ≡ Found.Empty → self.new.empty ≡ self.old.empty + 1 }
+        ensures alive { result ≢ Found.Lost → (in_view P.Source place.new).state ≡ (in_view P.Source place.old).state }
+        ensures lost { result ≡ Found.Lost → ((in_view P.Source place.old).state ≡ Live) × ((in_view P.Source place.new).state ≡ Dead) }
+        ensures near { self.new.cutter.end < self.new.cutter.at + 4096 }
+        ensures quiet { (lines_view self.old).ended ≡ true → (place.new ≡ place.old) × ((lines_view self.new).ended ≡ true) }
+    {
+        match self.cutter.next(place) {
+            Cut::Line => self.judge(),
+            Cut::Last => self.judge(),
+            Cut::Long => self.too_long(),
+            Cut::End => Found::End,
+            Cut::Lost => Found::Lost,
+            Cut::More => unreachable!(),
+        }
+    }
+
+    // What the line that was cut is.
+    fn judge(&mut self) -> Found
+        ensures judges { (lines : List (List ℕ)) → Counts lines (lines_view self.old) → Judges result lines (cut_view self.old.cutter).line (lines_view self.new) }
+        ensures rises { result ≡ Found.Empty → self.new.empty ≡ self.old.empty + 1 }
+        ensures cutter { self.new.cutter ≡ self.old.cutter }
+        ensures line { (result ≢ Found.End) × (result ≢ Found.Lost) }
+    {
+        self.number = self.number.saturating_add(1);
+        match read_line(self.cutter.line(), &mut self.packet) {
+            None => Found::Bad,
+            Some(0) => pass(&mut self.empty),
+            Some(n) => {
+                self.len = n;
+                self.empty = 0;
+                Found::Packet
+            }
+        }
+    }
+
+    // A line with too many bytes was met.
+    fn too_long(&mut self) -> Found
+        ensures result { result ≡ Found.Bad }
+        ensures number { (lines_view self.new).number ≡ stopped ((lines_view self.old).number + 1) }
+        ensures cutter { self.new.cutter ≡ self.old.cutter }
+    {
+        self.number = self.number.saturating_add(1);
+        Found::Bad
+    }
+}

@@ -1,0 +1,50 @@
+// A packet's line.
+ghost use Rattle.std.specs.Prelude.{◌≡◌, ◌≢◌, ◌+◌, ◌*◌, ◌≤◌, ◌∷◌, ◌++◌, [], length, take};
+ghost use Rattle.hex.specs.Hex.{encode_lower};
+ghost use Rattle.otn_ports.specs.OutPlace.{out_view};
+ghost use Rattle.otn_ports.specs.Views.{Live};
+ghost use Rattle.otn_ports.specs.Writes.{Writes, state_after_write};
+ghost use Rattle.packet_text.specs.PacketText.{packet_line};
+
+use hex::encode_to_slice;
+use otn_ports::{OutPlaceOf, Sink, Written};
+
+const LF: u8 = b'\n';
+
+/// Writes a packet of 1 to 65,531 bytes as one line: its hex digits, in lower case, and LF. The line is made in the scratch slice
+/// and leaves in one whole write. Lost comes where the place died in it; a place that is not live takes nothing, and the answer is
+/// Whole.
+pub fn write_packet<K: Sink>(place: &mut OutPlaceOf<K>, packet: &[u8], text: &mut [u8]) -> Written
+    requires some { 1 ≤ length packet.now }
+    requires fits { length packet.now ≤ 65531 }
+    requires room { 2 * length packet.now + 1 ≤ length text.old }
+    ensures state { (out_view K.Sink place.new).state ≡ state_after_write (out_view K.Sink place.old).state result }
+    ensures live { (out_view K.Sink place.old).state ≡ Live
+        → Writes result (out_view K.Sink place.old) (packet_line packet.now) (out_view K.Sink place.new) }
+    ensures idle { (out_view K.Sink place.old).state ≢ Live → (place.new ≡ place.old) × (result ≡ Written.Whole) }
+{
+    let n = 2 * packet.len() + 1;
+    put_line(packet, &mut text[..n]);
+    place.write_all(&text[..n])
+}
+
+// Puts a packet's line into the slice.
+fn put_line(packet: &[u8], line: &mut [u8])
+    requires fits { length packet.now ≤ 65531 }
+    requires room { length line.old ≡ 2 * length packet.now + 1 }
+    ensures { line.new ≡ packet_line packet.now }
+{
+    let n = 2 * packet.len();
+    put_digits(packet, &mut line[..n]);
+    line[n] = LF;
+}
+
+fn put_digits(packet: &[u8], digits: &mut [u8])
+    requires { length digits.old ≡ 2 * length packet.now }
+    ensures { digits.new ≡ encode_lower packet.now }
+{
+    match encode_to_slice(packet, digits) {
+        Ok(()) => {}
+        Err(_) => unreachable!(),
+    }
+}
