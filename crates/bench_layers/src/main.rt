@@ -40,6 +40,7 @@ fn serve(rt: &HostRuntime) -> Result<Option<u32>, Memory> {
     ) else {
         return Ok(None);
     };
+    let count = size as usize;
     match words::word(rt, 1, &mut buffer) {
         Some("gfp-make") => Ok(Some(gfp::make(alloc, size, times)?)),
         Some("gfp-read") => Ok(Some(gfp::read(alloc, size, times)?)),
@@ -47,8 +48,8 @@ fn serve(rt: &HostRuntime) -> Result<Option<u32>, Memory> {
         Some("join") => Ok(Some(join(alloc, size, times)?)),
         Some("take") => Ok(Some(take(alloc, size, times)?)),
         Some("put") => Ok(Some(put(alloc, size, times)?)),
-        Some("take-several") => Ok(Some(take_several(alloc, size as usize, times)?)),
-        Some("put-several") => Ok(Some(put_several(alloc, size as usize, times)?)),
+        Some("take-several") => Ok(Some(take_several(alloc, count, times)?)),
+        Some("put-several") => Ok(Some(put_several(alloc, count, times)?)),
         Some("take-of-32") => Ok(Some(lanes::take_of_thirty_two(alloc, times)?)),
         Some("put-of-32") => Ok(Some(lanes::put_of_thirty_two(alloc, times)?)),
         Some("parity") => Ok(Some(lanes::parities(alloc, size, times)?)),
@@ -61,8 +62,8 @@ fn serve(rt: &HostRuntime) -> Result<Option<u32>, Memory> {
         Some("crc32") => Ok(Some(bits::check(alloc, size, times)?)),
         Some("scramble") => Ok(Some(bits::scramble(alloc, size, times)?)),
         Some("descramble") => Ok(Some(bits::descramble(alloc, size, times)?)),
-        Some("sink") => Ok(Some(sink::take(alloc, size as usize, times)?)),
-        Some("source") => Ok(Some(source::put(alloc, size as usize, times)?)),
+        Some("sink") => Ok(Some(sink::take(alloc, count, times)?)),
+        Some("source") => Ok(Some(source::put(alloc, count, times)?)),
         _ => Ok(None),
     }
 }
