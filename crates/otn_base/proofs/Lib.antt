@@ -1,1 +1,2 @@
+pub mod RisingSlots
 pub mod Zeros

@@ -1,2 +1,3 @@
+pub mod LineSlots
 pub mod SlotList
 pub mod TrailTrace

@@ -3,13 +3,13 @@
 /// Rows of a frame (G.709 clause 11).
 pub const ROWS: usize = 4;
 
-/// Columns of an OTU2 frame, the FEC field among them (G.709 clause 11.1).
+/// Columns of an OTU2 or OTU3 frame, the FEC field among them (G.709 clause 11.1).
 pub const LINE_COLUMNS: usize = 4080;
 
 /// Columns of an ODU frame, which carries a client (G.709 clause 12.1).
 pub const CLIENT_COLUMNS: usize = 3824;
 
-/// The last column of an OTU2 frame before the FEC field.
+/// The last column of a line's frame before the FEC field.
 pub const LAST_PAYLOAD_COLUMN: usize = 3824;
 
 /// Columns of overhead in front of the payload of each row (G.709 clauses 15 and 17).
@@ -18,7 +18,7 @@ pub const OVERHEAD_COLUMNS: usize = 16;
 /// Payload columns of a row of a frame.
 pub const PAYLOAD_COLUMNS: usize = 3808;
 
-/// Bytes of an OTU2 frame: four rows of 4,080 columns.
+/// Bytes of a line's frame: four rows of 4,080 columns.
 pub const LINE_FRAME_BYTES: usize = 16_320;
 
 /// Bytes of an ODU frame: four rows of 3,824 columns.
@@ -27,17 +27,14 @@ pub const CLIENT_FRAME_BYTES: usize = 15_296;
 /// Payload bytes of an ODU frame.
 pub const CLIENT_PAYLOAD_BYTES: usize = 15_232;
 
-/// Tributary slots of an OPU2 (G.709 clause 19.1.2: 1.25G slots).
-pub const SLOTS: usize = 8;
+/// Tributary slots of an OPU2, and frames of its multiframe (G.709 clause 19.1.2: 1.25G slots).
+pub const OTU2_SLOTS: usize = 8;
 
-/// Columns of one slot in a row.
-pub const SLOT_COLUMNS: usize = 476;
+/// Tributary slots of an OPU3, and frames of its multiframe (G.709 clause 19.1.3: 1.25G slots).
+pub const OTU3_SLOTS: usize = 32;
 
-/// Payload bytes of one slot in a frame.
-pub const SLOT_FRAME_BYTES: usize = 1_904;
-
-/// Frames of a multiframe of an OPU2: one for each slot (G.709 clause 19.1.2).
-pub const MULTIFRAME: usize = 8;
+/// Tributary slots of a line at most, and tributary ports.
+pub const MOST_SLOTS: usize = 32;
 
 /// Groups of a slot in a multiframe, P of GMP: its payload bytes (G.709 Annex D).
 pub const GROUPS: usize = 15_232;

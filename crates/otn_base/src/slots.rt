@@ -1,67 +1,79 @@
 // A list of tributary slots.
-ghost use Rattle.std.specs.Prelude.{◌≡◌, ◌-◌, ◌<◌, ◌↔◌, ℕ, Contains, IfSome, IsSome, IsTrue, Some, length, slice_get, slice_index};
+ghost use Rattle.std.specs.Prelude.{◌≡◌, ◌-◌, ◌<◌, ◌≤◌, ◌↔◌, ℕ, Contains, IfSome, IsSome, IsTrue, Some, length, slice_get, slice_index};
+ghost use Rattle.otn_base.specs.LineSlots.{slots_of};
 ghost use Rattle.otn_base.specs.SlotList.{IsSlotList};
 
-use crate::limits::SLOTS;
+use crate::LineKind;
 use arrayvec::ArrayVec;
 use std::marker::Model;
 
-/// The tributary slots that one ODTU takes on a line, each 1 to 8, in rising order (G.709 clause 19.1.4).
-/// Contracts see it as the list of their numbers.
+/// The tributary slots that one ODTU takes on a line, in rising order: each 1 to 8 on an OTU2, 1 to 32 on
+/// an OTU3 (G.709 clause 19.1.4). Contracts see it as the kind of the line and the list of their numbers.
 #[derive(Clone, Debug, PartialEq, Eq, Drop)]
 pub struct Slots {
-    list: ArrayVec<u8, 8>,
+    kind: LineKind,
+    list: ArrayVec<u8, 32>,
 }
 
 impl Model for Slots {
-    ghost use Rattle.std.specs.Prelude.{ℕ, List};
+    ghost use Rattle.otn_base.specs.LineSlots.{LineSlots, slots_of};
     ghost use Rattle.otn_base.specs.SlotList.{IsSlotList};
 
-    ghost Value = { List ℕ };
+    ghost Value = { LineSlots };
 
-    ghost view = { λ s. s.list.items };
+    ghost view = { λ s. record { kind = s.kind; list = s.list.items } };
 
-    ghost invariant = { λ s. IsSlotList 8 s.list.items };
+    ghost invariant = { λ s. IsSlotList (slots_of s.kind) s.list.items };
 
-    ghost inverse = { λ list. record { list = record { items = list } } };
+    ghost inverse = { λ s. record { kind = s.kind; list = record { items = s.list } } };
 }
 
 impl Slots {
-    /// The slots of this list. None where it is empty, has a number outside 1 to 8, or does not
-    /// rise strictly.
-    pub fn new(list: &[u8]) -> Option<Slots>
-        ensures accepted { IsSome result ↔ IsSlotList 8 list.now }
-        ensures same { IfSome result (λ slots. slots ≡ list.now) }
+    /// The slots of this list on a line of this kind. None where it is empty, has a number outside 1 to
+    /// the number of the line's slots, or does not rise strictly.
+    pub fn new(list: &[u8], kind: LineKind) -> Option<Slots>
+        ensures accepted { IsSome result ↔ IsSlotList (slots_of kind) list.now }
+        ensures same { IfSome result (λ slots. slots ≡ record { kind = kind; list = list.now }) }
     {
-        if !is_slot_list(list) {
+        if !is_slot_list(list, kind.slots()) {
             return None;
         }
         let mut slots = ArrayVec::new();
         match slots.try_extend_from_slice(list) {
-            Ok(()) => Some(Slots { list: slots }),
+            Ok(()) => Some(Slots { kind, list: slots }),
             Err(_) => None,
         }
     }
 
-    /// How many slots there are: M of GMP, 1 to 8.
+    /// The kind of the line.
+    pub fn kind(&self) -> LineKind
+        ensures kind { result ≡ self.now.kind }
+        ensures list { IsSlotList (slots_of result) self.now.list }
+    {
+        self.kind
+    }
+
+    /// How many slots there are, M of GMP: 1 to the number of the line's slots.
+    #[tactic(auto, using(crate::proofs::RisingSlots::few))]
     pub fn count(&self) -> u32
-        ensures count { result ≡ length self.now }
-        ensures list { IsSlotList 8 self.now }
+        ensures count { result ≡ length self.now.list }
+        ensures list { IsSlotList (slots_of self.now.kind) self.now.list }
+        ensures few { length self.now.list ≤ slots_of self.now.kind }
     {
         self.list.len() as u32
     }
 
     /// Slot number `i` of the list, from 0.
     pub fn nth(&self, i: u32) -> u8
-        requires { i < length self.now }
-        ensures { slice_get self.now i ≡ Some result }
+        requires { i < length self.now.list }
+        ensures { slice_get self.now.list i ≡ Some result }
     {
         self.list.as_slice()[i as usize]
     }
 
     /// The greatest slot, in whose frame of a multiframe the justification bytes of the ODTU stand.
     pub fn last(&self) -> u8
-        ensures { slice_get self.now (length self.now - 1) ≡ Some result }
+        ensures { slice_get self.now.list (length self.now.list - 1) ≡ Some result }
     {
         let list = self.list.as_slice();
         list[list.len() - 1]
@@ -69,24 +81,24 @@ impl Slots {
 
     /// Whether slot `k` is one of them.
     pub fn has(&self, k: u8) -> bool
-        ensures { IsTrue result ↔ Contains self.now k }
+        ensures { IsTrue result ↔ Contains self.now.list k }
     {
         self.list.as_slice().contains(&k)
     }
 
     /// The numbers of the slots.
     pub fn as_slice(&self) -> &[u8]
-        ensures { result.now ≡ self.now }
+        ensures { result.now ≡ self.now.list }
     {
         self.list.as_slice()
     }
 }
 
-// Whether the list is not empty, has numbers of 1 to 8 alone, and rises strictly.
-fn is_slot_list(list: &[u8]) -> bool
-    ensures { IsTrue result ↔ IsSlotList 8 list.now }
+// Whether the list is not empty, has numbers of 1 to `slots` alone, and rises strictly.
+fn is_slot_list(list: &[u8], slots: u8) -> bool
+    ensures { IsTrue result ↔ IsSlotList slots list.now }
 {
     !list.is_empty()
-        && list.iter().all(|&slot| 1 <= slot && slot as usize <= SLOTS)
+        && list.iter().all(|&slot| 1 <= slot && slot <= slots)
         && list.windows(2).all(|pair| pair[0] < pair[1])
 }

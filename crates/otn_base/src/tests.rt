@@ -1,25 +1,36 @@
 // Lists of slots and trail traces, at worked values.
-use crate::{Slots, Trace};
+use crate::{LineKind, Slots, Trace};
 use std::test::Fail;
 
 #[test]
-fn slots_rise_from_one_to_eight(rt: HostRuntime) -> Result<(), Fail> {
-    let refused: [&[u8]; 6] = [
+fn slots_rise_from_one_to_the_last(rt: HostRuntime) -> Result<(), Fail> {
+    let refused: [&[u8]; 7] = [
         &[],
         &[0],
-        &[9],
+        &[33],
         &[3, 3],
         &[4, 2],
-        &[1, 2, 3, 4, 5, 6, 7, 8, 9],
+        &[0, 1, 2, 3],
+        &[31, 32, 33],
     ];
     for list in refused {
-        assert!(rt; Slots::new(list).is_none(), "{list:?}");
+        assert!(rt; Slots::new(list, LineKind::Otu2).is_none(), "{list:?}");
+        assert!(rt; Slots::new(list, LineKind::Otu3).is_none(), "{list:?}");
     }
-    let slots = Slots::new(&[2, 5, 8]).ok_or("refused")?;
+    let beyond: [&[u8]; 3] = [&[9], &[8, 9], &[1, 2, 3, 4, 5, 6, 7, 8, 9]];
+    for list in beyond {
+        assert!(rt; Slots::new(list, LineKind::Otu2).is_none(), "{list:?}");
+        assert!(rt; Slots::new(list, LineKind::Otu3).is_some(), "{list:?}");
+    }
+    let slots = Slots::new(&[2, 5, 8], LineKind::Otu2).ok_or("refused")?;
+    assert_eq!(rt; slots.kind(), LineKind::Otu2);
     assert_eq!(rt; slots.count(), 3);
     assert_eq!(rt; slots.last(), 8);
     assert!(rt; slots.has(5) && !slots.has(3));
     assert_eq!(rt; slots.as_slice(), [2, 5, 8].as_slice());
+    let wide = Slots::new(&[2, 17, 32], LineKind::Otu3).ok_or("refused")?;
+    assert_eq!(rt; wide.kind().slots(), 32);
+    assert_eq!(rt; wide.last(), 32);
     Ok(())
 }
 
