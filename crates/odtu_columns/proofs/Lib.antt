@@ -1,8 +1,9 @@
+pub mod AllSlots
 pub mod Cycles
 pub mod GroupRows
+pub mod LineCycles
 pub mod Rows
 pub mod RunGroups
-pub mod WholeRows
 pub mod PutRows
 pub mod PutMessage
 pub mod PutBack

@@ -4,18 +4,19 @@ ghost use Rattle.frame_geometry.specs.Places.{place_of};
 ghost use Rattle.odtu_columns.specs.Message.{message_of};
 
 use frame_geometry::Frame;
+use frame_geometry::overhead::{NUMBER_COLUMN, REMAINDER_COLUMN};
 
 /// JC1 to JC6 of a frame, in this order (G.709 clause 19.4).
 pub fn message(frame: &Frame<4080>) -> [u8; 6]
     ensures { result ≡ message_of frame.now }
 {
     [
-        frame.get(1, 16),
-        frame.get(2, 16),
-        frame.get(3, 16),
-        frame.get(1, 15),
-        frame.get(2, 15),
-        frame.get(3, 15),
+        frame.get(1, NUMBER_COLUMN),
+        frame.get(2, NUMBER_COLUMN),
+        frame.get(3, NUMBER_COLUMN),
+        frame.get(1, REMAINDER_COLUMN),
+        frame.get(2, REMAINDER_COLUMN),
+        frame.get(3, REMAINDER_COLUMN),
     ]
 }
 
@@ -25,10 +26,10 @@ pub fn put_message(frame: &mut Frame<4080>, bytes: [u8; 6])
     ensures kept { (place : ℕ) → ((row column : ℕ) → 1 ≤ row → row ≤ 3 → 15 ≤ column → column ≤ 16 → place ≡ place_of 4080 row column → ⊥) → slice_index frame.new place ≡ slice_index frame.old place }
 {
     let _whole = frame.as_bytes();
-    frame.set(1, 16, bytes[0]);
-    frame.set(2, 16, bytes[1]);
-    frame.set(3, 16, bytes[2]);
-    frame.set(1, 15, bytes[3]);
-    frame.set(2, 15, bytes[4]);
-    frame.set(3, 15, bytes[5]);
+    frame.set(1, NUMBER_COLUMN, bytes[0]);
+    frame.set(2, NUMBER_COLUMN, bytes[1]);
+    frame.set(3, NUMBER_COLUMN, bytes[2]);
+    frame.set(1, REMAINDER_COLUMN, bytes[3]);
+    frame.set(2, REMAINDER_COLUMN, bytes[4]);
+    frame.set(3, REMAINDER_COLUMN, bytes[5]);
 }

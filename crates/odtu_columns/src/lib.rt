@@ -1,13 +1,15 @@
-//! The columns and the justification bytes of an ODTU in an OTU2 frame (G.709 clause 19).
+//! The columns and the justification bytes of an ODTU in a frame of an OTU2 or an OTU3 (G.709 clause 19).
 //!
 //! - `slot`: the bytes of one tributary slot.
 //! - `groups`: a byte of each of the slots that one ODTU takes, cycle by cycle.
 //! - `put`: the same, written.
 //! - `justification`: its justification bytes.
+//! - `line`: the kernels below them, for a line of either kind.
 #![tactic(auto)]
 
 mod groups;
 mod justification;
+mod line;
 mod put;
 mod slot;
 #[cfg(test)]

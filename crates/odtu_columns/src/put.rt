@@ -1,122 +1,93 @@
 // The groups of the slots that one ODTU takes, written row by row.
-ghost use Rattle.std.specs.Prelude.{◌≡◌, [], ◌∷◌, ◌+◌, ◌-◌, ◌*◌, ◌/◌, ◌%◌, ◌<◌, ◌≤◌, ℕ, length, slice_index};
+ghost use Rattle.std.specs.Prelude.{◌≡◌, ◌≢◌, [], ◌∷◌, ◌+◌, ◌-◌, ◌*◌, ◌/◌, ◌%◌, ◌<◌, ◌≤◌, ℕ, All, length, slice_index};
+ghost use Rattle.frame_geometry.specs.Places.{place_of};
+ghost use Rattle.otn_base.specs.LineSlots.{slots_of};
 ghost use Rattle.otn_base.specs.SlotList.{IsSlotList};
+ghost use Rattle.otn_base.specs.declared.limits.TheConstants.{GROUPS, PAYLOAD_COLUMNS};
 ghost use Rattle.odtu_columns.specs.Columns.{slot_row_of};
 ghost use Rattle.odtu_columns.specs.Groups.{frame_group, row_groups_of};
 ghost use Rattle.odtu_columns.specs.Put.{slot_place, RowWasPut};
 
+use crate::line::{cycles_in_row, put_one, put_several};
 use frame_geometry::Frame;
-use otn_base::Slots;
-use otn_base::limits::{OVERHEAD_COLUMNS, SLOT_COLUMNS, SLOTS};
+use otn_base::limits::OVERHEAD_COLUMNS;
+use otn_base::{LineKind, Slots};
 
-// The cycles of a row, the columns of a cycle, and those in front of the first one, in the type of the
-// numbers of columns.
-const CYCLES: u32 = SLOT_COLUMNS as u32;
-
-const CYCLE: u32 = SLOTS as u32;
-
-const FIRST: u32 = OVERHEAD_COLUMNS as u32;
-
-/// Writes the 476 groups of a row (1 to 4) for these slots, which stand in `bytes` one after the other;
-/// every byte that is not of the slots stays.
+/// Writes all groups of a row (1 to 4) for these slots, which stand in `bytes` one after the other, 476 on
+/// an OTU2, 119 on an OTU3; every byte that is not of the slots stays.
 pub fn put_row_groups(frame: &mut Frame<4080>, row: u32, slots: &Slots, bytes: &[u8])
     requires row_low { 1 ≤ row }
     requires row_high { row ≤ 4 }
-    requires size { length bytes.now ≡ length slots.now * 476 }
-    ensures put { RowWasPut slots.now row bytes.now frame.old frame.new }
-    ensures groups { row_groups_of 8 slots.now row frame.new ≡ bytes.now }
+    requires size { length bytes.now ≡ length slots.now.list * (PAYLOAD_COLUMNS / slots_of slots.now.kind) }
+    ensures put { RowWasPut (slots_of slots.now.kind) slots.now.list row bytes.now frame.old frame.new }
+    ensures groups { row_groups_of (slots_of slots.now.kind) slots.now.list row frame.new ≡ bytes.now }
 {
-    let _rising = slots.count();
-    put_groups(frame.payload_row_mut(row), slots.as_slice(), bytes);
+    let kind = slots.kind();
+    put_groups(kind, slots.as_slice(), bytes, frame.payload_row_mut(row));
 }
 
-/// Writes the 476 bytes of a slot (1 to 8) in a row (1 to 4), in the order of their columns; every other
-/// byte stays.
-pub fn put_slot_row(frame: &mut Frame<4080>, slot: u8, row: u32, bytes: &[u8])
+/// Writes the bytes of a slot (1 to 8 on an OTU2, 1 to 32 on an OTU3) in a row (1 to 4), 476 or 119, in the
+/// order of their columns; every other byte stays.
+pub fn put_slot_row(frame: &mut Frame<4080>, kind: LineKind, slot: u8, row: u32, bytes: &[u8])
     requires slot_low { 1 ≤ slot }
-    requires slot_high { slot ≤ 8 }
+    requires slot_high { slot ≤ slots_of kind }
     requires row_low { 1 ≤ row }
     requires row_high { row ≤ 4 }
-    requires size { length bytes.now ≡ 476 }
-    ensures put { RowWasPut (slot ∷ []) row bytes.now frame.old frame.new }
-    ensures bytes { slot_row_of 8 slot row frame.new ≡ bytes.now }
+    requires size { length bytes.now ≡ PAYLOAD_COLUMNS / slots_of kind }
+    ensures put { RowWasPut (slots_of kind) (slot ∷ []) row bytes.now frame.old frame.new }
+    ensures bytes { slot_row_of (slots_of kind) slot row frame.new ≡ bytes.now }
 {
-    put_apart(frame.payload_row_mut(row), slot, bytes, 1, 0);
+    put_one(kind, bytes, slot, frame.payload_row_mut(row));
 }
 
-/// Writes group `g` (1 to 1,904) of a frame for these slots, a byte of each in slot order; every other
-/// byte stays.
+/// Writes group `g` of a frame for these slots, a byte of each in slot order; every other byte stays. A
+/// frame has 1,904 groups on an OTU2, 476 on an OTU3, counted from 1.
 pub fn put_group(frame: &mut Frame<4080>, g: u32, slots: &Slots, bytes: &[u8])
     requires low { 1 ≤ g }
-    requires high { g ≤ 1904 }
-    requires size { length bytes.now ≡ length slots.now }
-    ensures group { frame_group 8 slots.now g frame.new ≡ bytes.now }
-    ensures kept { (place : ℕ) → ((i : ℕ) → i < length slots.now → place ≡ slot_place slots.now ((g - 1) / 476 + 1) ((g - 1) % 476) i → ⊥) → slice_index frame.new place ≡ slice_index frame.old place }
+    requires high { g ≤ GROUPS / slots_of slots.now.kind }
+    requires size { length bytes.now ≡ length slots.now.list }
+    ensures group { frame_group (slots_of slots.now.kind) slots.now.list g frame.new ≡ bytes.now }
+    ensures kept { (place : ℕ) → ((i : ℕ) → i < length slots.now.list → place ≡ slot_place (slots_of slots.now.kind) slots.now.list ((g - 1) / (PAYLOAD_COLUMNS / slots_of slots.now.kind) + 1) ((g - 1) % (PAYLOAD_COLUMNS / slots_of slots.now.kind)) i → ⊥) → slice_index frame.new place ≡ slice_index frame.old place }
 {
-    let _rising = slots.count();
+    let kind = slots.kind();
+    let cycles = cycles_in_row(kind) as u32;
     let before = g - 1;
-    let row = before / CYCLES + 1;
-    let cycle = before % CYCLES;
-    set_group(frame, row, cycle, slots.as_slice(), bytes);
+    let row = before / cycles + 1;
+    let first = OVERHEAD_COLUMNS as u32 + kind.slots() as u32 * (before % cycles);
+    set_group(frame, row, first, slots.as_slice(), bytes);
 }
 
-// Writes the group in cycle `cycle`, from 0, of a row.
-fn set_group(frame: &mut Frame<4080>, row: u32, cycle: u32, slots: &[u8], bytes: &[u8])
+// Writes the group of the cycle that begins behind so many columns of a row.
+fn set_group(frame: &mut Frame<4080>, row: u32, first: u32, slots: &[u8], bytes: &[u8])
     requires row_low { 1 ≤ row }
     requires row_high { row ≤ 4 }
-    requires cycle { cycle < 476 }
-    requires list { IsSlotList 8 slots.now }
+    requires slots { All (λ slot. (1 ≤ slot) × (first + slot ≤ 4080)) slots.now }
+    requires rising { (i j : ℕ) → i < j → j < length slots.now → slice_index slots.now i < slice_index slots.now j }
     requires size { length bytes.now ≡ length slots.now }
-    ensures put { (i : ℕ) → i < length slots.now → slice_index frame.new (slot_place slots.now row cycle i) ≡ slice_index bytes.now i }
-    ensures kept { (place : ℕ) → ((i : ℕ) → i < length slots.now → place ≡ slot_place slots.now row cycle i → ⊥) → slice_index frame.new place ≡ slice_index frame.old place }
+    ensures put { (i : ℕ) → i < length slots.now → slice_index frame.new (place_of 4080 row (first + slice_index slots.now i)) ≡ slice_index bytes.now i }
+    ensures kept { (place : ℕ) → ((i : ℕ) → i < length slots.now → place ≡ place_of 4080 row (first + slice_index slots.now i) → ⊥) → slice_index frame.new place ≡ slice_index frame.old place }
 {
     let _whole = frame.as_bytes();
     for (i, slot) in slots.iter().enumerate() {
-        frame.set(row, FIRST + CYCLE * cycle + *slot as u32, bytes[i]);
+        frame.set(row, first + *slot as u32, bytes[i]);
     }
 }
 
 // Writes the groups of a row into its payload.
-fn put_groups(payload: &mut [u8], slots: &[u8], bytes: &[u8])
+fn put_groups(kind: LineKind, slots: &[u8], bytes: &[u8], payload: &mut [u8])
+    requires list { IsSlotList (slots_of kind) slots.now }
+    requires size { length bytes.now ≡ length slots.now * (3808 / slots_of kind) }
     requires payload { length payload.old ≡ 3808 }
-    requires list { IsSlotList 8 slots.now }
-    requires size { length bytes.now ≡ length slots.now * 476 }
-    ensures put { (cycle i : ℕ) → cycle < 476 → i < length slots.now → slice_index payload.new (slice_index slots.now i - 1 + 8 * cycle) ≡ slice_index bytes.now (length slots.now * cycle + i) }
-    ensures kept { (n : ℕ) → ((cycle i : ℕ) → cycle < 476 → i < length slots.now → n ≡ slice_index slots.now i - 1 + 8 * cycle → ⊥) → slice_index payload.new n ≡ slice_index payload.old n }
+    ensures put { (cycle i : ℕ) → cycle < 3808 / slots_of kind → i < length slots.now → slice_index payload.new (slots_of kind * cycle + (slice_index slots.now i - 1)) ≡ slice_index bytes.now (length slots.now * cycle + i) }
+    ensures kept { (n : ℕ) → ((i : ℕ) → i < length slots.now → n % slots_of kind + 1 ≢ slice_index slots.now i) → slice_index payload.new n ≡ slice_index payload.old n }
 {
-    if slots.len() == SLOTS {
+    if slots.len() == kind.slots() as usize {
         payload.copy_from_slice(bytes);
         return;
     }
-    put_each(payload, slots, bytes);
-}
-
-// Writes the groups slot by slot.
-fn put_each(payload: &mut [u8], slots: &[u8], bytes: &[u8])
-    requires payload { length payload.old ≡ 3808 }
-    requires list { IsSlotList 8 slots.now }
-    requires size { length bytes.now ≡ length slots.now * 476 }
-    ensures put { (cycle i : ℕ) → cycle < 476 → i < length slots.now → slice_index payload.new (slice_index slots.now i - 1 + 8 * cycle) ≡ slice_index bytes.now (length slots.now * cycle + i) }
-    ensures kept { (n : ℕ) → ((cycle i : ℕ) → cycle < 476 → i < length slots.now → n ≡ slice_index slots.now i - 1 + 8 * cycle → ⊥) → slice_index payload.new n ≡ slice_index payload.old n }
-{
-    let apart = slots.len();
-    for (i, slot) in slots.iter().enumerate() {
-        put_apart(payload, *slot, bytes, apart, i);
+    if slots.len() == 1 {
+        put_one(kind, bytes, slots[0], payload);
+        return;
     }
-}
-
-// Writes the bytes of one slot, which stand so far apart from byte `from` on.
-fn put_apart(payload: &mut [u8], slot: u8, bytes: &[u8], apart: usize, from: usize)
-    requires payload { length payload.old ≡ 3808 }
-    requires low { 1 ≤ slot }
-    requires high { slot ≤ 8 }
-    requires inside { from < apart }
-    requires size { length bytes.now ≡ apart * 476 }
-    ensures put { (cycle : ℕ) → cycle < 476 → slice_index payload.new (slot - 1 + 8 * cycle) ≡ slice_index bytes.now (apart * cycle + from) }
-    ensures kept { (n : ℕ) → ((cycle : ℕ) → cycle < 476 → n ≡ slot - 1 + 8 * cycle → ⊥) → slice_index payload.new n ≡ slice_index payload.old n }
-{
-    let first = slot as usize - 1;
-    for cycle in 0..SLOT_COLUMNS {
-        payload[first + SLOTS * cycle] = bytes[apart * cycle + from];
-    }
+    put_several(kind, bytes, cycles_in_row(kind), slots, payload);
 }

@@ -1,19 +1,24 @@
-use Rattle.std.proofs.Common.{◌≡◌, ◌+◌, ◌-◌, ◌*◌, length, take, drop, ap, ◌∙◌, arith}
-use Rattle.odtu_columns.proofs.RunGroups.{run_groups-whole, gathered}
+use Rattle.std.proofs.Common.{◌≡◌, ◌+◌, ◌-◌, ◌*◌, length, take, drop, ap, sym, ◌∙◌, arith}
+use Rattle.otn_base.specs.LineSlots.{slots_of}
+use Rattle.odtu_columns.specs.Payload.{run_groups}
+use Rattle.odtu_columns.proofs.RunGroups.{gathered}
 use Rattle.odtu_columns.proofs.groups.cycle_groups.Goals as goal
-
-pub returns-then-slots-eq-SLOTS : goal.returns-then-slots-eq-SLOTS
-returns-then-slots-eq-SLOTS c =
-    let payload = c.args.payload.now in
-    let many : 8 * (c.args.first + c.args.count) - 8 * c.args.first ≡ 8 * c.args.count = omega arith in
-    c.copy_from_slice.ensures.after
-    ∙ ap (λ n. take n (drop (8 * c.args.first) payload)) many
-    ∙ run_groups-whole payload c.args.slots.now c.args.first c.args.count c.requires.payload c.requires.cycles c.requires.slots (omega arith)
 
 pub returns : goal.returns
 returns c =
     let payload = c.args.payload.now in
-    let many : 8 * (c.args.first + c.args.count) - 8 * c.args.first ≡ 8 * c.args.count = omega arith in
-    let size : length c.gather.new.into ≡ length c.args.slots.now * c.args.count = omega arith in
-    gathered payload (take (8 * (c.args.first + c.args.count) - 8 * c.args.first) (drop (8 * c.args.first) payload)) c.args.slots.now c.gather.new.into c.args.first c.args.count
-    c.requires.slots size (ap (λ n. take n (drop (8 * c.args.first) payload)) many) c.gather.ensures
+    let first = c.args.first in
+    let count = c.args.count in
+    let kind = c.kind-kind.result in
+    let line = slots_of kind in
+    let columns = c.slots-columns.result in
+    let slots = c.as_slice.result.now in
+    let size : length c.gather.new.into ≡ length slots * count =
+    c.gather.auto.into ∙ c.requires.size ∙ sym (ap (λ xs. length xs * count) c.as_slice.ensures) in
+    let same : take (columns * first + columns * count - columns * first) (drop (columns * first) payload) ≡ take (line * count) (drop (line * first) payload) =
+    ap (λ s. take (s * first + s * count - s * first) (drop (s * first) payload)) c.slots-columns.ensures.slots
+    ∙ ap (λ n. take n (drop (line * first) payload)) (let e : line * first + line * count - line * first ≡ line * count = omega arith in e) in
+    gathered line payload (take (columns * first + columns * count - columns * first) (drop (columns * first) payload)) slots c.gather.new.into first count
+    (rw c.as_slice.ensures c.kind-kind.ensures.list) size same c.gather.ensures
+    ∙ ap (λ k. run_groups (slots_of k) payload slots first count) c.kind-kind.ensures.kind
+    ∙ ap (λ xs. run_groups (slots_of c.args.slots.now.kind) payload xs first count) c.as_slice.ensures

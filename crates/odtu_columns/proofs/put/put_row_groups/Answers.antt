@@ -1,7 +1,9 @@
 use Rattle.std.proofs.Common.{◌≡◌, length, subst, ◌∙◌, arith}
 use Rattle.frame_geometry.specs.Loans.{after_row_loan-whole}
 use Rattle.frame_geometry.specs.Places.{with_payload_row}
+use Rattle.otn_base.specs.LineSlots.{slots_of}
 use Rattle.odtu_columns.specs.Put.{RowWasPut}
+use Rattle.odtu_columns.proofs.LineCycles.{number_of}
 use Rattle.odtu_columns.proofs.PutRows.{row_was_put}
 use Rattle.odtu_columns.proofs.PutBack.{row_back}
 use Rattle.odtu_columns.proofs.put.put_row_groups.Goals as goal
@@ -11,11 +13,15 @@ returns-clause-put c =
     let row = c.payload_row_mut.ensures in
     let put = c.put_groups.ensures in
     let new = c.put_groups.new.payload in
+    let kind = c.kind-kind.result in
+    let frame = c.args.frame.now in
+    let bytes = c.args.bytes.now in
     let long : length new ≡ 3808 = c.put_groups.auto.payload ∙ row.size in
     let same = c.as_slice.ensures in
-    let law = row_was_put c.as_slice.result.now c.args.bytes.now c.args.frame.now c.payload_row_mut.result.now new c.args.row c.requires.row_low c.requires.row_high (rw same c.count-rising.ensures.list) (omega arith) row.bytes long put.put put.kept in
-    rw (after_row_loan-whole 4080 c.args.row c.args.frame.now new long row.frame (omega arith) c.requires.row_low c.requires.row_high)
-    (subst (λ xs. RowWasPut xs c.args.row c.args.bytes.now c.args.frame.now (with_payload_row 4080 c.args.row c.args.frame.now new)) same law)
+    let law = row_was_put (slots_of kind) c.as_slice.result.now bytes frame c.payload_row_mut.result.now new c.args.row (number_of kind) c.requires.row_low c.requires.row_high (rw same c.kind-kind.ensures.list) (omega arith) row.bytes long put.put put.kept in
+    rw (after_row_loan-whole 4080 c.args.row frame new long row.frame (omega arith) c.requires.row_low c.requires.row_high)
+    (subst (λ k. RowWasPut (slots_of k) c.args.slots.now.list c.args.row bytes frame (with_payload_row 4080 c.args.row frame new)) c.kind-kind.ensures.kind
+    (subst (λ xs. RowWasPut (slots_of kind) xs c.args.row bytes frame (with_payload_row 4080 c.args.row frame new)) same law))
 
 pub returns-clause-groups : goal.returns-clause-groups
-returns-clause-groups c = row_back c.args.slots.now c.args.bytes.now c.args.frame.now _ c.args.row (returns-clause-put c) c.requires.size
+returns-clause-groups c = row_back (slots_of c.args.slots.now.kind) c.args.slots.now.list c.args.bytes.now c.args.frame.now _ c.args.row (returns-clause-put c) c.requires.size

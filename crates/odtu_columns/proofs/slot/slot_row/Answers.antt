@@ -1,11 +1,12 @@
-use Rattle.std.proofs.Common.{◌≡◌, ◌+◌, ◌-◌, ◌*◌, get_or, length, ap, ◌∙◌, arith}
+use Rattle.std.proofs.Common.{◌≡◌, ◌/◌, length, ◌∙◌, arith}
+use Rattle.otn_base.specs.LineSlots.{slots_of}
+use Rattle.odtu_columns.proofs.LineCycles.{whole_cycles, number_of}
 use Rattle.odtu_columns.proofs.Rows.{slot_row_is}
 use Rattle.odtu_columns.proofs.slot.slot_row.Goals as goal
 
 pub returns : goal.returns
 returns c =
-    let payload = c.payload_row.result.now in
-    let size : length c.take_slot.new.into ≡ 476 = omega arith in
-    slot_row_is c.args.slot c.args.row c.args.frame.now payload c.take_slot.new.into
-    c.requires.slot_low c.requires.slot_high c.payload_row.ensures.bytes size
-    (λ cycle h. c.take_slot.ensures cycle (omega arith) ∙ ap (λ n. get_or payload n 0) (let e : 8 * cycle + c.args.slot - 1 ≡ 8 * cycle + (c.args.slot - 1) = omega arith in e))
+    let line = slots_of c.args.kind in
+    let size : length c.take_one.new.into ≡ 3808 / line = c.take_one.auto.into ∙ c.requires.size in
+    slot_row_is line (3808 / line) c.args.slot c.args.row c.args.frame.now c.payload_row.result.now c.take_one.new.into (whole_cycles line (number_of c.args.kind))
+    c.requires.slot_low c.requires.slot_high c.payload_row.ensures.bytes size (λ cycle h. c.take_one.ensures cycle (omega arith))
