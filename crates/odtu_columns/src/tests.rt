@@ -1,11 +1,11 @@
 // Worked values: where the payload byte in column c is (c - 17) mod 256.
-ghost use Rattle.std.specs.Prelude.{◌≤◌};
+ghost use Rattle.std.specs.Prelude.{◌≡◌, ◌≤◌, IfOk};
 
 use super::{
     group, message, put_group, put_message, put_row_groups, put_slot_row, row_groups, slot_row,
 };
 use frame_geometry::Frame;
-use otn_base::Slots;
+use otn_base::{LineKind, Slots};
 use std::test::Fail;
 
 // Every payload byte of a row says its column.
@@ -18,12 +18,22 @@ fn number_columns(frame: &mut Frame<4080>, row: u32)
     }
 }
 
+// The slots of this list on a line of this kind.
+fn slots_on(kind: LineKind, list: &[u8]) -> Result<Slots, Fail>
+    ensures { IfOk result (λ slots. slots ≡ record { kind = kind; list = list.now }) }
+{
+    match Slots::new(list, kind) {
+        Some(slots) => Ok(slots),
+        None => Err(Fail::from("no slots that rise")),
+    }
+}
+
 #[test]
 fn slot_three(rt: HostRuntime) -> Result<(), Fail> {
     let mut frame = Frame::<4080>::new(rt.alloc())?;
     number_columns(&mut frame, 2);
     let mut bytes = [255u8; 476];
-    slot_row(&frame, 3, 2, &mut bytes);
+    slot_row(&frame, LineKind::Otu2, 3, 2, &mut bytes);
     for (cycle, expected) in [
         (0usize, 0x02u8),
         (1, 0x0A),
@@ -34,8 +44,31 @@ fn slot_three(rt: HostRuntime) -> Result<(), Fail> {
     ] {
         assert_eq!(rt; bytes.get(cycle).copied(), Some(expected), "cycle {cycle}");
     }
-    slot_row(&frame, 3, 3, &mut bytes);
+    slot_row(&frame, LineKind::Otu2, 3, 3, &mut bytes);
     assert_eq!(rt; bytes.iter().all(|byte| *byte == 0), true);
+    Ok(())
+}
+
+#[test]
+fn slot_seventeen_of_32(rt: HostRuntime) -> Result<(), Fail> {
+    let mut frame = Frame::<4080>::new(rt.alloc())?;
+    number_columns(&mut frame, 1);
+    let mut bytes = [255u8; 119];
+    slot_row(&frame, LineKind::Otu3, 17, 1, &mut bytes);
+    for (cycle, expected) in [
+        (0usize, 0x10u8),
+        (1, 0x30),
+        (2, 0x50),
+        (3, 0x70),
+        (4, 0x90),
+        (5, 0xB0),
+        (6, 0xD0),
+        (7, 0xF0),
+        (8, 0x10),
+        (118, 0xD0),
+    ] {
+        assert_eq!(rt; bytes.get(cycle).copied(), Some(expected), "cycle {cycle}");
+    }
     Ok(())
 }
 
@@ -44,7 +77,7 @@ fn groups_of_three_slots(rt: HostRuntime) -> Result<(), Fail> {
     let mut frame = Frame::<4080>::new(rt.alloc())?;
     number_columns(&mut frame, 1);
     number_columns(&mut frame, 4);
-    let slots = Slots::new(&[1, 3, 8]).ok_or("three slots that rise")?;
+    let slots = slots_on(LineKind::Otu2, &[1, 3, 8])?;
     let mut bytes = [255u8; 3];
     for (g, expected) in [
         (1u32, [0x00u8, 0x02, 0x07]),
@@ -54,15 +87,11 @@ fn groups_of_three_slots(rt: HostRuntime) -> Result<(), Fail> {
         (1430, [0x08, 0x0A, 0x0F]),
         (1904, [0xD8, 0xDA, 0xDF]),
     ] {
-        if slots.count() == 3 {
-            group(&frame, g, &slots, &mut bytes);
-        }
+        group(&frame, g, &slots, &mut bytes);
         assert_eq!(rt; bytes, expected, "group {g}");
     }
     let mut row = [255u8; 1428];
-    if slots.count() == 3 {
-        row_groups(&frame, 4, &slots, &mut row);
-    }
+    row_groups(&frame, 4, &slots, &mut row);
     for (i, expected) in [
         (0usize, 0x00u8),
         (1, 0x02),
@@ -80,11 +109,9 @@ fn groups_of_three_slots(rt: HostRuntime) -> Result<(), Fail> {
 fn groups_of_all_slots(rt: HostRuntime) -> Result<(), Fail> {
     let mut frame = Frame::<4080>::new(rt.alloc())?;
     number_columns(&mut frame, 2);
-    let slots = Slots::new(&[1, 2, 3, 4, 5, 6, 7, 8]).ok_or("eight slots that rise")?;
+    let slots = slots_on(LineKind::Otu2, &[1, 2, 3, 4, 5, 6, 7, 8])?;
     let mut row = [255u8; 3808];
-    if slots.count() == 8 {
-        row_groups(&frame, 2, &slots, &mut row);
-    }
+    row_groups(&frame, 2, &slots, &mut row);
     for (i, expected) in [
         (0usize, 0x00u8),
         (7, 0x07),
@@ -94,6 +121,33 @@ fn groups_of_all_slots(rt: HostRuntime) -> Result<(), Fail> {
         (3807, 0xDF),
     ] {
         assert_eq!(rt; row.get(i).copied(), Some(expected), "byte {i}");
+    }
+    Ok(())
+}
+
+#[test]
+fn groups_of_two_slots_of_32(rt: HostRuntime) -> Result<(), Fail> {
+    let mut frame = Frame::<4080>::new(rt.alloc())?;
+    number_columns(&mut frame, 4);
+    let slots = slots_on(LineKind::Otu3, &[1, 32])?;
+    let mut bytes = [255u8; 2];
+    for (g, expected) in [(357u32, [0u8, 0]), (358, [0x00, 0x1F]), (476, [0xC0, 0xDF])] {
+        group(&frame, g, &slots, &mut bytes);
+        assert_eq!(rt; bytes, expected, "group {g}");
+    }
+    let mut row = [255u8; 238];
+    row_groups(&frame, 4, &slots, &mut row);
+    frame.clear();
+    put_row_groups(&mut frame, 2, &slots, &row);
+    for (col, byte) in [
+        (17u32, 0x00u8),
+        (48, 0x1F),
+        (49, 0x20),
+        (50, 0),
+        (3793, 0xC0),
+        (3824, 0xDF),
+    ] {
+        assert_eq!(rt; frame.get(2, col.clamp(1, 4080)), byte, "column {col}");
     }
     Ok(())
 }
@@ -122,12 +176,10 @@ fn put_and_read_rows(rt: HostRuntime) -> Result<(), Fail> {
     let mut from = Frame::<4080>::new(rt.alloc())?;
     let mut frame = Frame::<4080>::new(rt.alloc())?;
     number_columns(&mut from, 3);
-    let slots = Slots::new(&[2, 5]).ok_or("two slots that rise")?;
+    let slots = slots_on(LineKind::Otu2, &[2, 5])?;
     let mut row = [255u8; 952];
-    if slots.count() == 2 {
-        row_groups(&from, 3, &slots, &mut row);
-        put_row_groups(&mut frame, 3, &slots, &row);
-    }
+    row_groups(&from, 3, &slots, &mut row);
+    put_row_groups(&mut frame, 3, &slots, &row);
     for (col, byte) in [
         (18u32, 1u8),
         (21, 4),
@@ -142,14 +194,32 @@ fn put_and_read_rows(rt: HostRuntime) -> Result<(), Fail> {
 }
 
 #[test]
+fn put_into_columns_of_32(rt: HostRuntime) -> Result<(), Fail> {
+    let mut frame = Frame::<4080>::new(rt.alloc())?;
+    let slots = slots_on(LineKind::Otu3, &[1, 32])?;
+    put_group(&mut frame, 476, &slots, &[1, 32]);
+    put_slot_row(&mut frame, LineKind::Otu3, 17, 4, &[17; 119]);
+    for (col, byte) in [
+        (17u32, 0u8),
+        (33, 17),
+        (34, 0),
+        (3793, 1),
+        (3809, 17),
+        (3824, 32),
+        (3825, 0),
+    ] {
+        assert_eq!(rt; frame.get(4, col.clamp(1, 4080)), byte, "column {col}");
+    }
+    Ok(())
+}
+
+#[test]
 fn put_into_columns(rt: HostRuntime) -> Result<(), Fail> {
     let mut frame = Frame::<4080>::new(rt.alloc())?;
-    let slots = Slots::new(&[1, 3, 8]).ok_or("three slots that rise")?;
+    let slots = slots_on(LineKind::Otu2, &[1, 3, 8])?;
     frame.as_bytes_mut().fill(0xEE);
-    if slots.count() == 3 {
-        put_group(&mut frame, 479, &slots, &[1, 3, 8]);
-    }
-    put_slot_row(&mut frame, 4, 2, &[4; 476]);
+    put_group(&mut frame, 479, &slots, &[1, 3, 8]);
+    put_slot_row(&mut frame, LineKind::Otu2, 4, 2, &[4; 476]);
     put_message(&mut frame, [0x11, 0x12, 0x13, 0x14, 0x15, 0x16]);
     for (row, col, byte) in [
         // Group 479 is in cycle 2 of row 2.
