@@ -6,7 +6,7 @@ use Rattle.msi_table.specs.Marks.{msi_byte}
 abbrev pub port_at : (ports : List ℕ) → (slot : ℕ) → ℕ
 port_at ports slot = slice_index ports (slot - 1)
 
--- G.709 clause 19.4.1: the MSI byte of a slot that the ODTU2.ts of this port uses, or of a free slot
+-- G.709 clause 19.4.1: the MSI byte of a slot that the ODTU of this port uses, or of a free slot
 abbrev pub slot_msi : (port : ℕ) → ℕ
 slot_msi port = if port == 0 then 0xC0 else msi_byte port
 

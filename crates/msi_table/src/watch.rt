@@ -3,8 +3,8 @@ ghost use Rattle.std.specs.Prelude.{◌≡◌, ◌≤◌, ℕ, List, [], ◌∷�
 
 use std::marker::Model;
 
-// Bits 1 and 2 of an MSI byte, for an ODTU2.ts.
-pub(crate) const ODTU2_TS: u8 = 0x80;
+// Bits 1 and 2 of an MSI byte, for an ODTU2.ts and for an ODTU3.ts.
+pub(crate) const ODTU_TS: u8 = 0x80;
 
 /// The watch over the MSI bytes of a slot. Two wrong ones in a row mark it, and a right one clears it.
 /// Contracts say which bytes came so far.
@@ -27,15 +27,16 @@ impl Model for MsiWatch {
 
 impl MsiWatch {
     ghost use Rattle.msi_table.specs.Marks.{HasTaken, is_marked};
+    ghost use Rattle.otn_base.specs.declared.limits.TheConstants.{MOST_SLOTS};
 
-    /// The watch over a slot that the ODTU of a tributary port (1 to 8) uses, before its first MSI byte.
+    /// The watch over a slot that the ODTU of a tributary port (1 to 32) uses, before its first MSI byte.
     pub fn new(port: u8) -> MsiWatch
         requires low { 1 ≤ port }
-        requires high { port ≤ 8 }
+        requires high { port ≤ MOST_SLOTS }
         ensures { HasTaken port [] result }
     {
         MsiWatch {
-            right: ODTU2_TS + (port - 1),
+            right: ODTU_TS + (port - 1),
             last_wrong: false,
             marked: false,
         }
