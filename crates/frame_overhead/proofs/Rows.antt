@@ -1,29 +1,42 @@
 -- The parity of a frame out of its rows.
-use Rattle.std.proofs.Common.{◌≡◌, ℕ, ◌+◌, ◌-◌, ◌*◌, ◌<◌, ◌≤◌, List, [], ◌∷◌, ◌++◌, length, get_or, take, drop, refl, ap, sym, ◌∙◌, arith, length-drop}
+use Rattle.std.proofs.Common.{◌≡◌, ℕ, ◌+◌, ◌-◌, ◌*◌, ◌<◌, ◌≤◌, List, [], ◌∷◌, ◌++◌, length, get_or, take, drop, ap, sym, ◌∙◌, arith, length-drop}
 use Rattle.std.proofs.lemmas.List.{length-take-le, get_or-take, get_or-drop, ext_get_or}
 use Rattle.frame_geometry.specs.Places.{place_of}
 use Rattle.std.specs.Prelude.{fold, bit_xor}
+use Rattle.std.specs.Int.Bits.{xor_zero_l, xor_zero_r, xor_assoc}
+use Rattle.std.proofs.lemmas.List.Sums.{fold-append}
 use Rattle.frame_overhead.specs.Parity.{opu_row_of, parity_of}
 
-pub fold-append : (a : ℕ) (xs ys : List ℕ) → fold bit_xor (fold bit_xor a xs) ys ≡ fold bit_xor a (xs ++ ys)
-fold-append a [] ys = refl
-fold-append a (x ∷ xs) ys = fold-append (bit_xor a x) xs ys
+-- the exclusive or that a fold begins with can be put in front
+fold_from : (a : ℕ) (xs : List ℕ) → fold bit_xor a xs ≡ bit_xor a (fold bit_xor 0 xs)
+fold_from a [] = sym (xor_zero_r a)
+fold_from a (x ∷ xs) =
+    fold_from (bit_xor a x) xs ∙ xor_assoc a x (fold bit_xor 0 xs) ∙ ap (bit_xor a) (sym (ap (λ b. fold bit_xor b xs) (xor_zero_l x) ∙ fold_from x xs))
+
+-- the exclusive or of a list and of one behind it
+two_lists : (xs ys : List ℕ) → fold bit_xor 0 (xs ++ ys) ≡ bit_xor (fold bit_xor 0 xs) (fold bit_xor 0 ys)
+two_lists xs ys = fold-append bit_xor 0 xs ys ∙ fold_from (fold bit_xor 0 xs) ys
 
 -- row by row
 pub by_rows : (cols one two three four : ℕ) (a b c d frame : List ℕ)
     → a ≡ opu_row_of cols 1 frame → b ≡ opu_row_of cols 2 frame → c ≡ opu_row_of cols 3 frame → d ≡ opu_row_of cols 4 frame
-    → one ≡ fold bit_xor 0 a → two ≡ fold bit_xor one b → three ≡ fold bit_xor two c → four ≡ fold bit_xor three d
-    → four ≡ parity_of cols frame
+    → one ≡ fold bit_xor 0 a → two ≡ fold bit_xor 0 b → three ≡ fold bit_xor 0 c → four ≡ fold bit_xor 0 d
+    → bit_xor (bit_xor (bit_xor one two) three) four ≡ parity_of cols frame
 unfolding parity_of
 by_rows cols one two three four a b c d frame ea eb ec ed e1 e2 e3 e4 =
-    e4 ∙ ap (λ p. fold bit_xor p d) (e3 ∙ ap (λ p. fold bit_xor p c) (e2 ∙ ap (λ p. fold bit_xor p b) e1))
-    ∙ fold-append (fold bit_xor (fold bit_xor 0 a) b) c d
-    ∙ fold-append (fold bit_xor 0 a) b (c ++ d)
-    ∙ fold-append 0 a (b ++ (c ++ d))
-    ∙ ap (λ xs. fold bit_xor 0 (xs ++ (b ++ (c ++ d)))) ea
-    ∙ ap (λ xs. fold bit_xor 0 (opu_row_of cols 1 frame ++ (xs ++ (c ++ d)))) eb
-    ∙ ap (λ xs. fold bit_xor 0 (opu_row_of cols 1 frame ++ (opu_row_of cols 2 frame ++ (xs ++ d)))) ec
-    ∙ ap (λ xs. fold bit_xor 0 (opu_row_of cols 1 frame ++ (opu_row_of cols 2 frame ++ (opu_row_of cols 3 frame ++ xs)))) ed
+    let f = fold bit_xor 0 in
+    let r = λ (row : ℕ). opu_row_of cols row frame in
+    let p : one ≡ f (r 1) = e1 ∙ ap f ea in
+    let q : two ≡ f (r 2) = e2 ∙ ap f eb in
+    let s : three ≡ f (r 3) = e3 ∙ ap f ec in
+    let t : four ≡ f (r 4) = e4 ∙ ap f ed in
+    ap (λ x. bit_xor (bit_xor (bit_xor x two) three) four) p ∙ ap (λ x. bit_xor (bit_xor (bit_xor (f (r 1)) x) three) four) q
+    ∙ ap (λ x. bit_xor (bit_xor (bit_xor (f (r 1)) (f (r 2))) x) four) s ∙ ap (bit_xor (bit_xor (bit_xor (f (r 1)) (f (r 2))) (f (r 3)))) t
+    ∙ xor_assoc (bit_xor (f (r 1)) (f (r 2))) (f (r 3)) (f (r 4))
+    ∙ xor_assoc (f (r 1)) (f (r 2)) (bit_xor (f (r 3)) (f (r 4)))
+    ∙ ap (λ x. bit_xor (f (r 1)) (bit_xor (f (r 2)) x)) (sym (two_lists (r 3) (r 4)))
+    ∙ ap (bit_xor (f (r 1))) (sym (two_lists (r 2) (r 3 ++ r 4)))
+    ∙ sym (two_lists (r 1) (r 2 ++ (r 3 ++ r 4)))
 
 -- a row's OPU area as it is lent
 pub opu_row_is : (cols row a e : ℕ) (bytes frame : List ℕ) → bytes ≡ frame → a ≡ place_of cols row 15 → e ≡ a + 3810 → take (e - a) (drop a bytes) ≡ opu_row_of cols row frame

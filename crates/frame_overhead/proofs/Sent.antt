@@ -1,6 +1,6 @@
 -- One frame more.
 use Rattle.std.proofs.Common.{◌≡◌, ℕ, ◌+◌, ◌-◌, ◌^◌, List, [], ◌∷◌, ◌++◌, refl, ap, sym, ◌∙◌, arith}
-use Rattle.std.specs.Prelude.{min, reverse, Option, Some, option_map, slice_index}
+use Rattle.std.specs.Prelude.{min, reverse, Some, option_map, slice_index}
 use Rattle.frame_overhead.specs.Parity.{parity_of}
 use Rattle.std.proofs.lemmas.List.{reverse-append}
 use Rattle.frame_geometry.specs.Places.{place_of}

@@ -8,9 +8,9 @@ returns g c =
     let bytes = c.as_bytes-bytes.result.now in
     let frame = c.args.frame.now in
     let is = c.as_bytes-bytes.ensures.bytes in
-    by_rows cols c.with_bytes-one.result c.with_bytes-two.result c.with_bytes-three.result c.with_bytes.result _ _ _ _ frame
+    by_rows cols c.parity-one.result c.parity-two.result c.parity-three.result c.parity-four.result _ _ _ _ frame
     (opu_row_is cols 1 14 3824 bytes frame is (omega arith) refl)
     (opu_row_is cols 2 (cols + 14) (cols + 3824) bytes frame is (omega arith) (omega arith))
     (opu_row_is cols 3 (2 * cols + 14) (2 * cols + 3824) bytes frame is (omega arith) (omega arith))
     (opu_row_is cols 4 (3 * cols + 14) (3 * cols + 3824) bytes frame is (omega arith) (omega arith))
-    c.with_bytes-one.ensures c.with_bytes-two.ensures c.with_bytes-three.ensures c.with_bytes.ensures
+    c.parity-one.ensures c.parity-two.ensures c.parity-three.ensures c.parity-four.ensures
