@@ -4,15 +4,9 @@ ghost use Rattle.frame_overhead.specs.Parity.{parity_of};
 ghost use Rattle.odu_path.specs.Path.{stat_of};
 
 use frame_geometry::Frame;
+use frame_geometry::overhead::{PM_BIP8_COLUMN, PM_ROW, STAT_COLUMN};
 use frame_overhead::{ParityCheck, parity};
 use std::marker::Model;
-
-// Where the BIP-8 and STAT of PM stand (G.709 clause 15.8).
-const PM_ROW: u32 = 3;
-
-const BIP_COLUMN: u32 = 11;
-
-const STAT_COLUMN: u32 = 12;
 
 /// Counts the frames of a line or a client with a wrong PM parity, of which the first two are not checked. Contracts say
 /// which frames were taken so far.
@@ -36,7 +30,7 @@ impl PathCheck {
 
     /// No frame was taken.
     pub fn new() -> PathCheck
-        ensures { (cols : ℕ) → HasChecked cols 3 11 [] result }
+        ensures { (cols : ℕ) → HasChecked cols PM_ROW PM_BIP8_COLUMN [] result }
     {
         PathCheck {
             pm: ParityCheck::new(),
@@ -45,7 +39,7 @@ impl PathCheck {
 
     /// Takes the next frame.
     pub fn take<const COLS: usize>(&mut self, frame: &Frame<COLS>)
-        ensures { (frames : List (List ℕ)) → HasChecked COLS 3 11 frames self.old → HasChecked COLS 3 11 (frames ++ frame.now ∷ []) self.new }
+        ensures { (frames : List (List ℕ)) → HasChecked COLS PM_ROW PM_BIP8_COLUMN frames self.old → HasChecked COLS PM_ROW PM_BIP8_COLUMN (frames ++ frame.now ∷ []) self.new }
     {
         self.take_with(frame, parity(frame));
     }
@@ -53,15 +47,15 @@ impl PathCheck {
     /// As `take`, for a frame whose parity is known.
     pub fn take_with<const COLS: usize>(&mut self, frame: &Frame<COLS>, parity: u8)
         requires { parity ≡ parity_of COLS frame.now }
-        ensures { (frames : List (List ℕ)) → HasChecked COLS 3 11 frames self.old → HasChecked COLS 3 11 (frames ++ frame.now ∷ []) self.new }
+        ensures { (frames : List (List ℕ)) → HasChecked COLS PM_ROW PM_BIP8_COLUMN frames self.old → HasChecked COLS PM_ROW PM_BIP8_COLUMN (frames ++ frame.now ∷ []) self.new }
     {
         let _bytes = frame.as_bytes();
-        self.pm.take(frame.get(PM_ROW, BIP_COLUMN), parity);
+        self.pm.take(frame.get(PM_ROW, PM_BIP8_COLUMN), parity);
     }
 
     /// How many frames had a wrong PM parity. The count stops at 2^64-1.
     pub fn pm(&self) -> u64
-        ensures { (cols : ℕ) (frames : List (List ℕ)) → HasChecked cols 3 11 frames self.now → result ≡ stopped (wrong_parities cols 3 11 frames) }
+        ensures { (cols : ℕ) (frames : List (List ℕ)) → HasChecked cols PM_ROW PM_BIP8_COLUMN frames self.now → result ≡ stopped (wrong_parities cols PM_ROW PM_BIP8_COLUMN frames) }
     {
         self.pm.wrong()
     }

@@ -3,12 +3,13 @@ ghost use Rattle.std.specs.Prelude.{◌≡◌, ℕ, List, [], ◌∷◌, ◌++�
 ghost use Rattle.frame_overhead.specs.Parity.{parity_of};
 
 use frame_geometry::Frame;
+use frame_geometry::overhead::{OPU_COLUMN, PM_BIP8_COLUMN, PM_ROW, PM_TTI_COLUMN, STAT_COLUMN};
 use frame_overhead::{ParityDelay, parity, put_run};
 use otn_base::Trace;
 use std::marker::Model;
 
-// Columns 1 to 14 of a row in front of the OPU (G.709 clause 12.1).
-const ODU_COLUMNS: usize = 14;
+// Columns of a row in front of the OPU (G.709 clause 12.1).
+const ODU_COLUMNS: usize = OPU_COLUMN as usize - 1;
 
 // STAT of a normal path signal, with no BEI and no BDI.
 const NORMAL: u8 = 0x01;
@@ -82,9 +83,12 @@ fn put_path<const COLS: usize>(frame: &mut Frame<COLS>, tti: u8, bip: u8)
     ensures parity { parity_of COLS frame.new ≡ parity_of COLS frame.old }
 {
     let none = [0; ODU_COLUMNS];
-    let path = [0, 0, 0, 0, 0, 0, 0, 0, 0, tti, bip, NORMAL, 0, 0];
+    let mut path = [0; ODU_COLUMNS];
+    path[PM_TTI_COLUMN as usize - 1] = tti;
+    path[PM_BIP8_COLUMN as usize - 1] = bip;
+    path[STAT_COLUMN as usize - 1] = NORMAL;
     let _bytes = frame.as_bytes();
     put_run(frame, 2, 1, &none);
-    put_run(frame, 3, 1, &path);
+    put_run(frame, PM_ROW, 1, &path);
     put_run(frame, 4, 1, &none);
 }
