@@ -34,3 +34,25 @@ fn path_of_a_client(rt: HostRuntime) -> Result<(), Fail> {
     assert_eq!(rt; check.pm(), 1);
     Ok(())
 }
+
+// A line on which every slot is free: all that its OPU holds are the PSI bytes.
+#[test]
+fn path_of_a_free_line(rt: HostRuntime) -> Result<(), Fail> {
+    let trace = Trace::new(b"LINE-0").ok_or("refused")?;
+    let mut writer = PathWriter::new();
+    let mut mfas = 0_u8;
+    for (psi, bip) in [
+        (0x21_u8, 0x00_u8),
+        (0x00, 0x00),
+        (0xC0, 0x21),
+        (0xC0, 0x00),
+        (0xC0, 0xC0),
+    ] {
+        let mut frame = Frame::<4080>::new(rt.alloc())?;
+        frame.set(4, 15, psi);
+        writer.write(&mut frame, mfas, &trace);
+        assert_eq!(rt; frame.get(3, 11), bip, "frame {mfas}");
+        mfas = mfas.wrapping_add(1);
+    }
+    Ok(())
+}

@@ -1,2 +1,4 @@
 pub mod Bytes
+pub mod Masks
 pub mod More
+pub mod Sequence

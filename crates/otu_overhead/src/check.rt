@@ -1,8 +1,9 @@
-// The check of the overhead of OTU2 frames.
+// The check of the overhead of the frames of a line.
 ghost use Rattle.std.specs.Prelude.{◌≡◌, ℕ, List, [], ◌∷◌, ◌++◌};
 ghost use Rattle.frame_overhead.specs.Parity.{parity_of};
 
 use frame_geometry::Frame;
+use frame_geometry::overhead::{FAS, FAS_COLUMN, SECTION_ROW, SM_BIP8_COLUMN};
 use frame_overhead::{ParityCheck, parity};
 use otn_base::limits::LINE_COLUMNS;
 use std::marker::Model;
@@ -48,11 +49,11 @@ impl OtuCheck {
 
     /// As `take`, for a frame whose parity is known.
     pub fn take_with(&mut self, frame: &Frame<LINE_COLUMNS>, parity: u8)
-        requires { parity ≡ parity_of 4080 frame.now }
+        requires { parity ≡ parity_of LINE_COLUMNS frame.now }
         ensures { (frames : List (List ℕ)) → HasTaken frames self.old → HasTaken (frames ++ frame.now ∷ []) self.new }
     {
         self.fas = self.fas.saturating_add(fas_wrong(frame));
-        self.sm.take(frame.get(1, 9), parity);
+        self.sm.take(frame.get(SECTION_ROW, SM_BIP8_COLUMN), parity);
     }
 
     /// How many frames had a wrong FAS. The count stops at 2^64-1.
@@ -64,7 +65,7 @@ impl OtuCheck {
 
     /// How many frames had a wrong SM parity. The count stops at 2^64-1.
     pub fn sm(&self) -> u64
-        ensures { (frames : List (List ℕ)) → HasTaken frames self.now → result ≡ stopped (wrong_parities 4080 1 9 frames) }
+        ensures { (frames : List (List ℕ)) → HasTaken frames self.now → result ≡ stopped (wrong_parities LINE_COLUMNS SECTION_ROW SM_BIP8_COLUMN frames) }
     {
         self.sm.wrong()
     }
@@ -83,10 +84,10 @@ fn fas_wrong(frame: &Frame<LINE_COLUMNS>) -> u64
 fn has_fas(frame: &Frame<LINE_COLUMNS>) -> bool
     ensures { result ≡ has_fas frame.now }
 {
-    frame.get(1, 1) == 0xF6
-        && frame.get(1, 2) == 0xF6
-        && frame.get(1, 3) == 0xF6
-        && frame.get(1, 4) == 0x28
-        && frame.get(1, 5) == 0x28
-        && frame.get(1, 6) == 0x28
+    frame.get(SECTION_ROW, FAS_COLUMN) == FAS[0]
+        && frame.get(SECTION_ROW, FAS_COLUMN + 1) == FAS[1]
+        && frame.get(SECTION_ROW, FAS_COLUMN + 2) == FAS[2]
+        && frame.get(SECTION_ROW, FAS_COLUMN + 3) == FAS[3]
+        && frame.get(SECTION_ROW, FAS_COLUMN + 4) == FAS[4]
+        && frame.get(SECTION_ROW, FAS_COLUMN + 5) == FAS[5]
 }

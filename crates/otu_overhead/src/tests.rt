@@ -1,5 +1,5 @@
 // The overhead of worked frames.
-use crate::{OtuCheck, OtuWriter};
+use crate::{OtuCheck, OtuWriter, line_mask};
 use frame_geometry::Frame;
 use otn_base::Trace;
 use std::test::Fail;
@@ -36,5 +36,27 @@ fn section_of_five_frames(rt: HostRuntime) -> Result<(), Fail> {
     }
     assert_eq!(rt; check.fas(), 1);
     assert_eq!(rt; check.sm(), 1);
+    Ok(())
+}
+
+// The sequence begins again after 2^16 - 1 bits: its bits 65,536 to 65,559 are those from 1 to 24.
+#[test]
+fn mask_of_a_scrambled_line(rt: HostRuntime) -> Result<(), Fail> {
+    let mut mask = Frame::<4080>::new(rt.alloc())?;
+    mask.set(1, 1, 7);
+    line_mask(mask.as_bytes_mut());
+    for (row, col, byte) in [
+        (1, 1, 0_u8),
+        (1, 6, 0),
+        (1, 7, 0xFF),
+        (1, 8, 0xFF),
+        (1, 9, 0x4E),
+        (1, 10, 0x91),
+        (3, 39, 0xFF),
+        (3, 40, 0xFE),
+        (3, 41, 0x9D),
+    ] {
+        assert_eq!(rt; mask.get(row, col), byte, "row {row}, column {col}");
+    }
     Ok(())
 }

@@ -1,17 +1,16 @@
-// What writes the overhead of OTU2 frames.
+// What writes the overhead of the frames of a line.
 ghost use Rattle.std.specs.Prelude.{◌≡◌, ℕ, List, [], ◌∷◌, ◌++◌, length};
 ghost use Rattle.frame_overhead.specs.Parity.{parity_of};
 
 use frame_geometry::Frame;
+use frame_geometry::overhead::{FAS, FAS_COLUMN, FEC_COLUMN, SECTION_ROW};
 use frame_overhead::{ParityDelay, parity, put_run};
 use otn_base::Trace;
 use otn_base::limits::LINE_COLUMNS;
 use std::marker::Model;
 
-// The first column of the FEC field (G.709 clause 11.1), and how many there are.
-const FEC_COLUMN: u32 = 3825;
-
-const FEC_COLUMNS: usize = 256;
+// Columns of the FEC field (G.709 clause 11.1).
+const FEC_COLUMNS: usize = LINE_COLUMNS + 1 - FEC_COLUMN as usize;
 
 /// Writes the overhead of the frames of a line, one after the other. Contracts say which frames were written so far.
 #[derive(Clone, Copy, Drop)]
@@ -35,7 +34,7 @@ impl OtuWriter {
 
     /// No frame was written.
     pub fn new() -> OtuWriter
-        ensures { HasSent 4080 [] result }
+        ensures { HasSent LINE_COLUMNS [] result }
     {
         OtuWriter {
             parities: ParityDelay::new(),
@@ -45,9 +44,9 @@ impl OtuWriter {
     /// Writes row 1, columns 1 to 14, and the FEC columns of the next frame, which has this MFAS; every other byte stays.
     /// The SM parity is that of the frame two before, 0 in the first two frames.
     pub fn write(&mut self, frame: &mut Frame<LINE_COLUMNS>, mfas: u8, trace: &Trace)
-        ensures frame { (frames : List (List ℕ)) → HasSent 4080 frames self.old
-            → IsOtuFrame trace.now mfas (or_zero (parity_due 4080 frames)) frame.old frame.new }
-        ensures sent { (frames : List (List ℕ)) → HasSent 4080 frames self.old → HasSent 4080 (frames ++ frame.new ∷ []) self.new }
+        ensures frame { (frames : List (List ℕ)) → HasSent LINE_COLUMNS frames self.old
+            → IsOtuFrame trace.now mfas (or_zero (parity_due LINE_COLUMNS frames)) frame.old frame.new }
+        ensures sent { (frames : List (List ℕ)) → HasSent LINE_COLUMNS frames self.old → HasSent LINE_COLUMNS (frames ++ frame.new ∷ []) self.new }
     {
         let parity = parity(frame);
         self.write_with(frame, mfas, trace, parity);
@@ -61,11 +60,11 @@ impl OtuWriter {
         trace: &Trace,
         parity: u8,
     )
-        requires { parity ≡ parity_of 4080 frame.old }
-        ensures frame { (frames : List (List ℕ)) → HasSent 4080 frames self.old
-            → IsOtuFrame trace.now mfas (or_zero (parity_due 4080 frames)) frame.old frame.new }
-        ensures sent { (frames : List (List ℕ)) → HasSent 4080 frames self.old → HasSent 4080 (frames ++ frame.new ∷ []) self.new }
-        ensures parity { parity_of 4080 frame.new ≡ parity }
+        requires { parity ≡ parity_of LINE_COLUMNS frame.old }
+        ensures frame { (frames : List (List ℕ)) → HasSent LINE_COLUMNS frames self.old
+            → IsOtuFrame trace.now mfas (or_zero (parity_due LINE_COLUMNS frames)) frame.old frame.new }
+        ensures sent { (frames : List (List ℕ)) → HasSent LINE_COLUMNS frames self.old → HasSent LINE_COLUMNS (frames ++ frame.new ∷ []) self.new }
+        ensures parity { parity_of LINE_COLUMNS frame.new ≡ parity }
     {
         let bip = self.parities.due_byte();
         put_section(frame, mfas, trace.byte(mfas), bip);
@@ -78,12 +77,11 @@ ghost use Rattle.otu_overhead.specs.Section.{HasSection};
 // Writes row 1, columns 1 to 14, and the FEC columns; every other byte stays.
 fn put_section(frame: &mut Frame<LINE_COLUMNS>, mfas: u8, tti: u8, bip: u8)
     ensures section { HasSection mfas tti bip frame.old frame.new }
-    ensures parity { parity_of 4080 frame.new ≡ parity_of 4080 frame.old }
+    ensures parity { parity_of LINE_COLUMNS frame.new ≡ parity_of LINE_COLUMNS frame.old }
 {
-    let section = [
-        0xF6, 0xF6, 0xF6, 0x28, 0x28, 0x28, mfas, tti, bip, 0, 0, 0, 0, 0,
-    ];
-    put_run(frame, 1, 1, &section);
+    let [a, b, c, d, e, f] = FAS;
+    let section = [a, b, c, d, e, f, mfas, tti, bip, 0, 0, 0, 0, 0];
+    put_run(frame, SECTION_ROW, FAS_COLUMN, &section);
     let fec = [0; FEC_COLUMNS];
     put_run(frame, 1, FEC_COLUMN, &fec);
     put_run(frame, 2, FEC_COLUMN, &fec);
