@@ -3,6 +3,9 @@ use Rattle.std.proofs.Common.{◌≡◌, ◌↔◌, ℕ, ◌+◌, ◌-◌, ◌/�
 use Rattle.std.proofs.lemmas.List.{length-take}
 use borrow.Author.Tests.{ltb-true}
 use Rattle.std.proofs.lemmas.Bool.Decides.{nat_tests}
+use Rattle.otn_base.specs.LineSlots.{slots_of}
+use Rattle.otn_base.specs.declared.line_kind.LineKind.{LineKind}
+use Rattle.otn_base.specs.declared.line_kind.LineKind.TheVariants.{Otu2, Otu3}
 use Rattle.multiframe.specs.LineTurns.{Lock, Whole, outcome_of, after_outcome, wrong_count}
 use Rattle.multiframe.specs.Alignment.{HasMultiframe, after_end, taken_of, IsAlignmentOf}
 
@@ -49,3 +52,8 @@ by_tests size ms lock false false e f pos =
 
 pub turn_law : (size : ℕ) (ms : List ℕ) (lock : Lock) → 0 < size → TurnLaw size ms lock
 turn_law size ms lock pos = by_tests size ms lock _ _ refl refl pos
+
+-- a line of either kind has slots
+pub some_slots : (kind : LineKind) → 0 < slots_of kind
+some_slots Otu2 = omega arith
+some_slots Otu3 = omega arith

@@ -1,11 +1,17 @@
 -- How a line stands within a turn, by the MFAS bytes that were taken in it.
 use Rattle.std.specs.Prelude.{◌≡◌, ◌≤◌, ℕ, ◌+◌, ◌/◌, ◌%◌, ◌==◌, nat_le, if◌then◌else◌, List, [], ◌∷◌, ◌++◌, length, take, drop, Option, Some, None, ⊤, Bool, IsTrue, ◌↔◌}
+use Rattle.otn_base.specs.declared.line_kind.LineKind.{LineKind}
 use Rattle.multiframe.specs.LineTurns.{Lock, Standing, Hunting, Locked, Ended, Whole, outcome_of, after_outcome, wrong_count}
 
 -- a line that is locked: the MFAS that is expected in the turn's first frame, and those that were taken in this turn
 pub record Alignment : Type 0 where
   pub expected : ℕ
   pub taken : List ℕ
+
+-- what is seen of the multiframe alignment of a line: the line's kind, and its alignment where it is locked
+pub record LinePhase : Type 0 where
+  pub kind : LineKind
+  pub alignment : Option Alignment
 
 -- locked, and no frame of the turn was taken
 abbrev pub aligned_at : ℕ → Alignment

@@ -1,81 +1,87 @@
 // Where a line stands: it hunts for a multiframe, or is locked on one.
 ghost use Rattle.std.specs.Prelude.{◌≡◌, ◌↔◌, ◌+◌, ◌%◌, ◌<◌, ℕ, List, Some, None, IsTrue, IsSome, IsSomeAnd, IfSome, option_map, length};
+ghost use Rattle.otn_base.specs.LineSlots.{IsSlotNumber, slots_of};
 ghost use Rattle.multiframe.specs.LineTurns.{begins, wrong_count};
 
-use otn_base::limits::MULTIFRAME;
+use otn_base::LineKind;
+use otn_base::limits::MOST_SLOTS;
 use std::marker::Model;
 
-/// A line that is locked.
+// A line that is locked: the first MFAS bytes of `taken` are those of the frames that were taken in this turn.
 #[derive(Clone, Copy)]
 struct Locked {
     expected: u8,
-    taken: [u8; MULTIFRAME],
+    taken: [u8; MOST_SLOTS],
     count: usize,
 }
 
-/// The multiframe alignment of a line (G.709 clause 15.6). It hunts, or it is locked: it expects an MFAS in the
-/// first frame of the turn and one more in each next one, modulo 256, and takes those that come.
+/// The multiframe alignment of a line of either kind (G.709 clause 15.6), of S frames a multiframe: as many as the line
+/// has slots. It hunts, or it is locked: it expects an MFAS in the first frame of the turn and one more in each next one,
+/// modulo 256, and takes those that come.
 #[derive(Drop)]
 pub struct Phase {
+    kind: LineKind,
     locked: Option<Locked>,
 }
 
 impl Model for Phase {
-    ghost use Rattle.std.specs.Prelude.{◌≤◌, Option, option_map, take};
+    ghost use Rattle.std.specs.Prelude.{◌≤◌, option_map, take};
     ghost use Rattle.std.specs.Option.{ForSome};
-    ghost use Rattle.multiframe.specs.Alignment.{Alignment};
+    ghost use Rattle.otn_base.specs.LineSlots.{slots_of};
+    ghost use Rattle.multiframe.specs.Alignment.{LinePhase};
 
-    ghost Value = { Option Alignment };
+    ghost Value = { LinePhase };
 
-    ghost view = { λ p. option_map (λ l. record { expected = l.expected; taken = take l.count l.taken }) p.locked };
+    ghost view = { λ p. record { kind = p.kind; alignment = option_map (λ l. record { expected = l.expected; taken = take l.count l.taken }) p.locked } };
 
-    ghost invariant = { λ p. ForSome p.locked (λ l. l.count ≤ 8) };
+    ghost invariant = { λ p. ForSome p.locked (λ l. l.count ≤ slots_of p.kind) };
 }
 
-/// Whether a multiframe may begin with a frame of the first MFAS, where the next frame has the second: the first is
-/// a multiple of 8, and the second is one more.
-pub fn starts(first: u8, second: u8) -> bool
-    ensures { result ≡ begins 8 first second }
+/// Whether a multiframe of a line of this kind may begin with a frame of the first MFAS, where the next frame has the
+/// second: the first is a multiple of the number of the line's slots, and the second is one more.
+pub fn starts(first: u8, second: u8, kind: LineKind) -> bool
+    ensures { result ≡ begins (slots_of kind) first second }
 {
-    first as usize % MULTIFRAME == 0 && second == first + 1
+    first % kind.slots() == 0 && second as u32 == first as u32 + 1
 }
 
 impl Phase {
     ghost use Rattle.multiframe.specs.Alignment.{Alignment, aligned_at, with_frame, HasMultiframe, after_end, taken_of, EndsTurn};
     ghost use Rattle.multiframe.specs.LineTurns.{Lock};
 
-    /// Hunts.
-    pub fn new() -> Phase
-        ensures { result ≡ None }
+    /// A line of this kind, which hunts.
+    pub fn new(kind: LineKind) -> Phase
+        ensures { result ≡ record { kind = kind; alignment = None } }
     {
-        Phase { locked: None }
+        Phase { kind, locked: None }
     }
 
     /// Whether the line hunts.
     pub fn hunting(&self) -> bool
-        ensures { IsTrue result ↔ (self.now ≡ None) }
+        ensures { IsTrue result ↔ (self.now.alignment ≡ None) }
     {
         self.locked.is_none()
     }
 
-    /// Locks on a multiframe that begins with a frame of this MFAS, of which no frame was taken yet.
+    /// Locks on a multiframe that begins with a frame of this MFAS, a multiple of the number of the line's slots. No
+    /// frame of it was taken yet.
     pub fn lock(&mut self, mfas: u8)
-        requires hunting { self.old ≡ None }
-        requires first { mfas % 8 ≡ 0 }
-        ensures { self.new ≡ Some (aligned_at mfas) }
+        requires hunting { self.old.alignment ≡ None }
+        requires first { mfas % slots_of self.old.kind ≡ 0 }
+        ensures { self.new ≡ record { kind = self.old.kind; alignment = Some (aligned_at mfas) } }
     {
         self.locked = Some(Locked {
             expected: mfas,
-            taken: [0; MULTIFRAME],
+            taken: [0; MOST_SLOTS],
             count: 0,
         });
     }
 
     /// The MFAS that is expected in frame n of the turn, from 0.
     pub fn expected(&self, n: u8) -> u8
-        requires locked { IsSome self.now }
-        requires frame { n < 8 }
-        ensures { IfSome self.now (λ a. result ≡ (a.expected + n) % 256) }
+        requires locked { IsSome self.now.alignment }
+        requires frame { n < slots_of self.now.kind }
+        ensures { IfSome self.now.alignment (λ a. result ≡ (a.expected + n) % 256) }
     {
         match &self.locked {
             Some(locked) => locked.expected.wrapping_add(n),
@@ -85,8 +91,8 @@ impl Phase {
 
     /// Takes the MFAS of the next frame of the turn.
     pub fn take(&mut self, mfas: u8)
-        requires { IsSomeAnd self.old (λ a. length a.taken < 8) }
-        ensures { self.new ≡ option_map (with_frame mfas) self.old }
+        requires { IsSomeAnd self.old.alignment (λ a. length a.taken < slots_of self.old.kind) }
+        ensures { self.new ≡ record { kind = self.old.kind; alignment = option_map (with_frame mfas) self.old.alignment } }
     {
         if let Some(locked) = &mut self.locked {
             locked.taken[locked.count] = mfas;
@@ -94,40 +100,50 @@ impl Phase {
         }
     }
 
-    /// Ends the turn, and says whether it has a multiframe: all eight frames were taken, and at most four of them
-    /// had another MFAS than the expected one. Where five or more had, the line hunts. Where fewer than eight were
-    /// taken, it stays as it stood before the turn.
+    /// Ends the turn, and says whether it has a multiframe: all of its frames were taken, and at most half of them had
+    /// another MFAS than the expected one. Where more had, the line hunts. Where not all were taken, it stays as it
+    /// stood before the turn.
     pub fn end_turn(&mut self) -> bool
-        ensures multiframe { IsTrue result ↔ HasMultiframe 8 self.old }
-        ensures after { self.new ≡ after_end 8 self.old }
+        ensures multiframe { IsTrue result ↔ HasMultiframe (slots_of self.old.kind) self.old.alignment }
+        ensures after { self.new ≡ record { kind = self.old.kind; alignment = after_end (slots_of self.old.kind) self.old.alignment } }
 
         // where the frames of a locked turn of a line were taken, this ends that turn
-        ensures line { (ms : List ℕ) (lock : Lock) → self.old ≡ Some (taken_of 8 ms lock) → EndsTurn 8 ms lock result self.new }
+        ensures line { (ms : List ℕ) (lock : Lock) → self.old.alignment ≡ Some (taken_of (slots_of self.old.kind) ms lock)
+            → EndsTurn (slots_of self.old.kind) ms lock result self.new.alignment }
     {
         self.close()
     }
 
     fn close(&mut self) -> bool
-        ensures multiframe { IsTrue result ↔ HasMultiframe 8 self.old }
-        ensures after { self.new ≡ after_end 8 self.old }
+        ensures multiframe { IsTrue result ↔ HasMultiframe (slots_of self.old.kind) self.old.alignment }
+        ensures after { self.new ≡ record { kind = self.old.kind; alignment = after_end (slots_of self.old.kind) self.old.alignment } }
     {
+        let frames = self.frames();
         let Some(locked) = self.locked else {
             return false;
         };
-        if locked.count < MULTIFRAME {
+        if locked.count < frames {
             self.locked = Some(Locked { count: 0, ..locked });
             return false;
         }
-        if wrong_among(locked.expected, &locked.taken) > MULTIFRAME / 2 {
+        if wrong_among(locked.expected, &locked.taken[..frames]) > frames / 2 {
             self.locked = None;
             return false;
         }
         self.locked = Some(Locked {
-            expected: locked.expected.wrapping_add(MULTIFRAME as u8),
+            expected: locked.expected.wrapping_add(frames as u8),
             count: 0,
             ..locked
         });
         true
+    }
+
+    // How many frames a multiframe has.
+    fn frames(&self) -> usize
+        ensures frames { result ≡ slots_of self.now.kind }
+        ensures number { IsSlotNumber result }
+    {
+        self.kind.slots() as usize
     }
 }
 

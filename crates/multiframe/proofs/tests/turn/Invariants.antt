@@ -3,4 +3,7 @@ use Rattle.std.specs.Prelude.{IsSomeAnd}
 use Rattle.multiframe.proofs.tests.turn.Given as goal
 
 abbrev pub invariant-loop-mfas : goal.invariant-loop-mfas
-invariant-loop-mfas l = IsSomeAnd l.phase (λ a. length a.taken ≡ l.mfas-index)
+invariant-loop-mfas l = record {
+  kind : l.phase.kind ≡ l.fn.kind;
+  taken : IsSomeAnd l.phase.alignment (λ a. length a.taken ≡ l.mfas-index);
+}
