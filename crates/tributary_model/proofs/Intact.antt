@@ -44,13 +44,13 @@ carried_turn own bytes p views a s b u n i r e low high =
       is = seen.1.0;
       turn = subst (λ x. CarriesTurn own bytes p x seen.0) place seen.1.1;
       whole = subst (IsWholeTurn m) seen.1.0 (r.whole (a + n) (omega arith) high);
-      fits = subst (λ x. number_in m p x ≤ 15232) place (r.fits (a + n) low high);
+      fits = subst (λ x. number_in m p x ≤ 15232) place (r.carries.fits (a + n) low high);
       within = omega arith;
       reaches = reached_before own bytes p views a s b u i r (omega arith);
     }
 
 fits_at : (own : Tributary) (bytes p : List ℕ) (views : ℕ → Option View) (a s b u i : ℕ) → Arrives own bytes p views a s b u → b ≤ s + i → s + i ≤ u → number_in (length own.slots) p i ≤ 15232
-fits_at own bytes p views a s b u i r low high = subst (λ x. number_in (length own.slots) p x ≤ 15232) (let e : s + i - s ≡ i = omega arith in e) (r.fits (s + i) low high)
+fits_at own bytes p views a s b u i r low high = subst (λ x. number_in (length own.slots) p x ≤ 15232) (let e : s + i - s ≡ i = omega arith in e) (r.carries.fits (s + i) low high)
 
 all_whole : (own : Tributary) (bytes p : List ℕ) (views : ℕ → Option View) (a s b u n : ℕ) → Arrives own bytes p views a s b u → a + n ≤ u + 1 → AreWholeTurns (length own.slots) (past_of views a n)
 all_whole own bytes p views a s b u zero r h = tt

@@ -19,3 +19,5 @@ pub mod PutPlaces
 pub mod PutCarries
 pub mod PutOn
 pub mod PutApart
+pub mod Greatest
+pub mod OnLine

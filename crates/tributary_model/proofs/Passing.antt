@@ -208,13 +208,13 @@ passes_on own next ais bytes p views others s u w r stop sends =
         order = omega arith;
         numbers = omega arith;
         enough = (let a = sent_later p (w + 1 - s) in let b = sent_up p (w + 1 - s - 3) (u + 1 - s) (omega arith) in omega arith);
+        fits = λ t low high.
+            subst (λ k. number_in k q (t - s) ≤ 15232) (sym slots)
+            (later_fits m p (t - s) (λ i e. subst (λ x. number_in m p x ≤ 15232) (let f : s + i - s ≡ i = omega arith in f) (r.carries.fits (s + i) (omega arith) (omega arith))));
         each = λ t low high.
             let seen = sends.each t low high in
             (seen.0, (seen.1.0, sent_turn own next ais bytes p views others s u (t - s) seen.0 r slots (omega arith) seen.1.1));
       };
-      fits = λ t low high.
-          subst (λ k. number_in k q (t - s) ≤ 15232) (sym slots)
-          (later_fits m p (t - s) (λ i e. subst (λ x. number_in m p x ≤ 15232) (let f : s + i - s ≡ i = omega arith in f) (r.fits (s + i) (omega arith) (omega arith))));
       steady = subst (λ k. IsSteady k (take (w + 1 - s) q)) (sym slots) (steady_later m (w + 1 - s) (u + 1 - s) p (omega arith) r.steady);
     }
 

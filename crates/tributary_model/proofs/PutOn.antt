@@ -62,6 +62,7 @@ carries_all_that_is_put own turns frames s u h =
       order = omega arith;
       numbers = (let many = length-map turns length in omega arith);
       enough = sent_inside turns (u + 1 - s);
+      fits = λ t low high. h.fits (t - s) (omega arith);
       each = λ t low high.
           let seen = h.each t low high in (
             view_of own seen.0,
@@ -81,7 +82,6 @@ arrives_as_it_is_put own turns frames s u h steady = record {
   order = omega arith;
   whole = λ t low high. let seen = h.each t low high in shown_whole own seen.0 (frames t) h.own_is seen.1.0 seen.1.1.many;
   carries = carries_all_that_is_put own turns frames s u h;
-  fits = λ t low high. h.fits (t - s) (omega arith);
   steady = steady;
 }
 

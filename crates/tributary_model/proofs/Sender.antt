@@ -140,9 +140,9 @@ can_be_carried own bytes p s u some few numbers enough fits steady = (
       order = omega arith;
       numbers = numbers;
       enough = enough;
+      fits = λ t low high. fits (t - s) (omega arith);
       each = λ t low high. (view_sent own bytes p (t - s), (refl, sent_carries own bytes p (t - s) some few));
     };
-    fits = λ t low high. fits (t - s) (omega arith);
     steady = steady;
   },
 )

@@ -1,5 +1,6 @@
 -- What a sink emits of the bytes that its views carry.
 use Rattle.std.specs.Prelude.{◌≡◌, ℕ, ◌+◌, ◌-◌, ◌*◌, ◌/◌, ◌%◌, ◌<◌, ◌≤◌, List, ◌∷◌, false, Option, Some, length, take, slice_index, slice_range}
+use Rattle.otn_base.specs.declared.limits.TheConstants.{GROUPS, MOST_SLOTS}
 use Rattle.tributary_model.specs.declared.turns.SinkState.TheVariants.{Up, Down}
 use Rattle.tributary_model.specs.Places.{Tributary, View, IsWholeTurn}
 use Rattle.tributary_model.specs.Stretches.{any_marked, state_after}
@@ -7,14 +8,12 @@ use Rattle.tributary_model.specs.Emission.{emission}
 use Rattle.tributary_model.specs.Carries.{sent, number_in, Carries, IsSteady, past_of}
 
 -- The views of a connection that began with turn a. Whatever those before turn b are, those from b to u carry the bytes by the
--- numbers of p, of a sender that began with turn s. Up to turn u the numbers are steady, and bring in no turn from b on more groups
--- than a multiframe has.
+-- numbers of p, of a sender that began with turn s. Up to turn u the numbers are steady.
 pub record Arrives (own : Tributary) (bytes p : List ℕ) (views : ℕ → Option View) (a s b u : ℕ) : Type 0 where
   pub slots : 0 < length own.slots
   pub order : a ≤ b
   pub whole : (t : ℕ) → a ≤ t → t ≤ u → IsWholeTurn (length own.slots) (views t)
   pub carries : Carries own bytes p views s b u
-  pub fits : (t : ℕ) → b ≤ t → t ≤ u → number_in (length own.slots) p (t - s) ≤ 15232
   pub steady : IsSteady (length own.slots) (take (u + 1 - s) p)
 
 -- the sink of a connection that began with turn a is Up after turn t
@@ -72,6 +71,6 @@ IsUpAfterDamage = (own : Tributary) (bytes p : List ℕ) (views : ℕ → Option
 -- Whatever the bytes are, in such numbers there are views that carry them.
 abbrev pub CanBeCarried : Type 0
 CanBeCarried = (own : Tributary) (bytes p : List ℕ) (s u : ℕ)
-    → 0 < length own.slots → length own.slots ≤ 32 → u + 1 - s ≤ length p → sent p (u + 1 - s) ≤ length bytes
-    → ((i : ℕ) → s + i ≤ u → number_in (length own.slots) p i ≤ 15232) → IsSteady (length own.slots) (take (u + 1 - s) p)
+    → 0 < length own.slots → length own.slots ≤ MOST_SLOTS → u + 1 - s ≤ length p → sent p (u + 1 - s) ≤ length bytes
+    → ((i : ℕ) → s + i ≤ u → number_in (length own.slots) p i ≤ GROUPS) → IsSteady (length own.slots) (take (u + 1 - s) p)
     → (views : ℕ → Option View) × Arrives own bytes p views s s s u

@@ -1,5 +1,6 @@
 -- What it is that a tributary carries a client's bytes.
 use Rattle.std.specs.Prelude.{◌≡◌, ◌⊎◌, ℕ, zero, suc, ◌+◌, ◌*◌, ◌/◌, ◌%◌, ◌-◌, ◌≤◌, List, [], ◌∷◌, ◌++◌, All, Option, Some, None, length, take, drop, map, sum, slice_get}
+use Rattle.otn_base.specs.declared.limits.TheConstants.{GROUPS}
 use Rattle.gmp_rule.specs.DataRule.{IsData}
 use Rattle.msi_table.specs.Marks.{msi_byte}
 use Rattle.jc_codec.specs.Message.{says}
@@ -36,8 +37,8 @@ cleared bytes = take 3 bytes ++ map (λ b. b % 32) (drop 3 bytes)
 abbrev pub CarriesGroups : (m : ℕ) → (bytes p : List ℕ) → (t : ℕ) → List (List ℕ) → Type 0
 CarriesGroups m bytes p t groups =
     let c = number_before m p t in
-    (j : ℕ) → 1 ≤ j → j ≤ 15232 → IsData c j
-    → slice_get groups (j - 1) ≡ Some (take m (drop (m * (sent p (t - 1) / m + j * c / 15232 - 1)) bytes))
+    (j : ℕ) → 1 ≤ j → j ≤ GROUPS → IsData c j
+    → slice_get groups (j - 1) ≡ Some (take m (drop (m * (sent p (t - 1) / m + j * c / GROUPS - 1)) bytes))
 
 -- the view of turn t, from 0, of a sender that takes the bytes by the numbers of p
 pub record CarriesTurn (own : Tributary) (bytes p : List ℕ) (t : ℕ) (view : View) : Type 0 where
@@ -46,11 +47,12 @@ pub record CarriesTurn (own : Tributary) (bytes p : List ℕ) (t : ℕ) (view : 
   pub groups : CarriesGroups (length own.slots) bytes p t view.groups
 
 -- The views of a line's turns carry the bytes by the numbers of p from turn b to turn u, where the sender began with turn s:
--- from s on, where b is s.
+-- from s on, where b is s. The number of each of these turns fits a multiframe: it brings no more groups than one has.
 pub record Carries (own : Tributary) (bytes p : List ℕ) (views : ℕ → Option View) (s b u : ℕ) : Type 0 where
   pub order : s ≤ b
   pub numbers : u + 1 - s ≤ length p
   pub enough : sent p (u + 1 - s) ≤ length bytes
+  pub fits : (t : ℕ) → b ≤ t → t ≤ u → number_in (length own.slots) p (t - s) ≤ GROUPS
   pub each : (t : ℕ) → b ≤ t → t ≤ u → (view : View) × ((views t ≡ Some view) × CarriesTurn own bytes p (t - s) view)
 
 -- each number from the first on that is not 0 is at least m

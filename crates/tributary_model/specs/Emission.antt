@@ -2,6 +2,7 @@
 -- C and D are the numbers Cm and CnD that a turn's message says, and M (m) is how many slots the tributary has.
 use Rattle.std.specs.Prelude.{ℕ, suc, ◌+◌, ◌*◌, max, min, List, [], ◌∷◌, ◌++◌, if◌then◌else◌, Option, length, map, ◌-◌}
 use Rattle.std.specs.List.{flat_map, enumerate_from, range_with_len, slice_range}
+use Rattle.otn_base.specs.declared.limits.TheConstants.{NOMINAL}
 use Rattle.gmp_rule.specs.DataRule.{is_data_at}
 use Rattle.tributary_model.specs.Places.{Tributary, View}
 use Rattle.tributary_model.specs.Stretches.{Member, Part, WaitingTurn, DownTurn, StretchTurn, EndingTurn, any_marked, next_part, course}
@@ -62,10 +63,10 @@ unfoldable pub stream_bytes : (ℕ → ℕ) → (place n : ℕ) → List ℕ
 stream_bytes stream place n = map stream (range_with_len place n)
 
 -- what a turn emits after these, where a Down turn emits the next bytes of a stream: the d-th of a run of them those from
--- (d - 1) * M * 15168 on, M * 15168 in number
+-- (d - 1) * M * NOMINAL on, M * NOMINAL in number
 abbrev pub emits : (m : ℕ) → (ais : ℕ → ℕ) → List Part → Part → List ℕ
 emits m ais parts WaitingTurn = []
-emits m ais parts DownTurn = stream_bytes ais (down_run parts * (m * 15168)) (m * 15168)
+emits m ais parts DownTurn = stream_bytes ais (down_run parts * (m * NOMINAL)) (m * NOMINAL)
 emits m ais parts (StretchTurn stretch) = emits_in m stretch
 emits m ais parts (EndingTurn stretch) = emits_at_end m stretch
 
@@ -77,7 +78,7 @@ emission own ais past view = let parts = course own past in
 -- how many bytes a turn emits, by the totals alone
 abbrev pub amount_of : (m : ℕ) → Part → ℕ
 amount_of m WaitingTurn = 0
-amount_of m DownTurn = m * 15168
+amount_of m DownTurn = m * NOMINAL
 amount_of m (StretchTurn []) = 0
 amount_of m (StretchTurn (turn ∷ rest)) = emitted_total m (turn ∷ rest) - emitted_total m rest
 amount_of m (EndingTurn stretch) = extracted_total m stretch - emitted_total m stretch

@@ -1,5 +1,6 @@
 -- What is proved of the definitions.
 use Rattle.std.specs.Prelude.{◌≡◌, ℕ, suc, ◌+◌, ◌*◌, ◌/◌, ◌<◌, ◌≤◌, List, [], ◌∷◌, Option, length}
+use Rattle.otn_base.specs.declared.limits.TheConstants.{PAYLOAD_COLUMNS}
 use Rattle.otn_base.specs.SlotList.{IsSlotList}
 use Rattle.tributary_model.specs.Places.{Tributary, View, Taken, byte_at, IsOwn, view_of, IsWhole, AreWholeTurns}
 use Rattle.tributary_model.specs.Stretches.{any_marked, next_part, course, state_after}
@@ -9,7 +10,7 @@ use Rattle.tributary_model.specs.Machine.{machine_after, gives, state_of_standin
 -- A tributary whose slots are slots of its line, on a line whose slots share the 3,808 payload columns evenly.
 pub record IsTributary (own : Tributary) : Type 0 where
   pub slots : IsSlotList own.line_slots own.slots
-  pub even : own.line_slots * (3808 / own.line_slots) ≡ 3808
+  pub even : own.line_slots * (PAYLOAD_COLUMNS / own.line_slots) ≡ PAYLOAD_COLUMNS
 
 -- two frames that stand as frame n of a multiframe agree at each own place
 pub record SameOwnPlaces (own : Tributary) (n : ℕ) (one other : Taken) : Type 0 where

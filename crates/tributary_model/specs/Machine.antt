@@ -1,5 +1,6 @@
 -- The sink without totals: it keeps what its stretch said last, the bytes that it has not emitted, and its place in the AIS stream.
 use Rattle.std.specs.Prelude.{ℕ, ◌+◌, ◌*◌, nat_le, List, [], ◌∷◌, ◌++◌, Bool, true, false, if◌then◌else◌, Option, Some, None, length, take, drop}
+use Rattle.otn_base.specs.declared.limits.TheConstants.{NOMINAL}
 use Rattle.tributary_model.specs.declared.turns.Hearing.{Hearing}
 use Rattle.tributary_model.specs.declared.turns.Hearing.TheVariants.{Damaged, Lost, Pair}
 use Rattle.tributary_model.specs.declared.turns.Said.{Said}
@@ -84,7 +85,7 @@ went_on None said pending fresh = record { standing = Down; pending = []; place 
 -- the machine after a turn in which this was heard, and these bytes extracted
 abbrev pub after_standing : (m : ℕ) → Option Hearing → (fresh : List ℕ) → Machine → Standing → Machine
 after_standing m heard fresh s (Waiting n) = opened (begins heard) (waits_on n)
-after_standing m heard fresh s Down = opened (begins heard) (record { standing = Down; pending = []; place = s.place + m * 15168 })
+after_standing m heard fresh s Down = opened (begins heard) (record { standing = Down; pending = []; place = s.place + m * NOMINAL })
 after_standing m heard fresh s (Up said) = went_on (stays heard said) said s.pending fresh
 
 abbrev pub after_heard : (m : ℕ) → Option Hearing → (fresh : List ℕ) → Machine → Machine
@@ -101,7 +102,7 @@ up_gives None said pending fresh = pending
 
 abbrev pub gives_standing : (m : ℕ) → (ais : ℕ → ℕ) → Option Hearing → (fresh : List ℕ) → Machine → Standing → List ℕ
 gives_standing m ais heard fresh s (Waiting n) = []
-gives_standing m ais heard fresh s Down = down_gives (begins heard) (stream_bytes ais s.place (m * 15168))
+gives_standing m ais heard fresh s Down = down_gives (begins heard) (stream_bytes ais s.place (m * NOMINAL))
 gives_standing m ais heard fresh s (Up said) = up_gives (stays heard said) said s.pending fresh
 
 abbrev pub gives_heard : (m : ℕ) → (ais : ℕ → ℕ) → Option Hearing → (fresh : List ℕ) → Machine → List ℕ

@@ -1,6 +1,8 @@
 -- The own places of a tributary in a multiframe of its line, and what stands there.
 use Rattle.std.specs.Prelude.{◌≡◌, ◌⊎◌, ℕ, ◌+◌, ◌/◌, ◌-◌, ◌≤◌, ◌==◌, max, List, [], ◌∷◌, if◌then◌else◌, Option, Some, None, slice_index, slice_get, map, option_map, length, All}
 use Rattle.std.specs.List.{flat_map, range_with_len, Contains}
+use Rattle.otn_base.specs.declared.limits.TheConstants.{GROUPS, LINE_COLUMNS, PAYLOAD_COLUMNS}
+use Rattle.otn_base.specs.LineSlots.{LineSlots, slots_of}
 use Rattle.frame_geometry.specs.Places.{place_of}
 use Rattle.odtu_columns.specs.Columns.{slot_of}
 use Rattle.odtu_columns.specs.Groups.{group_at}
@@ -12,9 +14,13 @@ pub record Tributary : Type 0 where
   pub slots : List ℕ
   pub port : ℕ
 
+-- G.709 clause 19.1: the tributary of a port on these slots, of a line that has as many slots as its kind
+abbrev pub tributary_of : LineSlots → (port : ℕ) → Tributary
+tributary_of slots port = record { line_slots = slots_of slots.kind; slots = slots.list; port = port }
+
 -- G.709 clause 11.1: the byte in a row and a column, both from 1, of an OTU2 frame of 4 rows of 4,080 columns
 abbrev pub byte_at : List ℕ → (row column : ℕ) → ℕ
-byte_at frame row column = slice_index frame (place_of 4080 row column)
+byte_at frame row column = slice_index frame (place_of LINE_COLUMNS row column)
 
 -- a frame of a multiframe: its bytes, and the MFAS number that is expected there
 pub record Taken : Type 0 where
@@ -52,7 +58,7 @@ IsOwn own n expected row column = IsOwnPayload own row column ⊎ IsOwnMessage o
 
 -- the groups of a row: its 3,808 payload columns in cycles
 unfoldable pub row_groups : Tributary → List ℕ → (row : ℕ) → List (List ℕ)
-row_groups own frame row = map (λ cycle. group_at own.line_slots own.slots row cycle frame) (range_with_len 0 (3808 / own.line_slots))
+row_groups own frame row = map (λ cycle. group_at own.line_slots own.slots row cycle frame) (range_with_len 0 (PAYLOAD_COLUMNS / own.line_slots))
 
 -- the groups of a frame, row by row
 unfoldable pub frame_groups : Tributary → List ℕ → List (List ℕ)
@@ -91,7 +97,7 @@ turn_view own turn = option_map (view_of own) turn
 
 -- a view as a whole multiframe gives it: all 15,232 groups, each with a byte for each of m slots
 pub record IsWhole (m : ℕ) (view : View) : Type 0 where
-  pub many : length view.groups ≡ 15232
+  pub many : length view.groups ≡ GROUPS
   pub each : All (λ g. length g ≡ m) view.groups
 
 -- so is each turn that has a multiframe

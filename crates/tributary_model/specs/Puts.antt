@@ -2,6 +2,7 @@
 -- turn since it began on. Their numbers t count from 0, and A(t) is how many bytes the turns up to t have.
 use Rattle.std.specs.Prelude.{◌≡◌, ◌≢◌, ◌⊎◌, ℕ, suc, ◌+◌, ◌*◌, ◌/◌, ◌-◌, ◌≤◌, ◌==◌, List, [], ◌∷◌, ◌++◌, if◌then◌else◌, length, take, drop, map, replicate, slice_index}
 use Rattle.std.specs.List.{concat, Contains}
+use Rattle.otn_base.specs.declared.limits.TheConstants.{LINE_COLUMNS, PAYLOAD_COLUMNS}
 use Rattle.gmp_rule.specs.DataRule.{is_data_at, data_count}
 use Rattle.jc_codec.specs.Message.{says}
 use Rattle.cnd_codec.specs.Remainder.{says_rest}
@@ -43,7 +44,7 @@ place_among (k ∷ slots) slot = if k == slot then 0 else suc (place_among slots
 -- on from row to row and from frame to frame.
 abbrev pub group_at_place : (line_slots n row column : ℕ) → ℕ
 group_at_place line_slots n row column =
-    let cycles = 3808 / line_slots in
+    let cycles = PAYLOAD_COLUMNS / line_slots in
     cycles * (4 * n + (row - 1)) + (column - 17) / line_slots + 1
 
 -- the byte in a payload column of an own slot: that of the slot in the column's group
@@ -75,5 +76,5 @@ IsSourcePlace own n row column = IsOwnPayload own row column ⊎ IsOwnMessage ow
 -- What the source puts was put into a frame, in which every other byte is as it was.
 pub record WasPut (own : Tributary) (turns : List (List ℕ)) (t n : ℕ) (before now : List ℕ) : Type 0 where
   pub put : IsPut own turns t n now
-  pub kept : (row column : ℕ) → 1 ≤ row → row ≤ 4 → 1 ≤ column → column ≤ 4080 → (IsSourcePlace own n row column → ⊥)
+  pub kept : (row column : ℕ) → 1 ≤ row → row ≤ 4 → 1 ≤ column → column ≤ LINE_COLUMNS → (IsSourcePlace own n row column → ⊥)
       → byte_at now row column ≡ byte_at before row column

@@ -1,6 +1,7 @@
 -- What a source puts carries its bytes.
 use Rattle.std.specs.Prelude.{◌≡◌, ℕ, ◌+◌, ◌-◌, ◌≤◌, List, [], ◌∷◌, Option, Some, length, take, reverse, slice_get}
 use Rattle.std.specs.List.{concat, Contains}
+use Rattle.otn_base.specs.declared.limits.TheConstants.{GROUPS, MOST_SLOTS}
 use Rattle.msi_table.specs.Marks.{msi_byte}
 use Rattle.tributary_model.specs.Places.{Tributary, Taken, View, byte_at, IsOwnMsi, view_of, turn_view, IsWholeTurn}
 use Rattle.tributary_model.specs.Laws.{IsTributary}
@@ -13,7 +14,7 @@ use Rattle.tributary_model.specs.Puts.{lengths_of, IsPut, IsSourcePlace, WasPut}
 -- A tributary of a line that can be sent: its remainders fit the ten bits of a message. Lines have 8 or 32 slots.
 pub record IsSent (own : Tributary) : Type 0 where
   pub tributary : IsTributary own
-  pub few : length own.slots ≤ 32
+  pub few : length own.slots ≤ MOST_SLOTS
 
 -- the frames of a multiframe that have what the source puts in turn t, and whose own MSI bytes are the port's
 pub record ShowsTurn (own : Tributary) (turns : List (List ℕ)) (t : ℕ) (frames : List Taken) : Type 0 where
@@ -24,7 +25,7 @@ pub record ShowsTurn (own : Tributary) (turns : List (List ℕ)) (t : ℕ) (fram
 -- Their view carries the bytes of the turns, whatever else stands in them.
 abbrev pub CarriesWhatIsPut : Type 0
 CarriesWhatIsPut = (own : Tributary) (turns : List (List ℕ)) (t : ℕ) (frames : List Taken)
-    → IsSent own → number_before (length own.slots) (lengths_of turns) t ≤ 15232 → ShowsTurn own turns t frames
+    → IsSent own → number_before (length own.slots) (lengths_of turns) t ≤ GROUPS → ShowsTurn own turns t frames
     → CarriesTurn own (concat turns) (lengths_of turns) t (view_of own frames)
 
 -- In each turn from s to u of a line the frames have what a source puts that began with turn s, by the turns that it had until then.
@@ -32,7 +33,7 @@ CarriesWhatIsPut = (own : Tributary) (turns : List (List ℕ)) (t : ℕ) (frames
 pub record Sends (own : Tributary) (turns : List (List ℕ)) (frames : ℕ → Option (List Taken)) (s u : ℕ) : Type 0 where
   pub own_is : IsSent own
   pub enough : u + 1 - s ≤ length turns
-  pub fits : (i : ℕ) → s + i ≤ u → number_in (length own.slots) (lengths_of turns) i ≤ 15232
+  pub fits : (i : ℕ) → s + i ≤ u → number_in (length own.slots) (lengths_of turns) i ≤ GROUPS
   pub each : (t : ℕ) → s ≤ t → t ≤ u → (multiframe : List Taken) × ((frames t ≡ Some multiframe) × ShowsTurn own (take (t + 1 - s) turns) (t - s) multiframe)
 
 -- The line carries the bytes of all turns.

@@ -1,5 +1,6 @@
 // The laws about the definitions, each the contract of a function.
 ghost use Rattle.std.specs.Prelude.{◌≡◌, ◌+◌, ◌-◌, ◌*◌, ◌≤◌};
+ghost use Rattle.otn_base.specs.declared.limits.TheConstants.{GROUPS, MOST_SLOTS};
 ghost use Rattle.tributary_model.specs.Laws.{IsFixedByOwnPlaces, GivesWholeViews, EmitsTheAmount, GivesTheEmission, StandsAsDefined, EmitsAtMost, CompletesAtMost};
 
 use otn_base::limits::GROUPS;
@@ -11,21 +12,23 @@ pub fn own_places_alone()
     ensures whole { GivesWholeViews }
 {}
 
-/// The most bytes that a sink of `slots` slots emits in a turn. A buffer of so many bytes holds any
-/// turn's emission.
+/// The most bytes that a sink of `slots` slots emits in a turn, on a line of either kind. A buffer of so
+/// many bytes holds any turn's emission. No layer calls it yet: the node, which is to come, takes the
+/// buffers of its pipes by it.
 pub fn most_bytes(slots: usize) -> usize
     requires some { 1 ≤ slots }
-    requires few { slots ≤ 32 }
-    ensures value { result ≡ slots * 15232 + slots - 1 }
+    requires few { slots ≤ MOST_SLOTS }
+    ensures value { result ≡ slots * GROUPS + slots - 1 }
     ensures law { EmitsAtMost slots result }
 {
     slots * GROUPS + slots - 1
 }
 
-/// The most groups that a turn of a sink of `slots` slots completes.
+/// The most groups that a turn of a sink of `slots` slots completes: as many as a multiframe has, so the
+/// source that sends them on can say each turn's number. No layer calls it yet: the node waits for it too.
 pub fn most_groups(slots: usize) -> usize
     requires some { 1 ≤ slots }
-    ensures value { result ≡ 15232 }
+    ensures value { result ≡ GROUPS }
     ensures law { CompletesAtMost slots result }
 {
     GROUPS

@@ -1,6 +1,7 @@
 //! What a tributary is on a line (G.709 clause 19 and Annex D): its own places in a multiframe, its
 //! stretches, what its sink emits, and what it is to carry a client's bytes. The definitions are in
-//! `specs/`; the laws about them are the contracts of the functions in `laws` and `carriage`.
+//! `specs/`, for a line of either kind; the laws about them are the contracts of the functions in `laws`,
+//! `carriage` and `sending`.
 #![tactic(auto)]
 
 mod carriage;
