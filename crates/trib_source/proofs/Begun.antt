@@ -6,7 +6,7 @@ use Rattle.std.specs.List.{concat}
 use Rattle.std.proofs.lemmas.List.{length-drop, drop-drop, drop-append-le, take_all, take-append-le, map-append, length-map}
 use Rattle.std.proofs.lemmas.List.Folds.{concat-append}
 use Rattle.std.proofs.lemmas.List.Sums.{sum_by_push}
-use Rattle.std.proofs.Math.Nat.{div-add-mod, mod-lt, mul-add-div, mul-add-mod_self_left, mul-le-mul_left, lt-mul-div-succ}
+use Rattle.std.proofs.Math.Nat.{div-add-mod, mod-lt, mul-add-div, mul-add-mod_self_left, mul-le-mul_left, lt-mul-div-succ, mul_comm}
 use Rattle.circular_buffer.specs.Buffer.{keep_last}
 use Rattle.gmp_rule.specs.DataRule.{Progress, data_count}
 use Rattle.jc_codec.specs.Message.{says}
@@ -16,26 +16,35 @@ use Rattle.tributary_model.specs.Carries.{sent, number_in, rest_in, number_befor
 use Rattle.tributary_model.specs.Puts.{lengths_of, message_put}
 use Rattle.tributary_model.proofs.Totals.{groups_next}
 use Rattle.tributary_model.proofs.PutCarries.{sent_inside}
-use Rattle.trib_source.specs.Rows.{AreLeft}
-use Rattle.trib_source.specs.Source.{Source, IsSource, StandsAfter, said_number}
+use Rattle.otn_base.specs.LineSlots.{slots_of}
+use Rattle.tributary_model.proofs.OnLine.{evenly}
+use Rattle.trib_source.specs.Source.{Source, IsSource, AreLeft, StandsAfter, said_number}
 use Rattle.trib_source.proofs.Counts.{count_low}
 
 -- ---- the ring
 
+-- so many frames have no more groups than a multiframe
+pub frames_low : (line w n : ℕ) → line * w ≡ 3808 → n ≤ line → 4 * w * n ≤ 15232
+frames_low line w n even low =
+    let wide : w * n ≤ w * line = mul-le-mul_left w low in
+    let turned = mul_comm w line in
+    let one : 4 * w * n ≡ 4 * (w * n) = omega arith in
+    omega arith
+
 -- the turn's groups that were not put are at most all of them
-put_low : (s : Source) (capacity scratch : ℕ) → IsSource s capacity scratch → length s.slots * data_count s.number s.asked ≤ length s.slots * s.number
-put_low s capacity scratch h =
-    let filled = h.filled_low in
+put_low : (s : Source) (capacity scratch stored : ℕ) → IsSource s capacity scratch stored → length s.slots.list * data_count s.number s.asked ≤ length s.slots.list * s.number
+put_low s capacity scratch stored h =
+    let most = frames_low (slots_of s.slots.kind) (3808 / slots_of s.slots.kind) s.filled (evenly s.slots.kind) h.filled_low in
     let asked = h.asked_is in
-    mul-le-mul_left (length s.slots) (count_low s.number s.asked h.number_low (omega arith))
+    mul-le-mul_left (length s.slots.list) (count_low s.number s.asked h.number_low (omega arith))
 
 -- so behind them are the bytes of the last turn's groups and those over
-kept_long : (s : Source) (capacity scratch : ℕ) → IsSource s capacity scratch
-    → length (keep_last (length s.slots * said_number s.said + s.rest) s.left) ≡ length s.slots * said_number s.said + s.rest
-kept_long s capacity scratch h =
-    let low = put_low s capacity scratch h in
+kept_long : (s : Source) (capacity scratch stored : ℕ) → IsSource s capacity scratch stored
+    → length (keep_last (length s.slots.list * said_number s.said + s.rest) s.left) ≡ length s.slots.list * said_number s.said + s.rest
+kept_long s capacity scratch stored h =
+    let low = put_low s capacity scratch stored h in
     let is = h.left_is in
-    let long = length-drop (length s.left - (length s.slots * said_number s.said + s.rest)) s.left in
+    let long = length-drop (length s.left - (length s.slots.list * said_number s.said + s.rest)) s.left in
     omega arith
 
 said_low : (said : Option ℕ) → ForSome said (λ n. n ≤ 15232) → said_number said ≤ 15232
@@ -53,15 +62,15 @@ room m said rest n some low fits =
 all_taken : (bytes : List ℕ) (capacity k r : ℕ) → r ≡ min (length bytes) (capacity - k) → k + length bytes ≤ capacity → take r bytes ≡ bytes
 all_taken bytes capacity k r e h = take_all r bytes (omega arith)
 
-pub ring_begun : (s : Source) (capacity scratch m number r : ℕ) (bytes kept items : List ℕ) → IsSource s capacity scratch → m ≡ length s.slots → number ≡ said_number s.said
-    → (s.rest + length bytes) / length s.slots ≤ 15232 → kept ≡ keep_last (m * number + s.rest) s.left → r ≡ min (length bytes) (capacity - length kept) → items ≡ kept ++ take r bytes
-    → items ≡ keep_last (length s.slots * said_number s.said + s.rest) s.left ++ bytes
-ring_begun s capacity scratch m number r bytes kept items h many said fits is count put =
-    let some : 0 < length s.slots = (let low = h.rest_low in omega arith) in
-    let same : kept ≡ keep_last (length s.slots * said_number s.said + s.rest) s.left = is ∙ ap (λ k. keep_last (k * number + s.rest) s.left) many ∙ ap (λ k. keep_last (length s.slots * k + s.rest) s.left) said in
-    let long : length kept ≡ length s.slots * said_number s.said + s.rest = ap length same ∙ kept_long s capacity scratch h in
-    let wide = room (length s.slots) (said_number s.said) s.rest (length bytes) some (said_low s.said h.said_low) fits in
-    let most = h.capacity_is in
+pub ring_begun : (s : Source) (capacity scratch stored m number r : ℕ) (bytes kept items : List ℕ) → IsSource s capacity scratch stored → m ≡ length s.slots.list → number ≡ said_number s.said
+    → (s.rest + length bytes) / length s.slots.list ≤ 15232 → kept ≡ keep_last (m * number + s.rest) s.left → r ≡ min (length bytes) (capacity - length kept) → items ≡ kept ++ take r bytes
+    → items ≡ keep_last (length s.slots.list * said_number s.said + s.rest) s.left ++ bytes
+ring_begun s capacity scratch stored m number r bytes kept items h many said fits is count put =
+    let some : 0 < length s.slots.list = (let low = h.rest_low in omega arith) in
+    let same : kept ≡ keep_last (length s.slots.list * said_number s.said + s.rest) s.left = is ∙ ap (λ k. keep_last (k * number + s.rest) s.left) many ∙ ap (λ k. keep_last (length s.slots.list * k + s.rest) s.left) said in
+    let long : length kept ≡ length s.slots.list * said_number s.said + s.rest = ap length same ∙ kept_long s capacity scratch stored h in
+    let wide = room (length s.slots.list) (said_number s.said) s.rest (length bytes) some (said_low s.said h.said_low) fits in
+    let size = h.capacity_is in
     put ∙ ap (λ y. kept ++ y) (all_taken bytes capacity (length kept) r count (omega arith)) ∙ ap (λ y. y ++ bytes) same
 
 -- ---- what holds of it
@@ -78,20 +87,20 @@ begun s m r bytes items message = record {
   filled = 0;
 }
 
-pub is_begun : (s : Source) (capacity scratch m number : ℕ) (r : Progress) (bytes items message : List ℕ) → IsSource s capacity scratch → m ≡ length s.slots → number ≡ said_number s.said
-    → (s.rest + length bytes) / length s.slots ≤ 15232 → items ≡ keep_last (length s.slots * said_number s.said + s.rest) s.left ++ bytes → r.number ≡ number → r.asked ≡ 0
-    → IsSource (begun s m r bytes items message) capacity scratch
-is_begun s capacity scratch m number r bytes items message h many said fits is by none =
-    let some : 0 < length s.slots = (let low = h.rest_low in omega arith) in
+pub is_begun : (s : Source) (capacity scratch stored m number : ℕ) (r : Progress) (bytes items message : List ℕ) → IsSource s capacity scratch stored → m ≡ length s.slots.list → number ≡ said_number s.said
+    → (s.rest + length bytes) / length s.slots.list ≤ 15232 → items ≡ keep_last (length s.slots.list * said_number s.said + s.rest) s.left ++ bytes → r.number ≡ number → r.asked ≡ 0
+    → IsSource (begun s m r bytes items message) capacity scratch number
+is_begun s capacity scratch stored m number r bytes items message h many said fits is by none =
+    let some : 0 < length s.slots.list = (let low = h.rest_low in omega arith) in
     let low = said_low s.said h.said_low in
-    let kept = kept_long s capacity scratch h in
-    let long : length items ≡ length s.slots * said_number s.said + s.rest + length bytes = ap length is ∙ length-append (keep_last (length s.slots * said_number s.said + s.rest) s.left) bytes ∙ omega arith in
-    let split : length s.slots * ((s.rest + length bytes) / length s.slots) + (s.rest + length bytes) % length s.slots ≡ s.rest + length bytes = div-add-mod (s.rest + length bytes) (length s.slots) in
+    let kept = kept_long s capacity scratch stored h in
+    let long : length items ≡ length s.slots.list * said_number s.said + s.rest + length bytes = ap length is ∙ length-append (keep_last (length s.slots.list * said_number s.said + s.rest) s.left) bytes ∙ omega arith in
+    let split : length s.slots.list * ((s.rest + length bytes) / length s.slots.list) + (s.rest + length bytes) % length s.slots.list ≡ s.rest + length bytes = div-add-mod (s.rest + length bytes) (length s.slots.list) in
     let nothing : data_count r.number r.asked ≡ 0 = ap (data_count r.number) none in
-    let nothing_out : length s.slots * data_count r.number r.asked ≡ 0 = ap (λ k. length s.slots * k) nothing ∙ omega arith in
-    let groups : length s.slots * r.number ≡ length s.slots * said_number s.said = ap (λ k. length s.slots * k) (by ∙ said) in
-    subst (λ k. IsSource (begun s k r bytes items message) capacity scratch) (sym many) (record {
-      said_low = λ x e. (let same : (s.rest + length bytes) / length s.slots ≡ x = ap said_number e in omega arith);
+    let nothing_out : length s.slots.list * data_count r.number r.asked ≡ 0 = ap (λ k. length s.slots.list * k) nothing ∙ omega arith in
+    let groups : length s.slots.list * r.number ≡ length s.slots.list * said_number s.said = ap (λ k. length s.slots.list * k) (by ∙ said) in
+    subst (λ k. IsSource (begun s k r bytes items message) capacity scratch number) (sym many) (record {
+      said_low = λ x e. (let same : (s.rest + length bytes) / length s.slots.list ≡ x = ap said_number e in omega arith);
       number_low = omega arith;
       filled_low = omega arith;
       asked_is = omega arith;
@@ -99,6 +108,7 @@ is_begun s capacity scratch m number r bytes items message h many said fits is b
       left_is = omega arith;
       capacity_is = h.capacity_is;
       scratch_is = h.scratch_is;
+      kept_is = sym by;
     })
 
 -- ---- the totals with one turn more
@@ -149,17 +159,17 @@ groups_at m p (suc t) h l =
 
 -- ---- the bytes that are left
 
-left_begun : (s : Source) (capacity scratch : ℕ) (p bytes all : List ℕ) (t : ℕ) → IsSource s capacity scratch → t ≤ length p → s.number ≡ number_before (length s.slots) p t
-    → AreLeft (length s.slots) s.number (sent p (t - 1) / length s.slots) all s.asked s.left → sent p t ≤ length all
-    → keep_last (length s.slots * said_number s.said + s.rest) s.left ++ bytes ≡ drop (length s.slots * (sent p t / length s.slots)) (all ++ bytes)
-left_begun s capacity scratch p bytes all t h short number left enough =
-    let m = length s.slots in
+left_begun : (s : Source) (capacity scratch stored : ℕ) (p bytes all : List ℕ) (t : ℕ) → IsSource s capacity scratch stored → t ≤ length p → s.number ≡ number_before (length s.slots.list) p t
+    → AreLeft (length s.slots.list) s.number (sent p (t - 1) / length s.slots.list) all s.asked s.left → sent p t ≤ length all
+    → keep_last (length s.slots.list * said_number s.said + s.rest) s.left ++ bytes ≡ drop (length s.slots.list * (sent p t / length s.slots.list)) (all ++ bytes)
+left_begun s capacity scratch stored p bytes all t h short number left enough =
+    let m = length s.slots.list in
     let some : 0 < m = (let low = h.rest_low in omega arith) in
     let k = m * said_number s.said + s.rest in
     let q = sent p (t - 1) / m in
     let d = data_count s.number s.asked in
     let is = h.left_is in
-    let low = put_low s capacity scratch h in
+    let low = put_low s capacity scratch stored h in
     let groups : q + s.number ≡ sent p t / m = ap (λ k. q + k) number ∙ groups_at m p t some short in
     let wide : m * (q + s.number) ≡ m * (sent p t / m) = ap (λ k. m * k) groups in
     let place : m * (q + d) + (length s.left - k) ≡ m * (sent p t / m) = omega arith in
@@ -170,13 +180,13 @@ left_begun s capacity scratch p bytes all t h short number left enough =
 
 -- ---- how it stands
 
-stands_of : (own : Tributary) (turns : List (List ℕ)) (filled : ℕ) (s : Source) (capacity scratch m number : ℕ) (r : Progress) (bytes items message : List ℕ)
-    → IsSource s capacity scratch → m ≡ length own.slots → number ≡ said_number s.said
-    → items ≡ keep_last (length s.slots * said_number s.said + s.rest) s.left ++ bytes → r.number ≡ number → r.asked ≡ 0
+stands_of : (own : Tributary) (turns : List (List ℕ)) (filled : ℕ) (s : Source) (capacity scratch stored m number : ℕ) (r : Progress) (bytes items message : List ℕ)
+    → IsSource s capacity scratch stored → m ≡ length own.slots → number ≡ said_number s.said
+    → items ≡ keep_last (length s.slots.list * said_number s.said + s.rest) s.left ++ bytes → r.number ≡ number → r.asked ≡ 0
     → message ≡ says s.said ((s.rest + length bytes) / m) ++ says_rest ((s.rest + length bytes) % m)
     → StandsAfter own turns filled s → StandsAfter own (turns ++ bytes ∷ []) 0 (begun s (length own.slots) r bytes items message)
 unfolding message_put
-stands_of own turns filled s capacity scratch m number r bytes items message h many said is by none told stands =
+stands_of own turns filled s capacity scratch stored m number r bytes items message h many said is by none told stands =
     let M = length own.slots in
     let p = lengths_of turns in
     let n = length turns in
@@ -193,9 +203,8 @@ stands_of own turns filled s capacity scratch m number r bytes items message h m
     ap (λ k. (k + b) / M) stands.rest ∙ next_number M (sent p n) b some ∙ ap (λ x. x / M - sent p n / M) (sym now) ∙ ap (λ x. sent (p ++ b ∷ []) (n + 1) / M - x / M) (sym before) in
     let rest : (s.rest + b) % M ≡ rest_in M (p ++ b ∷ []) n = ap (λ k. (k + b) % M) stands.rest ∙ next_rest M (sent p n) b ∙ ap (λ x. x % M) (sym now) in
     let former : s.said ≡ former_of M (p ++ b ∷ []) n = stands.said ∙ sym (former_same M p b n (omega arith)) in
-    let slots : length s.slots ≡ M = ap length (sym stands.own_is) in
+    let slots : length s.slots.list ≡ M = ap (λ (o : Tributary). length o.slots) (sym stands.own_is) in
     record {
-      line = stands.line;
       own_is = stands.own_is;
       slots = stands.slots;
       filled_is = refl;
@@ -204,7 +213,7 @@ stands_of own turns filled s capacity scratch m number r bytes items message h m
       rest = rest ∙ ap (λ k. sent (p ++ b ∷ []) k % M) (let e : n + 1 ≡ length new = omega arith in e) ∙ ap (λ q. sent q (length new) % M) (sym lengths);
       left =
           is
-          ∙ left_begun s capacity scratch p bytes (concat turns) (n - 1) h (omega arith)
+          ∙ left_begun s capacity scratch stored p bytes (concat turns) (n - 1) h (omega arith)
           (stands.number ∙ ap (λ k. number_before k p (n - 1)) (sym slots))
           (subst (λ k. AreLeft k s.number (sent p (n - 1 - 1) / k) (concat turns) s.asked s.left) (sym slots) stands.left) (sent_inside turns (n - 1))
           ∙ ap (λ k. drop (k * (sent p (n - 1) / k)) (concat turns ++ bytes)) slots
@@ -223,12 +232,12 @@ stands_of own turns filled s capacity scratch m number r bytes items message h m
           ∙ ap (message_put M new) (sym last);
     }
 
-pub stands_begun : (own : Tributary) (turns : List (List ℕ)) (filled : ℕ) (s : Source) (capacity scratch m number : ℕ) (r : Progress) (bytes items message : List ℕ)
-    → IsSource s capacity scratch → m ≡ length s.slots → number ≡ said_number s.said
-    → items ≡ keep_last (length s.slots * said_number s.said + s.rest) s.left ++ bytes → r.number ≡ number → r.asked ≡ 0
+pub stands_begun : (own : Tributary) (turns : List (List ℕ)) (filled : ℕ) (s : Source) (capacity scratch stored m number : ℕ) (r : Progress) (bytes items message : List ℕ)
+    → IsSource s capacity scratch stored → m ≡ length s.slots.list → number ≡ said_number s.said
+    → items ≡ keep_last (length s.slots.list * said_number s.said + s.rest) s.left ++ bytes → r.number ≡ number → r.asked ≡ 0
     → message ≡ says s.said ((s.rest + length bytes) / m) ++ says_rest ((s.rest + length bytes) % m)
     → StandsAfter own turns filled s → StandsAfter own (turns ++ bytes ∷ []) 0 (begun s m r bytes items message)
-stands_begun own turns filled s capacity scratch m number r bytes items message h many said is by none told stands =
-    let same : m ≡ length own.slots = many ∙ ap length (sym stands.own_is) in
+stands_begun own turns filled s capacity scratch stored m number r bytes items message h many said is by none told stands =
+    let same : m ≡ length own.slots = many ∙ ap (λ (o : Tributary). length o.slots) (sym stands.own_is) in
     subst (λ k. StandsAfter own (turns ++ bytes ∷ []) 0 (begun s k r bytes items message)) (sym same)
-    (stands_of own turns filled s capacity scratch m number r bytes items message h same said is by none told stands)
+    (stands_of own turns filled s capacity scratch stored m number r bytes items message h same said is by none told stands)

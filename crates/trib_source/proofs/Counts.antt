@@ -34,3 +34,26 @@ data_run c j (suc run) each =
     let before = data_run c j run (λ i l. each i (omega arith)) in
     let one = data_next c (j + run) (each run (omega arith)) in
     ap (data_count c) (let e : j + suc run ≡ j + run + 1 = omega arith in e) ∙ omega arith
+
+-- more groups have no fewer of them
+pub counts_grow : (c j more : ℕ) → data_count c j ≤ data_count c (j + more)
+counts_grow c j zero = let e : data_count c (j + 0) ≡ data_count c j = ap (data_count c) (let e : j + 0 ≡ j = omega arith in e) in omega arith
+counts_grow c j (suc more) =
+    let before = counts_grow c j more in
+    let here : data_count c (j + suc more) ≡ data_count c (j + more + 1) = ap (data_count c) (let e : j + suc more ≡ j + more + 1 = omega arith in e) in
+    let next = count_next c (j + more) in
+    omega arith
+
+one_most : (t : Bool) → cond {A = ℕ} t 1 0 ≤ 1
+one_most true = omega arith
+one_most false = omega arith
+
+-- and no more than there are groups more
+pub counts_few : (c j more : ℕ) → data_count c (j + more) ≤ data_count c j + more
+counts_few c j zero = let e : data_count c (j + 0) ≡ data_count c j = ap (data_count c) (let e : j + 0 ≡ j = omega arith in e) in omega arith
+counts_few c j (suc more) =
+    let before = counts_few c j more in
+    let here : data_count c (j + suc more) ≡ data_count c (j + more + 1) = ap (data_count c) (let e : j + suc more ≡ j + more + 1 = omega arith in e) in
+    let next = count_next c (j + more) in
+    let few = one_most (is_data_at c (j + more + 1)) in
+    omega arith

@@ -1,135 +1,128 @@
--- Bytes taken out of the ring, group by group.
-use Rattle.std.proofs.Common.{◌≡◌, ◌⊎◌, inl, inr, ℕ, ◌+◌, ◌*◌, ◌%◌, ◌-◌, ◌<◌, ◌≤◌, List, length, take, drop, replicate, cond, ap, ◌∙◌, sym, subst, arith, get_or}
+-- Groups laid out, one by one or by runs of data groups.
+use Rattle.std.proofs.Common.{◌≡◌, ◌⊎◌, inl, inr, ℕ, zero, suc, ◌+◌, ◌*◌, ◌-◌, ◌%◌, ◌<◌, ◌≤◌, Bool, List, length, cond, ap, ◌∙◌, sym, subst, arith, get_or}
 use Rattle.std.proofs.lemmas.Bool.{lt-ltb}
-use Rattle.std.proofs.lemmas.List.{length-drop, drop-drop, get_or-take, get_or-drop}
 use Rattle.std.proofs.Math.Nat.{mul-le-mul_left}
-use Rattle.gmp_rule.specs.DataRule.{Progress, IsData, data_count}
-use Rattle.tributary_model.specs.Puts.{group_from}
-use Rattle.trib_source.specs.Rows.{AreLeft, AreEnough, WentOut}
-use Rattle.trib_source.proofs.Counts.{count_low, data_run}
+use Rattle.gmp_rule.specs.DataRule.{IsData, is_data_at, data_count}
+use Rattle.trib_source.specs.Rows.{data_bytes, byte_laid}
+use Rattle.trib_source.proofs.Counts.{data_run, counts_grow}
 
--- a byte of a data group
-pub data_byte : (m c q : ℕ) (bytes : List ℕ) (j i : ℕ) → IsData c j → i < m → get_or (group_from m c q bytes j) i 0 ≡ get_or bytes (m * (q + data_count c (j - 1)) + i) 0
-data_byte m c q bytes j i d l =
-    ap (λ t. get_or (cond t (take m (drop (m * (q + data_count c (j - 1))) bytes)) (replicate m 0)) i 0) (lt-ltb ((j * c) % 15232) c d)
-    ∙ get_or-take m (drop (m * (q + data_count c (j - 1))) bytes) i 0 l
-    ∙ get_or-drop (m * (q + data_count c (j - 1))) bytes i 0
+-- the bytes of the data groups, as they grow
+pub bytes_grow : (m c a x : ℕ) → m * data_count c a ≤ m * data_count c (a + x)
+bytes_grow m c a x = mul-le-mul_left m (counts_grow c a x)
 
--- a byte that is left
-pub left_byte : (m c q asked i : ℕ) (bytes left : List ℕ) → AreLeft m c q bytes asked left → get_or left i 0 ≡ get_or bytes (m * (q + data_count c asked) + i) 0
-left_byte m c q asked i bytes left e = ap (λ xs. get_or xs i 0) e ∙ get_or-drop (m * (q + data_count c asked)) bytes i 0
+-- So many groups were laid out, with the data in front of a byte of it, and behind them all is 0.
+pub record LaidTo (m c a : ℕ) (fresh : List ℕ) (x from : ℕ) (into : List ℕ) : Type 0 where
+  pub from_is : from ≡ data_bytes m c a x
+  pub bytes : (y i : ℕ) → y < x → i < m → get_or into (m * y + i) 0 ≡ byte_laid m c a fresh y i
+  pub clear : (n : ℕ) → m * x ≤ n → get_or into n 0 ≡ 0
 
--- ---- data groups more
+pub laid_none : (m c a : ℕ) (fresh into : List ℕ) → ((n : ℕ) → get_or into n 0 ≡ 0) → LaidTo m c a fresh 0 0 into
+laid_none m c a fresh into clear = record {
+  from_is = (let e : a + 0 ≡ a = omega arith in let f : m * data_count c (a + 0) ≡ m * data_count c a = ap (λ k. m * data_count c k) e in omega arith);
+  bytes = λ y i l h. absurd (let bad : ⊥ = omega arith in bad);
+  clear = λ n h. clear n;
+}
 
-pub enough_for : (m c asked x : ℕ) (left : List ℕ) → c ≤ 15232 → asked + x ≤ 15232 → data_count c (asked + x) ≡ data_count c asked + x → AreEnough m c asked left → m * x ≤ length left
-enough_for m c asked x left low high more enough =
-    let some = count_low c (asked + x) low high in
-    let wide : m * (data_count c asked + x) ≤ m * c = mul-le-mul_left m (omega arith) in
-    omega arith
+inside : (m y x i : ℕ) → y < x → i < m → m * y + i < m * x
+inside m y x i l h = let wide : m * (y + 1) ≤ m * x = mul-le-mul_left m (let e : y + 1 ≤ x = omega arith in e) in omega arith
 
-pub left_more : (m c q asked x : ℕ) (bytes left next : List ℕ) → next ≡ drop (m * x) left → data_count c (asked + x) ≡ data_count c asked + x → AreLeft m c q bytes asked left → AreLeft m c q bytes (asked + x) next
-left_more m c q asked x bytes left next is more e =
-    is
-    ∙ ap (drop (m * x)) e
-    ∙ drop-drop (m * x) (m * (q + data_count c asked)) bytes
-    ∙ ap (λ k. drop k bytes) (let f : m * (q + data_count c asked) + m * x ≡ m * (q + (data_count c asked + x)) = omega arith in f)
-    ∙ ap (λ k. drop (m * (q + k)) bytes) (sym more)
+-- room for one group more
+pub group_room : (m x cycles : ℕ) → x < cycles → m * x + m ≤ m * cycles
+group_room m x cycles l = let wide : m * (x + 1) ≤ m * cycles = mul-le-mul_left m (let e : x + 1 ≤ cycles = omega arith in e) in omega arith
 
-pub out_more : (m c asked x : ℕ) (left next : List ℕ) → next ≡ drop (m * x) left → data_count c (asked + x) ≡ data_count c asked + x → m * x ≤ length left → WentOut m c asked x left next
-out_more m c asked x left next is more enough =
-    let long : length next ≡ length left - m * x = ap length is ∙ length-drop (m * x) left in
-    let wide : m * data_count c (asked + x) ≡ m * data_count c asked + m * x = ap (λ k. m * k) more ∙ omega arith in
-    omega arith
+-- and for a run
+pub run_room : (m x run cycles : ℕ) → x + run ≤ cycles → m * x + m * run ≤ m * cycles
+run_room m x run cycles l = let wide : m * (x + run) ≤ m * cycles = mul-le-mul_left m l in omega arith
 
--- and then more of them
-pub out_join : (m c asked x y : ℕ) (a b d : List ℕ) → WentOut m c asked x a b → WentOut m c (asked + x) y b d → WentOut m c asked (x + y) a d
-out_join m c asked x y a b d e f =
-    let at : m * data_count c (asked + (x + y)) ≡ m * data_count c (asked + x + y) = ap (λ k. m * data_count c k) (let g : asked + (x + y) ≡ asked + x + y = omega arith in g) in
-    omega arith
-
-pub enough_after : (m c asked x : ℕ) (a b : List ℕ) → WentOut m c asked x a b → AreEnough m c asked a → AreEnough m c (asked + x) b
-enough_after m c asked x a b e h = omega arith
-
--- ---- one group, and a run of data groups behind it
+-- ---- one group more
 
 -- what laying out one group does
-pub record LaidNext (m at : ℕ) (r : Progress) (before after old new : List ℕ) : Type 0 where
-  pub bytes : (q : ℕ) (bytes : List ℕ) → AreLeft m r.number q bytes r.asked before → (i : ℕ) → i < m → get_or new (at + i) 0 ≡ get_or (group_from m r.number q bytes (r.asked + 1)) i 0
+pub record LaidNext (m c a : ℕ) (fresh : List ℕ) (from at next : ℕ) (old new : List ℕ) : Type 0 where
+  pub from_is : next + m * data_count c a ≡ from + m * data_count c (a + 1)
+  pub bytes : (i : ℕ) → i < m → get_or new (at + i) 0 ≡ cond (is_data_at c (a + 1)) (get_or fresh (from + i) 0) (get_or old (at + i) 0)
   pub front : (n : ℕ) → n < at → get_or new n 0 ≡ get_or old n 0
-  pub left : (q : ℕ) (bytes : List ℕ) → AreLeft m r.number q bytes r.asked before → AreLeft m r.number q bytes (r.asked + 1) after
-  pub count : WentOut m r.number r.asked 1 before after
+  pub behind : (n : ℕ) → at + m ≤ n → get_or new n 0 ≡ get_or old n 0
 
--- what a run of data groups does
-pub record RanOn (m at run : ℕ) (r : Progress) (before after old new : List ℕ) : Type 0 where
-  pub each : (i : ℕ) → i < run → IsData r.number (r.asked + i + 1)
-  pub bytes : (i : ℕ) → i < m * run → get_or new (at + i) 0 ≡ get_or before i 0
-  pub front : (n : ℕ) → n < at → get_or new n 0 ≡ get_or old n 0
-  pub ring : after ≡ drop (m * run) before
+below_or : (y x : ℕ) → y < x + 1 → (y < x) ⊎ (y ≡ x)
+below_or y x h = grind arith
 
-times : (m x run i : ℕ) → x < run → i < m → m * x + i < m * run
-times m x run i l h = let wide : m * (x + 1) ≤ m * run = mul-le-mul_left m (let e : x + 1 ≤ run = omega arith in e) in omega arith
+pub next_enough : (m c a cycles x from long : ℕ) → long ≡ data_bytes m c a cycles → x < cycles → from ≡ data_bytes m c a x → from + m * data_count c (a + x + 1) ≤ long + m * data_count c (a + x)
+next_enough m c a cycles x from long size l from_is =
+    let one = bytes_grow m c a x in
+    let two : m * data_count c (a + x + 1) ≤ m * data_count c (a + cycles) =
+    subst (λ k. m * data_count c (a + x + 1) ≤ m * data_count c k) (let e : a + x + 1 + (cycles - (x + 1)) ≡ a + cycles = omega arith in e) (bytes_grow m c (a + x + 1) (cycles - (x + 1))) in
+    let three = bytes_grow m c (a + x) 1 in
+    omega arith
 
-below : (m cycle next i : ℕ) → cycle < next → i < m → m * cycle + i < m * next
-below m cycle next i l h = times m cycle next i l h
-
-where_in : (cy cycle run : ℕ) → cy < cycle + 1 + run → ((cy < cycle) ⊎ (cy ≡ cycle)) ⊎ ((cycle + 1 ≤ cy) × (cy - (cycle + 1) < run))
-where_in cy cycle run h = grind arith
-
-pub row_bytes : (m c a cycle run q : ℕ) (bytes zero_items one two three old mid new : List ℕ)
-    → LaidNext m (m * cycle) (record { number = c; asked = a + cycle }) one two old mid
-    → RanOn m (m * (cycle + 1)) run (record { number = c; asked = a + cycle + 1 }) two three mid new
-    → AreLeft m c q bytes (a + cycle) one
-    → ((cy i : ℕ) → cy < cycle → i < m → get_or old (m * cy + i) 0 ≡ get_or (group_from m c q bytes (a + cy + 1)) i 0)
-    → (cy i : ℕ) → cy < cycle + 1 + run → i < m → get_or new (m * cy + i) 0 ≡ get_or (group_from m c q bytes (a + cy + 1)) i 0
-row_bytes m c a cycle run q bytes zero_items one two three old mid new laid ran stands before cy i inside l = go (where_in cy cycle run inside)
+pub laid_next : (m c a x from next : ℕ) (fresh old new : List ℕ) → LaidTo m c a fresh x from old → LaidNext m c (a + x) fresh from (m * x) next old new → LaidTo m c a fresh (x + 1) next new
+laid_next m c a x from next fresh old new to more = record {
+  from_is =
+      (let one = bytes_grow m c a x in
+      let two = bytes_grow m c (a + x) 1 in
+      let from_was = to.from_is in
+      let from_now = more.from_is in
+      let same : m * data_count c (a + (x + 1)) ≡ m * data_count c (a + x + 1) = ap (λ k. m * data_count c k) (let e : a + (x + 1) ≡ a + x + 1 = omega arith in e) in
+      omega arith);
+  bytes = λ y i l h. go y i h (below_or y x l);
+  clear = λ n h. more.behind n (omega arith) ∙ to.clear n (omega arith);
+}
   where
-    go : ((cy < cycle) ⊎ (cy ≡ cycle)) ⊎ ((cycle + 1 ≤ cy) × (cy - (cycle + 1) < run)) → get_or new (m * cy + i) 0 ≡ get_or (group_from m c q bytes (a + cy + 1)) i 0
-    go (inl (inl less)) =
-        ran.front (m * cy + i) (below m cy (cycle + 1) i (omega arith) l)
-        ∙ laid.front (m * cy + i) (below m cy cycle i less l)
-        ∙ before cy i less l
-    go (inl (inr same)) =
-        ran.front (m * cy + i) (below m cy (cycle + 1) i (omega arith) l)
-        ∙ ap (λ k. get_or mid (m * k + i) 0) same
-        ∙ laid.bytes q bytes stands i l
-        ∙ ap (λ k. get_or (group_from m c q bytes (a + k + 1)) i 0) (sym same)
-    go (inr later) =
-        let x = cy - (cycle + 1) in
+    go : (y i : ℕ) → i < m → (y < x) ⊎ (y ≡ x) → get_or new (m * y + i) 0 ≡ byte_laid m c a fresh y i
+    go y i h (inl l) = more.front (m * y + i) (inside m y x i l h) ∙ to.bytes y i l h
+    go y i h (inr e) =
+        ap (λ k. get_or new (m * k + i) 0) e
+        ∙ more.bytes i h
+        ∙ ap (λ k. cond (is_data_at c (a + x + 1)) (get_or fresh (from + i) 0) k) (to.clear (m * x + i) (omega arith))
+        ∙ ap (λ k. cond (is_data_at c (a + x + 1)) (get_or fresh (k + i) 0) 0) to.from_is
+        ∙ ap (λ k. byte_laid m c a fresh k i) (sym e)
+
+-- ---- a run of data groups more
+
+-- what laying out a run does
+pub record LaidRun (m c a : ℕ) (fresh : List ℕ) (from at run : ℕ) (old new : List ℕ) : Type 0 where
+  pub each : (i : ℕ) → i < run → IsData c (a + i + 1)
+  pub bytes : (i : ℕ) → i < m * run → get_or new (at + i) 0 ≡ get_or fresh (from + i) 0
+  pub front : (n : ℕ) → n < at → get_or new n 0 ≡ get_or old n 0
+  pub behind : (n : ℕ) → at + m * run ≤ n → get_or new n 0 ≡ get_or old n 0
+
+run_count : (c a x run : ℕ) → ((i : ℕ) → i < run → IsData c (a + x + i + 1)) → data_count c (a + (x + run)) ≡ data_count c (a + x) + run
+run_count c a x run each = ap (data_count c) (let e : a + (x + run) ≡ a + x + run = omega arith in e) ∙ data_run c (a + x) run each
+
+run_bytes : (m c a x run : ℕ) → ((i : ℕ) → i < run → IsData c (a + x + i + 1)) → data_bytes m c a (x + run) ≡ data_bytes m c a x + m * run
+run_bytes m c a x run each =
+    let one = bytes_grow m c a x in
+    let more : m * data_count c (a + (x + run)) ≡ m * data_count c (a + x) + m * run = ap (λ k. m * k) (run_count c a x run each) ∙ omega arith in
+    omega arith
+
+pub run_enough : (m c a cycles x run from long : ℕ) → long ≡ data_bytes m c a cycles → x + run ≤ cycles → from ≡ data_bytes m c a x → ((i : ℕ) → i < run → IsData c (a + x + i + 1)) → from + m * run ≤ long
+run_enough m c a cycles x run from long size l from_is each =
+    let here = run_bytes m c a x run each in
+    let most : m * data_count c (a + (x + run)) ≤ m * data_count c (a + cycles) =
+    subst (λ k. m * data_count c (a + (x + run)) ≤ m * data_count c k) (let e : a + (x + run) + (cycles - (x + run)) ≡ a + cycles = omega arith in e) (bytes_grow m c (a + (x + run)) (cycles - (x + run))) in
+    omega arith
+
+run_or : (y x run : ℕ) → y < x + run → (y < x) ⊎ ((x ≤ y) × (y - x < run))
+run_or y x run h = grind arith
+
+pub laid_run : (m c a x run from : ℕ) (fresh old new : List ℕ) → LaidTo m c a fresh x from old → LaidRun m c (a + x) fresh from (m * x) run old new → LaidTo m c a fresh (x + run) (from + m * run) new
+laid_run m c a x run from fresh old new to more = record {
+  from_is = (let is = to.from_is in let here = run_bytes m c a x run more.each in omega arith);
+  bytes = λ y i l h. go y i h (run_or y x run l);
+  clear = λ n h. more.behind n (omega arith) ∙ to.clear n (omega arith);
+}
+  where
+    go : (y i : ℕ) → i < m → (y < x) ⊎ ((x ≤ y) × (y - x < run)) → get_or new (m * y + i) 0 ≡ byte_laid m c a fresh y i
+    go y i h (inl l) = more.front (m * y + i) (inside m y x i l h) ∙ to.bytes y i l h
+    go y i h (inr later) =
+        let z = y - x in
         let low = later.0 in
-        let left : AreLeft m c q bytes (a + cycle + 1) two = laid.left q bytes stands in
-        let d : IsData c (a + cy + 1) = subst (IsData c) (let e : a + cycle + 1 + x + 1 ≡ a + cy + 1 = omega arith in e) (ran.each x later.1) in
-        let count : data_count c (a + cycle + 1 + x) ≡ data_count c (a + cycle + 1) + x = data_run c (a + cycle + 1) x (λ k h. ran.each k (let r = later.1 in omega arith)) in
-        let here : data_count c (a + cy + 1 - 1) ≡ data_count c (a + cycle + 1) + x = ap (data_count c) (let e : a + cy + 1 - 1 ≡ a + cycle + 1 + x = omega arith in e) ∙ count in
-        let split : m * cy ≡ m * (cycle + 1) + m * x = ap (λ k. m * k) (let e : cy ≡ cycle + 1 + x = omega arith in e) ∙ omega arith in
-        ap (λ k. get_or new k 0) (let e : m * cy + i ≡ m * (cycle + 1) + (m * x + i) = omega arith in e)
-        ∙ ran.bytes (m * x + i) (times m x run i later.1 l)
-        ∙ left_byte m c q (a + cycle + 1) (m * x + i) bytes two left
-        ∙ ap (λ k. get_or bytes k 0) (let e : m * (q + data_count c (a + cycle + 1)) + (m * x + i) ≡ m * (q + (data_count c (a + cycle + 1) + x)) + i = omega arith in e)
-        ∙ ap (λ k. get_or bytes (m * (q + k) + i) 0) (sym here)
-        ∙ sym (data_byte m c q bytes (a + cy + 1) i d l)
-
-pub row_left : (m c a cycle run q : ℕ) (bytes one two three old mid new : List ℕ)
-    → LaidNext m (m * cycle) (record { number = c; asked = a + cycle }) one two old mid
-    → RanOn m (m * (cycle + 1)) run (record { number = c; asked = a + cycle + 1 }) two three mid new
-    → AreLeft m c q bytes (a + cycle) one → AreLeft m c q bytes (a + (cycle + 1 + run)) three
-row_left m c a cycle run q bytes one two three old mid new laid ran stands =
-    subst (λ k. AreLeft m c q bytes k three) (let e : a + cycle + 1 + run ≡ a + (cycle + 1 + run) = omega arith in e)
-    (left_more m c q (a + cycle + 1) run bytes two three ran.ring (data_run c (a + cycle + 1) run ran.each) (laid.left q bytes stands))
-
-pub row_enough : (m c a cycle run : ℕ) (zero_items one two old mid : List ℕ) → c ≤ 15232 → a + cycle + 1 + run ≤ 15232
-    → LaidNext m (m * cycle) (record { number = c; asked = a + cycle }) one two old mid
-    → ((i : ℕ) → i < run → IsData c (a + cycle + 1 + i + 1))
-    → WentOut m c a cycle zero_items one → AreEnough m c a zero_items → m * run ≤ length two
-row_enough m c a cycle run zero_items one two old mid low high laid each before enough =
-    enough_for m c (a + cycle + 1) run two low high (data_run c (a + cycle + 1) run each)
-    (enough_after m c (a + cycle) 1 one two laid.count (enough_after m c a cycle zero_items one before enough))
-
-pub row_count : (m c a cycle run : ℕ) (zero_items one two three old mid new : List ℕ)
-    → LaidNext m (m * cycle) (record { number = c; asked = a + cycle }) one two old mid
-    → RanOn m (m * (cycle + 1)) run (record { number = c; asked = a + cycle + 1 }) two three mid new
-    → m * run ≤ length two → WentOut m c a cycle zero_items one → WentOut m c a (cycle + 1 + run) zero_items three
-row_count m c a cycle run zero_items one two three old mid new laid ran enough before =
-    subst (λ k. WentOut m c a k zero_items three) (let e : cycle + (1 + run) ≡ cycle + 1 + run = omega arith in e)
-    (out_join m c a cycle (1 + run) zero_items one three before
-    (out_join m c (a + cycle) 1 run one two three laid.count
-    (out_more m c (a + cycle + 1) run two three ran.ring (data_run c (a + cycle + 1) run ran.each) enough)))
+        let data_here : IsData c (a + y + 1) = subst (IsData c) (let e : a + x + z + 1 ≡ a + y + 1 = omega arith in e) (more.each z later.1) in
+        let here : data_bytes m c a y ≡ from + m * z =
+        ap (data_bytes m c a) (let e : y ≡ x + z = omega arith in e)
+        ∙ run_bytes m c a x z (λ k l. more.each k (let less = later.1 in omega arith))
+        ∙ ap (λ k. k + m * z) (sym to.from_is) in
+        let place : m * y ≡ m * x + m * z = ap (λ k. m * k) (let e : y ≡ x + z = omega arith in e) ∙ omega arith in
+        ap (λ k. get_or new k 0) (let e : m * y + i ≡ m * x + (m * z + i) = omega arith in e)
+        ∙ more.bytes (m * z + i) (inside m z run i later.1 h)
+        ∙ ap (λ k. get_or fresh k 0) (let e : from + (m * z + i) ≡ data_bytes m c a y + i = omega arith in e)
+        ∙ ap (λ t. cond t (get_or fresh (data_bytes m c a y + i) 0) 0) (sym (lt-ltb (((a + y + 1) * c) % 15232) c data_here))

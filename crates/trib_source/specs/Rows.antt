@@ -1,25 +1,31 @@
--- The bytes that a source has not put, and the rows that they go into.
-use Rattle.std.specs.Prelude.{◌≡◌, ℕ, ◌+◌, ◌-◌, ◌*◌, ◌<◌, ◌≤◌, List, length, drop, slice_index}
-use Rattle.gmp_rule.specs.DataRule.{data_count}
+-- What a source lays out of the bytes that it has not put, and the rows that this goes into.
+use Rattle.std.specs.Prelude.{◌≡◌, ℕ, ◌+◌, ◌-◌, ◌*◌, ◌/◌, ◌<◌, ◌≤◌, List, if◌then◌else◌, length, slice_index}
+use Rattle.otn_base.specs.declared.limits.TheConstants.{PAYLOAD_COLUMNS}
+use Rattle.gmp_rule.specs.DataRule.{is_data_at, data_count}
 use Rattle.odtu_columns.specs.Put.{slot_place}
 
--- What is left of the bytes once so many groups of a turn were put, where its data groups, c of them, take the bytes from the whole group
--- q of m bytes on.
-abbrev pub AreLeft : (m c q : ℕ) → (bytes : List ℕ) → (asked : ℕ) → (left : List ℕ) → Type 0
-AreLeft m c q bytes asked left = left ≡ drop (m * (q + data_count c asked)) bytes
+-- G.709 clause 19.1: how many groups a row has on a line of so many slots
+abbrev pub row_groups : (line_slots : ℕ) → ℕ
+row_groups line_slots = PAYLOAD_COLUMNS / line_slots
+
+-- How many bytes the data groups have, of m bytes each, among so many more groups behind the first `asked` of a turn in which c groups
+-- are data (G.709 Annex D).
+abbrev pub data_bytes : (m c asked more : ℕ) → ℕ
+data_bytes m c asked more = m * data_count c (asked + more) - m * data_count c asked
+
+-- Byte i of group x, from 0, behind those: a data group takes the next of the bytes that are left, and a stuff group has bytes 0
+-- (G.709 Annex D).
+abbrev pub byte_laid : (m c asked : ℕ) → (left : List ℕ) → (x i : ℕ) → ℕ
+byte_laid m c asked left x i = if is_data_at c (asked + x + 1) then slice_index left (data_bytes m c asked x + i) else 0
 
 -- the turn's data groups that were not put are there
 abbrev pub AreEnough : (m c asked : ℕ) → (left : List ℕ) → Type 0
 AreEnough m c asked left = m * c ≤ length left + m * data_count c asked
 
--- from so many groups put to so many more, the data groups between went out
-abbrev pub WentOut : (m c asked more : ℕ) → (before left : List ℕ) → Type 0
-WentOut m c asked more before left = length left + m * data_count c (asked + more) ≡ length before + m * data_count c asked
-
--- The groups of the first rows of a frame, each with a byte for each slot, were put into the columns of the slots, and every other byte is
--- as before.
-pub record RowsWerePut (slots : List ℕ) (groups : ℕ → List ℕ) (rows : ℕ) (before now : List ℕ) : Type 0 where
-  pub put : (row cycle i : ℕ) → 1 ≤ row → row ≤ rows → cycle < 476 → i < length slots
-      → slice_index now (slot_place slots row cycle i) ≡ slice_index (groups (476 * (row - 1) + cycle + 1)) i
-  pub kept : (place : ℕ) → ((row cycle i : ℕ) → 1 ≤ row → row ≤ rows → cycle < 476 → i < length slots → place ≡ slot_place slots row cycle i → ⊥)
+-- The first rows of a frame have these bytes, by group, from 0, and slot, in the columns of the slots, and every other byte is as before
+-- (G.709 clause 19.1).
+pub record RowsWerePut (line_slots : ℕ) (slots : List ℕ) (byte : (x i : ℕ) → ℕ) (rows : ℕ) (before now : List ℕ) : Type 0 where
+  pub put : (row cycle i : ℕ) → 1 ≤ row → row ≤ rows → cycle < row_groups line_slots → i < length slots
+      → slice_index now (slot_place line_slots slots row cycle i) ≡ byte (row_groups line_slots * (row - 1) + cycle) i
+  pub kept : (place : ℕ) → ((row cycle i : ℕ) → 1 ≤ row → row ≤ rows → cycle < row_groups line_slots → i < length slots → place ≡ slot_place line_slots slots row cycle i → ⊥)
       → slice_index now place ≡ slice_index before place

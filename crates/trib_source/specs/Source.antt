@@ -1,19 +1,21 @@
 -- A source after some turns, and within one.
-use Rattle.std.specs.Prelude.{◌≡◌, ℕ, ◌+◌, ◌-◌, ◌*◌, ◌/◌, ◌%◌, ◌<◌, ◌≤◌, List, Option, Some, None, length}
+use Rattle.std.specs.Prelude.{◌≡◌, ℕ, ◌+◌, ◌-◌, ◌*◌, ◌/◌, ◌%◌, ◌<◌, ◌≤◌, List, Option, Some, None, length, drop}
 use Rattle.std.specs.Option.{ForSome}
 use Rattle.std.specs.List.{concat}
+use Rattle.otn_base.specs.declared.limits.TheConstants.{GROUPS, ROWS}
+use Rattle.otn_base.specs.LineSlots.{LineSlots, slots_of}
 use Rattle.otn_base.specs.SlotList.{IsSlotList}
 use Rattle.gmp_rule.specs.DataRule.{data_count}
-use Rattle.tributary_model.specs.Places.{Tributary}
+use Rattle.tributary_model.specs.Places.{Tributary, tributary_of}
 use Rattle.tributary_model.specs.Carries.{sent, number_before, former_of}
 use Rattle.tributary_model.specs.Puts.{lengths_of, message_put}
-use Rattle.trib_source.specs.Rows.{AreLeft}
+use Rattle.trib_source.specs.Rows.{row_groups}
 
 -- what is seen of a source: its slots; the number that the message of the last turn says, where there was a turn; by which number the
 -- groups of that turn are data, and how many of them were put; the bytes that are left; the bytes over of the last turn, and its message;
 -- and how many of its frames were filled
 pub record Source : Type 0 where
-  pub slots : List ℕ
+  pub slots : LineSlots
   pub said : Option ℕ
   pub number : ℕ
   pub asked : ℕ
@@ -22,28 +24,41 @@ pub record Source : Type 0 where
   pub message : List ℕ
   pub filled : ℕ
 
+-- how many slots it has, M of GMP (G.709 Annex D)
+abbrev pub slots_in : Source → ℕ
+slots_in s = length s.slots.list
+
 -- the number that was said, and 0 before any
 abbrev pub said_number : Option ℕ → ℕ
 said_number None = 0
 said_number (Some n) = n
 
--- what holds of every source, with a ring for so many bytes and room for so many in which a row is laid out
-pub record IsSource (s : Source) (capacity scratch : ℕ) : Type 0 where
-  pub said_low : ForSome s.said (λ n. n ≤ 15232)
-  pub number_low : s.number ≤ 15232
-  pub filled_low : s.filled ≤ 8
-  pub asked_is : s.asked ≡ 1904 * s.filled
-  pub rest_low : s.rest < length s.slots
-  pub left_is : length s.left + length s.slots * data_count s.number s.asked ≡ length s.slots * s.number + (length s.slots * said_number s.said + s.rest)
-  pub capacity_is : capacity ≡ length s.slots * 30465
-  pub scratch_is : scratch ≡ length s.slots * 476
+-- What is left of the bytes once so many groups of a turn were put, where its data groups, c of them, take the bytes from the whole group
+-- q of m bytes on.
+abbrev pub AreLeft : (m c q : ℕ) → (bytes : List ℕ) → (asked : ℕ) → (left : List ℕ) → Type 0
+AreLeft m c q bytes asked left = left ≡ drop (m * (q + data_count c asked)) bytes
+
+-- the groups of so many frames, each of four rows, on a line of so many slots (G.709 clause 19.1)
+abbrev pub groups_in : (line_slots frames : ℕ) → ℕ
+groups_in line_slots frames = ROWS * row_groups line_slots * frames
+
+-- what holds of every source, with a ring for so many bytes, room for so many in which rows are laid out, and the number of its groups kept
+pub record IsSource (s : Source) (capacity scratch kept : ℕ) : Type 0 where
+  pub said_low : ForSome s.said (λ n. n ≤ GROUPS)
+  pub number_low : s.number ≤ GROUPS
+  pub filled_low : s.filled ≤ slots_of s.slots.kind
+  pub asked_is : s.asked ≡ groups_in (slots_of s.slots.kind) s.filled
+  pub rest_low : s.rest < slots_in s
+  pub left_is : length s.left + slots_in s * data_count s.number s.asked ≡ slots_in s * s.number + (slots_in s * said_number s.said + s.rest)
+  pub capacity_is : capacity ≡ slots_in s * (2 * GROUPS + 1)
+  pub scratch_is : scratch ≡ 2 * (slots_in s * row_groups (slots_of s.slots.kind))
+  pub kept_is : kept ≡ s.number
 
 -- The source is one of this tributary, whatever its port is. These are the bytes of its turns since it was new or restarted, and so many
 -- frames of the last of them were filled.
 pub record StandsAfter (own : Tributary) (turns : List (List ℕ)) (filled : ℕ) (s : Source) : Type 0 where
-  pub line : own.line_slots ≡ 8
-  pub own_is : own.slots ≡ s.slots
-  pub slots : IsSlotList 8 own.slots
+  pub own_is : own ≡ tributary_of s.slots own.port
+  pub slots : IsSlotList own.line_slots own.slots
   pub filled_is : s.filled ≡ filled
   pub said : s.said ≡ former_of (length own.slots) (lengths_of turns) (length turns)
   pub number : s.number ≡ number_before (length own.slots) (lengths_of turns) (length turns - 1)

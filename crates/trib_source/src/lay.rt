@@ -1,86 +1,113 @@
-// The groups of a row: data out of a ring, and stuff.
-ghost use Rattle.std.specs.Prelude.{◌≡◌, ◌+◌, ◌*◌, ◌<◌, ◌≤◌, ℕ, List, length, drop, slice_index};
-ghost use Rattle.tributary_model.specs.Puts.{group_from};
-ghost use Rattle.trib_source.specs.Rows.{AreLeft, AreEnough, WentOut};
+// The groups of a row, laid out one after the other.
+ghost use Rattle.std.specs.Prelude.{◌≡◌, ◌+◌, ◌*◌, ◌-◌, ◌<◌, ◌≤◌, ℕ, if◌then◌else◌, length, slice_index};
+ghost use Rattle.gmp_rule.specs.DataRule.{is_data_at, data_count};
+ghost use Rattle.otn_base.specs.declared.limits.TheConstants.{GROUPS};
+ghost use Rattle.trib_source.specs.Rows.{data_bytes, byte_laid};
 
-use circular_buffer::HeapCircularBuffer;
 use gmp_rule::Runner;
-use otn_base::limits::SLOT_COLUMNS;
 
-/// Lays out the groups of a row, of `m` bytes each, one after the other. The next group that the runner
-/// is asked about is the first of the row.
-pub(crate) fn lay_row(
+/// Lays out so many groups, of `m` bytes each, one after the other: into the data groups go these bytes,
+/// into the stuff groups bytes 0. The next group that the runner is asked about is the first of them.
+/// `runs` says to go by runs of data groups, as is best where nearly all are data; what is laid out is
+/// the same.
+pub(crate) fn lay_groups(
     runner: &mut Runner,
-    ring: &mut HeapCircularBuffer<u8>,
+    fresh: &[u8],
     m: usize,
+    cycles: usize,
+    runs: bool,
     into: &mut [u8],
 )
     requires some { 1 ≤ m }
-    requires few { m ≤ 8 }
-    requires size { length into.old ≡ m * 476 }
-    requires number { runner.old.number ≤ 15232 }
-    requires asked { runner.old.asked + 476 ≤ 15232 }
-    requires enough { AreEnough m runner.old.number runner.old.asked ring.old.items }
-    ensures bytes { (q : ℕ) (bytes : List ℕ) → AreLeft m runner.old.number q bytes runner.old.asked ring.old.items
-        → (cycle i : ℕ) → cycle < 476 → i < m → slice_index into.new (m * cycle + i) ≡ slice_index (group_from m runner.old.number q bytes (runner.old.asked + cycle + 1)) i }
-    ensures left { (q : ℕ) (bytes : List ℕ) → AreLeft m runner.old.number q bytes runner.old.asked ring.old.items → AreLeft m runner.old.number q bytes (runner.old.asked + 476) ring.new.items }
-    ensures count { WentOut m runner.old.number runner.old.asked 476 ring.old.items ring.new.items }
-    ensures capacity { ring.new.capacity ≡ ring.old.capacity }
-    ensures runner { runner.new ≡ record runner.old { asked = runner.old.asked + 476 } }
+    requires number { runner.old.number ≤ GROUPS }
+    requires asked { runner.old.asked + cycles ≤ GROUPS }
+    requires fresh { length fresh.now ≡ data_bytes m runner.old.number runner.old.asked cycles }
+    requires size { length into.old ≡ m * cycles }
+    ensures bytes { (x i : ℕ) → x < cycles → i < m → slice_index into.new (m * x + i) ≡ byte_laid m runner.old.number runner.old.asked fresh.now x i }
+    ensures runner { runner.new ≡ record runner.old { asked = runner.old.asked + cycles } }
 {
+    into.fill(0);
+    if runs {
+        lay_runs(runner, fresh, m, cycles, into);
+        return;
+    }
+    lay_each(runner, fresh, m, cycles, into);
+}
+
+// Lays them out one by one, where all is 0 so far.
+fn lay_each(runner: &mut Runner, fresh: &[u8], m: usize, cycles: usize, into: &mut [u8])
+    requires some { 1 ≤ m }
+    requires number { runner.old.number ≤ GROUPS }
+    requires asked { runner.old.asked + cycles ≤ GROUPS }
+    requires fresh { length fresh.now ≡ data_bytes m runner.old.number runner.old.asked cycles }
+    requires size { length into.old ≡ m * cycles }
+    requires clear { (n : ℕ) → slice_index into.old n ≡ 0 }
+    ensures bytes { (x i : ℕ) → x < cycles → i < m → slice_index into.new (m * x + i) ≡ byte_laid m runner.old.number runner.old.asked fresh.now x i }
+    ensures runner { runner.new ≡ record runner.old { asked = runner.old.asked + cycles } }
+{
+    let mut from = 0usize;
+    for cycle in 0..cycles {
+        from = lay_next(runner, fresh, from, m, into, m * cycle);
+    }
+}
+
+// Lays them out by runs of data groups, where all is 0 so far.
+fn lay_runs(runner: &mut Runner, fresh: &[u8], m: usize, cycles: usize, into: &mut [u8])
+    requires some { 1 ≤ m }
+    requires number { runner.old.number ≤ GROUPS }
+    requires asked { runner.old.asked + cycles ≤ GROUPS }
+    requires fresh { length fresh.now ≡ data_bytes m runner.old.number runner.old.asked cycles }
+    requires size { length into.old ≡ m * cycles }
+    requires clear { (n : ℕ) → slice_index into.old n ≡ 0 }
+    ensures bytes { (x i : ℕ) → x < cycles → i < m → slice_index into.new (m * x + i) ≡ byte_laid m runner.old.number runner.old.asked fresh.now x i }
+    ensures runner { runner.new ≡ record runner.old { asked = runner.old.asked + cycles } }
+{
+    let mut from = 0usize;
     let mut cycle = 0usize;
-    while cycle < SLOT_COLUMNS {
-        lay_next(runner, ring, m, into, m * cycle);
-        let run = runner.data_run((SLOT_COLUMNS - cycle - 1) as u32) as usize;
+    while cycle < cycles {
+        let behind = lay_next(runner, fresh, from, m, into, m * cycle);
         let next = cycle + 1;
-        read_at(ring, into, m * next, m * run);
+        let run = runner.data_run((cycles - next) as u32) as usize;
+        from = copy_at(fresh, behind, into, m * next, m * run);
         cycle = next + run;
     }
 }
 
-// Lays out the next group at `at`.
+// Lays out the next group at `at`: where it is data, `m` bytes from byte `from` on. Answers where the next
+// one's bytes begin.
 fn lay_next(
     runner: &mut Runner,
-    ring: &mut HeapCircularBuffer<u8>,
+    fresh: &[u8],
+    from: usize,
     m: usize,
     into: &mut [u8],
     at: usize,
-)
-    requires number { runner.old.number ≤ 15232 }
-    requires asked { runner.old.asked + 1 ≤ 15232 }
+) -> usize
+    requires asked { runner.old.asked < GROUPS }
     requires room { at + m ≤ length into.old }
-    requires enough { AreEnough m runner.old.number runner.old.asked ring.old.items }
-    ensures bytes { (q : ℕ) (bytes : List ℕ) → AreLeft m runner.old.number q bytes runner.old.asked ring.old.items
-        → (i : ℕ) → i < m → slice_index into.new (at + i) ≡ slice_index (group_from m runner.old.number q bytes (runner.old.asked + 1)) i }
+    requires enough { from + m * data_count runner.old.number (runner.old.asked + 1) ≤ length fresh.now + m * data_count runner.old.number runner.old.asked }
+    ensures from { result + m * data_count runner.old.number runner.old.asked ≡ from + m * data_count runner.old.number (runner.old.asked + 1) }
+    ensures bytes { (i : ℕ) → i < m → slice_index into.new (at + i) ≡ (if is_data_at runner.old.number (runner.old.asked + 1) then slice_index fresh.now (from + i) else slice_index into.old (at + i)) }
     ensures front { (n : ℕ) → n < at → slice_index into.new n ≡ slice_index into.old n }
-    ensures left { (q : ℕ) (bytes : List ℕ) → AreLeft m runner.old.number q bytes runner.old.asked ring.old.items → AreLeft m runner.old.number q bytes (runner.old.asked + 1) ring.new.items }
-    ensures count { WentOut m runner.old.number runner.old.asked 1 ring.old.items ring.new.items }
-    ensures capacity { ring.new.capacity ≡ ring.old.capacity }
+    ensures behind { (n : ℕ) → at + m ≤ n → slice_index into.new n ≡ slice_index into.old n }
     ensures runner { runner.new ≡ record runner.old { asked = runner.old.asked + 1 } }
 {
-    if runner.next() {
-        read_at(ring, into, at, m);
-    } else {
-        clear_at(into, at, m);
+    if !runner.next() {
+        return from;
     }
+    copy_at(fresh, from, into, at, m)
 }
 
-// Moves the first `count` bytes of the ring to `at`.
-fn read_at(ring: &mut HeapCircularBuffer<u8>, into: &mut [u8], at: usize, count: usize)
+// Copies `count` bytes from byte `from` on to `at`. Answers where the next ones begin.
+fn copy_at(fresh: &[u8], from: usize, into: &mut [u8], at: usize, count: usize) -> usize
+    requires fresh { from + count ≤ length fresh.now }
     requires room { at + count ≤ length into.old }
-    requires enough { count ≤ length ring.old.items }
-    ensures bytes { (i : ℕ) → i < count → slice_index into.new (at + i) ≡ slice_index ring.old.items i }
+    ensures next { result ≡ from + count }
+    ensures bytes { (i : ℕ) → i < count → slice_index into.new (at + i) ≡ slice_index fresh.now (from + i) }
     ensures front { (n : ℕ) → n < at → slice_index into.new n ≡ slice_index into.old n }
-    ensures ring { ring.new ≡ record ring.old { items = drop count ring.old.items } }
+    ensures behind { (n : ℕ) → at + count ≤ n → slice_index into.new n ≡ slice_index into.old n }
 {
-    ring.read_into(&mut into[at..at + count]);
-}
-
-// Writes 0 into `count` bytes from `at` on.
-fn clear_at(into: &mut [u8], at: usize, count: usize)
-    requires { at + count ≤ length into.old }
-    ensures bytes { (i : ℕ) → i < count → slice_index into.new (at + i) ≡ 0 }
-    ensures front { (n : ℕ) → n < at → slice_index into.new n ≡ slice_index into.old n }
-{
-    into[at..at + count].fill(0);
+    let next = from + count;
+    into[at..at + count].copy_from_slice(&fresh[from..next]);
+    next
 }

@@ -1,7 +1,7 @@
 //! The source of a tributary: it puts a client's bytes into the multiframes of a line (G.709 clause 19
 //! and Annex D).
 //!
-//! - `source`: the source itself, by turns of eight frames.
+//! - `source`: the source itself, by turns of one multiframe each.
 //! - `message`: what it says in a turn.
 //! - `rows`, `lay`: the groups of the rows of a frame, out of the bytes that are left.
 #![tactic(auto)]

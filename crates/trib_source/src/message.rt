@@ -2,6 +2,8 @@
 ghost use Rattle.std.specs.Prelude.{◌≡◌, ◌≢◌, ◌+◌, ◌<◌, ◌≤◌, ◌++◌, ◌∷◌, [], ℕ, slice_index};
 ghost use Rattle.std.specs.List.{Contains};
 ghost use Rattle.std.specs.Option.{ForSome};
+ghost use Rattle.otn_base.specs.declared.limits.TheConstants.{GROUPS, LINE_COLUMNS};
+ghost use Rattle.otn_base.specs.LineSlots.{slots_of};
 ghost use Rattle.frame_geometry.specs.Places.{place_of};
 ghost use Rattle.odtu_columns.specs.Message.{message_of};
 ghost use Rattle.jc_codec.specs.Message.{says};
@@ -16,8 +18,8 @@ use otn_base::Slots;
 
 /// The six bytes that say a number after a former one, or without one, and the bytes over.
 pub(crate) fn say_turn(former: Option<u16>, number: u16, rest: u16) -> [u8; 6]
-    requires former { ForSome former (λ n. n ≤ 15232) }
-    requires number { number ≤ 15232 }
+    requires former { ForSome former (λ n. n ≤ GROUPS) }
+    requires number { number ≤ GROUPS }
     requires rest { rest < 1024 }
     ensures { result ≡ says former number ++ says_rest rest }
 {
@@ -28,12 +30,11 @@ pub(crate) fn say_turn(former: Option<u16>, number: u16, rest: u16) -> [u8; 6]
 
 /// Puts the message into frame `n` where it is the frame of the greatest slot, and bytes 0 into its place
 /// where it is that of another one; every other byte stays.
-#[tactic(auto, using(crate::proofs::Greatest::greatest_is_last))]
 pub(crate) fn put_own_message(slots: &Slots, n: u8, message: [u8; 6], frame: &mut Frame<4080>)
-    requires { n < 8 }
-    ensures greatest { n + 1 ≡ greatest slots.now → message_of frame.new ≡ message }
-    ensures other { Contains slots.now (n + 1) → n + 1 ≢ greatest slots.now → message_of frame.new ≡ 0 ∷ 0 ∷ 0 ∷ 0 ∷ 0 ∷ 0 ∷ [] }
-    ensures kept { (place : ℕ) → (Contains slots.now (n + 1) → (row column : ℕ) → 1 ≤ row → row ≤ 3 → 15 ≤ column → column ≤ 16 → place ≡ place_of 4080 row column → ⊥)
+    requires { n < slots_of slots.now.kind }
+    ensures greatest { n + 1 ≡ greatest slots.now.list → message_of frame.new ≡ message }
+    ensures other { Contains slots.now.list (n + 1) → n + 1 ≢ greatest slots.now.list → message_of frame.new ≡ 0 ∷ 0 ∷ 0 ∷ 0 ∷ 0 ∷ 0 ∷ [] }
+    ensures kept { (place : ℕ) → (Contains slots.now.list (n + 1) → (row column : ℕ) → 1 ≤ row → row ≤ 3 → 15 ≤ column → column ≤ 16 → place ≡ place_of LINE_COLUMNS row column → ⊥)
         → slice_index frame.new place ≡ slice_index frame.old place }
 {
     let _rising = slots.count();

@@ -1,15 +1,17 @@
 // The source of a tributary.
 ghost use Rattle.std.specs.Prelude.{◌≡◌, ℕ, ◌+◌, ◌-◌, ◌*◌, ◌/◌, ◌%◌, ◌<◌, ◌≤◌, List, [], ◌∷◌, ◌++◌, IfOk, IsSome, length};
-ghost use Rattle.tributary_model.specs.Places.{Tributary};
-ghost use Rattle.tributary_model.specs.Puts.{WasPut};
+ghost use Rattle.otn_base.specs.declared.limits.TheConstants.{GROUPS, LINE_COLUMNS, ROWS};
+ghost use Rattle.otn_base.specs.LineSlots.{slots_of};
+ghost use Rattle.tributary_model.specs.Places.{Tributary, tributary_of, byte_at};
+ghost use Rattle.tributary_model.specs.Puts.{IsSourcePlace, WasPut};
 ghost use Rattle.trib_source.specs.Source.{said_number};
 
 use crate::message::{put_own_message, say_turn};
-use crate::rows::put_rows;
+use crate::rows::{cycles_in_row, groups_before, put_rows};
 use circular_buffer::HeapCircularBuffer;
 use frame_geometry::Frame;
 use gmp_rule::Runner;
-use otn_base::limits::{GROUPS, SLOT_COLUMNS};
+use otn_base::limits::GROUPS;
 use otn_base::{Memory, Slots};
 use std::alloc::Global;
 use std::marker::Model;
@@ -20,6 +22,7 @@ use std::marker::Model;
 pub struct TribSource {
     slots: Slots,
     said: Option<u16>,
+    number: u16,
     runner: Runner,
     ring: HeapCircularBuffer<u8>,
     scratch: Vec<u8>,
@@ -36,7 +39,7 @@ impl Model for TribSource {
 
     ghost view = { λ s. record { slots = s.slots; said = s.said; number = s.runner.number; asked = s.runner.asked; left = s.ring.items; rest = s.rest; message = s.message; filled = s.filled } };
 
-    ghost invariant = { λ s. IsSource (record { slots = s.slots; said = s.said; number = s.runner.number; asked = s.runner.asked; left = s.ring.items; rest = s.rest; message = s.message; filled = s.filled }) s.ring.capacity (vec_len s.scratch) };
+    ghost invariant = { λ s. IsSource (record { slots = s.slots; said = s.said; number = s.runner.number; asked = s.runner.asked; left = s.ring.items; rest = s.rest; message = s.message; filled = s.filled }) s.ring.capacity (vec_len s.scratch) s.number };
 }
 
 impl TribSource {
@@ -45,17 +48,19 @@ impl TribSource {
     /// A source of these slots, before its first turn. Takes all memory that it will ever need; answers
     /// `Memory` where there is none.
     pub fn new(alloc: Global, slots: &Slots) -> Result<TribSource, Memory>
-        ensures stands { IfOk result (λ s. (port : ℕ) → StandsAfter (record { line_slots = 8; slots = slots.now; port = port }) [] 0 s) }
+        ensures stands { IfOk result (λ s. (port : ℕ) → StandsAfter (tributary_of slots.now port) [] 0 s) }
         ensures rest { IfOk result (λ s. s.rest ≡ 0) }
         ensures slots { IfOk result (λ s. s.slots ≡ slots.now) }
     {
         let m = slots.count() as usize;
+        let cycles = cycles_in_row(slots.kind()) as usize;
         let ring = HeapCircularBuffer::with_capacity(alloc, m * (2 * GROUPS + 1))?;
-        let scratch = vec![in alloc; 0u8; m * SLOT_COLUMNS]?;
+        let scratch = vec![in alloc; 0u8; 2 * (m * cycles)]?;
         let slots = slots.clone()?;
         Ok(TribSource {
             slots,
             said: None,
+            number: 0,
             runner: Runner::start(0),
             ring,
             scratch,
@@ -67,12 +72,13 @@ impl TribSource {
 
     /// Begins anew, as a new source of the same slots.
     pub fn restart(&mut self)
-        ensures stands { (port : ℕ) → StandsAfter (record { line_slots = 8; slots = self.old.slots; port = port }) [] 0 self.new }
+        ensures stands { (port : ℕ) → StandsAfter (tributary_of self.old.slots port) [] 0 self.new }
         ensures rest { self.new.rest ≡ 0 }
         ensures slots { self.new.slots ≡ self.old.slots }
     {
         let _rising = self.slots.count();
         self.said = None;
+        self.number = 0;
         self.runner = Runner::start(0);
         self.ring.clear();
         self.rest = 0;
@@ -83,10 +89,10 @@ impl TribSource {
     /// were filled, is dropped as if it had been put. The groups that the bytes complete are at most
     /// 15,232: those of a sink's emission are.
     pub fn begin_turn(&mut self, bytes: &[u8])
-        requires fits { (self.old.rest + length bytes.now) / length self.old.slots ≤ 15232 }
+        requires fits { (self.old.rest + length bytes.now) / length self.old.slots.list ≤ GROUPS }
         ensures stands { (own : Tributary) (turns : List (List ℕ)) (filled : ℕ) → StandsAfter own turns filled self.old → StandsAfter own (turns ++ bytes.now ∷ []) 0 self.new }
         ensures begun { IsSome self.new.said }
-        ensures rest { self.new.rest ≡ (self.old.rest + length bytes.now) % length self.old.slots }
+        ensures rest { self.new.rest ≡ (self.old.rest + length bytes.now) % length self.old.slots.list }
         ensures filled { self.new.filled ≡ 0 }
         ensures slots { self.new.slots ≡ self.old.slots }
     {
@@ -100,27 +106,34 @@ impl TribSource {
         let rest = (total % m) as u16;
         self.message = say_turn(self.said, next, rest);
         self.runner = Runner::start(number as u32);
+        self.number = number;
         self.said = Some(next);
         self.rest = rest;
         self.filled = 0;
     }
 
-    /// Puts the turn's groups and message into its frame `n` (0 to 7), of which `n` frames were filled:
-    /// into the payload columns of the slots, and into the message bytes where the frame is one of theirs.
-    /// Every other byte stays.
+    /// Puts the turn's groups and message into its frame `n`, from 0 and below the number of the line's
+    /// slots, where `n` frames of it were filled: into the payload columns of the slots, and into the
+    /// message bytes where the frame is one of theirs. Every other byte stays.
     pub fn fill(&mut self, n: u8, frame: &mut Frame<4080>)
-        requires number { n < 8 }
+        requires number { n < slots_of self.old.slots.kind }
         requires filled { n ≡ self.old.filled }
         requires begun { IsSome self.old.said }
         ensures put { (own : Tributary) (turns : List (List ℕ)) → StandsAfter own turns n self.old → WasPut own turns (length turns - 1) n frame.old frame.new }
+        ensures kept { (port row column : ℕ) → 1 ≤ row → row ≤ ROWS → 1 ≤ column → column ≤ LINE_COLUMNS → (IsSourcePlace (tributary_of self.old.slots port) n row column → ⊥)
+            → byte_at frame.new row column ≡ byte_at frame.old row column }
         ensures stands { (own : Tributary) (turns : List (List ℕ)) → StandsAfter own turns n self.old → StandsAfter own turns (n + 1) self.new }
         ensures begun { IsSome self.new.said }
         ensures filled { self.new.filled ≡ self.old.filled + 1 }
         ensures rest { self.new.rest ≡ self.old.rest }
         ensures slots { self.new.slots ≡ self.old.slots }
     {
+        let _rising = self.slots.count();
+        let asked = groups_before(self.slots.kind(), n);
         put_rows(
             &mut self.runner,
+            self.number as u32,
+            asked,
             &mut self.ring,
             &self.slots,
             &mut self.scratch,
