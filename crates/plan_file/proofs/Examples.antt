@@ -2,6 +2,7 @@
 use Rattle.std.proofs.Common.{◌≡◌, ℕ, ◌+◌, ℤ, pos, negsuc, true, false, List, [], ◌∷◌, Some, None, refl}
 use Rattle.std.specs.Prelude.{codes}
 use Rattle.otn_base.specs.declared.kind.Kind.TheVariants.{Odu0}
+use Rattle.otn_base.specs.declared.line_kind.LineKind.TheVariants.{Otu2}
 use Rattle.toml.specs.Data.{Data, string, integer, array, table, no_items, item, Members, no_members, member}
 use Rattle.plan_file.specs.declared.error.PlanError.TheVariants.{UnknownKey, MissingKey, WrongKind, Turns, SlotTwice, BadPace}
 use Rattle.plan_file.specs.Answer.{fault_of, refusal_of}
@@ -15,7 +16,7 @@ entry client pace start stop = record {
   name = (97 + client) ∷ [];
   kind = Odu0;
   from = at_client (pos client);
-  to = at_line (pos 0) (pos 1) (pos 4 ∷ []);
+  to = at_line (pos 0) (pos 1) Otu2 (pos 4 ∷ []);
   pace = pace ∷ [];
   fcs = true;
   trace = [];
@@ -25,7 +26,7 @@ entry client pace start stop = record {
 }
 
 abbrev plan : ℤ → List Entry → Outline
-plan turns entries = record { turns = turns; entries = entries }
+plan turns entries = record { top = record { turns = turns; otu3_in = []; otu3_out = []; scrambled_in = []; scrambled_out = [] }; entries = entries }
 
 no_turns : fault_of (plan (pos 0) []) ≡ Some (Turns, 0)
 no_turns = refl
@@ -63,5 +64,5 @@ no_table : refusal_of (with_turns (array (item (integer (pos 5)) no_items))) ≡
 no_table = refl
 
 -- a key that is not known counts before a value that is no table
-unknown_key : refusal_of (with_turns (array (item (integer (pos 5)) (item (table (member (codes "retire") (integer (pos 1)) no_members)) no_items)))) ≡ Some (UnknownKey, 2)
+unknown_key : refusal_of (with_turns (array (item (integer (pos 5)) (item (table (member (codes "retired") (integer (pos 1)) no_members)) no_items)))) ≡ Some (UnknownKey, 2)
 unknown_key = refl

@@ -1,5 +1,5 @@
 -- An outline without a fault is one that a plan can have, and comes back from its plan.
-use Rattle.std.proofs.Common.{◌≡◌, ℕ, ◌+◌, ◌≤◌, ℤ, pos, negsuc, Bool, true, false, not, ◌&&◌, ◌||◌, cond, List, [], ◌∷◌, length, map, Option, Some, None, option_map, slice_get, refl, ap, sym, ◌∙◌, arith, zero, suc}
+use Rattle.std.proofs.Common.{◌≡◌, ℕ, ◌+◌, ◌≤◌, ℤ, pos, negsuc, Bool, true, false, not, ◌&&◌, ◌||◌, cond, List, [], ◌∷◌, ◌++◌, length, map, Option, Some, None, option_map, slice_get, refl, ap, sym, ◌∙◌, arith, zero, suc}
 use Rattle.std.proofs.lemmas.Bool.{and_parts, not-false}
 use Rattle.std.proofs.lemmas.Bool.Decides.{nat_tests}
 use Rattle.std.proofs.lemmas.Int.{ints}
@@ -8,8 +8,11 @@ use Rattle.std.specs.List.{list_all}
 use Rattle.std.specs.Option.{option_map_or, option_or}
 use Rattle.std.specs.Prelude.{codes, int_le, nat_le, ◌≢◌, Result, Ok, Err, IfOk}
 use Rattle.std.proofs.lemmas.Simd.{map-map}
+use Rattle.otn_base.specs.LineSlots.{slots_of}
 use Rattle.otn_base.specs.declared.kind.Kind.{Kind}
 use Rattle.otn_base.specs.declared.kind.Kind.TheVariants.{Odu0, Flex}
+use Rattle.otn_base.specs.declared.line_kind.LineKind.{LineKind}
+use Rattle.otn_base.specs.declared.line_kind.LineKind.TheVariants.{Otu2, Otu3}
 use Rattle.toml.specs.Data.{Data, Members, get}
 use Rattle.toml.specs.View.{view}
 use Rattle.toml.specs.declared.value.Value.{Value}
@@ -19,14 +22,15 @@ use Rattle.plan_file.specs.declared.error.NoPlan.{NoPlan}
 use Rattle.plan_file.specs.declared.error.NoPlan.TheVariants.{Memory}
 use Rattle.plan_file.specs.declared.plan.Plan.{Plan}
 use Rattle.plan_file.specs.Answer.{fault_of, fault_in, plan_places, plan_rules, table_places, table_rules, accepted_or, refusal_of}
-use Rattle.plan_file.specs.Entry.{End, at_line, at_client, of_signal, is_line, slot_count, slots_between, Entry, Outline, natural, from_seen, to_seen, seen, outline, from_of, to_of, connection_of, plan_of}
+use Rattle.plan_file.specs.Entry.{End, at_line, at_client, of_signal, is_line, slot_count, slots_between, Entry, Top, Outline, natural, from_seen, to_seen, seen, outline, from_of, to_of, connection_of, plan_of}
 use Rattle.plan_file.specs.Keys.{has}
-use Rattle.plan_file.specs.Places.{broken_or, first_broken, places_from, top_place}
-use Rattle.plan_file.specs.Rules.{is_within, is_name, is_sapi, is_placed, is_slot_list, has_slots, has_equal_counts, suits, least_pace, most_pace, is_span, can_retire, breaks_name, breaks_place, breaks_slots, breaks_pace, breaks_span}
-use Rattle.plan_file.specs.Sound.{has_slot_list, is_no_signal, IsSoundEnd, IsSound, AreSound}
-use Rattle.plan_file.specs.Table.{entry_at, to_at, no_end, turns_at, connections_at, outline_at}
-use Rattle.plan_file.proofs.Fitting.{within, list_all-wider, pos-natural}
-use Rattle.plan_file.proofs.SlotNumbers.{slot_parts, is_slot_list-short}
+use Rattle.plan_file.specs.Places.{broken_or, first_broken, places, places_from, top_place}
+use Rattle.plan_file.specs.Rules.{is_within, is_name, is_sapi, rises, is_line_list, breaks_lines, is_placed, is_slot_list, is_same_kind, has_slots, has_equal_counts, suits, least_pace, most_pace, is_span, can_retire, breaks_name, breaks_place, breaks_slots, breaks_pace, breaks_span}
+use Rattle.plan_file.specs.Sound.{is_sound, is_no_signal, IsSoundTop, IsSound, AreSound}
+use Rattle.plan_file.specs.Table.{entry_at, to_at, no_end, top_at, connections_at, outline_at}
+use Rattle.plan_file.specs.Lines.{line_kind, line_slots}
+use Rattle.plan_file.proofs.Fitting.{within, is_within-wider, list_all-wider, pos-natural}
+use Rattle.plan_file.proofs.SlotNumbers.{slot_parts, few_of, few_slots}
 
 -- ---- no rule is broken
 
@@ -45,6 +49,10 @@ top_none : (b : Bool) → top_place b ≡ [] → b ≡ false
 top_none true e = cc
 top_none false e = refl
 
+top_or_none : (b : Bool) (more : List ℕ) → top_place b ++ more ≡ [] → (b ≡ false) × (more ≡ [])
+top_or_none true more e = cc
+top_or_none false more e = (refl, e)
+
 place_none : (b : Bool) (place : ℕ) (after without : List ℕ) → cond b (place ∷ after) without ≡ [] → (b ≡ false) × (without ≡ [])
 place_none true place after without e = cc
 place_none false place after without e = (refl, e)
@@ -59,21 +67,35 @@ places_none test place (y ∷ ys) (suc i) x e known =
 
 -- ---- a connection that breaks no rule
 
-listed_of : (kind : Kind) (end : End) → has_slots kind end ≡ true → has_slot_list end ≡ true
-listed_of kind (at_line line port slots) h = (and_parts (is_slot_list slots) (suits kind (length slots)) h).0
-listed_of kind (at_client client) h = refl
-listed_of kind (of_signal signal) h = refl
+same_kind : (one other : LineKind) → is_same_kind one other ≡ true → one ≡ other
+same_kind Otu2 Otu2 h = refl
+same_kind Otu2 Otu3 h = cc
+same_kind Otu3 Otu2 h = cc
+same_kind Otu3 Otu3 h = refl
 
-count_short : (end : End) → has_slot_list end ≡ true → slot_count end ≤ 8
-count_short (at_line line port slots) h = is_slot_list-short slots h
+sound_end : (otu3 : List ℤ) (kind : Kind) (end : End) → is_placed otu3 end ≡ true → has_slots otu3 kind end ≡ true → is_sound end ≡ true
+sound_end otu3 kind (at_line line port made_for slots) placed listed =
+    let most = line_slots otu3 line in
+    let (l, p) = and_parts (is_within 0 3 line) (is_within 1 most port) placed in
+    let (front, suit) = and_parts (is_same_kind made_for (line_kind otu3 line) && is_slot_list most slots) (suits kind (length slots)) listed in
+    let (same, list) = and_parts (is_same_kind made_for (line_kind otu3 line)) (is_slot_list most slots) front in
+    let port' : is_within 1 32 port ≡ true = is_within-wider 1 most 1 32 port p (omega arith) (few_of (line_kind otu3 line)) in
+    let list' : is_slot_list (slots_of made_for) slots ≡ true = rw (same_kind made_for (line_kind otu3 line) same) list in
+    rw (l, port') list'
+sound_end otu3 kind (at_client client) placed listed = placed
+sound_end otu3 kind (of_signal signal) placed listed = refl
+
+count_short : (end : End) → is_sound end ≡ true → slot_count end ≤ 32
+count_short (at_line line port kind slots) h =
+    few_slots kind slots (and_parts (is_within 0 3 line && is_within 1 32 port) (is_slot_list (slots_of kind) slots) h).1
 count_short (at_client client) h = omega arith
 count_short (of_signal signal) h = omega arith
 
-either_short : (b : Bool) (m n : ℕ) → m ≤ 8 → n ≤ 8 → cond b m n ≤ 8
+either_short : (b : Bool) (m n : ℕ) → m ≤ 32 → n ≤ 32 → cond b m n ≤ 32
 either_short true m n one other = one
 either_short false m n one other = other
 
-most_fits : (kind : Kind) (m : ℕ) → m ≤ 8 → most_pace kind m ≤ 4294967295
+most_fits : (kind : Kind) (m : ℕ) → m ≤ 32 → most_pace kind m ≤ 4294967295
 most_fits Odu0 m h = omega arith
 most_fits Flex m h = omega arith
 
@@ -85,31 +107,31 @@ span_within (pos n) (pos t) low high in_range = grind (arith, nat_tests)
 span_within (pos n) (negsuc t) low high in_range = cc
 span_within (negsuc n) turns low high in_range = cc
 
-sound_of : (turns : ℤ) (e : Entry) → is_within 1 16384 turns ≡ true → breaks_name e ≡ false → breaks_place e ≡ false → breaks_slots e ≡ false → breaks_pace e ≡ false → breaks_span turns e ≡ false
+sound_of : (top : Top) (e : Entry) → is_within 1 16384 top.turns ≡ true → breaks_name e ≡ false → breaks_place top e ≡ false → breaks_slots top e ≡ false → breaks_pace e ≡ false → breaks_span top.turns e ≡ false
     → is_no_signal e.to ≡ true → IsSound e
-sound_of turns e in_range name place slots pace span no_signal =
+sound_of top e in_range name place slots pace span no_signal =
     let names = and_parts (is_name e.name) (is_sapi e.trace) (not-false (is_name e.name && is_sapi e.trace) name) in
-    let ends = and_parts (is_placed e.from && is_placed e.to) (is_line e.from || is_line e.to) (not-false _ place) in
-    let placed = and_parts (is_placed e.from) (is_placed e.to) ends.0 in
-    let lists = and_parts (has_slots e.kind e.from && has_slots e.kind e.to) (has_equal_counts e.from e.to) (not-false _ slots) in
-    let listed = and_parts (has_slots e.kind e.from) (has_slots e.kind e.to) lists.0 in
-    let from_listed = listed_of e.kind e.from listed.0 in
-    let to_listed = listed_of e.kind e.to listed.1 in
+    let ends = and_parts (is_placed top.otu3_in e.from && is_placed top.otu3_out e.to) (is_line e.from || is_line e.to) (not-false _ place) in
+    let placed = and_parts (is_placed top.otu3_in e.from) (is_placed top.otu3_out e.to) ends.0 in
+    let lists = and_parts (has_slots top.otu3_in e.kind e.from && has_slots top.otu3_out e.kind e.to) (has_equal_counts e.from e.to) (not-false _ slots) in
+    let listed = and_parts (has_slots top.otu3_in e.kind e.from) (has_slots top.otu3_out e.kind e.to) lists.0 in
+    let from = sound_end top.otu3_in e.kind e.from placed.0 listed.0 in
+    let to = sound_end top.otu3_out e.kind e.to placed.1 listed.1 in
     let m = slots_between e.from e.to in
-    let few : m ≤ 8 = either_short (is_line e.from) (slot_count e.from) (slot_count e.to) (count_short e.from from_listed) (count_short e.to to_listed) in
+    let few : m ≤ 32 = either_short (is_line e.from) (slot_count e.from) (slot_count e.to) (count_short e.from from) (count_short e.to to) in
     let paces = and_parts (nat_le 1 (length e.pace) && nat_le (length e.pace) 64) (list_all (is_within (least_pace e.kind m) (most_pace e.kind m)) e.pace) (not-false _ pace) in
-    let spans = and_parts (is_span turns e) (can_retire e) (not-false _ span) in
-    let steps = and_parts (int_le (pos 1) e.start && int_le e.start e.stop) (int_le e.stop turns) spans.0 in
+    let spans = and_parts (is_span top.turns e) (can_retire e) (not-false _ span) in
+    let steps = and_parts (int_le (pos 1) e.start && int_le e.start e.stop) (int_le e.stop top.turns) spans.0 in
     let start = and_parts (int_le (pos 1) e.start) (int_le e.start e.stop) steps.0 in
     record {
       sapi = names.1;
-      from = record { placed = placed.0; slots = from_listed };
-      to = record { placed = placed.1; slots = to_listed };
+      from = from;
+      to = to;
       no_signal = no_signal;
       pace = list_all-wider (least_pace e.kind m) (most_pace e.kind m) 0 4294967295 e.pace paces.1 (omega arith) (most_fits e.kind m few);
       few = few;
-      start = span_within e.start turns start.0 (int_le_trans e.start e.stop turns start.1 steps.1) in_range;
-      stop = span_within e.stop turns (int_le_trans (pos 1) e.start e.stop start.0 start.1) steps.1 in_range;
+      start = span_within e.start top.turns start.0 (int_le_trans e.start e.stop top.turns start.1 steps.1) in_range;
+      stop = span_within e.stop top.turns (int_le_trans (pos 1) e.start e.stop start.0 start.1) steps.1 in_range;
     }
 
 -- ---- the connections of a table
@@ -118,52 +140,85 @@ client_or_line : (b : Bool) (client line : End) → is_no_signal client ≡ true
 client_or_line true client line c l = c
 client_or_line false client line c l = l
 
-no_signal_at : (to : Option Data) → is_no_signal (option_map_or to_at to no_end) ≡ true
-no_signal_at None = refl
-no_signal_at (Some to) = client_or_line (has (codes "client") to) _ _ refl refl
+no_signal_at : (otu3 : List ℤ) (to : Option Data) → is_no_signal (option_map_or (to_at otu3) to no_end) ≡ true
+no_signal_at otu3 None = refl
+no_signal_at otu3 (Some to) = client_or_line (has (codes "client") to) _ _ refl refl
 
 mapped_at : {A B : Type 0} (f : A → B) (o : Option A) (y : B) → option_map f o ≡ Some y → (x : A) × (y ≡ f x)
 mapped_at f None y e = cc
 mapped_at f (Some x) y e = (x, cc)
 
-no_signal_in : (turns : ℤ) (connections : List Data) (i : ℕ) (e : Entry) → slice_get (map (entry_at turns) connections) i ≡ Some e → is_no_signal e.to ≡ true
-no_signal_in turns connections i e known =
-    let (connection, is) = mapped_at (entry_at turns) (slice_get connections i) e (sym (slice_get-map (entry_at turns) connections i) ∙ known) in
-    rw is (no_signal_at (get (codes "to") connection))
+no_signal_in : (top : Top) (connections : List Data) (i : ℕ) (e : Entry) → slice_get (map (entry_at top) connections) i ≡ Some e → is_no_signal e.to ≡ true
+no_signal_in top connections i e known =
+    let (connection, is) = mapped_at (entry_at top) (slice_get connections i) e (sym (slice_get-map (entry_at top) connections i) ∙ known) in
+    rw is (no_signal_at top.otu3_out (get (codes "to") connection))
 
-pub turns_within : (o : Outline) → fault_of o ≡ None → is_within 1 16384 o.turns ≡ true
-turns_within o none = not-false _ (top_none (not (is_within 1 16384 o.turns)) (none_at (plan_places o) plan_rules 0 Turns none refl))
+turns_within : (o : Outline) → fault_of o ≡ None → is_within 1 16384 o.top.turns ≡ true
+turns_within o none = not-false _ (top_none (not (is_within 1 16384 o.top.turns)) (none_at (plan_places o) plan_rules 0 Turns none refl))
 
-pub are_sound : (turns : ℤ) (connections : List Data) → fault_of (record { turns = turns; entries = map (entry_at turns) connections }) ≡ None → AreSound (map (entry_at turns) connections)
-are_sound turns connections none = record {
+-- the rule on places is broken neither at the top nor at a connection
+placed_all : (o : Outline) → fault_of o ≡ None → (breaks_lines o.top ≡ false) × (places (breaks_place o.top) o.entries ≡ [])
+placed_all o none = top_or_none (breaks_lines o.top) (places (breaks_place o.top) o.entries) (none_at (plan_places o) plan_rules 4 BadPlace none refl)
+
+lines_within : (lines : List ℤ) → is_line_list lines ≡ true → list_all (is_within 0 3) lines ≡ true
+lines_within lines h = (and_parts (list_all (is_within 0 3) lines) (rises lines) h).0
+
+pub top_sound : (o : Outline) → fault_of o ≡ None → IsSoundTop o.top
+top_sound o none =
+    let top = o.top in
+    let lists = and_parts (is_line_list top.otu3_in && is_line_list top.otu3_out) (is_line_list top.scrambled_in && is_line_list top.scrambled_out) (not-false _ (placed_all o none).0) in
+    let otu3 = and_parts (is_line_list top.otu3_in) (is_line_list top.otu3_out) lists.0 in
+    let scrambled = and_parts (is_line_list top.scrambled_in) (is_line_list top.scrambled_out) lists.1 in
+    record {
+      turns = turns_within o none;
+      otu3_in = lines_within top.otu3_in otu3.0;
+      otu3_out = lines_within top.otu3_out otu3.1;
+      scrambled_in = lines_within top.scrambled_in scrambled.0;
+      scrambled_out = lines_within top.scrambled_out scrambled.1;
+    }
+
+pub are_sound : (top : Top) (connections : List Data) → fault_of (record { top = top; entries = map (entry_at top) connections }) ≡ None → AreSound (map (entry_at top) connections)
+are_sound top connections none = record {
   each = λ i e known.
-      let o : Outline = record { turns = turns; entries = map (entry_at turns) connections } in
-      sound_of turns e (turns_within o none)
+      let o : Outline = record { top = top; entries = map (entry_at top) connections } in
+      sound_of top e (turns_within o none)
       (places_none breaks_name 1 o.entries i e (none_at (plan_places o) plan_rules 2 BadName none refl) known)
-      (places_none breaks_place 1 o.entries i e (none_at (plan_places o) plan_rules 4 BadPlace none refl) known)
-      (places_none breaks_slots 1 o.entries i e (none_at (plan_places o) plan_rules 5 BadSlots none refl) known)
+      (places_none (breaks_place top) 1 o.entries i e (placed_all o none).1 known)
+      (places_none (breaks_slots top) 1 o.entries i e (none_at (plan_places o) plan_rules 5 BadSlots none refl) known)
       (places_none breaks_pace 1 o.entries i e (none_at (plan_places o) plan_rules 9 BadPace none refl) known)
-      (places_none (breaks_span turns) 1 o.entries i e (none_at (plan_places o) plan_rules 10 BadSpan none refl) known)
-      (no_signal_in turns connections i e known);
+      (places_none (breaks_span top.turns) 1 o.entries i e (none_at (plan_places o) plan_rules 10 BadSpan none refl) known)
+      (no_signal_in top connections i e known);
 }
 
 -- ---- back from the plan
 
-slots_back : (slots : List ℤ) → is_slot_list slots ≡ true → map pos (map natural slots) ≡ slots
-slots_back slots h = pos-natural 1 8 slots (slot_parts slots h).all
+slots_back : (kind : LineKind) (slots : List ℤ) → is_slot_list (slots_of kind) slots ≡ true → map pos (map natural slots) ≡ slots
+slots_back kind slots h = pos-natural 1 (slots_of kind) slots (slot_parts (slots_of kind) slots h).all
 
-from_back : (end : End) → IsSoundEnd end → from_seen (from_of end) ≡ end
-from_back (at_line line port slots) sound =
-    let (l, p) = and_parts (is_within 0 3 line) (is_within 1 8 port) sound.placed in
-    rw ((within 0 3 line l).same, (within 1 8 port p).same, slots_back slots sound.slots)
-from_back (at_client client) sound = rw (within 0 15 client sound.placed).same
+-- the parts of an end at a line
+record LineParts (line port : ℤ) (kind : LineKind) (slots : List ℤ) : Type 0 where
+  same_line : pos (natural line) ≡ line
+  same_port : pos (natural port) ≡ port
+  same_slots : map pos (map natural slots) ≡ slots
+
+line_parts : (line port : ℤ) (kind : LineKind) (slots : List ℤ) → is_sound (at_line line port kind slots) ≡ true → LineParts line port kind slots
+line_parts line port kind slots sound =
+    let (placed, list) = and_parts (is_within 0 3 line && is_within 1 32 port) (is_slot_list (slots_of kind) slots) sound in
+    let (l, p) = and_parts (is_within 0 3 line) (is_within 1 32 port) placed in
+    record { same_line = (within 0 3 line l).same; same_port = (within 1 32 port p).same; same_slots = slots_back kind slots list }
+
+from_back : (end : End) → is_sound end ≡ true → from_seen (from_of end) ≡ end
+from_back (at_line line port kind slots) sound =
+    let parts = line_parts line port kind slots sound in
+    rw (parts.same_line, parts.same_port, parts.same_slots)
+from_back (at_client client) sound = rw (within 0 15 client sound).same
 from_back (of_signal signal) sound = refl
 
-to_back : (end : End) → IsSoundEnd end → is_no_signal end ≡ true → to_seen (to_of end) ≡ end
-to_back (at_line line port slots) sound no_signal =
-    let (l, p) = and_parts (is_within 0 3 line) (is_within 1 8 port) sound.placed in
-    rw ((within 0 3 line l).same, (within 1 8 port p).same, slots_back slots sound.slots)
-to_back (at_client client) sound no_signal = rw (within 0 15 client sound.placed).same
+to_back : (end : End) → is_sound end ≡ true → is_no_signal end ≡ true → to_seen (to_of end) ≡ end
+to_back (at_line line port kind slots) sound no_signal =
+    let parts = line_parts line port kind slots sound in
+    rw (parts.same_line, parts.same_port, parts.same_slots)
+to_back (at_client client) sound no_signal = rw (within 0 15 client sound).same
 to_back (of_signal signal) sound no_signal = cc
 
 entry_back : (e : Entry) → IsSound e → seen (connection_of e) ≡ e
@@ -177,18 +232,22 @@ entries_back : (es : List Entry) → AreSound es → map seen (map connection_of
 entries_back [] sound = refl
 entries_back (e ∷ es) sound = rw (entry_back e (sound.each 0 e refl), entries_back es (tail_sound e es sound))
 
-pub outline_back : (o : Outline) → is_within 1 16384 o.turns ≡ true → AreSound o.entries → outline (plan_of o) ≡ o
-outline_back o turns sound = rw ((within 1 16384 o.turns turns).same, entries_back o.entries sound)
+lines_back : (lines : List ℤ) → list_all (is_within 0 3) lines ≡ true → map pos (map natural lines) ≡ lines
+lines_back lines h = pos-natural 0 3 lines h
+
+pub outline_back : (o : Outline) → IsSoundTop o.top → AreSound o.entries → outline (plan_of o) ≡ o
+outline_back o top sound =
+    rw ((within 1 16384 o.top.turns top.turns).same, lines_back o.top.otu3_in top.otu3_in, lines_back o.top.otu3_out top.otu3_out, lines_back o.top.scrambled_in top.scrambled_in, lines_back o.top.scrambled_out top.scrambled_out, entries_back o.entries sound)
 
 -- ---- the outline of a table
 
-pub outline_is : (top : Members) (turns : ℤ) (entries : List Entry) → turns ≡ turns_at top → entries ≡ map (entry_at (turns_at top)) (connections_at top)
-    → ◌≡◌ {A = Outline} (record { turns = turns; entries = entries }) (outline_at top)
-outline_is top turns entries same same' = rw (same, same')
+pub outline_is : (table : Members) (top : Top) (entries : List Entry) → top ≡ top_at table → entries ≡ map (entry_at top) (connections_at table)
+    → ◌≡◌ {A = Outline} (record { top = top; entries = entries }) (outline_at table)
+outline_is table top entries same same' = rw (same', same)
 
 -- the connections that the code sees
-pub entries_seen : (turns : ℤ) (connections : List Data) (values : List Value) → map view values ≡ connections → map (λ value. entry_at turns (view value)) values ≡ map (entry_at turns) connections
-entries_seen turns connections values same = sym (map-map (entry_at turns) view values) ∙ ap (map (entry_at turns)) same
+pub entries_seen : (top : Top) (connections : List Data) (values : List Value) → map view values ≡ connections → map (λ value. entry_at top (view value)) values ≡ map (entry_at top) connections
+entries_seen top connections values same = sym (map-map (entry_at top) view values) ∙ ap (map (entry_at top)) same
 
 -- ---- an accepted plan
 
@@ -203,7 +262,7 @@ later_none (Some broken) other e = cc
 back_without_fault : (top : Members) → fault_of (outline_at top) ≡ None → fault_in (plan_of (outline_at top)) ≡ None
 unfolding fault_in
 back_without_fault top none =
-    ap fault_of (outline_back (outline_at top) (turns_within (outline_at top) none) (are_sound (turns_at top) (connections_at top) none)) ∙ none
+    ap fault_of (outline_back (outline_at top) (top_sound (outline_at top) none) (are_sound (top_at top) (connections_at top) none)) ∙ none
 
 pub accepted_without_fault : (top : Members) (answer : Result Plan NoPlan) → (answer ≢ Err Memory → answer ≡ accepted_or (plan_of (outline_at top)) (refusal_of top)) → IfOk answer (λ plan. fault_in plan ≡ None)
 accepted_without_fault top (Ok plan) h =

@@ -1,7 +1,9 @@
 -- A plan as its rules see it: the number of turns, and for each connection what its keys say, each number as wide as a text can write it.
 use Rattle.std.specs.Prelude.{ℕ, ℤ, pos, negsuc, List, map, length, Bool, true, false, if◌then◌else◌}
 use Rattle.maintenance_signals.specs.declared.signal.Signal.{Signal}
+use Rattle.otn_base.specs.LineSlots.{LineSlots}
 use Rattle.otn_base.specs.declared.kind.Kind.{Kind}
+use Rattle.otn_base.specs.declared.line_kind.LineKind.{LineKind}
 use Rattle.plan_file.specs.declared.connection.Connection.{Connection}
 use Rattle.plan_file.specs.declared.connection.FromEnd.{FromEnd}
 use Rattle.plan_file.specs.declared.connection.FromEnd.TheVariants as from_end
@@ -9,9 +11,9 @@ use Rattle.plan_file.specs.declared.connection.ToEnd.{ToEnd}
 use Rattle.plan_file.specs.declared.connection.ToEnd.TheVariants as to_end
 use Rattle.plan_file.specs.declared.plan.Plan.{Plan}
 
--- one end: a line with its tributary port and slots, a client, or a maintenance signal
+-- one end: a line with its tributary port, and slots for a line of the kind; a client, or a maintenance signal
 pub data End : Type 0 where
-  at_line : ℤ → ℤ → List ℤ → End
+  at_line : ℤ → ℤ → LineKind → List ℤ → End
   at_client : ℤ → End
   of_signal : Signal → End
 
@@ -28,15 +30,23 @@ pub record Entry : Type 0 where
   pub stop : ℤ
   pub retire : Bool
 
+-- the top: the number of turns, and which lines are OTU3 and which are scrambled
+pub record Top : Type 0 where
+  pub turns : ℤ
+  pub otu3_in : List ℤ
+  pub otu3_out : List ℤ
+  pub scrambled_in : List ℤ
+  pub scrambled_out : List ℤ
+
 -- the whole
 pub record Outline : Type 0 where
-  pub turns : ℤ
+  pub top : Top
   pub entries : List Entry
 
 -- ---- of an end
 
 abbrev pub is_line : End → Bool
-is_line (at_line line port slots) = true
+is_line (at_line line port kind slots) = true
 is_line _ = false
 
 abbrev pub is_client : End → Bool
@@ -45,7 +55,7 @@ is_client _ = false
 
 -- how many slots the end has
 abbrev pub slot_count : End → ℕ
-slot_count (at_line line port slots) = length slots
+slot_count (at_line line port kind slots) = length slots
 slot_count _ = 0
 
 -- M: how many slots the line end has, or both have
@@ -55,12 +65,12 @@ slots_between from to = if is_line from then slot_count from else slot_count to
 -- ---- the outline of a plan
 
 abbrev pub from_seen : FromEnd → End
-from_seen (from_end.Line line port slots) = at_line (pos line) (pos port) (map pos slots)
+from_seen (from_end.Line line port slots) = at_line (pos line) (pos port) slots.kind (map pos slots.list)
 from_seen (from_end.Client client) = at_client (pos client)
 from_seen (from_end.Signal signal) = of_signal signal
 
 abbrev pub to_seen : ToEnd → End
-to_seen (to_end.Line line port slots) = at_line (pos line) (pos port) (map pos slots)
+to_seen (to_end.Line line port slots) = at_line (pos line) (pos port) slots.kind (map pos slots.list)
 to_seen (to_end.Client client) = at_client (pos client)
 
 abbrev pub seen : Connection → Entry
@@ -77,8 +87,17 @@ seen c = record {
   retire = c.retire;
 }
 
+abbrev pub top_seen : Plan → Top
+top_seen plan = record {
+  turns = pos plan.turns;
+  otu3_in = map pos plan.otu3_in;
+  otu3_out = map pos plan.otu3_out;
+  scrambled_in = map pos plan.scrambled_in;
+  scrambled_out = map pos plan.scrambled_out;
+}
+
 abbrev pub outline : Plan → Outline
-outline plan = record { turns = pos plan.turns; entries = map seen plan.connections }
+outline plan = record { top = top_seen plan; entries = map seen plan.connections }
 
 -- ---- the plan of an outline, where each number fits
 
@@ -87,14 +106,17 @@ abbrev pub natural : ℤ → ℕ
 natural (pos n) = n
 natural (negsuc n) = 0
 
+abbrev pub slots_as : LineKind → List ℤ → LineSlots
+slots_as kind slots = record { kind = kind; list = map natural slots }
+
 abbrev pub from_of : End → FromEnd
-from_of (at_line line port slots) = from_end.Line (natural line) (natural port) (map natural slots)
+from_of (at_line line port kind slots) = from_end.Line (natural line) (natural port) (slots_as kind slots)
 from_of (at_client client) = from_end.Client (natural client)
 from_of (of_signal signal) = from_end.Signal signal
 
 -- no outline has a signal here
 abbrev pub to_of : End → ToEnd
-to_of (at_line line port slots) = to_end.Line (natural line) (natural port) (map natural slots)
+to_of (at_line line port kind slots) = to_end.Line (natural line) (natural port) (slots_as kind slots)
 to_of (at_client client) = to_end.Client (natural client)
 to_of (of_signal signal) = to_end.Client 0
 
@@ -113,4 +135,11 @@ connection_of e = record {
 }
 
 abbrev pub plan_of : Outline → Plan
-plan_of o = record { turns = natural o.turns; connections = map connection_of o.entries }
+plan_of o = record {
+  turns = natural o.top.turns;
+  connections = map connection_of o.entries;
+  otu3_in = map natural o.top.otu3_in;
+  otu3_out = map natural o.top.otu3_out;
+  scrambled_in = map natural o.top.scrambled_in;
+  scrambled_out = map natural o.top.scrambled_out;
+}

@@ -5,7 +5,8 @@ use Rattle.plan_file.specs.declared.keys.list.KeyList.TheVariants as of
 use Rattle.plan_file.specs.Keys.{top_keys, client_keys, signal_keys, line_keys, connection_keys}
 
 abbrev pub keys_in : KeyList → List (List ℕ)
-keys_in of.Top = top_keys
+keys_in of.Top = top_keys false
+keys_in of.TopOfSecond = top_keys true
 keys_in of.FromClient = connection_keys true true
 keys_in of.FromSignal = connection_keys true false
 keys_in of.FromLine = connection_keys false false

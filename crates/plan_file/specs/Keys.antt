@@ -1,15 +1,19 @@
 -- The keys of a plan's tables: which a table may have, and which it must have.
-use Rattle.std.specs.Prelude.{ℕ, List, [], ◌∷◌, ◌++◌, Bool, true, false, not, ◌&&◌, ◌||◌, if◌then◌else◌, is_some, codes}
+use Rattle.std.specs.Prelude.{ℕ, ℤ, pos, List, [], ◌∷◌, ◌++◌, Bool, true, false, not, ◌&&◌, ◌||◌, if◌then◌else◌, is_some, codes}
 use Rattle.std.specs.List.{list_any}
 use Rattle.std.specs.Option.{option_map_or}
+use Rattle.std.specs.Ordering.{int_eq}
 use Rattle.std.specs.Str.{bytes_eq}
-use Rattle.toml.specs.Data.{Data, Members, no_members, member, get, as_table}
+use Rattle.toml.specs.Data.{Data, Members, no_members, member, get, get_member, as_integer, as_table}
 
 -- ---- the lists of keys
 
--- the keys of the top
-abbrev pub top_keys : List (List ℕ)
-top_keys = codes "version" ∷ codes "turns" ∷ codes "connection" ∷ []
+-- the keys of the top, and those that it has in version 2 besides
+abbrev pub line_list_keys : List (List ℕ)
+line_list_keys = codes "otu3-in" ∷ codes "otu3-out" ∷ codes "scrambled-in" ∷ codes "scrambled-out" ∷ []
+
+abbrev pub top_keys : Bool → List (List ℕ)
+top_keys is_second = (codes "version" ∷ codes "turns" ∷ codes "connection" ∷ []) ++ (if is_second then line_list_keys else [])
 
 -- the keys of an end at a client, of one that is a signal, and of one at a line
 abbrev pub client_keys : List (List ℕ)
@@ -23,11 +27,19 @@ line_keys = codes "line" ∷ codes "port" ∷ codes "slots" ∷ []
 
 -- the keys of a connection, where it may have a pace, and where it may have what belongs to a client input
 abbrev pub connection_keys : Bool → Bool → List (List ℕ)
-connection_keys paced from_client = (codes "name" ∷ codes "kind" ∷ codes "from" ∷ codes "to" ∷ codes "start" ∷ codes "stop" ∷ [])
+connection_keys paced from_client = (codes "name" ∷ codes "kind" ∷ codes "from" ∷ codes "to" ∷ codes "start" ∷ codes "stop" ∷ codes "retire" ∷ [])
     ++ ((if paced then codes "pace" ∷ [] else [])
     ++ (if from_client then codes "fcs" ∷ codes "trace" ∷ [] else []))
 
 -- ---- which list a table has
+
+-- the value is this number
+abbrev pub is_this_number : ℤ → Data → Bool
+is_this_number wanted value = option_map_or (λ number. int_eq number wanted) (as_integer value) false
+
+-- the version of the table is 2
+abbrev pub is_second_version : Members → Bool
+is_second_version top = option_map_or (is_this_number (pos 2)) (get_member (codes "version") top) false
 
 abbrev pub is_table : Data → Bool
 is_table value = is_some (as_table value)
@@ -68,6 +80,10 @@ lists keys key = list_any (bytes_eq key) keys
 abbrev pub knows_all : List (List ℕ) → Members → Bool
 knows_all keys no_members = true
 knows_all keys (member key value rest) = lists keys key && knows_all keys rest
+
+-- the top has a key that is not in its list
+abbrev pub has_unknown_top_key : Members → Bool
+has_unknown_top_key top = not (knows_all (top_keys (is_second_version top)) top)
 
 -- the value is a table with a key that is not in the list
 abbrev pub has_other : List (List ℕ) → Data → Bool

@@ -1,10 +1,9 @@
 -- The kinds of a plan's values: what each key's value has to be.
 use Rattle.std.specs.Prelude.{ℕ, pos, List, Bool, true, false, ◌&&◌, ◌||◌, if◌then◌else◌, is_some, codes}
 use Rattle.std.specs.Option.{option_map_or}
-use Rattle.std.specs.Ordering.{int_eq}
 use Rattle.std.specs.Str.{bytes_eq}
 use Rattle.toml.specs.Data.{Data, Items, no_items, item, get, get_member, Members, as_str, as_integer, as_bool, as_array}
-use Rattle.plan_file.specs.Keys.{has, is_table}
+use Rattle.plan_file.specs.Keys.{has, is_table, is_this_number}
 
 -- a number, a truth value, a text
 abbrev pub is_number : Data → Bool
@@ -32,9 +31,9 @@ is_table_list value = option_map_or (each_item is_table) (as_array value) false
 abbrev pub is_either : List ℕ → List ℕ → Data → Bool
 is_either one other value = option_map_or (λ text. bytes_eq text one || bytes_eq text other) (as_str value) false
 
--- the number 1, the one version
+-- the number of a version, 1 or 2
 abbrev pub is_version : Data → Bool
-is_version value = option_map_or (λ number. int_eq number (pos 1)) (as_integer value) false
+is_version value = is_this_number (pos 1) value || is_this_number (pos 2) value
 
 -- the value of `kind`, and that of `signal`
 abbrev pub is_kind : Data → Bool
@@ -61,7 +60,7 @@ is_from from = is_table from
 abbrev pub is_to : Data → Bool
 is_to to = is_table to && (if has (codes "client") to then each_at (codes "client") is_number to else is_line_end to)
 
--- the keys that each connection has, and those of a pace, of a client input and of a span
+-- the keys that each connection has, and those of a pace, of a client input, of a span and of its end
 abbrev pub has_plain_kinds : Data → Bool
 has_plain_kinds connection =
     (each_at (codes "name") is_text connection && each_at (codes "kind") is_kind connection)
@@ -71,15 +70,26 @@ abbrev pub has_other_kinds : Data → Bool
 has_other_kinds connection =
     ((each_at (codes "pace") is_number_list connection && each_at (codes "fcs") is_truth connection)
     && each_at (codes "trace") is_text connection)
-    && (each_at (codes "start") is_number connection && each_at (codes "stop") is_number connection)
+    && ((each_at (codes "start") is_number connection && each_at (codes "stop") is_number connection)
+    && each_at (codes "retire") is_truth connection)
 
 -- each value of a connection is of its key's kind
 abbrev pub has_kinds : Data → Bool
 has_kinds connection = has_plain_kinds connection && has_other_kinds connection
 
+-- what the top has at the key, if anything, passes the test
+abbrev pub top_each_at : List ℕ → (Data → Bool) → Members → Bool
+top_each_at key test top = option_map_or test (get_member key top) true
+
+-- the lists of lines
+abbrev pub has_line_list_kinds : Members → Bool
+has_line_list_kinds top =
+    (top_each_at (codes "otu3-in") is_number_list top && top_each_at (codes "otu3-out") is_number_list top)
+    && (top_each_at (codes "scrambled-in") is_number_list top && top_each_at (codes "scrambled-out") is_number_list top)
+
 -- each value of the top is of its key's kind
 abbrev pub has_top_kinds : Members → Bool
 has_top_kinds top =
-    (option_map_or is_version (get_member (codes "version") top) true
-    && option_map_or is_number (get_member (codes "turns") top) true)
-    && option_map_or is_table_list (get_member (codes "connection") top) true
+    ((top_each_at (codes "version") is_version top && top_each_at (codes "turns") is_number top)
+    && top_each_at (codes "connection") is_table_list top)
+    && has_line_list_kinds top

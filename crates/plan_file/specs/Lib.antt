@@ -3,6 +3,7 @@ pub mod Keys
 pub mod KeyList
 pub mod Kinds
 pub mod Entry
+pub mod Lines
 pub mod Table
 pub mod Seen
 pub mod Rules

@@ -6,7 +6,10 @@ use Rattle.std.specs.Ordering.{int_eq}
 use Rattle.std.specs.Str.{bytes_eq}
 use Rattle.otn_base.specs.declared.kind.Kind.{Kind}
 use Rattle.otn_base.specs.declared.kind.Kind.TheVariants.{Odu0, Flex}
-use Rattle.plan_file.specs.Entry.{End, at_line, at_client, of_signal, is_line, is_client, slots_between, Entry}
+use Rattle.otn_base.specs.declared.line_kind.LineKind.{LineKind}
+use Rattle.otn_base.specs.declared.line_kind.LineKind.TheVariants.{Otu2, Otu3}
+use Rattle.plan_file.specs.Entry.{End, at_line, at_client, of_signal, is_line, is_client, slots_between, Entry, Top}
+use Rattle.plan_file.specs.Lines.{line_kind, line_slots}
 
 -- the number is from the one bound to the other
 abbrev pub is_within : ℕ → ℕ → ℤ → Bool
@@ -31,45 +34,62 @@ breaks_name e = not (is_name e.name && is_sapi e.trace)
 
 -- ---- places
 
-abbrev pub is_placed : End → Bool
-is_placed (at_line line port slots) = is_within 0 3 line && is_within 1 8 port
-is_placed (at_client client) = is_within 0 15 client
-is_placed (of_signal signal) = true
-
-abbrev pub breaks_place : Entry → Bool
-breaks_place e = not ((is_placed e.from && is_placed e.to) && (is_line e.from || is_line e.to))
-
--- ---- slots
-
 abbrev pub rises : List ℤ → Bool
 rises [] = true
 rises (first ∷ []) = true
 rises (first ∷ second ∷ rest) = int_lt first second && rises (second ∷ rest)
 
-abbrev pub is_slot_list : List ℤ → Bool
-is_slot_list slots = (nat_le 1 (length slots) && list_all (is_within 1 8) slots) && rises slots
+-- a list of lines, which may be empty
+abbrev pub is_line_list : List ℤ → Bool
+is_line_list lines = list_all (is_within 0 3) lines && rises lines
+
+abbrev pub breaks_lines : Top → Bool
+breaks_lines top = not ((is_line_list top.otu3_in && is_line_list top.otu3_out) && (is_line_list top.scrambled_in && is_line_list top.scrambled_out))
+
+-- where these lines of the end's side are OTU3
+abbrev pub is_placed : List ℤ → End → Bool
+is_placed otu3 (at_line line port kind slots) = is_within 0 3 line && is_within 1 (line_slots otu3 line) port
+is_placed otu3 (at_client client) = is_within 0 15 client
+is_placed otu3 (of_signal signal) = true
+
+abbrev pub breaks_place : Top → Entry → Bool
+breaks_place top e = not ((is_placed top.otu3_in e.from && is_placed top.otu3_out e.to) && (is_line e.from || is_line e.to))
+
+-- ---- slots
+
+-- a list of slots of a line of so many
+abbrev pub is_slot_list : ℕ → List ℤ → Bool
+is_slot_list most slots = (nat_le 1 (length slots) && list_all (is_within 1 most) slots) && rises slots
+
+-- one kind of lines
+abbrev pub is_same_kind : LineKind → LineKind → Bool
+is_same_kind Otu2 Otu2 = true
+is_same_kind Otu3 Otu3 = true
+is_same_kind _ _ = false
 
 -- an odu0 has exactly one slot
 abbrev pub suits : Kind → ℕ → Bool
 suits Odu0 count = count == 1
 suits Flex count = true
 
-abbrev pub has_slots : Kind → End → Bool
-has_slots kind (at_line line port slots) = is_slot_list slots && suits kind (length slots)
-has_slots kind _ = true
+-- where these lines of the end's side are OTU3: the slots are slots of the line, and suit the connection's kind
+abbrev pub has_slots : List ℤ → Kind → End → Bool
+has_slots otu3 kind (at_line line port made_for slots) =
+    (is_same_kind made_for (line_kind otu3 line) && is_slot_list (line_slots otu3 line) slots) && suits kind (length slots)
+has_slots otu3 kind _ = true
 
 -- where it is at a line, the end has so many slots
 abbrev pub has_count : ℕ → End → Bool
-has_count count (at_line line port slots) = count == length slots
+has_count count (at_line line port kind slots) = count == length slots
 has_count count _ = true
 
 -- where both ends are at lines, they have as many slots
 abbrev pub has_equal_counts : End → End → Bool
-has_equal_counts (at_line line port slots) to = has_count (length slots) to
+has_equal_counts (at_line line port kind slots) to = has_count (length slots) to
 has_equal_counts _ to = true
 
-abbrev pub breaks_slots : Entry → Bool
-breaks_slots e = not ((has_slots e.kind e.from && has_slots e.kind e.to) && has_equal_counts e.from e.to)
+abbrev pub breaks_slots : Top → Entry → Bool
+breaks_slots top e = not ((has_slots top.otu3_in e.kind e.from && has_slots top.otu3_out e.kind e.to) && has_equal_counts e.from e.to)
 
 -- ---- the pace
 
@@ -111,12 +131,12 @@ meet e f = int_le (int_max e.start f.start) (int_min e.stop f.stop)
 
 -- it is at this line, and has one of these slots
 abbrev pub is_line_with_slot : ℤ → List ℤ → End → Bool
-is_line_with_slot number wanted (at_line line port slots) = int_eq number line && list_any (λ slot. list_any (int_eq slot) slots) wanted
+is_line_with_slot number wanted (at_line line port kind slots) = int_eq number line && list_any (λ slot. list_any (int_eq slot) slots) wanted
 is_line_with_slot number wanted _ = false
 
 -- it is at this line, and has this tributary port
 abbrev pub is_line_with_port : ℤ → ℤ → End → Bool
-is_line_with_port number wanted (at_line line port slots) = int_eq number line && int_eq wanted port
+is_line_with_port number wanted (at_line line port kind slots) = int_eq number line && int_eq wanted port
 is_line_with_port number wanted _ = false
 
 abbrev pub is_this_client : ℤ → End → Bool
@@ -125,12 +145,12 @@ is_this_client number _ = false
 
 -- at one line, with a slot of both
 abbrev pub share_slot : End → End → Bool
-share_slot (at_line line port slots) other = is_line_with_slot line slots other
+share_slot (at_line line port kind slots) other = is_line_with_slot line slots other
 share_slot _ other = false
 
 -- at one line, with one tributary port
 abbrev pub share_port : End → End → Bool
-share_port (at_line line port slots) other = is_line_with_port line port other
+share_port (at_line line port kind slots) other = is_line_with_port line port other
 share_port _ other = false
 
 -- at one client

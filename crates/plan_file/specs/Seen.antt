@@ -4,13 +4,14 @@ use Rattle.std.specs.Option.{option_map_or}
 use Rattle.toml.specs.View.{view}
 use Rattle.plan_file.specs.declared.outline.numbers.Numbers.{Numbers}
 use Rattle.plan_file.specs.declared.outline.numbers.Numbers.TheVariants as list
+use Rattle.plan_file.specs.declared.outline.top.Top.{Top as TopView}
 use Rattle.plan_file.specs.declared.outline.end.End.{End as EndView}
 use Rattle.plan_file.specs.declared.outline.end.End.TheVariants as end
 use Rattle.plan_file.specs.declared.outline.entry.Entry.{Entry as EntryView}
 use Rattle.plan_file.specs.declared.outline.entry.Entry.TheVariants as entry
 use Rattle.plan_file.specs.declared.outline.entries.Entries.{Entries}
 use Rattle.plan_file.specs.declared.outline.entries.Entries.TheVariants as entries
-use Rattle.plan_file.specs.Entry.{End, at_line, at_client, of_signal, Entry, seen}
+use Rattle.plan_file.specs.Entry.{End, at_line, at_client, of_signal, Entry, Top, seen}
 use Rattle.plan_file.specs.Table.{numbers, entry_at, nominal}
 
 abbrev pub numbers_in : Numbers → List ℤ
@@ -19,16 +20,25 @@ numbers_in (list.Bytes bytes) = map pos bytes.now
 numbers_in (list.Words words) = map pos words.now
 
 abbrev pub end_in : EndView → End
-end_in (end.Line line port slots) = at_line line port (numbers_in slots)
+end_in (end.Line line port kind slots) = at_line line port kind (numbers_in slots)
 end_in (end.Client client) = at_client client
 end_in (end.Signal signal) = of_signal signal
 
+abbrev pub top_in : TopView → Top
+top_in top = record {
+  turns = top.turns;
+  otu3_in = numbers_in top.otu3_in;
+  otu3_out = numbers_in top.otu3_out;
+  scrambled_in = numbers_in top.scrambled_in;
+  scrambled_out = numbers_in top.scrambled_out;
+}
+
 abbrev pub entry_in : EntryView → Entry
-entry_in (entry.Read value turns) = entry_at turns (view value.now)
+entry_in (entry.Read value top) = entry_at (top_in top) (view value.now)
 entry_in (entry.Planned connection) = seen connection.now
 
 abbrev pub entries_in : Entries → List Entry
-entries_in (entries.Read values turns) = map (λ value. entry_at turns (view value)) values.now
+entries_in (entries.Read values top) = map (λ value. entry_at (top_in top) (view value)) values.now
 entries_in (entries.Planned connections) = map seen connections.now
 
 -- the pace, or the nominal one of M slots

@@ -6,9 +6,11 @@ use Rattle.maintenance_signals.specs.declared.signal.Signal.{Signal}
 use Rattle.maintenance_signals.specs.declared.signal.Signal.TheVariants.{Oci, Lck}
 use Rattle.otn_base.specs.declared.kind.Kind.{Kind}
 use Rattle.otn_base.specs.declared.kind.Kind.TheVariants.{Odu0, Flex}
+use Rattle.otn_base.specs.declared.line_kind.LineKind.TheVariants.{Otu2}
 use Rattle.toml.specs.Data.{Data, Items, no_items, item, Members, get, get_member, as_str, as_integer, as_bool, as_array}
 use Rattle.plan_file.specs.Keys.{has}
-use Rattle.plan_file.specs.Entry.{End, at_line, at_client, of_signal, Entry, Outline, slots_between}
+use Rattle.plan_file.specs.Entry.{End, at_line, at_client, of_signal, Entry, Top, Outline, slots_between}
+use Rattle.plan_file.specs.Lines.{line_kind}
 
 -- ---- values by their kind
 
@@ -38,27 +40,27 @@ numbers values = map (λ value. number_or (pos 0) (Some value)) values
 abbrev pub signal_of : Option Data → Signal
 signal_of value = if bytes_eq (text_of value) (codes "oci") then Oci else Lck
 
-abbrev pub line_at : Data → End
-line_at end = at_line
-    (number_or (pos 0) (get (codes "line") end))
-    (number_or (pos 0) (get (codes "port") end))
-    (numbers (list_of (get (codes "slots") end)))
+-- an end at a line, where these lines are OTU3
+abbrev pub line_at : List ℤ → Data → End
+line_at otu3 end =
+    let line = number_or (pos 0) (get (codes "line") end) in
+    at_line line (number_or (pos 0) (get (codes "port") end)) (line_kind otu3 line) (numbers (list_of (get (codes "slots") end)))
 
 abbrev pub client_at : Data → End
 client_at end = at_client (number_or (pos 0) (get (codes "client") end))
 
-abbrev pub from_at : Data → End
-from_at from =
+abbrev pub from_at : List ℤ → Data → End
+from_at otu3 from =
     if has (codes "client") from then client_at from
     else if has (codes "signal") from then of_signal (signal_of (get (codes "signal") from))
-    else line_at from
+    else line_at otu3 from
 
-abbrev pub to_at : Data → End
-to_at to = if has (codes "client") to then client_at to else line_at to
+abbrev pub to_at : List ℤ → Data → End
+to_at otu3 to = if has (codes "client") to then client_at to else line_at otu3 to
 
 -- no end: each connection that is accepted has both
 abbrev pub no_end : End
-no_end = at_line (pos 0) (pos 0) []
+no_end = at_line (pos 0) (pos 0) Otu2 []
 
 -- ---- a connection
 
@@ -73,11 +75,11 @@ nominal m = pos (15168 * m) ∷ []
 abbrev pub pace_at : ℕ → Option Data → List ℤ
 pace_at m value = option_map_or (λ pace. numbers (list_of (Some pace))) value (nominal m)
 
--- a connection of a plan of so many turns; no key says yet that it is retired
-abbrev pub entry_at : ℤ → Data → Entry
-entry_at turns connection =
-    let from = option_map_or from_at (get (codes "from") connection) no_end in
-    let to = option_map_or to_at (get (codes "to") connection) no_end in
+-- a connection of a plan with this top
+abbrev pub entry_at : Top → Data → Entry
+entry_at top connection =
+    let from = option_map_or (from_at top.otu3_in) (get (codes "from") connection) no_end in
+    let to = option_map_or (to_at top.otu3_out) (get (codes "to") connection) no_end in
     record {
       name = text_of (get (codes "name") connection);
       kind = kind_of (get (codes "kind") connection);
@@ -87,17 +89,27 @@ entry_at turns connection =
       fcs = truth_or true (get (codes "fcs") connection);
       trace = text_of (get (codes "trace") connection);
       start = number_or (pos 1) (get (codes "start") connection);
-      stop = number_or turns (get (codes "stop") connection);
-      retire = false;
+      stop = number_or top.turns (get (codes "stop") connection);
+      retire = truth_or false (get (codes "retire") connection);
     }
 
 -- ---- the whole
 
-abbrev pub turns_at : Members → ℤ
-turns_at top = number_or (pos 0) (get_member (codes "turns") top)
+-- the numbers that the table has at the key
+abbrev pub numbers_at : List ℕ → Members → List ℤ
+numbers_at key top = numbers (list_of (get_member key top))
+
+abbrev pub top_at : Members → Top
+top_at top = record {
+  turns = number_or (pos 0) (get_member (codes "turns") top);
+  otu3_in = numbers_at (codes "otu3-in") top;
+  otu3_out = numbers_at (codes "otu3-out") top;
+  scrambled_in = numbers_at (codes "scrambled-in") top;
+  scrambled_out = numbers_at (codes "scrambled-out") top;
+}
 
 abbrev pub connections_at : Members → List Data
 connections_at top = list_of (get_member (codes "connection") top)
 
 abbrev pub outline_at : Members → Outline
-outline_at top = record { turns = turns_at top; entries = map (entry_at (turns_at top)) (connections_at top) }
+outline_at top = record { top = top_at top; entries = map (entry_at (top_at top)) (connections_at top) }

@@ -7,7 +7,8 @@ use otn_base::{Kind, Slots, Trace};
 /// Where a connection comes from.
 #[derive(Debug, Drop)]
 pub enum FromEnd {
-    /// A line input (0 to 3), the tributary port (1 to 8) and the slots that it has there.
+    /// A line input (0 to 3), the tributary port (1 to the number of the line's slots) and the slots that
+    /// it has there.
     Line(u8, u8, Slots),
     /// A client input (0 to 15).
     Client(u8),
@@ -18,7 +19,8 @@ pub enum FromEnd {
 /// Where a connection goes.
 #[derive(Debug, Drop)]
 pub enum ToEnd {
-    /// A line output (0 to 3), the tributary port (1 to 8) and the slots that it has there.
+    /// A line output (0 to 3), the tributary port (1 to the number of the line's slots) and the slots that
+    /// it has there.
     Line(u8, u8, Slots),
     /// A client output (0 to 15).
     Client(u8),

@@ -20,9 +20,9 @@ pub enum PlanError {
     BadName,
     /// Two connections have one name.
     NameTwice,
-    /// A line, a client or a port is out of range, or neither end is a line.
+    /// A line, a client or a port is out of range, a list of lines does not rise, or neither end is a line.
     BadPlace,
-    /// A slot list is none, or does not suit its connection.
+    /// A slot list is none of its line, or does not suit its connection.
     BadSlots,
     /// Two connections to one line have a slot in one turn.
     SlotTwice,

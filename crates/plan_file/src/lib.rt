@@ -1,7 +1,7 @@
 //! The plan of a node, as the file `plan.toml` says it: read from TOML, and judged by fifteen rules.
 //!
 //! - `plan`: a plan, how it is read, and the first rule of its values that it breaks.
-//! - `connection`, `connections`, `name`, `pace`: what a plan is made of.
+//! - `connection`, `connections`, `lines`, `name`, `pace`: what a plan is made of.
 //! - `error`: the rules by name and number, and why there is no plan.
 //! - `keys`, `kinds`: the rules of the text's table, of its keys and of the kinds of its values.
 //! - `outline`, `rules`: a plan as the rules of its values see it, and these rules.
@@ -13,6 +13,7 @@ mod connections;
 mod error;
 mod keys;
 mod kinds;
+mod lines;
 mod name;
 mod outline;
 mod pace;
@@ -23,6 +24,7 @@ mod rules;
 pub use connection::{Connection, FromEnd, ToEnd};
 pub use connections::Connections;
 pub use error::{NoPlan, PlanError};
+pub use lines::LineList;
 pub use name::Name;
 pub use pace::Pace;
 pub use plan::Plan;

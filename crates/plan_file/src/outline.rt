@@ -4,9 +4,11 @@ mod entries;
 mod entry;
 mod field;
 mod numbers;
+mod top;
 
 pub(crate) use end::End;
 pub(crate) use entries::Entries;
 pub(crate) use entry::Entry;
 pub(crate) use field::{item, list_or_empty, number_or};
 pub(crate) use numbers::Numbers;
+pub(crate) use top::Top;

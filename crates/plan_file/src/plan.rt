@@ -4,17 +4,26 @@ ghost use Rattle.plan_file.specs.Answer.{fault_in, plan_of_text};
 
 use crate::connections::Connections;
 use crate::error::{NoPlan, PlanError};
-use crate::outline::Entries;
+use crate::lines::LineList;
+use crate::outline::{Entries, Top};
 use crate::{read, rules};
 use std::alloc::Global;
 
-/// What a node carries: for how many turns, and on which connections.
+/// What a node carries: for how many turns, on which connections, and by lines of which kind.
 #[derive(Debug, Drop)]
 pub struct Plan {
     /// The number of turns, each of one multiframe.
     pub turns: u32,
     /// The connections, in the order of the file.
     pub connections: Connections,
+    /// The input lines that are OTU3; all others are OTU2 (G.709 clause 19.1).
+    pub otu3_in: LineList,
+    /// The output lines that are OTU3.
+    pub otu3_out: LineList,
+    /// The input lines that are scrambled (G.709 clause 11.2); all others are plain.
+    pub scrambled_in: LineList,
+    /// The output lines that are scrambled.
+    pub scrambled_out: LineList,
 }
 
 impl Plan {
@@ -37,7 +46,7 @@ impl Plan {
         ensures { result ≡ fault_in self.now }
     {
         rules::fault(
-            i64::from(self.turns),
+            &Top::of_plan(self),
             &Entries::Planned(self.connections.as_slice()),
         )
     }

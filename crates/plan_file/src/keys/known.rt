@@ -1,20 +1,40 @@
 // Whether a table has a key that is not in its list.
-ghost use Rattle.std.specs.Prelude.{◌≡◌, not, true, false, option_map, codes};
+ghost use Rattle.std.specs.Prelude.{◌≡◌, true, false, option_map, codes};
 ghost use Rattle.std.specs.Option.{option_map_or};
 ghost use Rattle.toml.specs.Data.{get};
 ghost use Rattle.toml.specs.View.{table_view, view};
-ghost use Rattle.plan_file.specs.Keys.{knows_all, top_keys, from_keys, to_keys, connection_keys, keys_of_connection, may_have_pace, may_have_client_keys, from_has_other, to_has_other, has_unknown_key};
+ghost use Rattle.plan_file.specs.Keys.{top_keys, is_second_version, has_unknown_top_key, from_keys, to_keys, connection_keys, keys_of_connection, may_have_pace, may_have_client_keys, from_has_other, to_has_other, has_unknown_key};
 ghost use Rattle.plan_file.specs.KeyList.{keys_in};
 
 use crate::keys::list::KeyList;
-use crate::keys::value::{has, is_table};
+use crate::keys::value::{has, is_table, is_this_number, top_value};
 use toml::{Table, Value};
 
 /// Whether the top has a key that is not in its list.
 pub(crate) fn has_unknown_top_key(top: &Table) -> bool
-    ensures { result ≡ not (knows_all top_keys (table_view top.now)) }
+    ensures { result ≡ has_unknown_top_key (table_view top.now) }
 {
-    !KeyList::Top.knows_all(top)
+    !top_list(top).knows_all(top)
+}
+
+// The list of the top, by its version.
+fn top_list(top: &Table) -> KeyList
+    ensures { keys_in result ≡ top_keys (is_second_version (table_view top.now)) }
+{
+    if is_second_version(top) {
+        KeyList::TopOfSecond
+    } else {
+        KeyList::Top
+    }
+}
+
+fn is_second_version(top: &Table) -> bool
+    ensures { result ≡ is_second_version (table_view top.now) }
+{
+    match top_value(top, "version") {
+        Some(version) => is_this_number(version, 2),
+        None => false,
+    }
 }
 
 /// Whether the connection, its `from` or its `to` is a table with a key that is not in its list.

@@ -1,7 +1,7 @@
 // The lists of the keys that a table may have.
-ghost use Rattle.std.specs.Prelude.{◌≡◌};
+ghost use Rattle.std.specs.Prelude.{◌≡◌, false};
 ghost use Rattle.toml.specs.View.{table_view, view};
-ghost use Rattle.plan_file.specs.Keys.{lists, knows_all, has_other};
+ghost use Rattle.plan_file.specs.Keys.{lists, knows_all, has_other, top_keys, line_list_keys, connection_keys};
 ghost use Rattle.plan_file.specs.KeyList.{keys_in};
 
 use toml::{Table, Value};
@@ -9,8 +9,10 @@ use toml::{Table, Value};
 /// A list of the keys that a table may have.
 #[derive(Clone, Copy)]
 pub(crate) enum KeyList {
-    /// The top.
+    /// The top, but in version 2.
     Top,
+    /// The top in version 2.
+    TopOfSecond,
     /// A connection from a client, or one whose `from` is no table.
     FromClient,
     /// A connection from a signal.
@@ -25,26 +27,44 @@ pub(crate) enum KeyList {
     Line,
 }
 
+// A key of the top in each version.
+fn is_plain_top_key(key: &str) -> bool
+    ensures { result ≡ lists (top_keys false) key.now }
+{
+    matches!(key, "version" | "turns" | "connection")
+}
+
+// A key of the top in version 2 alone.
+fn is_line_list_key(key: &str) -> bool
+    ensures { result ≡ lists line_list_keys key.now }
+{
+    matches!(
+        key,
+        "otu3-in" | "otu3-out" | "scrambled-in" | "scrambled-out"
+    )
+}
+
+// A key of each connection.
+fn is_plain_key(key: &str) -> bool
+    ensures { result ≡ lists (connection_keys false false) key.now }
+{
+    matches!(
+        key,
+        "name" | "kind" | "from" | "to" | "start" | "stop" | "retire"
+    )
+}
+
 impl KeyList {
     // Whether the list has the key.
     fn lists(self, key: &str) -> bool
         ensures { result ≡ lists (keys_in self) key.now }
     {
         match self {
-            KeyList::Top => matches!(key, "version" | "turns" | "connection"),
-            KeyList::FromClient => {
-                matches!(
-                    key,
-                    "name" | "kind" | "from" | "to" | "start" | "stop" | "pace" | "fcs" | "trace"
-                )
-            }
-            KeyList::FromSignal => {
-                matches!(
-                    key,
-                    "name" | "kind" | "from" | "to" | "start" | "stop" | "pace"
-                )
-            }
-            KeyList::FromLine => matches!(key, "name" | "kind" | "from" | "to" | "start" | "stop"),
+            KeyList::Top => is_plain_top_key(key),
+            KeyList::TopOfSecond => is_plain_top_key(key) || is_line_list_key(key),
+            KeyList::FromClient => is_plain_key(key) || matches!(key, "pace" | "fcs" | "trace"),
+            KeyList::FromSignal => is_plain_key(key) || key == "pace",
+            KeyList::FromLine => is_plain_key(key),
             KeyList::Client => key == "client",
             KeyList::Signal => key == "signal",
             KeyList::Line => matches!(key, "line" | "port" | "slots"),

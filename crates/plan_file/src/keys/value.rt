@@ -2,7 +2,7 @@
 ghost use Rattle.std.specs.Prelude.{◌≡◌, option_map};
 ghost use Rattle.toml.specs.Data.{get_member};
 ghost use Rattle.toml.specs.View.{table_view, view};
-ghost use Rattle.plan_file.specs.Keys.{has, is_table};
+ghost use Rattle.plan_file.specs.Keys.{has, is_table, is_this_number};
 
 use toml::{Table, Value};
 
@@ -19,6 +19,16 @@ pub(crate) fn has(value: &Value, key: &str) -> bool
 {
     match value.get(key) {
         Some(_) => true,
+        None => false,
+    }
+}
+
+/// Whether the value is this number.
+pub(crate) fn is_this_number(value: &Value, wanted: i64) -> bool
+    ensures { result ≡ is_this_number wanted (view value.now) }
+{
+    match value.as_integer() {
+        Some(number) => number == wanted,
         None => false,
     }
 }

@@ -31,4 +31,5 @@ fn has_other_kinds(connection: &Value) -> bool
         && has_text(connection, "trace")
         && has_number(connection, "start")
         && has_number(connection, "stop")
+        && has_truth(connection, "retire")
 }

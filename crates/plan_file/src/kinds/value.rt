@@ -4,6 +4,7 @@ ghost use Rattle.toml.specs.View.{array_view, items_view, view};
 ghost use Rattle.plan_file.specs.Keys.{is_table};
 ghost use Rattle.plan_file.specs.Kinds.{is_number, is_number_list, is_table_list, is_either, is_version, each_item, each_at, is_text, is_truth};
 
+use crate::keys::is_this_number;
 use toml::Value;
 
 fn all_numbers(values: &[Value]) -> bool
@@ -58,14 +59,11 @@ pub(crate) fn is_either(value: &Value, one: &str, other: &str) -> bool
     }
 }
 
-/// Whether the value is the number of the one version.
+/// Whether the value is the number of a version.
 pub(crate) fn is_version(value: &Value) -> bool
     ensures { result ≡ is_version (view value.now) }
 {
-    match value.as_integer() {
-        Some(number) => number == 1,
-        None => false,
-    }
+    is_this_number(value, 1) || is_this_number(value, 2)
 }
 
 /// Whether what the value has at the key, if anything, is a number.

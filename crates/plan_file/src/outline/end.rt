@@ -4,45 +4,47 @@ ghost use Rattle.toml.specs.Data.{get};
 ghost use Rattle.toml.specs.View.{view};
 ghost use Rattle.plan_file.specs.Entry.{from_seen, to_seen};
 ghost use Rattle.plan_file.specs.Table.{line_at, client_at, from_at, to_at, signal_of};
-ghost use Rattle.plan_file.specs.Seen.{end_in};
+ghost use Rattle.plan_file.specs.Seen.{end_in, numbers_in};
 
 use crate::connection::{FromEnd, ToEnd};
 use crate::keys::has;
 use crate::outline::field::{list_or_empty, number_or, text_or_empty};
 use crate::outline::numbers::Numbers;
 use maintenance_signals::Signal;
+use otn_base::LineKind;
 use toml::Value;
 
-/// An end of a connection: a line with its tributary port and slots, a client, or a signal.
+/// An end of a connection: a line with its tributary port, the kind of lines that the slots are for, and
+/// the slots; a client; or a signal.
 #[derive(Clone, Copy)]
 pub(crate) enum End<'a> {
-    Line(i64, i64, Numbers<'a>),
+    Line(i64, i64, LineKind, Numbers<'a>),
     Client(i64),
     Signal(Signal),
 }
 
 impl<'a> End<'a> {
-    /// The end that the value of `from` says.
-    pub(crate) fn of_from(from: &'a Value) -> End<'a>
-        ensures { end_in result ≡ from_at (view from.now) }
+    /// The end that the value of `from` says, where these input lines are OTU3.
+    pub(crate) fn of_from(from: &'a Value, otu3: &Numbers) -> End<'a>
+        ensures { end_in result ≡ from_at (numbers_in otu3.now) (view from.now) }
     {
         if has(from, "client") {
             End::of_client(from)
         } else if has(from, "signal") {
             End::Signal(signal_at(from))
         } else {
-            End::of_line(from)
+            End::of_line(from, otu3)
         }
     }
 
-    /// The end that the value of `to` says.
-    pub(crate) fn of_to(to: &'a Value) -> End<'a>
-        ensures { end_in result ≡ to_at (view to.now) }
+    /// The end that the value of `to` says, where these output lines are OTU3.
+    pub(crate) fn of_to(to: &'a Value, otu3: &Numbers) -> End<'a>
+        ensures { end_in result ≡ to_at (numbers_in otu3.now) (view to.now) }
     {
         if has(to, "client") {
             End::of_client(to)
         } else {
-            End::of_line(to)
+            End::of_line(to, otu3)
         }
     }
 
@@ -52,13 +54,15 @@ impl<'a> End<'a> {
         End::Client(number_or(end.get("client"), 0))
     }
 
-    fn of_line(end: &'a Value) -> End<'a>
-        ensures { end_in result ≡ line_at (view end.now) }
+    fn of_line(end: &'a Value, otu3: &Numbers) -> End<'a>
+        ensures { end_in result ≡ line_at (numbers_in otu3.now) (view end.now) }
     {
         let slots = list_or_empty(end.get("slots"));
+        let line = number_or(end.get("line"), 0);
         End::Line(
-            number_or(end.get("line"), 0),
+            line,
             number_or(end.get("port"), 0),
+            otu3.line_kind(line),
             Numbers::Values(slots),
         )
     }
@@ -72,6 +76,7 @@ impl<'a> End<'a> {
                 End::Line(
                     i64::from(*line),
                     i64::from(*port),
+                    slots.kind(),
                     Numbers::Bytes(slots.as_slice()),
                 )
             }
@@ -89,6 +94,7 @@ impl<'a> End<'a> {
                 End::Line(
                     i64::from(*line),
                     i64::from(*port),
+                    slots.kind(),
                     Numbers::Bytes(slots.as_slice()),
                 )
             }

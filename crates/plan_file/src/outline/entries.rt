@@ -5,12 +5,13 @@ ghost use Rattle.plan_file.specs.Seen.{entries_in, entry_in};
 use crate::connection::Connection;
 use crate::outline::entry::Entry;
 use crate::outline::field::item;
+use crate::outline::top::Top;
 use toml::Value;
 
-/// The connections in order: those of a list of tables in a plan of so many turns, or those of a plan.
+/// The connections in order: those of a list of tables in a plan with this top, or those of a plan.
 #[derive(Clone, Copy)]
 pub(crate) enum Entries<'a> {
-    Read(&'a [Value], i64),
+    Read(&'a [Value], Top<'a>),
     Planned(&'a [Connection]),
 }
 
@@ -32,7 +33,7 @@ impl<'a> Entries<'a> {
         ensures { slice_get (entries_in self.now) index ≡ Some (entry_in result) }
     {
         match *self {
-            Entries::Read(tables, turns) => Entry::Read(item(tables, index), turns),
+            Entries::Read(tables, top) => Entry::Read(item(tables, index), top),
             Entries::Planned(connections) => Entry::Planned(connection_at(connections, index)),
         }
     }

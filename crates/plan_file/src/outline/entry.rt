@@ -4,20 +4,21 @@ ghost use Rattle.std.specs.Option.{option_map_or};
 ghost use Rattle.toml.specs.Data.{get};
 ghost use Rattle.toml.specs.View.{view};
 ghost use Rattle.plan_file.specs.Entry.{slots_between};
-ghost use Rattle.plan_file.specs.Table.{kind_of, from_at, to_at, no_end, pace_at};
-ghost use Rattle.plan_file.specs.Seen.{end_in, entry_in, pace_in};
+ghost use Rattle.plan_file.specs.Table.{kind_of, number_or, from_at, to_at, no_end, pace_at};
+ghost use Rattle.plan_file.specs.Seen.{end_in, entry_in, numbers_in, pace_in, top_in};
 
 use crate::connection::Connection;
 use crate::outline::end::End;
 use crate::outline::field::{list_or_empty, number_or, text_or_empty, truth_or};
 use crate::outline::numbers::Numbers;
-use otn_base::Kind;
+use crate::outline::top::Top;
+use otn_base::{Kind, LineKind};
 use toml::Value;
 
-/// A connection: that of a table in a plan of so many turns, or that of a plan.
+/// A connection: that of a table in a plan with this top, or that of a plan.
 #[derive(Clone, Copy)]
 pub(crate) enum Entry<'a> {
-    Read(&'a Value, i64),
+    Read(&'a Value, Top<'a>),
     Planned(&'a Connection),
 }
 
@@ -44,7 +45,7 @@ impl<'a> Entry<'a> {
         ensures { end_in result ≡ (entry_in self.now).from }
     {
         match *self {
-            Entry::Read(table, _) => from_at(table),
+            Entry::Read(table, top) => from_at(table, &top.otu3_in),
             Entry::Planned(connection) => End::from_plan(&connection.from),
         }
     }
@@ -53,7 +54,7 @@ impl<'a> Entry<'a> {
         ensures { end_in result ≡ (entry_in self.now).to }
     {
         match *self {
-            Entry::Read(table, _) => to_at(table),
+            Entry::Read(table, top) => to_at(table, &top.otu3_out),
             Entry::Planned(connection) => End::to_plan(&connection.to),
         }
     }
@@ -100,7 +101,7 @@ impl<'a> Entry<'a> {
         ensures { result ≡ (entry_in self.now).stop }
     {
         match *self {
-            Entry::Read(table, turns) => number_or(table.get("stop"), turns),
+            Entry::Read(table, top) => stop_at(table, &top),
             Entry::Planned(connection) => i64::from(connection.stop),
         }
     }
@@ -109,7 +110,7 @@ impl<'a> Entry<'a> {
         ensures { result ≡ (entry_in self.now).retire }
     {
         match *self {
-            Entry::Read(_, _) => false,
+            Entry::Read(table, _) => truth_or(table.get("retire"), false),
             Entry::Planned(connection) => connection.retire,
         }
     }
@@ -125,22 +126,28 @@ fn kind_at(table: &Value) -> Kind
     }
 }
 
-fn from_at<'a>(table: &'a Value) -> End<'a>
-    ensures { end_in result ≡ option_map_or from_at (get (codes "from") (view table.now)) no_end }
+fn from_at<'a>(table: &'a Value, otu3: &Numbers) -> End<'a>
+    ensures { end_in result ≡ option_map_or (from_at (numbers_in otu3.now)) (get (codes "from") (view table.now)) no_end }
 {
     match table.get("from") {
-        Some(from) => End::of_from(from),
-        None => End::Line(0, 0, Numbers::Bytes(&[])),
+        Some(from) => End::of_from(from, otu3),
+        None => End::Line(0, 0, LineKind::Otu2, Numbers::Bytes(&[])),
     }
 }
 
-fn to_at<'a>(table: &'a Value) -> End<'a>
-    ensures { end_in result ≡ option_map_or to_at (get (codes "to") (view table.now)) no_end }
+fn to_at<'a>(table: &'a Value, otu3: &Numbers) -> End<'a>
+    ensures { end_in result ≡ option_map_or (to_at (numbers_in otu3.now)) (get (codes "to") (view table.now)) no_end }
 {
     match table.get("to") {
-        Some(to) => End::of_to(to),
-        None => End::Line(0, 0, Numbers::Bytes(&[])),
+        Some(to) => End::of_to(to, otu3),
+        None => End::Line(0, 0, LineKind::Otu2, Numbers::Bytes(&[])),
     }
+}
+
+fn stop_at(table: &Value, top: &Top) -> i64
+    ensures { result ≡ number_or (top_in top.now).turns (get (codes "stop") (view table.now)) }
+{
+    number_or(table.get("stop"), top.turns)
 }
 
 fn pace_at<'a>(table: &'a Value) -> Option<Numbers<'a>>

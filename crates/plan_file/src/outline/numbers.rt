@@ -1,10 +1,14 @@
 // A list of numbers.
 ghost use Rattle.std.specs.Prelude.{◌≡◌, ◌<◌, Some, length, map, pos, slice_get};
+ghost use Rattle.std.specs.List.{list_any};
+ghost use Rattle.std.specs.Ordering.{int_eq};
 ghost use Rattle.toml.specs.View.{view};
+ghost use Rattle.plan_file.specs.Lines.{line_kind};
 ghost use Rattle.plan_file.specs.Table.{number_or};
 ghost use Rattle.plan_file.specs.Seen.{numbers_in};
 
 use crate::outline::field::{item, number_or};
+use otn_base::LineKind;
 use toml::Value;
 
 /// A list of numbers, where it stands.
@@ -19,6 +23,30 @@ pub(crate) enum Numbers<'a> {
 }
 
 impl Numbers<'_> {
+    /// The kind of a line, where these lines are OTU3.
+    pub(crate) fn line_kind(&self, line: i64) -> LineKind
+        ensures { result ≡ line_kind (numbers_in self.now) line }
+    {
+        if self.contains(line) {
+            LineKind::Otu3
+        } else {
+            LineKind::Otu2
+        }
+    }
+
+    /// Whether the number is one of them.
+    #[tactic(auto, using(crate::proofs::Steps::anys))]
+    pub(crate) fn contains(&self, number: i64) -> bool
+        ensures { result ≡ list_any (int_eq number) (numbers_in self.now) }
+    {
+        for i in 0..self.len() {
+            if is_equal(number, self.at(i)) {
+                return true;
+            }
+        }
+        false
+    }
+
     /// How many numbers there are.
     pub(crate) fn len(&self) -> usize
         ensures { result ≡ length (numbers_in self.now) }
@@ -42,6 +70,12 @@ impl Numbers<'_> {
             Numbers::Words(words) => word_at(words, index),
         }
     }
+}
+
+fn is_equal(number: i64, other: i64) -> bool
+    ensures { result ≡ int_eq number other }
+{
+    number == other
 }
 
 fn number_of(value: &Value) -> i64

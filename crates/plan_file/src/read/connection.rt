@@ -4,7 +4,7 @@ ghost use Rattle.std.specs.List.{list_all};
 ghost use Rattle.plan_file.specs.Entry.{connection_of, from_of, to_of, natural, slots_between};
 ghost use Rattle.plan_file.specs.Rules.{is_within};
 ghost use Rattle.plan_file.specs.Seen.{end_in, entry_in};
-ghost use Rattle.plan_file.specs.Sound.{IsSound, IsSoundEnd, is_no_signal};
+ghost use Rattle.plan_file.specs.Sound.{IsSound, is_sound, is_no_signal};
 ghost use Rattle.plan_file.specs.Table.{nominal};
 
 use crate::connection::{Connection, FromEnd, ToEnd};
@@ -39,23 +39,27 @@ pub(crate) fn connection(alloc: Global, entry: &Entry) -> Result<Connection, Mem
 }
 
 fn from_end(end: &End) -> FromEnd
-    requires { IsSoundEnd (end_in end.now) }
+    requires { IsTrue (is_sound (end_in end.now)) }
     ensures { result ≡ from_of (end_in end.now) }
 {
     match end {
-        End::Line(line, port, list) => FromEnd::Line(small(*line), small(*port), slots(list)),
+        End::Line(line, port, kind, list) => {
+            FromEnd::Line(small(*line), small(*port), slots(*kind, list))
+        }
         End::Client(client) => FromEnd::Client(small(*client)),
         End::Signal(signal) => FromEnd::Signal(*signal),
     }
 }
 
 fn to_end(end: &End) -> ToEnd
-    requires sound { IsSoundEnd (end_in end.now) }
+    requires sound { IsTrue (is_sound (end_in end.now)) }
     requires no_signal { IsTrue (is_no_signal (end_in end.now)) }
     ensures { result ≡ to_of (end_in end.now) }
 {
     match end {
-        End::Line(line, port, list) => ToEnd::Line(small(*line), small(*port), slots(list)),
+        End::Line(line, port, kind, list) => {
+            ToEnd::Line(small(*line), small(*port), slots(*kind, list))
+        }
         End::Client(client) => ToEnd::Client(small(*client)),
         End::Signal(_) => unreachable!(),
     }
@@ -73,7 +77,7 @@ fn pace(alloc: Global, entry: &Entry) -> Result<Pace, Memory>
 
 // The nominal pace of so many slots.
 fn nominal_pace(alloc: Global, count: usize) -> Result<Pace, Memory>
-    requires { count ≤ 8 }
+    requires { count ≤ 32 }
     ensures { IfOk result (λ pace. pace ≡ map natural (nominal count)) }
 {
     let mut list = Vec::new(alloc);

@@ -1,21 +1,20 @@
 // The plan that a table says, or the first rule that it breaks.
-ghost use Rattle.std.specs.Prelude.{◌≡◌, ◌≢◌, Err, IfOk, IsTrue, Ok, map};
+ghost use Rattle.std.specs.Prelude.{◌≡◌, ◌≢◌, Err, IfOk, Ok, map};
 ghost use Rattle.toml.specs.View.{table_view};
 ghost use Rattle.plan_file.specs.Answer.{accepted_or, fault_of, refusal_of};
 ghost use Rattle.plan_file.specs.Entry.{connection_of, plan_of};
-ghost use Rattle.plan_file.specs.Rules.{is_within};
-ghost use Rattle.plan_file.specs.Seen.{entries_in};
-ghost use Rattle.plan_file.specs.Sound.{AreSound};
+ghost use Rattle.plan_file.specs.Seen.{entries_in, top_in};
+ghost use Rattle.plan_file.specs.Sound.{AreSound, IsSoundTop};
 ghost use Rattle.plan_file.specs.Table.{outline_at};
 
 use crate::connection::Connection;
 use crate::connections::Connections;
 use crate::error::{NoPlan, PlanError};
-use crate::outline::Entries;
+use crate::outline::{Entries, Top};
 use crate::plan::Plan;
 use crate::read::connection::connection;
-use crate::read::number::word;
-use crate::read::table::{entries, table_fault, turns};
+use crate::read::number::{lines, word};
+use crate::read::table::{entries, table_fault};
 use crate::rules;
 use otn_base::Memory;
 use std::alloc::Global;
@@ -35,27 +34,44 @@ pub(crate) fn plan(alloc: Global, top: &Table) -> Result<Plan, NoPlan>
 fn plan_of_values(alloc: Global, top: &Table) -> Result<Plan, NoPlan>
     ensures { result ≢ Err NoPlan.Memory → result ≡ accepted_or (plan_of (outline_at (table_view top.now))) (fault_of (outline_at (table_view top.now))) }
 {
-    let turns = turns(top);
-    let entries = entries(top);
-    match rules::fault(turns, &entries) {
+    let outline_top = Top::of_table(top);
+    let entries = entries(top, &outline_top);
+    match rules::fault(&outline_top, &entries) {
         Some((rule, place)) => Err(NoPlan::Refused(rule, place)),
-        None => sound_plan(alloc, turns, &entries),
+        None => sound_plan(alloc, &outline_top, &entries),
     }
 }
 
-// The plan of so many turns and these connections.
-fn sound_plan(alloc: Global, turns: i64, entries: &Entries) -> Result<Plan, NoPlan>
-    requires turns { IsTrue (is_within 1 16384 turns) }
+// The plan with this top and these connections.
+fn sound_plan(alloc: Global, top: &Top, entries: &Entries) -> Result<Plan, NoPlan>
+    requires top { IsSoundTop (top_in top.now) }
     requires entries { AreSound (entries_in entries.now) }
-    ensures { result ≢ Err NoPlan.Memory → result ≡ Ok (plan_of (record { turns = turns; entries = entries_in entries.now })) }
+    ensures { result ≢ Err NoPlan.Memory → result ≡ Ok (plan_of (record { top = top_in top.now; entries = entries_in entries.now })) }
 {
-    match list(alloc, entries) {
-        Ok(list) => Ok(Plan {
-            turns: word(turns),
-            connections: Connections::of(list),
-        }),
+    match made_plan(alloc, top, entries) {
+        Ok(plan) => Ok(plan),
         Err(Memory) => Err(NoPlan::Memory),
     }
+}
+
+fn made_plan(alloc: Global, top: &Top, entries: &Entries) -> Result<Plan, Memory>
+    requires top { IsSoundTop (top_in top.now) }
+    requires entries { AreSound (entries_in entries.now) }
+    ensures { IfOk result (λ plan. plan ≡ plan_of (record { top = top_in top.now; entries = entries_in entries.now })) }
+{
+    let connections = Connections::of(list(alloc, entries)?);
+    let otu3_in = lines(alloc, &top.otu3_in)?;
+    let otu3_out = lines(alloc, &top.otu3_out)?;
+    let scrambled_in = lines(alloc, &top.scrambled_in)?;
+    let scrambled_out = lines(alloc, &top.scrambled_out)?;
+    Ok(Plan {
+        turns: word(top.turns),
+        connections,
+        otu3_in,
+        otu3_out,
+        scrambled_in,
+        scrambled_out,
+    })
 }
 
 #[tactic(auto, using(crate::proofs::Filled::filled_more, crate::proofs::Filled::filled_all))]

@@ -4,13 +4,13 @@ ghost use Rattle.toml.specs.View.{table_view, view};
 ghost use Rattle.plan_file.specs.Answer.{table_places, table_rules};
 ghost use Rattle.plan_file.specs.ByRule.{breaks_top, breaks_in_table, places_in_table};
 ghost use Rattle.plan_file.specs.Places.{first, first_broken, places};
-ghost use Rattle.plan_file.specs.Seen.{entries_in};
-ghost use Rattle.plan_file.specs.Table.{turns_at, connections_at, entry_at};
+ghost use Rattle.plan_file.specs.Seen.{entries_in, top_in};
+ghost use Rattle.plan_file.specs.Table.{connections_at, entry_at};
 
 use crate::error::PlanError;
 use crate::keys::{has_unknown_key, has_unknown_top_key, lacks_key, lacks_turns, top_value};
 use crate::kinds::{has_kinds, has_top_kinds};
-use crate::outline::{Entries, item, list_or_empty, number_or};
+use crate::outline::{Entries, Top, item, list_or_empty};
 use toml::{Table, Value};
 
 // The rules of keys and kinds, by number.
@@ -20,13 +20,6 @@ const TABLE_RULES: [PlanError; 3] = [
     PlanError::WrongKind,
 ];
 
-/// The number of turns.
-pub(crate) fn turns(top: &Table) -> i64
-    ensures { result ≡ turns_at (table_view top.now) }
-{
-    number_or(top_value(top, "turns"), 0)
-}
-
 // The connections, in order.
 fn connections(top: &Table) -> &[Value]
     ensures { map view result.now ≡ connections_at (table_view top.now) }
@@ -34,11 +27,11 @@ fn connections(top: &Table) -> &[Value]
     list_or_empty(top_value(top, "connection"))
 }
 
-/// The connections as the rules of values see them.
-pub(crate) fn entries(top: &Table) -> Entries<'_>
-    ensures { entries_in result ≡ map (entry_at (turns_at (table_view top.now))) (connections_at (table_view top.now)) }
+/// The connections as the rules of values see them, in a plan with this top.
+pub(crate) fn entries<'a>(table: &'a Table, top: &Top<'a>) -> Entries<'a>
+    ensures { entries_in result ≡ map (entry_at (top_in top.now)) (connections_at (table_view table.now)) }
 {
-    Entries::Read(connections(top), turns(top))
+    Entries::Read(connections(table), *top)
 }
 
 /// The first rule of keys and kinds that the table breaks, with its place.

@@ -1,27 +1,46 @@
 // The rule on lines, clients and ports.
 ghost use Rattle.std.specs.Prelude.{◌≡◌};
 ghost use Rattle.plan_file.specs.Entry.{is_line, is_client};
-ghost use Rattle.plan_file.specs.Rules.{is_placed, breaks_place};
-ghost use Rattle.plan_file.specs.Seen.{end_in, entry_in};
+ghost use Rattle.plan_file.specs.Rules.{is_line_list, breaks_lines, is_placed, breaks_place};
+ghost use Rattle.plan_file.specs.Seen.{end_in, entry_in, numbers_in, top_in};
 
-use crate::outline::{End, Entry};
-use crate::rules::range::is_within;
-use otn_base::limits::{CLIENTS, LINES, SLOTS};
+use crate::outline::{End, Entry, Numbers, Top};
+use crate::rules::range::{all_within, is_within};
+use crate::rules::slots::rises;
+use otn_base::limits::{CLIENTS, LINES};
+
+/// Whether one of the lists of lines is none.
+pub(crate) fn breaks_lines(top: &Top) -> bool
+    ensures { result ≡ breaks_lines (top_in top.now) }
+{
+    !(is_line_list(&top.otu3_in)
+        && is_line_list(&top.otu3_out)
+        && is_line_list(&top.scrambled_in)
+        && is_line_list(&top.scrambled_out))
+}
+
+fn is_line_list(lines: &Numbers) -> bool
+    ensures { result ≡ is_line_list (numbers_in lines.now) }
+{
+    all_within(lines, 0, LINES as u128 - 1) && rises(lines)
+}
 
 /// Whether a line, a client or a port is out of range, or neither end is a line.
-pub(crate) fn breaks_place(entry: &Entry) -> bool
-    ensures { result ≡ breaks_place (entry_in entry.now) }
+pub(crate) fn breaks_place(top: &Top, entry: &Entry) -> bool
+    ensures { result ≡ breaks_place (top_in top.now) (entry_in entry.now) }
 {
     let from = entry.from();
     let to = entry.to();
-    !(is_placed(&from) && is_placed(&to) && (is_line(&from) || is_line(&to)))
+    !(is_placed(&top.otu3_in, &from)
+        && is_placed(&top.otu3_out, &to)
+        && (is_line(&from) || is_line(&to)))
 }
 
 /// Whether the end is at a line.
 pub(crate) fn is_line(end: &End) -> bool
     ensures { result ≡ is_line (end_in end.now) }
 {
-    matches!(end, End::Line(_, _, _))
+    matches!(end, End::Line(_, _, _, _))
 }
 
 /// Whether the end is at a client.
@@ -31,12 +50,13 @@ pub(crate) fn is_client(end: &End) -> bool
     matches!(end, End::Client(_))
 }
 
-fn is_placed(end: &End) -> bool
-    ensures { result ≡ is_placed (end_in end.now) }
+// Whether the end's numbers are in range, where these lines are OTU3.
+fn is_placed(otu3: &Numbers, end: &End) -> bool
+    ensures { result ≡ is_placed (numbers_in otu3.now) (end_in end.now) }
 {
     match end {
-        End::Line(line, port, _) => is_within(*line, 0, LINES as u128 - 1)
-            && is_within(*port, 1, SLOTS as u128),
+        End::Line(line, port, _, _) => is_within(*line, 0, LINES as u128 - 1)
+            && is_within(*port, 1, u128::from(otu3.line_kind(*line).slots())),
         End::Client(client) => is_within(*client, 0, CLIENTS as u128 - 1),
         End::Signal(_) => true,
     }

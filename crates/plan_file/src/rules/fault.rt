@@ -1,13 +1,14 @@
 // The first rule of a plan's values that is broken.
-ghost use Rattle.std.specs.Prelude.{◌≡◌, ◌≤◌, IfSome, length};
+ghost use Rattle.std.specs.Prelude.{◌≡◌, ◌≤◌, ◌++◌, IfSome, length, not};
 ghost use Rattle.plan_file.specs.Answer.{fault_of};
-ghost use Rattle.plan_file.specs.ByRule.{connection_places};
-ghost use Rattle.plan_file.specs.Places.{first, first_broken};
-ghost use Rattle.plan_file.specs.Seen.{entries_in};
+ghost use Rattle.plan_file.specs.ByRule.{breaks_at_top, breaks_alone, connection_places};
+ghost use Rattle.plan_file.specs.Places.{first, first_broken, places, top_place};
+ghost use Rattle.plan_file.specs.Rules.{is_within};
+ghost use Rattle.plan_file.specs.Seen.{entries_in, top_in};
 
 use crate::error::PlanError;
-use crate::outline::Entries;
-use crate::rules::first::{first_clash, first_place};
+use crate::outline::{Entries, Top};
+use crate::rules::first::{breaks_at_top, first_clash, first_place};
 use crate::rules::range::is_within;
 use otn_base::limits::{MOST_CONNECTIONS, MOST_TURNS};
 
@@ -24,26 +25,33 @@ const CONNECTION_RULES: [PlanError; 9] = [
     PlanError::BadSpan,
 ];
 
-/// The first rule that a plan of so many turns and these connections breaks, with its place.
-pub(crate) fn fault(turns: i64, entries: &Entries) -> Option<(PlanError, u32)>
-    ensures { result ≡ fault_of (record { turns = turns; entries = entries_in entries.now }) }
+/// The first rule that a plan with this top and these connections breaks, with its place.
+pub(crate) fn fault(top: &Top, entries: &Entries) -> Option<(PlanError, u32)>
+    ensures { result ≡ fault_of (record { top = top_in top.now; entries = entries_in entries.now }) }
 {
-    if !is_within(turns, 1, MOST_TURNS as u128) {
+    if breaks_turns(top) {
         return Some((PlanError::Turns, 0));
     }
     if entries.len() > MOST_CONNECTIONS {
         return Some((PlanError::TooMany, 0));
     }
-    first_of(&CONNECTION_RULES, turns, entries)
+    first_of(&CONNECTION_RULES, top, entries)
+}
+
+// Whether the number of turns is out of range.
+fn breaks_turns(top: &Top) -> bool
+    ensures { result ≡ not (is_within 1 16384 (top_in top.now).turns) }
+{
+    !is_within(top.turns, 1, MOST_TURNS as u128)
 }
 
 // The first of the rules that is broken, with its place.
-fn first_of(rules: &[PlanError], turns: i64, entries: &Entries) -> Option<(PlanError, u32)>
+fn first_of(rules: &[PlanError], top: &Top, entries: &Entries) -> Option<(PlanError, u32)>
     requires { length (entries_in entries.now) ≤ 48 }
-    ensures { result ≡ first_broken (connection_places (record { turns = turns; entries = entries_in entries.now })) rules.now }
+    ensures { result ≡ first_broken (connection_places (record { top = top_in top.now; entries = entries_in entries.now })) rules.now }
 {
     for rule in rules {
-        if let Some(place) = place_of(*rule, turns, entries) {
+        if let Some(place) = place_of(*rule, top, entries) {
             return Some((*rule, place as u32));
         }
     }
@@ -51,8 +59,8 @@ fn first_of(rules: &[PlanError], turns: i64, entries: &Entries) -> Option<(PlanE
 }
 
 // The first place where the rule is broken.
-fn place_of(rule: PlanError, turns: i64, entries: &Entries) -> Option<usize>
-    ensures place { result ≡ first (connection_places (record { turns = turns; entries = entries_in entries.now }) rule) }
+fn place_of(rule: PlanError, top: &Top, entries: &Entries) -> Option<usize>
+    ensures place { result ≡ first (connection_places (record { top = top_in top.now; entries = entries_in entries.now }) rule) }
     ensures within { IfSome result (λ place. place ≤ length (entries_in entries.now)) }
 {
     match rule {
@@ -60,6 +68,18 @@ fn place_of(rule: PlanError, turns: i64, entries: &Entries) -> Option<usize>
         | PlanError::SlotTwice
         | PlanError::PortTwice
         | PlanError::ClientTwice => first_clash(rule, entries),
-        _ => first_place(rule, turns, entries),
+        _ => place_alone(rule, top, entries),
+    }
+}
+
+// The first place where a rule of each connection is broken, that of the top included.
+fn place_alone(rule: PlanError, top: &Top, entries: &Entries) -> Option<usize>
+    ensures place { result ≡ first (top_place (breaks_at_top rule (top_in top.now)) ++ places (breaks_alone rule (top_in top.now)) (entries_in entries.now)) }
+    ensures within { IfSome result (λ place. place ≤ length (entries_in entries.now)) }
+{
+    if breaks_at_top(rule, top) {
+        Some(0)
+    } else {
+        first_place(rule, top, entries)
     }
 }

@@ -1,27 +1,37 @@
 // Where a rule is broken first.
 ghost use Rattle.std.specs.Prelude.{◌≡◌, ◌+◌, ◌≤◌, IfSome, take, length};
 ghost use Rattle.std.specs.List.{list_any};
-ghost use Rattle.plan_file.specs.ByRule.{breaks_alone, clashes};
+ghost use Rattle.plan_file.specs.ByRule.{breaks_at_top, breaks_alone, clashes};
 ghost use Rattle.plan_file.specs.Places.{first, places, later_places};
-ghost use Rattle.plan_file.specs.Seen.{entries_in, entry_in};
+ghost use Rattle.plan_file.specs.Seen.{entries_in, entry_in, top_in};
 
 use crate::error::PlanError;
-use crate::outline::{Entries, Entry};
-use crate::rules::ends::breaks_place;
+use crate::outline::{Entries, Entry, Top};
+use crate::rules::ends::{breaks_lines, breaks_place};
 use crate::rules::names::breaks_name;
 use crate::rules::pace::breaks_pace;
 use crate::rules::pairs::{have_one_client, have_one_name, have_one_port, have_one_slot};
 use crate::rules::slots::breaks_slots;
 use crate::rules::span::breaks_span;
 
-/// The place of the first connection that breaks the rule, in a plan of so many turns.
+/// Whether the top breaks the rule.
+pub(crate) fn breaks_at_top(rule: PlanError, top: &Top) -> bool
+    ensures { result ≡ breaks_at_top rule (top_in top.now) }
+{
+    match rule {
+        PlanError::BadPlace => breaks_lines(top),
+        _ => false,
+    }
+}
+
+/// The place of the first connection that breaks the rule, in a plan with this top.
 #[tactic(auto, using(crate::proofs::Steps::singles))]
-pub(crate) fn first_place(rule: PlanError, turns: i64, entries: &Entries) -> Option<usize>
-    ensures place { result ≡ first (places (breaks_alone rule turns) (entries_in entries.now)) }
+pub(crate) fn first_place(rule: PlanError, top: &Top, entries: &Entries) -> Option<usize>
+    ensures place { result ≡ first (places (breaks_alone rule (top_in top.now)) (entries_in entries.now)) }
     ensures within { IfSome result (λ place. place ≤ length (entries_in entries.now)) }
 {
     for i in 0..entries.len() {
-        if breaks_alone(rule, turns, &entries.at(i)) {
+        if breaks_alone(rule, top, &entries.at(i)) {
             return Some(i + 1);
         }
     }
@@ -56,15 +66,15 @@ fn clashes_before(rule: PlanError, entries: &Entries, count: usize, later: &Entr
     false
 }
 
-fn breaks_alone(rule: PlanError, turns: i64, entry: &Entry) -> bool
-    ensures { result ≡ breaks_alone rule turns (entry_in entry.now) }
+fn breaks_alone(rule: PlanError, top: &Top, entry: &Entry) -> bool
+    ensures { result ≡ breaks_alone rule (top_in top.now) (entry_in entry.now) }
 {
     match rule {
         PlanError::BadName => breaks_name(entry),
-        PlanError::BadPlace => breaks_place(entry),
-        PlanError::BadSlots => breaks_slots(entry),
+        PlanError::BadPlace => breaks_place(top, entry),
+        PlanError::BadSlots => breaks_slots(top, entry),
         PlanError::BadPace => breaks_pace(entry),
-        PlanError::BadSpan => breaks_span(turns, entry),
+        PlanError::BadSpan => breaks_span(top.turns, entry),
         _ => false,
     }
 }

@@ -37,7 +37,7 @@ fn slot_count(end: &End) -> usize
     ensures { result ≡ slot_count (end_in end.now) }
 {
     match end {
-        End::Line(_, _, slots) => slots.len(),
+        End::Line(_, _, _, slots) => slots.len(),
         _ => 0,
     }
 }

@@ -46,7 +46,7 @@ fn share_slot(end: &End, other: &End) -> bool
     ensures { result ≡ share_slot (end_in end.now) (end_in other.now) }
 {
     match end {
-        End::Line(line, _, slots) => is_line_with_slot(other, *line, slots),
+        End::Line(line, _, _, slots) => is_line_with_slot(other, *line, slots),
         _ => false,
     }
 }
@@ -55,7 +55,7 @@ fn is_line_with_slot(end: &End, number: i64, wanted: &Numbers) -> bool
     ensures { result ≡ is_line_with_slot number (numbers_in wanted.now) (end_in end.now) }
 {
     match end {
-        End::Line(line, _, slots) => number == *line && share_number(wanted, slots),
+        End::Line(line, _, _, slots) => number == *line && share_number(wanted, slots),
         _ => false,
     }
 }
@@ -65,36 +65,18 @@ fn share_number(numbers: &Numbers, others: &Numbers) -> bool
     ensures { result ≡ list_any (λ number. list_any (int_eq number) (numbers_in others.now)) (numbers_in numbers.now) }
 {
     for i in 0..numbers.len() {
-        if contains(others, numbers.at(i)) {
+        if others.contains(numbers.at(i)) {
             return true;
         }
     }
     false
-}
-
-#[tactic(auto, using(crate::proofs::Steps::anys))]
-fn contains(numbers: &Numbers, number: i64) -> bool
-    ensures { result ≡ list_any (int_eq number) (numbers_in numbers.now) }
-{
-    for i in 0..numbers.len() {
-        if is_equal(number, numbers.at(i)) {
-            return true;
-        }
-    }
-    false
-}
-
-fn is_equal(number: i64, other: i64) -> bool
-    ensures { result ≡ int_eq number other }
-{
-    number == other
 }
 
 fn share_port(end: &End, other: &End) -> bool
     ensures { result ≡ share_port (end_in end.now) (end_in other.now) }
 {
     match end {
-        End::Line(line, port, _) => is_line_with_port(other, *line, *port),
+        End::Line(line, port, _, _) => is_line_with_port(other, *line, *port),
         _ => false,
     }
 }
@@ -103,7 +85,7 @@ fn is_line_with_port(end: &End, number: i64, wanted: i64) -> bool
     ensures { result ≡ is_line_with_port number wanted (end_in end.now) }
 {
     match end {
-        End::Line(line, port, _) => number == *line && wanted == *port,
+        End::Line(line, port, _, _) => number == *line && wanted == *port,
         _ => false,
     }
 }

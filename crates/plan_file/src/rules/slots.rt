@@ -1,40 +1,58 @@
 // The rule on slots.
 ghost use Rattle.std.specs.Prelude.{◌≡◌};
-ghost use Rattle.plan_file.specs.Rules.{rises, is_slot_list, suits, has_slots, has_count, has_equal_counts, breaks_slots};
-ghost use Rattle.plan_file.specs.Seen.{end_in, entry_in, numbers_in};
+ghost use Rattle.plan_file.specs.Rules.{rises, is_slot_list, is_same_kind, suits, has_slots, has_count, has_equal_counts, breaks_slots};
+ghost use Rattle.plan_file.specs.Seen.{end_in, entry_in, numbers_in, top_in};
 
-use crate::outline::{End, Entry, Numbers};
+use crate::outline::{End, Entry, Numbers, Top};
 use crate::rules::range::all_within;
-use otn_base::Kind;
-use otn_base::limits::SLOTS;
+use otn_base::{Kind, LineKind};
 
-/// Whether a slot list is none, or does not suit the connection's kind, or the two differ in length.
-pub(crate) fn breaks_slots(entry: &Entry) -> bool
-    ensures { result ≡ breaks_slots (entry_in entry.now) }
+/// Whether a slot list is none of its line, or does not suit the connection's kind, or the two differ in
+/// length.
+pub(crate) fn breaks_slots(top: &Top, entry: &Entry) -> bool
+    ensures { result ≡ breaks_slots (top_in top.now) (entry_in entry.now) }
 {
     let from = entry.from();
     let to = entry.to();
     let kind = entry.kind();
-    !(has_slots(kind, &from) && has_slots(kind, &to) && has_equal_counts(&from, &to))
+    !(has_slots(&top.otu3_in, kind, &from)
+        && has_slots(&top.otu3_out, kind, &to)
+        && has_equal_counts(&from, &to))
 }
 
-fn has_slots(kind: Kind, end: &End) -> bool
-    ensures { result ≡ has_slots kind (end_in end.now) }
+// Whether the end has slots of its line and as many as suit, where these lines are OTU3.
+fn has_slots(otu3: &Numbers, kind: Kind, end: &End) -> bool
+    ensures { result ≡ has_slots (numbers_in otu3.now) kind (end_in end.now) }
 {
     match end {
-        End::Line(_, _, slots) => is_slot_list(slots) && suits(kind, slots.len()),
+        End::Line(line, _, made_for, slots) => {
+            let line_kind = otu3.line_kind(*line);
+            is_same_kind(*made_for, line_kind)
+                && is_slot_list(line_kind.slots(), slots)
+                && suits(kind, slots.len())
+        }
         _ => true,
     }
 }
 
-fn is_slot_list(slots: &Numbers) -> bool
-    ensures { result ≡ is_slot_list (numbers_in slots.now) }
+fn is_same_kind(kind: LineKind, other: LineKind) -> bool
+    ensures { result ≡ is_same_kind kind other }
 {
-    1 <= slots.len() && all_within(slots, 1, SLOTS as u128) && rises(slots)
+    match (kind, other) {
+        (LineKind::Otu2, LineKind::Otu2) | (LineKind::Otu3, LineKind::Otu3) => true,
+        _ => false,
+    }
 }
 
+fn is_slot_list(most: u8, slots: &Numbers) -> bool
+    ensures { result ≡ is_slot_list most (numbers_in slots.now) }
+{
+    1 <= slots.len() && all_within(slots, 1, u128::from(most)) && rises(slots)
+}
+
+/// Whether each number is greater than the one before it.
 #[tactic(auto, using(crate::proofs::Steps::rises_go, crate::proofs::Steps::rises_stop, crate::proofs::Steps::rises_done))]
-fn rises(numbers: &Numbers) -> bool
+pub(crate) fn rises(numbers: &Numbers) -> bool
     ensures { result ≡ rises (numbers_in numbers.now) }
 {
     for i in 1..numbers.len() {
@@ -58,7 +76,7 @@ fn has_equal_counts(from: &End, to: &End) -> bool
     ensures { result ≡ has_equal_counts (end_in from.now) (end_in to.now) }
 {
     match from {
-        End::Line(_, _, slots) => has_count(to, slots.len()),
+        End::Line(_, _, _, slots) => has_count(to, slots.len()),
         _ => true,
     }
 }
@@ -67,7 +85,7 @@ fn has_count(end: &End, count: usize) -> bool
     ensures { result ≡ has_count count (end_in end.now) }
 {
     match end {
-        End::Line(_, _, slots) => count == slots.len(),
+        End::Line(_, _, _, slots) => count == slots.len(),
         _ => true,
     }
 }
