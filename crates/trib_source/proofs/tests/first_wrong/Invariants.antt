@@ -1,8 +1,9 @@
-use Rattle.std.proofs.Common.{◌≡◌, ◌<◌, length}
+use Rattle.std.proofs.Common.{◌≡◌, ◌<◌}
+use Rattle.std.specs.Prelude.{length}
 use Rattle.trib_source.proofs.tests.first_wrong.Given as goal
 
 abbrev pub invariant-loop-turn : goal.invariant-loop-turn
 invariant-loop-turn l = record {
-  rest : l.source.rest < 3;
+  rest : l.source.rest < length l.source.slots.list;
   slots : l.source.slots ≡ l.fn.source.slots;
 }

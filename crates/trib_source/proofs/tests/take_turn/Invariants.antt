@@ -1,11 +1,11 @@
 use Rattle.std.proofs.Common.{◌≡◌, ◌<◌}
-use Rattle.std.specs.Prelude.{IsSome}
+use Rattle.std.specs.Prelude.{IsSome, length}
 use Rattle.trib_source.proofs.tests.take_turn.Given as goal
 
 abbrev pub invariant-loop-n : goal.invariant-loop-n
 invariant-loop-n l = record {
   filled : l.source.filled ≡ l.n;
   begun : IsSome l.source.said;
-  rest : l.source.rest < 3;
+  rest : l.source.rest < length l.source.slots.list;
   slots : l.source.slots ≡ l.fn.source.slots;
 }
