@@ -2,6 +2,7 @@
 ghost use Rattle.std.specs.Prelude.{◌≡◌, ◌≢◌, ℕ, ◌+◌, ◌-◌, ◌*◌, ◌/◌, ◌%◌, ◌<◌, ◌≤◌, length, slice_index};
 ghost use Rattle.otn_base.specs.LineSlots.{slots_of};
 ghost use Rattle.otn_base.specs.SlotList.{IsSlotList};
+ghost use Rattle.otn_base.specs.declared.limits.TheConstants.{PAYLOAD_COLUMNS};
 
 use lane_kernels::{put_slot, put_slots, take_slot, take_slots};
 use otn_base::LineKind;
@@ -9,8 +10,8 @@ use otn_base::limits::{OTU2_SLOTS, OTU3_SLOTS, PAYLOAD_COLUMNS};
 
 /// How many cycles of all its slots a row has on a line: 476, or 119.
 pub(crate) fn cycles_in_row(kind: LineKind) -> usize
-    ensures cycles { result ≡ 3808 / slots_of kind }
-    ensures few { result ≤ 476 }
+    ensures cycles { result ≡ PAYLOAD_COLUMNS / slots_of kind }
+    ensures few { result ≤ PAYLOAD_COLUMNS }
 {
     match kind {
         LineKind::Otu2 => PAYLOAD_COLUMNS / OTU2_SLOTS,

@@ -76,9 +76,9 @@ fn set_group(frame: &mut Frame<4080>, row: u32, first: u32, slots: &[u8], bytes:
 // Writes the groups of a row into its payload.
 fn put_groups(kind: LineKind, slots: &[u8], bytes: &[u8], payload: &mut [u8])
     requires list { IsSlotList (slots_of kind) slots.now }
-    requires size { length bytes.now ≡ length slots.now * (3808 / slots_of kind) }
-    requires payload { length payload.old ≡ 3808 }
-    ensures put { (cycle i : ℕ) → cycle < 3808 / slots_of kind → i < length slots.now → slice_index payload.new (slots_of kind * cycle + (slice_index slots.now i - 1)) ≡ slice_index bytes.now (length slots.now * cycle + i) }
+    requires size { length bytes.now ≡ length slots.now * (PAYLOAD_COLUMNS / slots_of kind) }
+    requires payload { length payload.old ≡ PAYLOAD_COLUMNS }
+    ensures put { (cycle i : ℕ) → cycle < PAYLOAD_COLUMNS / slots_of kind → i < length slots.now → slice_index payload.new (slots_of kind * cycle + (slice_index slots.now i - 1)) ≡ slice_index bytes.now (length slots.now * cycle + i) }
     ensures kept { (n : ℕ) → ((i : ℕ) → i < length slots.now → n % slots_of kind + 1 ≢ slice_index slots.now i) → slice_index payload.new n ≡ slice_index payload.old n }
 {
     if slots.len() == kind.slots() as usize {
