@@ -6,7 +6,7 @@ use super::{
     SlotRows, join, join8, parity, put_slot, put_slots, split, split8, take_slot, take_slots,
     xor_mask,
 };
-use otn_base::{Memory, Slots};
+use otn_base::{LineKind, Memory, Slots};
 use std::alloc::Global;
 use std::test::Fail;
 
@@ -73,7 +73,7 @@ fn eight_slots(rt: HostRuntime) -> Result<(), Fail> {
 #[test]
 fn several_of_eight(rt: HostRuntime) -> Result<(), Fail> {
     let row = numbered(rt.alloc(), 3808)?;
-    let slots = Slots::new(&[1, 3, 8]).ok_or("three slots that rise")?;
+    let slots = Slots::new(&[1, 3, 8], LineKind::Otu2).ok_or("three slots that rise")?;
     if slots.count() != 3 {
         return Ok(());
     }
