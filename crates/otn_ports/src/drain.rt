@@ -1,5 +1,5 @@
 // Writing a whole slice.
-ghost use Rattle.std.specs.Prelude.{◌≡◌, ◌<◌, ◌≤◌, length, take};
+ghost use Rattle.std.specs.Prelude.{◌≡◌, ◌≢◌, ◌<◌, ◌≤◌, length, take};
 ghost use Rattle.otn_ports.specs.Bytes.{after, HasFailed};
 ghost use Rattle.otn_ports.specs.OutPlace.{live_out};
 ghost use Rattle.otn_ports.specs.Writes.{Gains, Writes, IsWriting};
@@ -14,10 +14,12 @@ pub enum Written {
 }
 
 /// Writes all bytes to a sink that stands in no place. After Lost a part of them went out, from
-/// the front, and the sink's count of faults rose or stands at its end. No bytes: no call.
+/// the front, and the sink's count of faults rose or stands at its end; after Whole it is as it
+/// was. No bytes: no call.
 pub fn write_whole<K: Sink>(sink: &mut K, bytes: &[u8]) -> Written
     ensures got { Gains result (K.got sink.old) bytes.now (K.got sink.new) }
     ensures cause { result ≡ Written.Lost → HasFailed (K.faults sink.old) (K.faults sink.new) }
+    ensures well { result ≢ Written.Lost → K.faults sink.new ≡ K.faults sink.old }
     ensures later { K.faults sink.old ≤ K.faults sink.new }
     ensures keeps { K.keeps sink.new ≡ K.keeps sink.old }
     ensures same { K.boxed sink.new ≡ K.boxed sink.old }
@@ -36,6 +38,7 @@ fn drain<K: Sink>(sink: &mut K, bytes: &[u8]) -> (Written, usize)
     ensures writing { IsWriting result.0 result.1 (length bytes.now) }
     ensures later { K.faults sink.old ≤ K.faults sink.new }
     ensures cause { result.0 ≡ Written.Lost → HasFailed (K.faults sink.old) (K.faults sink.new) }
+    ensures well { result.0 ≢ Written.Lost → K.faults sink.new ≡ K.faults sink.old }
     ensures keeps { K.keeps sink.new ≡ K.keeps sink.old }
     ensures same { K.boxed sink.new ≡ K.boxed sink.old }
 {
@@ -51,7 +54,8 @@ fn drain<K: Sink>(sink: &mut K, bytes: &[u8]) -> (Written, usize)
 
 /// Writes to the port of a live place until all bytes are out or a call fails, and counts them.
 pub(crate) fn drain_counted<K: Sink>(port: &mut K, number: &mut u64, bytes: &[u8]) -> Written
-    ensures { Writes result (live_out K.Sink port.old number.old) bytes.now (live_out K.Sink port.new number.new) }
+    ensures writes { Writes result (live_out K.Sink port.old number.old) bytes.now (live_out K.Sink port.new number.new) }
+    ensures well { result ≢ Written.Lost → K.faults port.new ≡ K.faults port.old }
 {
     let (written, went) = drain(port, bytes);
     *number = number.saturating_add(went as u64);

@@ -1,5 +1,5 @@
 // Reading until a slice is full.
-ghost use Rattle.std.specs.Prelude.{◌≡◌, ◌<◌, ◌≤◌, length, take};
+ghost use Rattle.std.specs.Prelude.{◌≡◌, ◌≢◌, ◌<◌, ◌≤◌, length, take};
 ghost use Rattle.otn_ports.specs.Bytes.{before, HasFailed};
 ghost use Rattle.otn_ports.specs.InPlace.{live_in};
 ghost use Rattle.otn_ports.specs.Reads.{Reads, IsReading};
@@ -7,13 +7,15 @@ ghost use Rattle.otn_ports.specs.Reads.{Reads, IsReading};
 use crate::{Failed, Reading, Source};
 
 /// Reads a source that stands in no place, until the slice is full, the source ends or a call fails, and says how
-/// many bytes came: they stand at the slice's front. After Lost the source's count of faults rose or stands at its end.
+/// many bytes came: they stand at the slice's front. After Lost the source's count of faults rose or stands at its end;
+/// else it is as it was.
 pub fn read_whole<S: Source>(source: &mut S, into: &mut [u8]) -> (Reading, usize)
     ensures within { result.1 ≤ length into.old }
     ensures bytes { S.left source.old ≡ before (take result.1 into.new) (S.left source.new) }
     ensures reading { IsReading result.0 result.1 (length into.old) (S.left source.new) }
     ensures later { S.faults source.old ≤ S.faults source.new }
     ensures cause { result.0 ≡ Reading.Lost → HasFailed (S.faults source.old) (S.faults source.new) }
+    ensures well { result.0 ≢ Reading.Lost → S.faults source.new ≡ S.faults source.old }
     ensures same { S.boxed source.new ≡ S.boxed source.old }
 {
     let mut done = 0;
@@ -29,7 +31,8 @@ pub fn read_whole<S: Source>(source: &mut S, into: &mut [u8]) -> (Reading, usize
 
 /// Reads from the port of a live place until the slice is full, and counts the bytes.
 pub(crate) fn fill_counted<P: Source>(port: &mut P, number: &mut u64, into: &mut [u8]) -> Reading
-    ensures { Reads result (live_in P.Source port.old number.old) into.new (live_in P.Source port.new number.new) }
+    ensures reads { Reads result (live_in P.Source port.old number.old) into.new (live_in P.Source port.new number.new) }
+    ensures well { result ≢ Reading.Lost → P.faults port.new ≡ P.faults port.old }
 {
     let (reading, came) = read_whole(port, into);
     *number = number.saturating_add(came as u64);

@@ -33,13 +33,14 @@ impl<P: Source> InPlaceOf<P> {
     /// Reads until the slice is full. After Full the slice is the bytes taken; after End(n) they
     /// stand at its front; after Lost its content is open. The place dies exactly where the
     /// answer is Lost, and then its port's count of faults rose in this call or stands at its
-    /// end. A place that is not live calls nothing, and acts as one that ended.
+    /// end; else the count is as it was. A place that is not live calls nothing, and acts as one that ended.
     pub fn read_full(&mut self, into: &mut [u8]) -> Reading
         ensures state { (in_view P.Source self.new).state ≡ state_after (in_view P.Source self.old).state result }
         ensures live { (in_view P.Source self.old).state ≡ Live
             → Reads result (in_view P.Source self.old) into.new (in_view P.Source self.new) }
         ensures idle { (in_view P.Source self.old).state ≢ Live
             → (self.new ≡ self.old) × (into.new ≡ into.old) × (result ≡ idle_reading (length into.old)) }
+        ensures well { result ≢ Reading.Lost → (in_view P.Source self.new).faults ≡ (in_view P.Source self.old).faults }
         ensures empty { length into.old ≡ 0 → (self.new ≡ self.old) × (result ≡ Reading.Full) }
     {
         if into.is_empty() {

@@ -1,5 +1,5 @@
 // A source behind a box, or one in memory.
-ghost use Rattle.std.specs.Prelude.{◌≡◌, ◌<◌, ◌≤◌, Ok, false, IfOk, OnErr, length, min};
+ghost use Rattle.std.specs.Prelude.{◌≡◌, ◌<◌, ◌≤◌, Ok, false, IfOk, OnOk, OnErr, length, min};
 ghost use Rattle.otn_ports.specs.Bytes.{before, taken, HasFailed};
 ghost use Rattle.otn_ports.specs.Ports.{in_left, in_faults, is_in_boxed, held_left};
 ghost use Rattle.otn_ports.specs.Reads.{HasEnded};
@@ -26,6 +26,7 @@ impl Source for InPort {
         ensures end { result ≡ Ok 0 → 0 < length into.old → HasEnded (in_left left self.new) }
         ensures later { in_faults faults self.old ≤ in_faults faults self.new }
         ensures cause { OnErr result (HasFailed (in_faults faults self.old) (in_faults faults self.new)) }
+        ensures well { OnOk result (in_faults faults self.new ≡ in_faults faults self.old) }
         ensures same { is_in_boxed self.new ≡ is_in_boxed self.old }
         ensures held { is_in_boxed self.old ≡ false → result ≡ Ok (min (length (held_left self.old)) (length into.old)) }
     {

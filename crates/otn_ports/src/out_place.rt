@@ -23,12 +23,13 @@ impl<K: Sink> OutPlaceOf<K> {
 
     /// Writes all bytes. After Lost a part of them went out, from the front. The place dies
     /// exactly where the answer is Lost, and then its port's count of faults rose in this call
-    /// or stands at its end. A place that is not live calls nothing, and answers Whole.
+    /// or stands at its end; else the count is as it was. A place that is not live calls nothing, and answers Whole.
     pub fn write_all(&mut self, bytes: &[u8]) -> Written
         ensures state { (out_view K.Sink self.new).state ≡ state_after_write (out_view K.Sink self.old).state result }
         ensures live { (out_view K.Sink self.old).state ≡ Live
             → Writes result (out_view K.Sink self.old) bytes.now (out_view K.Sink self.new) }
         ensures idle { (out_view K.Sink self.old).state ≢ Live → (self.new ≡ self.old) × (result ≡ Written.Whole) }
+        ensures well { result ≢ Written.Lost → (out_view K.Sink self.new).faults ≡ (out_view K.Sink self.old).faults }
         ensures empty { length bytes.now ≡ 0 → (self.new ≡ self.old) × (result ≡ Written.Whole) }
     {
         if bytes.is_empty() {

@@ -1,5 +1,5 @@
 // A sink behind a box, or one in memory.
-ghost use Rattle.std.specs.Prelude.{◌≡◌, ◌<◌, ◌≤◌, false, IfOk, OnErr, length};
+ghost use Rattle.std.specs.Prelude.{◌≡◌, ◌<◌, ◌≤◌, false, IfOk, OnOk, OnErr, length};
 ghost use Rattle.otn_ports.specs.Bytes.{after, sent, HasFailed};
 ghost use Rattle.otn_ports.specs.Memory.{TakesWhatFits};
 ghost use Rattle.otn_ports.specs.Ports.{out_got, out_faults, out_keeps, is_out_boxed, held_room};
@@ -28,6 +28,7 @@ impl Sink for OutPort {
         ensures bytes { out_got got self.new ≡ after (out_got got self.old) (sent result bytes.now) }
         ensures later { out_faults faults self.old ≤ out_faults faults self.new }
         ensures cause { OnErr result (HasFailed (out_faults faults self.old) (out_faults faults self.new)) }
+        ensures well { OnOk result (out_faults faults self.new ≡ out_faults faults self.old) }
         ensures keeps { out_keeps keeps self.new ≡ out_keeps keeps self.old }
         ensures same { is_out_boxed self.new ≡ is_out_boxed self.old }
         ensures held { is_out_boxed self.old ≡ false → TakesWhatFits (held_room self.old) bytes.now result (held_room self.new) }

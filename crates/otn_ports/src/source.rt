@@ -1,5 +1,5 @@
 // A port that gives bytes, and may fail at any call.
-ghost use Rattle.std.specs.Prelude.{◌≡◌, ◌<◌, ◌≤◌, ℕ, Bool, false, List, Option, length, IfOk, OnErr, Ok};
+ghost use Rattle.std.specs.Prelude.{◌≡◌, ◌<◌, ◌≤◌, ℕ, Bool, false, List, Option, length, IfOk, OnOk, OnErr, Ok};
 ghost use Rattle.otn_ports.specs.Bytes.{before, taken, HasFailed};
 ghost use Rattle.otn_ports.specs.Reads.{HasEnded};
 
@@ -21,12 +21,13 @@ pub trait Source: Drop {
     /// Puts the next bytes at the front of the slice, and answers how many. None came for a slice
     /// with room only where the source has ended. What is behind them in the slice is open.
     /// Failed comes only where the count of faults rose in this call or stands at its end, and
-    /// then no byte is gone.
+    /// then no byte is gone. A call that answers otherwise leaves the count as it was.
     fn read(&mut self, into: &mut [u8]) -> Result<usize, Failed>
         ensures bound { IfOk result (λ n. n ≤ length into.old) }
         ensures bytes { left self.old ≡ before (taken result into.new) (left self.new) }
         ensures end { result ≡ Ok 0 → 0 < length into.old → HasEnded (left self.new) }
         ensures later { faults self.old ≤ faults self.new }
         ensures cause { OnErr result (HasFailed (faults self.old) (faults self.new)) }
+        ensures well { OnOk result (faults self.new ≡ faults self.old) }
         ensures same { boxed self.new ≡ boxed self.old };
 }

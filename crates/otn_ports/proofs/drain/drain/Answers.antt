@@ -1,4 +1,4 @@
-use Rattle.std.proofs.Common.{arith, ◌≤◌, ◌-◌, length}
+use Rattle.std.proofs.Common.{◌∙◌, arith, ◌≤◌, ◌-◌, length}
 use Rattle.otn_ports.proofs.TakenTwice.{sent_more}
 use Rattle.otn_ports.proofs.drain.drain.Goals as goal
 
@@ -8,6 +8,7 @@ loop-done-preserved g c =
     record {
       within = omega (arith, c.in-Ok.ensures.bound);
       bytes = sent_more _ _ _ _ _ _ c.loop-done.invariant.within room c.loop-done.invariant.bytes c.in-Ok.ensures.bytes;
+      well = c.in-Ok.ensures.well ∙ c.loop-done.invariant.well;
       same = cc;
       later = omega (arith, c.write.ensures.later);
       keeps = cc;

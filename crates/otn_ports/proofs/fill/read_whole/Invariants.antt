@@ -7,6 +7,7 @@ invariant-loop-done g l = record {
   within : l.done ≤ length l.into;
   bytes : g.S.Source.left l.fn.source ≡ before (take l.done l.into) (g.S.Source.left l.source);
   same : g.S.Source.boxed l.source ≡ g.S.Source.boxed l.fn.source;
+  well : g.S.Source.faults l.source ≡ g.S.Source.faults l.fn.source;
   later : g.S.Source.faults l.fn.source ≤ g.S.Source.faults l.source;
 }
 
