@@ -9,7 +9,12 @@ use Rattle.otn_ports.specs.declared.in_place.InPlaceOf.TheVariants as place
 abbrev pub live_in : {P : Type 0} → Ghosts P → P → ℕ → InView
 live_in source port n = record { state = Live; boxed = source.boxed port; left = source.left port; faults = source.faults port; number = n }
 
+-- a dead place with this port and this number
+abbrev pub dead_in : {P : Type 0} → Ghosts P → P → ℕ → InView
+dead_in source port n = record (live_in source port n) { state = Dead }
+
+-- what is seen of the place
 abbrev pub in_view : {P : Type 0} → Ghosts P → InPlaceOf P → InView
 in_view source place.Empty = no_input
 in_view source (place.Live port n) = live_in source port n
-in_view source (place.Dead port n) = record (live_in source port n) { state = Dead }
+in_view source (place.Dead sealed n) = dead_in source sealed.port n

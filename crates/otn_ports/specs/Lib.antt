@@ -9,5 +9,6 @@ pub mod OutPlace
 pub mod Ports
 pub mod Racks
 pub mod Reads
+pub mod Retiring
 pub mod Views
 pub mod Writes

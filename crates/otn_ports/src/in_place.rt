@@ -1,10 +1,12 @@
 // A place for an input: it is empty, its port is live, or its port has failed and is called no more.
 ghost use Rattle.std.specs.Prelude.{◌≡◌, ◌≢◌, length};
+ghost use Rattle.otn_ports.specs.InPlace.{dead_in};
+ghost use Rattle.otn_ports.specs.Retiring.{retired_in};
 ghost use Rattle.otn_ports.specs.Reads.{Reads, state_after, idle_reading};
 ghost use Rattle.otn_ports.specs.Views.{Live, Dead};
 
 use crate::fill::fill_counted;
-use crate::{InPort, Source};
+use crate::{InPort, Sealed, Source};
 use std::mem;
 
 /// How a read of a whole slice ended: the slice is full, the input ended after so many bytes and
@@ -16,12 +18,13 @@ pub enum Reading {
     Lost,
 }
 
-/// A place for a source. The number counts the bytes taken of it, and stops at 2^64-1.
+/// A place for a source. The number counts the bytes taken of it, and stops at 2^64-1. A dead
+/// place is made by `dead`, and its port is out of reach.
 #[derive(Drop)]
 pub enum InPlaceOf<P> {
     Empty,
     Live(P, u64),
-    Dead(P, u64),
+    Dead(Sealed<P>, u64),
 }
 
 /// A place for a source behind a box or in memory.
@@ -29,6 +32,13 @@ pub type InPlace = InPlaceOf<InPort>;
 
 impl<P: Source> InPlaceOf<P> {
     ghost use Rattle.otn_ports.specs.InPlace.{in_view};
+
+    /// A dead place with this port, of which so many bytes were taken.
+    pub fn dead(port: P, number: u64) -> InPlaceOf<P>
+        ensures { in_view P.Source result ≡ dead_in P.Source port number }
+    {
+        InPlaceOf::Dead(Sealed { port }, number)
+    }
 
     /// Reads until the slice is full. After Full the slice is the bytes taken; after End(n) they
     /// stand at its front; after Lost its content is open. The place dies exactly where the
@@ -57,13 +67,25 @@ impl<P: Source> InPlaceOf<P> {
         reading
     }
 
+    /// A live place becomes empty, and its port is dropped. An empty or a dead place stays.
+    pub fn retire(&mut self)
+        ensures retired { in_view P.Source self.new ≡ retired_in (in_view P.Source self.old) }
+        ensures idle { (in_view P.Source self.old).state ≢ Live → self.new ≡ self.old }
+    {
+        match self {
+            InPlaceOf::Live(..) => *self = InPlaceOf::Empty,
+            InPlaceOf::Empty => {}
+            InPlaceOf::Dead(..) => {}
+        }
+    }
+
     // A live place becomes dead.
     fn die(&mut self)
         ensures { (in_view P.Source self.old).state ≡ Live
             → in_view P.Source self.new ≡ record (in_view P.Source self.old) { state = Dead } }
     {
         match mem::replace(self, InPlaceOf::Empty) {
-            InPlaceOf::Live(port, number) => *self = InPlaceOf::Dead(port, number),
+            InPlaceOf::Live(port, number) => *self = InPlaceOf::dead(port, number),
             place => *self = place,
         }
     }

@@ -1,18 +1,21 @@
 // A place for an output: it is empty, its port is live, or its port has failed and is called no more.
-ghost use Rattle.std.specs.Prelude.{◌≡◌, ◌≢◌, length};
+ghost use Rattle.std.specs.Prelude.{◌≡◌, ◌≢◌, true, false, Some, MatchOption, length};
+ghost use Rattle.otn_ports.specs.OutPlace.{dead_out};
+ghost use Rattle.otn_ports.specs.Retiring.{retired_out};
 ghost use Rattle.otn_ports.specs.Views.{Live, Dead};
 ghost use Rattle.otn_ports.specs.Writes.{Writes, state_after_write};
 
 use crate::drain::drain_counted;
-use crate::{OutPort, Sink, Written};
+use crate::{OutPort, Sealed, Sink, Written};
 use std::mem;
 
-/// A place for a sink. The number counts the bytes sent to it, and stops at 2^64-1.
+/// A place for a sink. The number counts the bytes sent to it, and stops at 2^64-1. A dead place
+/// is made by `dead`, and its port is out of reach.
 #[derive(Drop)]
 pub enum OutPlaceOf<K> {
     Empty,
     Live(K, u64),
-    Dead(K, u64),
+    Dead(Sealed<K>, u64),
 }
 
 /// A place for a sink behind a box or in memory.
@@ -20,6 +23,13 @@ pub type OutPlace = OutPlaceOf<OutPort>;
 
 impl<K: Sink> OutPlaceOf<K> {
     ghost use Rattle.otn_ports.specs.OutPlace.{out_view};
+
+    /// A dead place with this port, to which so many bytes were sent.
+    pub fn dead(port: K, number: u64) -> OutPlaceOf<K>
+        ensures { out_view K.Sink result ≡ dead_out K.Sink port number }
+    {
+        OutPlaceOf::Dead(Sealed { port }, number)
+    }
 
     /// Writes all bytes. After Lost a part of them went out, from the front. The place dies
     /// exactly where the answer is Lost, and then its port's count of faults rose in this call
@@ -46,13 +56,38 @@ impl<K: Sink> OutPlaceOf<K> {
         written
     }
 
+    /// A live place becomes empty, and its port is dropped. An empty or a dead place stays.
+    pub fn retire(&mut self)
+        ensures retired { out_view K.Sink self.new ≡ retired_out (out_view K.Sink self.old) }
+        ensures idle { (out_view K.Sink self.old).state ≢ Live → self.new ≡ self.old }
+    {
+        match self {
+            OutPlaceOf::Live(..) => *self = OutPlaceOf::Empty,
+            OutPlaceOf::Empty => {}
+            OutPlaceOf::Dead(..) => {}
+        }
+    }
+
+    /// What the place's port got, where it keeps it: of a live place as of a dead one. An empty
+    /// place keeps nothing.
+    pub fn kept(&self) -> Option<&[u8]>
+        ensures { MatchOption result ((out_view K.Sink self.now).keeps ≡ false)
+            (λ bytes. ((out_view K.Sink self.now).keeps ≡ true) × ((out_view K.Sink self.now).got ≡ Some bytes.now)) }
+    {
+        match self {
+            OutPlaceOf::Empty => None,
+            OutPlaceOf::Live(port, _) => port.kept(),
+            OutPlaceOf::Dead(sealed, _) => sealed.port.kept(),
+        }
+    }
+
     // A live place becomes dead.
     fn die(&mut self)
         ensures { (out_view K.Sink self.old).state ≡ Live
             → out_view K.Sink self.new ≡ record (out_view K.Sink self.old) { state = Dead } }
     {
         match mem::replace(self, OutPlaceOf::Empty) {
-            OutPlaceOf::Live(port, number) => *self = OutPlaceOf::Dead(port, number),
+            OutPlaceOf::Live(port, number) => *self = OutPlaceOf::dead(port, number),
             place => *self = place,
         }
     }

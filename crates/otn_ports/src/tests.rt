@@ -31,14 +31,6 @@ fn went<K>(place: &OutPlaceOf<K>) -> u64 {
     }
 }
 
-fn kept<K: Sink>(place: &OutPlaceOf<K>) -> &[u8] {
-    match place {
-        OutPlaceOf::Empty => &[],
-        OutPlaceOf::Live(sink, _) => sink.kept().unwrap_or(&[]),
-        OutPlaceOf::Dead(sink, _) => sink.kept().unwrap_or(&[]),
-    }
-}
-
 fn is_dead<K>(place: &OutPlaceOf<K>) -> bool {
     matches!(place, OutPlaceOf::Dead(..))
 }
@@ -75,7 +67,10 @@ fn a_sink_runs_out_of_room_in_mid_write(rt: HostRuntime) -> Result<(), Fail> {
         assert_eq!(rt; went(&place), number);
         assert_eq!(rt; is_dead(&place), dead);
     }
-    assert_eq!(rt; kept(&place), [1, 2, 3, 4, 1, 2, 3, 4, 1, 2].as_slice());
+    assert_eq!(rt;
+        place.kept(),
+        Some([1, 2, 3, 4, 1, 2, 3, 4, 1, 2].as_slice())
+    );
     let mut report = MemSink::with_room(alloc, 3)?;
     assert_eq!(rt; write_whole(&mut report, &[7, 8]), Written::Whole);
     assert_eq!(rt; write_whole(&mut report, &[9, 10]), Written::Lost);
