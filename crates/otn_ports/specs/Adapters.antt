@@ -1,22 +1,33 @@
--- What is seen of the ports over the system's files and output: they tell no bytes.
-use Rattle.std.specs.Prelude.{ℕ, Bool, is_some}
-use Rattle.otn_ports.specs.declared.file_source.FileSource.{FileSource}
-use Rattle.otn_ports.specs.declared.file_sink.FileSink.{FileSink}
-use Rattle.otn_ports.specs.declared.stdout_sink.StdoutSink.{StdoutSink}
+-- What is seen of the ports over readers and writers of the system: they tell no bytes.
+use Rattle.std.specs.Prelude.{ℕ, Bool, List, Option, Some, None, is_some}
+use Rattle.otn_ports.specs.declared.reader_source.ReaderSource.{ReaderSource}
+use Rattle.otn_ports.specs.declared.writer_sink.WriterSink.{WriterSink}
 
--- whether it has a file
-abbrev pub source_has_file : FileSource → Bool
-source_has_file source = is_some source.file
+-- the bytes that a reader has yet, or that a writer holds, where there is one and it tells them
+abbrev pub told_by : {A : Type 0} → (A → Option (List ℕ)) → Option A → Option (List ℕ)
+told_by bytes None = None
+told_by bytes (Some port) = bytes port
 
-abbrev pub sink_has_file : FileSink → Bool
-sink_has_file sink = is_some sink.file
+-- whether it has a reader
+abbrev pub has_reader : {R : Type 0} → ReaderSource R → Bool
+has_reader source = is_some source.reader
 
 -- how often it has failed
-abbrev pub file_source_faults : FileSource → ℕ
-file_source_faults source = source.failed
+abbrev pub reader_faults : {R : Type 0} → ReaderSource R → ℕ
+reader_faults source = source.failed
 
-abbrev pub file_sink_faults : FileSink → ℕ
-file_sink_faults sink = sink.failed
+-- the bytes that its reader has yet
+abbrev pub reader_bytes : {R : Type 0} → (R → Option (List ℕ)) → ReaderSource R → Option (List ℕ)
+reader_bytes remaining source = told_by remaining source.reader
 
-abbrev pub stdout_faults : StdoutSink → ℕ
-stdout_faults sink = sink.failed
+-- whether it has a writer
+abbrev pub has_writer : {W : Type 0} → WriterSink W → Bool
+has_writer sink = is_some sink.writer
+
+-- how often it has failed
+abbrev pub writer_faults : {W : Type 0} → WriterSink W → ℕ
+writer_faults sink = sink.failed
+
+-- the bytes that its writer holds
+abbrev pub writer_bytes : {W : Type 0} → (W → Option (List ℕ)) → WriterSink W → Option (List ℕ)
+writer_bytes contents sink = told_by contents sink.writer

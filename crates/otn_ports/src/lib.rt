@@ -2,7 +2,7 @@
 //!
 //! - `source`, `sink`: what a port is, with its meanings; `Failed`.
 //! - `mem_source`, `mem_sink`: ports in memory.
-//! - `file_source`, `file_sink`, `stdout_sink`: ports over the system's files and output.
+//! - `reader_source`, `writer_sink`: ports over the system's files and output.
 //! - `in_port`, `out_port`: a port behind a box, or one in memory.
 //! - `in_place`, `out_place`: a place with its port, which reads and writes whole slices.
 //! - `fill`, `drain`: a whole read of a source, and a whole write to a sink, that stand in no place.
@@ -13,8 +13,6 @@
 mod bays;
 mod chooser;
 mod drain;
-mod file_sink;
-mod file_source;
 mod fill;
 mod in_place;
 mod in_port;
@@ -22,19 +20,18 @@ mod mem_sink;
 mod mem_source;
 mod out_place;
 mod out_port;
+mod reader_source;
 mod sealed;
 mod sink;
 mod source;
-mod stdout_sink;
 mod system;
 #[cfg(test)]
 mod tests;
+mod writer_sink;
 
 pub use bays::{Bays, Rack};
 pub use chooser::{Chooser, FirstReady};
 pub use drain::{Written, write_whole};
-pub use file_sink::FileSink;
-pub use file_source::FileSource;
 pub use fill::read_whole;
 pub use in_place::{InPlace, InPlaceOf, Reading};
 pub use in_port::InPort;
@@ -42,7 +39,8 @@ pub use mem_sink::MemSink;
 pub use mem_source::MemSource;
 pub use out_place::{OutPlace, OutPlaceOf};
 pub use out_port::OutPort;
+pub use reader_source::{FileSource, ReaderSource};
 pub use sealed::Sealed;
 pub use sink::Sink;
 pub use source::{Failed, Source};
-pub use stdout_sink::StdoutSink;
+pub use writer_sink::{FileSink, StdoutSink, WriterSink};

@@ -1,0 +1,106 @@
+// A sink over a writer of the system, such as a file or the standard output.
+ghost use Rattle.std.specs.Prelude.{◌≡◌, ◌<◌, ◌≤◌, false, true, None, Ok, OnErr, IfOk, IsErr, is_some, length};
+ghost use Rattle.otn_ports.specs.Bytes.{faults_after, HasFailed};
+
+use crate::system::{count, write_some};
+use crate::{Failed, Sink};
+use std::fs::File;
+use std::io::{Stdout, Write};
+
+/// Writes a writer of the system, and doesn't tell its bytes. It counts each call that fails, and
+/// each that takes nothing of a byte or more. One with no writer fails at each write of a byte or
+/// more.
+#[derive(Drop)]
+pub struct WriterSink<W> {
+    writer: Option<W>,
+    failed: u64,
+}
+
+/// Writes a file of the system.
+pub type FileSink = WriterSink<File>;
+
+/// Writes the standard output.
+pub type StdoutSink = WriterSink<Stdout>;
+
+impl FileSink {
+    ghost use Rattle.otn_ports.specs.Adapters.{writer_faults, has_writer};
+
+    /// Writes this file from where it stands.
+    pub fn of(file: Option<File>) -> FileSink
+        ensures file { has_writer result ≡ is_some file }
+        ensures faults { writer_faults result ≡ 0 }
+    {
+        WriterSink {
+            writer: file,
+            failed: 0,
+        }
+    }
+}
+
+impl StdoutSink {
+    ghost use Rattle.otn_ports.specs.Adapters.{writer_faults, has_writer};
+
+    /// Writes this output.
+    pub fn of(out: Stdout) -> StdoutSink
+        ensures out { has_writer result ≡ true }
+        ensures faults { writer_faults result ≡ 0 }
+    {
+        WriterSink::over(out)
+    }
+}
+
+impl<W> WriterSink<W> {
+    ghost use Rattle.otn_ports.specs.Adapters.{writer_faults, has_writer};
+
+    /// Writes this writer.
+    pub fn over(writer: W) -> WriterSink<W>
+        ensures writer { has_writer result ≡ true }
+        ensures faults { writer_faults result ≡ 0 }
+    {
+        WriterSink {
+            writer: Some(writer),
+            failed: 0,
+        }
+    }
+}
+
+impl<W: Write + Drop> Sink for WriterSink<W> {
+    ghost use Rattle.std.specs.Io.KnownBytes.{WriteAppends};
+    ghost use Rattle.otn_ports.specs.Adapters.{writer_faults, has_writer, writer_bytes};
+
+    ghost got = { λ _. None };
+
+    ghost faults = { writer_faults };
+
+    ghost keeps = { λ _. false };
+
+    /// One call of the writer, or none where there are no bytes. What it answers is what the
+    /// writer took, as far as the writer tells.
+    fn write(&mut self, bytes: &[u8]) -> Result<usize, Failed>
+        ensures bound { IfOk result (λ n. n ≤ length bytes.now) }
+        ensures progress { IfOk result (λ n. 0 < length bytes.now → 0 < n) }
+        ensures system { WriteAppends (writer_bytes W.contents self.old) (writer_bytes W.contents self.new) result bytes.now }
+        ensures counts { writer_faults self.new ≡ faults_after (writer_faults self.old) result }
+        ensures later { writer_faults self.old ≤ writer_faults self.new }
+        ensures cause { OnErr result (HasFailed (writer_faults self.old) (writer_faults self.new)) }
+        ensures closed { has_writer self.old ≡ false → 0 < length bytes.now → IsErr result }
+        ensures empty { length bytes.now ≡ 0 → (self.new ≡ self.old) × (result ≡ Ok 0) }
+        ensures writer { has_writer self.new ≡ has_writer self.old }
+    {
+        if bytes.is_empty() {
+            return Ok(0);
+        }
+        let answer = match &mut self.writer {
+            Some(writer) => write_some(writer, bytes),
+            None => Err(Failed),
+        };
+        count(&mut self.failed, answer);
+        answer
+    }
+
+    fn kept(&self) -> Option<&[u8]>
+        ensures { result ≡ None }
+    {
+        None
+    }
+}
