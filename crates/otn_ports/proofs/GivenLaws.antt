@@ -23,11 +23,11 @@ raised-twice n a b = omega arith
 raised_twice : (first old new : ℕ) (x y : List ℕ) → old ≡ raised first (length x) → new ≡ raised old (length y) → new ≡ raised first (length (x ++ y))
 raised_twice first old new x y e f = rw (f, e, length-append x y) (raised-twice first (length x) (length y))
 
-before-none : (left : Option (List ℕ)) → left ≡ before [] left
+pub before-none : (left : Option (List ℕ)) → left ≡ before [] left
 before-none None = refl
 before-none (Some left) = refl
 
-after-none : (got : Option (List ℕ)) → got ≡ after got []
+pub after-none : (got : Option (List ℕ)) → got ≡ after got []
 after-none None = refl
 after-none (Some got) = ap Some (sym (append-nil got))
 
@@ -63,7 +63,7 @@ has_failed_since first old new h (inr k) = inr k
 pub dead_not_live : Dead ≢ Live
 dead_not_live e = cc
 
-empty_not_live : Empty ≢ Live
+pub empty_not_live : Empty ≢ Live
 empty_not_live e = cc
 
 empty_not_dead : Empty ≢ Dead

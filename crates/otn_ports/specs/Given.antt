@@ -15,6 +15,7 @@ pub record Took (first now : Option (List ℕ)) (bytes : List ℕ) : Type 0 wher
   pub had : first ≡ Some (bytes ++ rest)
   pub has : now ≡ Some rest
 
+-- what an input place gave between two of its states, and between what its source had and has yet
 abbrev pub given_between : State → State → Option (List ℕ) → Option (List ℕ) → List ℕ → Type 0
 -- where it died, what was taken
 given_between Live Dead first now bytes = Took first now bytes
@@ -34,6 +35,7 @@ pub record Grew (first now : Option (List ℕ)) (bytes : List ℕ) : Type 0 wher
   pub had : first ≡ Some before
   pub has : now ≡ Some (before ++ bytes)
 
+-- what went to an output place between two of its states, and between what its sink had got and has got
 abbrev pub gone_between : State → State → Option (List ℕ) → Option (List ℕ) → List ℕ → Type 0
 -- where its port is no more in the place, what that got is not told
 gone_between Live Empty first now bytes = ⊥

@@ -6,9 +6,12 @@ pub mod InPlace
 pub mod Memory
 pub mod OnePlace
 pub mod OutPlace
+pub mod Places
 pub mod Ports
+pub mod PortViews
 pub mod Racks
 pub mod Reads
 pub mod Retiring
+pub mod Sent
 pub mod Views
 pub mod Writes

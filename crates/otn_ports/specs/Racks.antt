@@ -12,16 +12,19 @@ use Rattle.otn_ports.specs.declared.in_place.InPlaceOf.TheVariants as input
 use Rattle.otn_ports.specs.declared.out_place.OutPlaceOf.{OutPlaceOf}
 use Rattle.otn_ports.specs.declared.out_place.OutPlaceOf.TheVariants as output
 
--- the places of each side
+-- the places for line inputs
 abbrev pub line_ins : {P K : Type 0} → Rack P K → List (InPlaceOf P)
 line_ins rack = rack.line_in.items
 
+-- the places for line outputs
 abbrev pub line_outs : {P K : Type 0} → Rack P K → List (OutPlaceOf K)
 line_outs rack = rack.line_out.items
 
+-- the places for client inputs
 abbrev pub client_ins : {P K : Type 0} → Rack P K → List (InPlaceOf P)
 client_ins rack = rack.client_in.items
 
+-- the places for client outputs
 abbrev pub client_outs : {P K : Type 0} → Rack P K → List (OutPlaceOf K)
 client_outs rack = rack.client_out.items
 
@@ -34,16 +37,19 @@ bays_view p k rack = record {
   client_out = map (out_view k) (client_outs rack);
 }
 
--- with another place at n, and every other place the same
+-- with another place at line input n, and every other place the same
 abbrev pub with_line_in : {P K : Type 0} → Rack P K → ℕ → InPlaceOf P → Rack P K
 with_line_in rack n place = record rack { line_in = with_item rack.line_in n place }
 
+-- with another place at line output n
 abbrev pub with_line_out : {P K : Type 0} → Rack P K → ℕ → OutPlaceOf K → Rack P K
 with_line_out rack n place = record rack { line_out = with_item rack.line_out n place }
 
+-- with another place at client input n
 abbrev pub with_client_in : {P K : Type 0} → Rack P K → ℕ → InPlaceOf P → Rack P K
 with_client_in rack n place = record rack { client_in = with_item rack.client_in n place }
 
+-- with another place at client output n
 abbrev pub with_client_out : {P K : Type 0} → Rack P K → ℕ → OutPlaceOf K → Rack P K
 with_client_out rack n place = record rack { client_out = with_item rack.client_out n place }
 

@@ -1,5 +1,5 @@
 -- What is seen of a place, and of all places.
-use Rattle.std.specs.Prelude.{ℕ, Bool, false, List, [], Option, Some, get_or, replicate}
+use Rattle.std.specs.Prelude.{ℕ, Bool, false, List, [], Option, Some, get_or}
 
 -- how a place stands
 pub data State : Type 0 where
@@ -27,10 +27,11 @@ pub record OutView : Type 0 where
   pub faults : ℕ
   pub number : ℕ
 
--- a place with no port
+-- a place for an input with no port
 abbrev pub no_input : InView
 no_input = record { state = Empty; boxed = false; left = Some []; faults = 0; number = 0 }
 
+-- a place for an output with no port
 abbrev pub no_output : OutView
 no_output = record { state = Empty; boxed = false; got = Some []; keeps = false; faults = 0; number = 0 }
 
@@ -41,24 +42,18 @@ pub record BaysView : Type 0 where
   pub client_in : List InView
   pub client_out : List OutView
 
--- line input n, and so on
+-- line input n
 abbrev pub line_in_at : BaysView → ℕ → InView
 line_in_at bays n = get_or bays.line_in n no_input
 
+-- line output n
 abbrev pub line_out_at : BaysView → ℕ → OutView
 line_out_at bays n = get_or bays.line_out n no_output
 
+-- client input n
 abbrev pub client_in_at : BaysView → ℕ → InView
 client_in_at bays n = get_or bays.client_in n no_input
 
+-- client output n
 abbrev pub client_out_at : BaysView → ℕ → OutView
 client_out_at bays n = get_or bays.client_out n no_output
-
--- all places empty
-abbrev pub no_places : BaysView
-no_places = record {
-  line_in = replicate 4 no_input;
-  line_out = replicate 4 no_output;
-  client_in = replicate 16 no_input;
-  client_out = replicate 16 no_output;
-}

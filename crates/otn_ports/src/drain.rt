@@ -2,6 +2,7 @@
 ghost use Rattle.std.specs.Prelude.{◌≡◌, ◌≢◌, ◌<◌, ◌≤◌, length, take};
 ghost use Rattle.otn_ports.specs.Bytes.{after, HasFailed};
 ghost use Rattle.otn_ports.specs.OutPlace.{live_out};
+ghost use Rattle.otn_ports.specs.PortViews.{sink_view, SinkWrites};
 ghost use Rattle.otn_ports.specs.Writes.{Gains, Writes, IsWriting};
 
 use crate::{Failed, Sink};
@@ -17,6 +18,7 @@ pub enum Written {
 /// the front, and the sink's count of faults rose or stands at its end; after Whole it is as it
 /// was. No bytes: no call.
 pub fn write_whole<K: Sink>(sink: &mut K, bytes: &[u8]) -> Written
+    ensures port { SinkWrites result (sink_view K.Sink sink.old) bytes.now (sink_view K.Sink sink.new) }
     ensures got { Gains result (K.got sink.old) bytes.now (K.got sink.new) }
     ensures cause { result ≡ Written.Lost → HasFailed (K.faults sink.old) (K.faults sink.new) }
     ensures well { result ≢ Written.Lost → K.faults sink.new ≡ K.faults sink.old }

@@ -2,6 +2,7 @@
 ghost use Rattle.std.specs.Prelude.{◌≡◌, ◌≢◌, ◌<◌, ◌≤◌, length, take};
 ghost use Rattle.otn_ports.specs.Bytes.{before, HasFailed};
 ghost use Rattle.otn_ports.specs.InPlace.{live_in};
+ghost use Rattle.otn_ports.specs.PortViews.{source_view, SourceReads};
 ghost use Rattle.otn_ports.specs.Reads.{Reads, IsReading};
 
 use crate::{Failed, Reading, Source};
@@ -10,6 +11,7 @@ use crate::{Failed, Reading, Source};
 /// many bytes came: they stand at the slice's front. After Lost the source's count of faults rose or stands at its end;
 /// else it is as it was.
 pub fn read_whole<S: Source>(source: &mut S, into: &mut [u8]) -> (Reading, usize)
+    ensures port { SourceReads result.0 (source_view S.Source source.old) (take result.1 into.new) (source_view S.Source source.new) }
     ensures within { result.1 ≤ length into.old }
     ensures bytes { S.left source.old ≡ before (take result.1 into.new) (S.left source.new) }
     ensures reading { IsReading result.0 result.1 (length into.old) (S.left source.new) }

@@ -2,6 +2,7 @@
 ghost use Rattle.std.specs.Prelude.{◌≡◌, ◌≢◌, true, false, Some, MatchOption, length};
 ghost use Rattle.otn_ports.specs.OutPlace.{dead_out};
 ghost use Rattle.otn_ports.specs.Retiring.{retired_out};
+ghost use Rattle.otn_ports.specs.Sent.{IsSent};
 ghost use Rattle.otn_ports.specs.Views.{Live, Dead};
 ghost use Rattle.otn_ports.specs.Writes.{Writes, state_after_write};
 
@@ -39,6 +40,7 @@ impl<K: Sink> OutPlaceOf<K> {
         ensures live { (out_view K.Sink self.old).state ≡ Live
             → Writes result (out_view K.Sink self.old) bytes.now (out_view K.Sink self.new) }
         ensures idle { (out_view K.Sink self.old).state ≢ Live → (self.new ≡ self.old) × (result ≡ Written.Whole) }
+        ensures sent { IsSent (out_view K.Sink self.old) bytes.now (out_view K.Sink self.new) }
         ensures well { result ≢ Written.Lost → (out_view K.Sink self.new).faults ≡ (out_view K.Sink self.old).faults }
         ensures empty { length bytes.now ≡ 0 → (self.new ≡ self.old) × (result ≡ Written.Whole) }
     {
