@@ -2,6 +2,7 @@
 //!
 //! - `source`, `sink`: what a port is, with its meanings; `Failed`.
 //! - `mem_source`, `mem_sink`: ports in memory.
+//! - `listed_source`, `listed_sink`: ports in memory that fail at listed calls, counted by `listed_calls`.
 //! - `reader_source`, `writer_sink`: ports over the system's files and output.
 //! - `in_port`, `out_port`: a port behind a box, or one in memory.
 //! - `in_place`, `out_place`: a place with its port, which reads and writes whole slices.
@@ -16,6 +17,9 @@ mod drain;
 mod fill;
 mod in_place;
 mod in_port;
+mod listed_calls;
+mod listed_sink;
+mod listed_source;
 mod mem_sink;
 mod mem_source;
 mod out_place;
@@ -35,6 +39,8 @@ pub use drain::{Written, write_whole};
 pub use fill::read_whole;
 pub use in_place::{InPlace, InPlaceOf, Reading};
 pub use in_port::InPort;
+pub use listed_sink::ListedSink;
+pub use listed_source::ListedSource;
 pub use mem_sink::MemSink;
 pub use mem_source::MemSource;
 pub use out_place::{OutPlace, OutPlaceOf};
