@@ -5,4 +5,5 @@ pub mod PlacesLaws
 pub mod PortLaws
 pub mod SameRack
 pub mod SentLaws
+pub mod SpoilLaws
 pub mod TakenTwice

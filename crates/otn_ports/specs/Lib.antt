@@ -14,5 +14,7 @@ pub mod Racks
 pub mod Reads
 pub mod Retiring
 pub mod Sent
+pub mod SpoiledPorts
+pub mod Spoiling
 pub mod Views
 pub mod Writes

@@ -3,12 +3,18 @@
 //! - `source`, `sink`: what a port is, with its meanings; `Failed`.
 //! - `mem_source`, `mem_sink`: ports in memory.
 //! - `listed_source`, `listed_sink`: ports in memory that fail at listed calls, counted by `listed_calls`.
+//! - `spoiled_source`: a source that spoils bytes of another by `masks` of their places.
 //! - `reader_source`, `writer_sink`: ports over the system's files and output.
 //! - `in_port`, `out_port`: a port behind a box, or one in memory.
-//! - `in_place`, `out_place`: a place with its port, which reads and writes whole slices.
+//! - `in_place`, `out_place`: a place with its port, which reads and writes whole slices; `sealed`: the port of a dead one.
 //! - `fill`, `drain`: a whole read of a source, and a whole write to a sink, that stand in no place.
 //! - `bays`: all places of a device.
 //! - `chooser`: what settles a free choice.
+//!
+//! One event goes by these words. A call of a port *fails*: it answers `Failed`, and the port's
+//! count of faults rose in it, or stands at its end. A whole read or write in which a call failed is
+//! *lost*: it answers `Lost`. A live place whose read or write is lost *dies* in it: it is *dead*
+//! from then on, and its port, sealed, is asked nothing more.
 #![tactic(auto)]
 
 mod bays;
@@ -20,6 +26,7 @@ mod in_port;
 mod listed_calls;
 mod listed_sink;
 mod listed_source;
+mod masks;
 mod mem_sink;
 mod mem_source;
 mod out_place;
@@ -28,6 +35,7 @@ mod reader_source;
 mod sealed;
 mod sink;
 mod source;
+mod spoiled_source;
 mod system;
 #[cfg(test)]
 mod tests;
@@ -49,4 +57,5 @@ pub use reader_source::{FileSource, ReaderSource};
 pub use sealed::Sealed;
 pub use sink::Sink;
 pub use source::{Failed, Source};
+pub use spoiled_source::SpoiledSource;
 pub use writer_sink::{FileSink, StdoutSink, WriterSink};

@@ -50,6 +50,9 @@ fn a_source_is_read_across_its_end(rt: HostRuntime) -> Result<(), Fail> {
         assert_eq!(rt; taken(&place), number);
     }
     assert_eq!(rt; place.read_full(&mut []), Reading::Full);
+    place.retire();
+    assert_eq!(rt; place.read_full(&mut into), Reading::End(0));
+    assert!(rt; matches!(place, InPlaceOf::Empty));
     Ok(())
 }
 
@@ -197,5 +200,85 @@ fn a_file_comes_back_as_it_was_written(rt: HostRuntime) -> Result<(), Fail> {
     assert_eq!(rt; into, [1, 2, 3, 4, 5, 6, 7, 8]);
     assert_eq!(rt; source.read_full(&mut into), Reading::End(2));
     assert_eq!(rt; &into[..2], [9, 10].as_slice());
+    Ok(())
+}
+
+#[test]
+fn a_listed_source_fails_at_its_listed_calls(rt: HostRuntime) -> Result<(), Fail> {
+    let alloc = rt.alloc();
+    let failing = [2_u32, 4].to_vec(alloc)?;
+    let mut source = ListedSource::new(ten(alloc)?, failing, 3);
+    let mut into = [0u8; 4];
+    for (answer, front) in [
+        (Ok(3), [1, 2, 3, 0]),
+        (Err(Failed), [1, 2, 3, 0]),
+        (Ok(3), [4, 5, 6, 0]),
+        (Err(Failed), [4, 5, 6, 0]),
+        (Ok(3), [7, 8, 9, 0]),
+        (Ok(1), [10, 8, 9, 0]),
+        (Ok(0), [10, 8, 9, 0]),
+    ] {
+        assert_eq!(rt; source.read(&mut into), answer);
+        assert_eq!(rt; into, front);
+    }
+    Ok(())
+}
+
+#[test]
+fn a_listed_sink_fails_at_its_listed_calls(rt: HostRuntime) -> Result<(), Fail> {
+    let alloc = rt.alloc();
+    let failing = [2_u32].to_vec(alloc)?;
+    let mut sink = ListedSink::with_room(alloc, 6, failing)?;
+    for answer in [Ok(4), Err(Failed), Ok(2), Err(Failed)] {
+        assert_eq!(rt; sink.write(&[1, 2, 3, 4]), answer);
+    }
+    assert_eq!(rt; sink.kept(), Some([1, 2, 3, 4, 1, 2].as_slice()));
+    Ok(())
+}
+
+#[test]
+fn a_spoiled_source_changes_listed_places(rt: HostRuntime) -> Result<(), Fail> {
+    let alloc = rt.alloc();
+    let spoil = [(0_u64, 0xFF_u8), (4, 0x0F), (9, 0x01)].to_vec(alloc)?;
+    let source = SpoiledSource::new(MemSource::new(ten(alloc)?), spoil);
+    let mut place = InPlaceOf::Live(source, 0);
+    let mut into = [0u8; 4];
+    for (reading, front) in [
+        (Reading::Full, [0xFE, 2, 3, 4]),
+        (Reading::Full, [10, 6, 7, 8]),
+        (Reading::End(2), [9, 11, 7, 8]),
+    ] {
+        assert_eq!(rt; place.read_full(&mut into), reading);
+        assert_eq!(rt; into, front);
+    }
+    Ok(())
+}
+
+// A pipe that takes at most 1,000 bytes a call.
+#[derive(Drop)]
+struct Pipe;
+
+impl Write for Pipe {
+    fn write(&mut self, bytes: &[u8]) -> io::Result<usize> {
+        Ok(bytes.len().min(1_000))
+    }
+
+    fn flush(&mut self) -> io::Result<()> {
+        Ok(())
+    }
+}
+
+fn sevens(alloc: Global, n: usize) -> Result<Vec<u8>, Fail> {
+    Ok(vec![in alloc; 7u8; n]?)
+}
+
+#[test]
+fn a_short_write_is_told_as_it_was(rt: HostRuntime) -> Result<(), Fail> {
+    let bytes = sevens(rt.alloc(), 1_904)?;
+    let mut sink = WriterSink::over(Pipe);
+    assert_eq!(rt; sink.write(&bytes), Ok(1_000));
+    let mut place = OutPlaceOf::Live(sink, 0);
+    assert_eq!(rt; place.write_all(&bytes), Written::Whole);
+    assert_eq!(rt; went(&place), 1_904);
     Ok(())
 }

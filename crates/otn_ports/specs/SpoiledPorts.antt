@@ -1,0 +1,13 @@
+-- What is seen of a source that spoils bytes of another.
+use Rattle.std.specs.Prelude.{ℕ, List, drop, Option}
+use Rattle.std.specs.Option.{option_map}
+use Rattle.otn_ports.specs.Spoiling.{spoiled}
+use Rattle.otn_ports.specs.declared.spoiled_source.SpoiledSource.{SpoiledSource}
+
+-- the bytes still to come: those of the inner source, where it tells them, with their spoiled places
+abbrev pub spoiled_left : {S : Type 0} → (S → Option (List ℕ)) → SpoiledSource S → Option (List ℕ)
+spoiled_left left source = option_map (spoiled (drop source.next source.spoil.items) source.at) (left source.inner)
+
+-- the count of faults of the inner source
+abbrev pub spoiled_faults : {S : Type 0} → (S → ℕ) → SpoiledSource S → ℕ
+spoiled_faults faults source = faults source.inner
