@@ -1,5 +1,6 @@
 pub mod Lists
 pub mod Steps
+pub mod Places
 pub mod Faults
 pub mod Texts
 pub mod Fitting

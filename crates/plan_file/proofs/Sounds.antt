@@ -21,15 +21,18 @@ use Rattle.plan_file.specs.declared.error.PlanError.TheVariants.{Turns, BadName,
 use Rattle.plan_file.specs.declared.error.NoPlan.{NoPlan}
 use Rattle.plan_file.specs.declared.error.NoPlan.TheVariants.{Memory}
 use Rattle.plan_file.specs.declared.plan.Plan.{Plan}
-use Rattle.plan_file.specs.Answer.{fault_of, fault_in, plan_places, plan_rules, table_places, table_rules, accepted_or, refusal_of}
+use Rattle.plan_file.specs.Answer.{fault_of, fault_in, accepted_or, refusal_of}
+use Rattle.plan_file.specs.PlanRules.{plan_places, plan_rules, breaks_whole, breaks_alone, clashes}
+use Rattle.plan_file.specs.TableRules.{table_places, table_rules}
 use Rattle.plan_file.specs.Entry.{End, at_line, at_client, of_signal, is_line, slot_count, slots_between, Entry, Top, Outline, natural, from_seen, to_seen, seen, outline, from_of, to_of, connection_of, plan_of}
 use Rattle.plan_file.specs.Keys.{has}
-use Rattle.plan_file.specs.Places.{broken_or, first_broken, places, places_from, top_place}
+use Rattle.plan_file.specs.Places.{broken_or, first_broken, places, places_from, later_places, top_place}
 use Rattle.plan_file.specs.Rules.{is_within, is_name, is_sapi, rises, is_line_list, breaks_lines, is_placed, is_slot_list, is_same_kind, has_slots, has_equal_counts, suits, least_pace, most_pace, is_span, can_retire, breaks_name, breaks_place, breaks_slots, breaks_pace, breaks_span}
-use Rattle.plan_file.specs.Sound.{is_sound, is_no_signal, IsSoundTop, IsSound, AreSound}
+use Rattle.plan_file.specs.Sound.{is_sound, is_no_signal, IsSoundTop, IsSound, AreSound, IsSoundOutline}
 use Rattle.plan_file.specs.Table.{entry_at, to_at, no_end, top_at, connections_at, outline_at}
 use Rattle.plan_file.specs.Lines.{line_kind, line_slots}
 use Rattle.plan_file.proofs.Fitting.{within, is_within-wider, list_all-wider, pos-natural}
+use Rattle.plan_file.proofs.Places.{both_none, top_none}
 use Rattle.plan_file.proofs.SlotNumbers.{slot_parts, few_of, few_slots}
 
 -- ---- no rule is broken
@@ -44,14 +47,6 @@ none_at broken (r ∷ rules) zero rule e known =
     let here = (broken_or_none r (broken r) (first_broken broken rules) e).0 in
     let same : r ≡ rule = cc in rw same at here
 none_at broken (r ∷ rules) (suc i) rule e known = none_at broken rules i rule (broken_or_none r (broken r) (first_broken broken rules) e).1 known
-
-top_none : (b : Bool) → top_place b ≡ [] → b ≡ false
-top_none true e = cc
-top_none false e = refl
-
-top_or_none : (b : Bool) (more : List ℕ) → top_place b ++ more ≡ [] → (b ≡ false) × (more ≡ [])
-top_or_none true more e = cc
-top_or_none false more e = (refl, e)
 
 place_none : (b : Bool) (place : ℕ) (after without : List ℕ) → cond b (place ∷ after) without ≡ [] → (b ≡ false) × (without ≡ [])
 place_none true place after without e = cc
@@ -153,20 +148,28 @@ no_signal_in top connections i e known =
     let (connection, is) = mapped_at (entry_at top) (slice_get connections i) e (sym (slice_get-map (entry_at top) connections i) ∙ known) in
     rw is (no_signal_at top.otu3_out (get (codes "to") connection))
 
-turns_within : (o : Outline) → fault_of o ≡ None → is_within 1 16384 o.top.turns ≡ true
-turns_within o none = not-false _ (top_none (not (is_within 1 16384 o.top.turns)) (none_at (plan_places o) plan_rules 0 Turns none refl))
+-- no rule is broken in the whole, and none at a connection
+whole_kept : (o : Outline) (i : ℕ) (rule : PlanError) → fault_of o ≡ None → slice_get plan_rules i ≡ Some rule → breaks_whole rule o ≡ false
+whole_kept o i rule none known =
+    top_none (breaks_whole rule o) (both_none (top_place (breaks_whole rule o)) (places (breaks_alone rule o.top) o.entries ++ later_places (clashes rule) o.entries) (none_at (plan_places o) plan_rules i rule none known)).0
 
--- the rule on places is broken neither at the top nor at a connection
-placed_all : (o : Outline) → fault_of o ≡ None → (breaks_lines o.top ≡ false) × (places (breaks_place o.top) o.entries ≡ [])
-placed_all o none = top_or_none (breaks_lines o.top) (places (breaks_place o.top) o.entries) (none_at (plan_places o) plan_rules 4 BadPlace none refl)
+alone_kept : (o : Outline) (i : ℕ) (rule : PlanError) (k : ℕ) (e : Entry) → fault_of o ≡ None → slice_get plan_rules i ≡ Some rule → slice_get o.entries k ≡ Some e → breaks_alone rule o.top e ≡ false
+alone_kept o i rule k e none known at_k =
+    let alone = places (breaks_alone rule o.top) o.entries in
+    let clashing = later_places (clashes rule) o.entries in
+    let rest = (both_none (top_place (breaks_whole rule o)) (alone ++ clashing) (none_at (plan_places o) plan_rules i rule none known)).1 in
+    places_none (breaks_alone rule o.top) 1 o.entries k e (both_none alone clashing rest).0 at_k
+
+turns_within : (o : Outline) → fault_of o ≡ None → is_within 1 16384 o.top.turns ≡ true
+turns_within o none = not-false _ (whole_kept o 0 Turns none refl)
 
 lines_within : (lines : List ℤ) → is_line_list lines ≡ true → list_all (is_within 0 3) lines ≡ true
 lines_within lines h = (and_parts (list_all (is_within 0 3) lines) (rises lines) h).0
 
-pub top_sound : (o : Outline) → fault_of o ≡ None → IsSoundTop o.top
+top_sound : (o : Outline) → fault_of o ≡ None → IsSoundTop o.top
 top_sound o none =
     let top = o.top in
-    let lists = and_parts (is_line_list top.otu3_in && is_line_list top.otu3_out) (is_line_list top.scrambled_in && is_line_list top.scrambled_out) (not-false _ (placed_all o none).0) in
+    let lists = and_parts (is_line_list top.otu3_in && is_line_list top.otu3_out) (is_line_list top.scrambled_in && is_line_list top.scrambled_out) (not-false _ (whole_kept o 4 BadPlace none refl)) in
     let otu3 = and_parts (is_line_list top.otu3_in) (is_line_list top.otu3_out) lists.0 in
     let scrambled = and_parts (is_line_list top.scrambled_in) (is_line_list top.scrambled_out) lists.1 in
     record {
@@ -177,18 +180,21 @@ top_sound o none =
       scrambled_out = lines_within top.scrambled_out scrambled.1;
     }
 
-pub are_sound : (top : Top) (connections : List Data) → fault_of (record { top = top; entries = map (entry_at top) connections }) ≡ None → AreSound (map (entry_at top) connections)
+are_sound : (top : Top) (connections : List Data) → fault_of (record { top = top; entries = map (entry_at top) connections }) ≡ None → AreSound (map (entry_at top) connections)
 are_sound top connections none = record {
   each = λ i e known.
       let o : Outline = record { top = top; entries = map (entry_at top) connections } in
       sound_of top e (turns_within o none)
-      (places_none breaks_name 1 o.entries i e (none_at (plan_places o) plan_rules 2 BadName none refl) known)
-      (places_none (breaks_place top) 1 o.entries i e (placed_all o none).1 known)
-      (places_none (breaks_slots top) 1 o.entries i e (none_at (plan_places o) plan_rules 5 BadSlots none refl) known)
-      (places_none breaks_pace 1 o.entries i e (none_at (plan_places o) plan_rules 9 BadPace none refl) known)
-      (places_none (breaks_span top.turns) 1 o.entries i e (none_at (plan_places o) plan_rules 10 BadSpan none refl) known)
+      (alone_kept o 2 BadName i e none refl known)
+      (alone_kept o 4 BadPlace i e none refl known)
+      (alone_kept o 5 BadSlots i e none refl known)
+      (alone_kept o 9 BadPace i e none refl known)
+      (alone_kept o 10 BadSpan i e none refl known)
       (no_signal_in top connections i e known);
 }
+
+pub outline_sound : (table : Members) → fault_of (outline_at table) ≡ None → IsSoundOutline (outline_at table)
+outline_sound table none = record { top = top_sound (outline_at table) none; entries = are_sound (top_at table) (connections_at table) none }
 
 -- ---- back from the plan
 
@@ -235,19 +241,20 @@ entries_back (e ∷ es) sound = rw (entry_back e (sound.each 0 e refl), entries_
 lines_back : (lines : List ℤ) → list_all (is_within 0 3) lines ≡ true → map pos (map natural lines) ≡ lines
 lines_back lines h = pos-natural 0 3 lines h
 
-pub outline_back : (o : Outline) → IsSoundTop o.top → AreSound o.entries → outline (plan_of o) ≡ o
-outline_back o top sound =
-    rw ((within 1 16384 o.top.turns top.turns).same, lines_back o.top.otu3_in top.otu3_in, lines_back o.top.otu3_out top.otu3_out, lines_back o.top.scrambled_in top.scrambled_in, lines_back o.top.scrambled_out top.scrambled_out, entries_back o.entries sound)
+outline_back : (o : Outline) → IsSoundOutline o → outline (plan_of o) ≡ o
+outline_back o sound =
+    let top = sound.top in
+    rw ((within 1 16384 o.top.turns top.turns).same, lines_back o.top.otu3_in top.otu3_in, lines_back o.top.otu3_out top.otu3_out, lines_back o.top.scrambled_in top.scrambled_in, lines_back o.top.scrambled_out top.scrambled_out, entries_back o.entries sound.entries)
 
 -- ---- the outline of a table
 
-pub outline_is : (table : Members) (top : Top) (entries : List Entry) → top ≡ top_at table → entries ≡ map (entry_at top) (connections_at table)
-    → ◌≡◌ {A = Outline} (record { top = top; entries = entries }) (outline_at table)
-outline_is table top entries same same' = rw (same', same)
-
--- the connections that the code sees
-pub entries_seen : (top : Top) (connections : List Data) (values : List Value) → map view values ≡ connections → map (λ value. entry_at top (view value)) values ≡ map (entry_at top) connections
+entries_seen : (top : Top) (connections : List Data) (values : List Value) → map view values ≡ connections → map (λ value. entry_at top (view value)) values ≡ map (entry_at top) connections
 entries_seen top connections values same = sym (map-map (entry_at top) view values) ∙ ap (map (entry_at top)) same
+
+-- what the code sees of a table
+pub table_seen : (table : Members) (top : Top) (values : List Value) → top ≡ top_at table → map view values ≡ connections_at table
+    → ◌≡◌ {A = Outline} (record { top = top; entries = map (λ value. entry_at top (view value)) values }) (outline_at table)
+table_seen table top values same same' = rw (entries_seen top (connections_at table) values same', same)
 
 -- ---- an accepted plan
 
@@ -262,7 +269,7 @@ later_none (Some broken) other e = cc
 back_without_fault : (top : Members) → fault_of (outline_at top) ≡ None → fault_in (plan_of (outline_at top)) ≡ None
 unfolding fault_in
 back_without_fault top none =
-    ap fault_of (outline_back (outline_at top) (top_sound (outline_at top) none) (are_sound (top_at top) (connections_at top) none)) ∙ none
+    ap fault_of (outline_back (outline_at top) (outline_sound top none)) ∙ none
 
 pub accepted_without_fault : (top : Members) (answer : Result Plan NoPlan) → (answer ≢ Err Memory → answer ≡ accepted_or (plan_of (outline_at top)) (refusal_of top)) → IfOk answer (λ plan. fault_in plan ≡ None)
 accepted_without_fault top (Ok plan) h =

@@ -8,6 +8,7 @@ pub mod Table
 pub mod Seen
 pub mod Rules
 pub mod Places
-pub mod ByRule
+pub mod TableRules
+pub mod PlanRules
 pub mod Sound
 pub mod Answer

@@ -78,15 +78,10 @@ has_slots otu3 kind (at_line line port made_for slots) =
     (is_same_kind made_for (line_kind otu3 line) && is_slot_list (line_slots otu3 line) slots) && suits kind (length slots)
 has_slots otu3 kind _ = true
 
--- where it is at a line, the end has so many slots
-abbrev pub has_count : ℕ → End → Bool
-has_count count (at_line line port kind slots) = count == length slots
-has_count count _ = true
-
 -- where both ends are at lines, they have as many slots
 abbrev pub has_equal_counts : End → End → Bool
-has_equal_counts (at_line line port kind slots) to = has_count (length slots) to
-has_equal_counts _ to = true
+has_equal_counts (at_line line port kind slots) (at_line number other made_for others) = length slots == length others
+has_equal_counts _ _ = true
 
 abbrev pub breaks_slots : Top → Entry → Bool
 breaks_slots top e = not ((has_slots top.otu3_in e.kind e.from && has_slots top.otu3_out e.kind e.to) && has_equal_counts e.from e.to)
@@ -129,34 +124,24 @@ have_one_name e f = bytes_eq e.name f.name
 abbrev pub meet : Entry → Entry → Bool
 meet e f = int_le (int_max e.start f.start) (int_min e.stop f.stop)
 
--- it is at this line, and has one of these slots
-abbrev pub is_line_with_slot : ℤ → List ℤ → End → Bool
-is_line_with_slot number wanted (at_line line port kind slots) = int_eq number line && list_any (λ slot. list_any (int_eq slot) slots) wanted
-is_line_with_slot number wanted _ = false
-
--- it is at this line, and has this tributary port
-abbrev pub is_line_with_port : ℤ → ℤ → End → Bool
-is_line_with_port number wanted (at_line line port kind slots) = int_eq number line && int_eq wanted port
-is_line_with_port number wanted _ = false
-
-abbrev pub is_this_client : ℤ → End → Bool
-is_this_client number (at_client client) = int_eq number client
-is_this_client number _ = false
+-- a number of both lists
+abbrev pub have_common : List ℤ → List ℤ → Bool
+have_common numbers others = list_any (λ number. list_any (int_eq number) others) numbers
 
 -- at one line, with a slot of both
 abbrev pub share_slot : End → End → Bool
-share_slot (at_line line port kind slots) other = is_line_with_slot line slots other
-share_slot _ other = false
+share_slot (at_line line port kind slots) (at_line number other made_for others) = int_eq line number && have_common slots others
+share_slot _ _ = false
 
 -- at one line, with one tributary port
 abbrev pub share_port : End → End → Bool
-share_port (at_line line port kind slots) other = is_line_with_port line port other
-share_port _ other = false
+share_port (at_line line port kind slots) (at_line number other made_for others) = int_eq line number && int_eq port other
+share_port _ _ = false
 
 -- at one client
 abbrev pub share_client : End → End → Bool
-share_client (at_client client) other = is_this_client client other
-share_client _ other = false
+share_client (at_client client) (at_client other) = int_eq client other
+share_client _ _ = false
 
 abbrev pub have_one_slot : Entry → Entry → Bool
 have_one_slot e f = share_slot e.to f.to && meet e f

@@ -5,13 +5,14 @@ use Rattle.toml.specs.View.{view}
 use Rattle.plan_file.specs.declared.outline.numbers.Numbers.{Numbers}
 use Rattle.plan_file.specs.declared.outline.numbers.Numbers.TheVariants as list
 use Rattle.plan_file.specs.declared.outline.top.Top.{Top as TopView}
+use Rattle.plan_file.specs.declared.outline.whole.Outline.{Outline as OutlineView}
 use Rattle.plan_file.specs.declared.outline.end.End.{End as EndView}
 use Rattle.plan_file.specs.declared.outline.end.End.TheVariants as end
 use Rattle.plan_file.specs.declared.outline.entry.Entry.{Entry as EntryView}
 use Rattle.plan_file.specs.declared.outline.entry.Entry.TheVariants as entry
 use Rattle.plan_file.specs.declared.outline.entries.Entries.{Entries}
 use Rattle.plan_file.specs.declared.outline.entries.Entries.TheVariants as entries
-use Rattle.plan_file.specs.Entry.{End, at_line, at_client, of_signal, Entry, Top, seen}
+use Rattle.plan_file.specs.Entry.{End, at_line, at_client, of_signal, Entry, Top, Outline, seen}
 use Rattle.plan_file.specs.Table.{numbers, entry_at, nominal}
 
 abbrev pub numbers_in : Numbers → List ℤ
@@ -40,6 +41,9 @@ entry_in (entry.Planned connection) = seen connection.now
 abbrev pub entries_in : Entries → List Entry
 entries_in (entries.Read values top) = map (λ value. entry_at (top_in top) (view value)) values.now
 entries_in (entries.Planned connections) = map seen connections.now
+
+abbrev pub outline_in : OutlineView → Outline
+outline_in o = record { top = top_in o.top; entries = entries_in o.entries }
 
 -- the pace, or the nominal one of M slots
 abbrev pub pace_in : Option Numbers → ℕ → List ℤ

@@ -2,7 +2,7 @@
 use Rattle.std.specs.Prelude.{◌≡◌, ℕ, ◌≤◌, ◌&&◌, IsTrue, Bool, true, false, List, Some, slice_get}
 use Rattle.std.specs.List.{list_all}
 use Rattle.otn_base.specs.LineSlots.{slots_of}
-use Rattle.plan_file.specs.Entry.{End, at_line, at_client, of_signal, Entry, Top, slots_between}
+use Rattle.plan_file.specs.Entry.{End, at_line, at_client, of_signal, Entry, Top, Outline, slots_between}
 use Rattle.plan_file.specs.Rules.{is_within, is_sapi, is_slot_list}
 
 -- the end is in range, where it is at a line with a line's slots
@@ -38,3 +38,8 @@ pub record IsSound (e : Entry) : Type 0 where
 -- each of the connections is one that a plan can have
 pub record AreSound (es : List Entry) : Type 0 where
   pub each : (i : ℕ) (e : Entry) → slice_get es i ≡ Some e → IsSound e
+
+-- an outline that a plan can have
+pub record IsSoundOutline (o : Outline) : Type 0 where
+  pub top : IsSoundTop o.top
+  pub entries : AreSound o.entries

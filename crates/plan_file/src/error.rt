@@ -69,5 +69,5 @@ pub enum NoPlan {
     /// There was no memory.
     Memory,
     /// The rule that is broken first, and its place: 0 for the top, else the connection's number from 1.
-    Refused(PlanError, u32),
+    Refused(PlanError, u64),
 }

@@ -5,10 +5,12 @@ mod entry;
 mod field;
 mod numbers;
 mod top;
+mod whole;
 
 pub(crate) use end::End;
 pub(crate) use entries::Entries;
 pub(crate) use entry::Entry;
-pub(crate) use field::{item, list_or_empty, number_or};
+pub(crate) use field::item;
 pub(crate) use numbers::Numbers;
 pub(crate) use top::Top;
+pub(crate) use whole::{Outline, connections};

@@ -5,7 +5,7 @@ ghost use Rattle.plan_file.specs.Answer.{fault_in, plan_of_text};
 use crate::connections::Connections;
 use crate::error::{NoPlan, PlanError};
 use crate::lines::LineList;
-use crate::outline::{Entries, Top};
+use crate::outline::Outline;
 use crate::{read, rules};
 use std::alloc::Global;
 
@@ -45,9 +45,6 @@ impl Plan {
     pub fn fault(&self) -> Option<(PlanError, u32)>
         ensures { result ≡ fault_in self.now }
     {
-        rules::fault(
-            &Top::of_plan(self),
-            &Entries::Planned(self.connections.as_slice()),
-        )
+        rules::fault(&Outline::of_plan(self))
     }
 }

@@ -3,18 +3,18 @@ ghost use Rattle.std.specs.Prelude.{◌≡◌, ◌≢◌, Err, IfOk, Ok, map};
 ghost use Rattle.toml.specs.View.{table_view};
 ghost use Rattle.plan_file.specs.Answer.{accepted_or, fault_of, refusal_of};
 ghost use Rattle.plan_file.specs.Entry.{connection_of, plan_of};
-ghost use Rattle.plan_file.specs.Seen.{entries_in, top_in};
-ghost use Rattle.plan_file.specs.Sound.{AreSound, IsSoundTop};
+ghost use Rattle.plan_file.specs.Seen.{entries_in, outline_in, top_in};
+ghost use Rattle.plan_file.specs.Sound.{AreSound, IsSoundOutline, IsSoundTop};
 ghost use Rattle.plan_file.specs.Table.{outline_at};
 
 use crate::connection::Connection;
 use crate::connections::Connections;
-use crate::error::{NoPlan, PlanError};
-use crate::outline::{Entries, Top};
+use crate::error::NoPlan;
+use crate::outline::{Entries, Outline, Top};
 use crate::plan::Plan;
 use crate::read::connection::connection;
 use crate::read::number::{lines, word};
-use crate::read::table::{entries, table_fault};
+use crate::read::table::table_fault;
 use crate::rules;
 use otn_base::Memory;
 use std::alloc::Global;
@@ -25,7 +25,7 @@ pub(crate) fn plan(alloc: Global, top: &Table) -> Result<Plan, NoPlan>
     ensures { result ≢ Err NoPlan.Memory → result ≡ accepted_or (plan_of (outline_at (table_view top.now))) (refusal_of (table_view top.now)) }
 {
     match table_fault(top) {
-        Some((rule, place)) => Err(refused(rule, place)),
+        Some((rule, place)) => Err(NoPlan::Refused(rule, place as u64)),
         None => plan_of_values(alloc, top),
     }
 }
@@ -34,26 +34,25 @@ pub(crate) fn plan(alloc: Global, top: &Table) -> Result<Plan, NoPlan>
 fn plan_of_values(alloc: Global, top: &Table) -> Result<Plan, NoPlan>
     ensures { result ≢ Err NoPlan.Memory → result ≡ accepted_or (plan_of (outline_at (table_view top.now))) (fault_of (outline_at (table_view top.now))) }
 {
-    let outline_top = Top::of_table(top);
-    let entries = entries(top, &outline_top);
-    match rules::fault(&outline_top, &entries) {
-        Some((rule, place)) => Err(NoPlan::Refused(rule, place)),
-        None => sound_plan(alloc, &outline_top, &entries),
+    let outline = Outline::of_table(top);
+    match rules::fault(&outline) {
+        Some((rule, place)) => Err(NoPlan::Refused(rule, u64::from(place))),
+        None => sound_plan(alloc, &outline),
     }
 }
 
-// The plan with this top and these connections.
-fn sound_plan(alloc: Global, top: &Top, entries: &Entries) -> Result<Plan, NoPlan>
-    requires top { IsSoundTop (top_in top.now) }
-    requires entries { AreSound (entries_in entries.now) }
-    ensures { result ≢ Err NoPlan.Memory → result ≡ Ok (plan_of (record { top = top_in top.now; entries = entries_in entries.now })) }
+// The plan that the outline says.
+fn sound_plan(alloc: Global, outline: &Outline) -> Result<Plan, NoPlan>
+    requires { IsSoundOutline (outline_in outline.now) }
+    ensures { result ≢ Err NoPlan.Memory → result ≡ Ok (plan_of (outline_in outline.now)) }
 {
-    match made_plan(alloc, top, entries) {
+    match made_plan(alloc, &outline.top, &outline.entries) {
         Ok(plan) => Ok(plan),
         Err(Memory) => Err(NoPlan::Memory),
     }
 }
 
+// The plan with this top and these connections.
 fn made_plan(alloc: Global, top: &Top, entries: &Entries) -> Result<Plan, Memory>
     requires top { IsSoundTop (top_in top.now) }
     requires entries { AreSound (entries_in entries.now) }
@@ -84,16 +83,4 @@ fn list(alloc: Global, entries: &Entries) -> Result<Vec<Connection>, Memory>
         list.push(connection(alloc, &entries.at(i))?)?;
     }
     Ok(list)
-}
-
-// A rule that is broken at the place. No text that is short enough has a place beyond 32 bits; that is
-// not known here, and such a place counts as want of memory.
-fn refused(rule: PlanError, place: usize) -> NoPlan
-    ensures { result ≢ NoPlan.Memory → result ≡ NoPlan.Refused rule place }
-{
-    if place <= u32::MAX as usize {
-        NoPlan::Refused(rule, place as u32)
-    } else {
-        NoPlan::Memory
-    }
 }

@@ -1,16 +1,13 @@
 // The rules of a table, tried one after another.
 ghost use Rattle.std.specs.Prelude.{◌≡◌, map};
 ghost use Rattle.toml.specs.View.{table_view, view};
-ghost use Rattle.plan_file.specs.Answer.{table_places, table_rules};
-ghost use Rattle.plan_file.specs.ByRule.{breaks_top, breaks_in_table, places_in_table};
+ghost use Rattle.plan_file.specs.TableRules.{breaks_top, breaks_in_table, table_places, table_rules};
 ghost use Rattle.plan_file.specs.Places.{first, first_broken, places};
-ghost use Rattle.plan_file.specs.Seen.{entries_in, top_in};
-ghost use Rattle.plan_file.specs.Table.{connections_at, entry_at};
 
 use crate::error::PlanError;
-use crate::keys::{has_unknown_key, has_unknown_top_key, lacks_key, lacks_turns, top_value};
+use crate::keys::{has_unknown_key, has_unknown_top_key, lacks_key, lacks_turns};
 use crate::kinds::{has_kinds, has_top_kinds};
-use crate::outline::{Entries, Top, item, list_or_empty};
+use crate::outline::{connections, item};
 use toml::{Table, Value};
 
 // The rules of keys and kinds, by number.
@@ -19,20 +16,6 @@ const TABLE_RULES: [PlanError; 3] = [
     PlanError::MissingKey,
     PlanError::WrongKind,
 ];
-
-// The connections, in order.
-fn connections(top: &Table) -> &[Value]
-    ensures { map view result.now ≡ connections_at (table_view top.now) }
-{
-    list_or_empty(top_value(top, "connection"))
-}
-
-/// The connections as the rules of values see them, in a plan with this top.
-pub(crate) fn entries<'a>(table: &'a Table, top: &Top<'a>) -> Entries<'a>
-    ensures { entries_in result ≡ map (entry_at (top_in top.now)) (connections_at (table_view table.now)) }
-{
-    Entries::Read(connections(table), *top)
-}
 
 /// The first rule of keys and kinds that the table breaks, with its place.
 pub(crate) fn table_fault(top: &Table) -> Option<(PlanError, usize)>
@@ -43,7 +26,7 @@ pub(crate) fn table_fault(top: &Table) -> Option<(PlanError, usize)>
 
 // The first of the rules that is broken, with its place.
 fn first_of(rules: &[PlanError], top: &Table) -> Option<(PlanError, usize)>
-    ensures { result ≡ first_broken (places_in_table (table_view top.now)) rules.now }
+    ensures { result ≡ first_broken (table_places (table_view top.now)) rules.now }
 {
     for rule in rules {
         if let Some(place) = place_of(*rule, top) {
@@ -55,7 +38,7 @@ fn first_of(rules: &[PlanError], top: &Table) -> Option<(PlanError, usize)>
 
 // The first place where the rule is broken.
 fn place_of(rule: PlanError, top: &Table) -> Option<usize>
-    ensures { result ≡ first (places_in_table (table_view top.now) rule) }
+    ensures { result ≡ first (table_places (table_view top.now) rule) }
 {
     if breaks_top(rule, top) {
         Some(0)

@@ -1,28 +1,18 @@
 // Where a rule is broken first.
 ghost use Rattle.std.specs.Prelude.{◌≡◌, ◌+◌, ◌≤◌, IfSome, take, length};
 ghost use Rattle.std.specs.List.{list_any};
-ghost use Rattle.plan_file.specs.ByRule.{breaks_at_top, breaks_alone, clashes};
+ghost use Rattle.plan_file.specs.PlanRules.{breaks_alone, clashes};
 ghost use Rattle.plan_file.specs.Places.{first, places, later_places};
 ghost use Rattle.plan_file.specs.Seen.{entries_in, entry_in, top_in};
 
 use crate::error::PlanError;
 use crate::outline::{Entries, Entry, Top};
-use crate::rules::ends::{breaks_lines, breaks_place};
+use crate::rules::ends::breaks_place;
 use crate::rules::names::breaks_name;
 use crate::rules::pace::breaks_pace;
 use crate::rules::pairs::{have_one_client, have_one_name, have_one_port, have_one_slot};
 use crate::rules::slots::breaks_slots;
 use crate::rules::span::breaks_span;
-
-/// Whether the top breaks the rule.
-pub(crate) fn breaks_at_top(rule: PlanError, top: &Top) -> bool
-    ensures { result ≡ breaks_at_top rule (top_in top.now) }
-{
-    match rule {
-        PlanError::BadPlace => breaks_lines(top),
-        _ => false,
-    }
-}
 
 /// The place of the first connection that breaks the rule, in a plan with this top.
 #[tactic(auto, using(crate::proofs::Steps::singles))]

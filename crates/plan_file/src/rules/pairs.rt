@@ -1,8 +1,6 @@
 // The rules on two connections.
 ghost use Rattle.std.specs.Prelude.{◌≡◌};
-ghost use Rattle.std.specs.List.{list_any};
-ghost use Rattle.std.specs.Ordering.{int_eq};
-ghost use Rattle.plan_file.specs.Rules.{have_one_name, meet, share_slot, share_port, share_client, is_line_with_slot, is_line_with_port, is_this_client, have_one_slot, have_one_port, have_one_client};
+ghost use Rattle.plan_file.specs.Rules.{have_one_name, meet, share_slot, share_port, share_client, have_common, have_one_slot, have_one_port, have_one_client};
 ghost use Rattle.plan_file.specs.Seen.{end_in, entry_in, numbers_in};
 
 use crate::outline::{End, Entry, Numbers};
@@ -45,24 +43,17 @@ fn meet(entry: &Entry, other: &Entry) -> bool
 fn share_slot(end: &End, other: &End) -> bool
     ensures { result ≡ share_slot (end_in end.now) (end_in other.now) }
 {
-    match end {
-        End::Line(line, _, _, slots) => is_line_with_slot(other, *line, slots),
-        _ => false,
-    }
-}
-
-fn is_line_with_slot(end: &End, number: i64, wanted: &Numbers) -> bool
-    ensures { result ≡ is_line_with_slot number (numbers_in wanted.now) (end_in end.now) }
-{
-    match end {
-        End::Line(line, _, _, slots) => number == *line && share_number(wanted, slots),
+    match (*end, *other) {
+        (End::Line(line, _, _, slots), End::Line(number, _, _, others)) => {
+            line == number && have_common(&slots, &others)
+        }
         _ => false,
     }
 }
 
 #[tactic(auto, using(crate::proofs::Steps::anys))]
-fn share_number(numbers: &Numbers, others: &Numbers) -> bool
-    ensures { result ≡ list_any (λ number. list_any (int_eq number) (numbers_in others.now)) (numbers_in numbers.now) }
+fn have_common(numbers: &Numbers, others: &Numbers) -> bool
+    ensures { result ≡ have_common (numbers_in numbers.now) (numbers_in others.now) }
 {
     for i in 0..numbers.len() {
         if others.contains(numbers.at(i)) {
@@ -75,17 +66,10 @@ fn share_number(numbers: &Numbers, others: &Numbers) -> bool
 fn share_port(end: &End, other: &End) -> bool
     ensures { result ≡ share_port (end_in end.now) (end_in other.now) }
 {
-    match end {
-        End::Line(line, port, _, _) => is_line_with_port(other, *line, *port),
-        _ => false,
-    }
-}
-
-fn is_line_with_port(end: &End, number: i64, wanted: i64) -> bool
-    ensures { result ≡ is_line_with_port number wanted (end_in end.now) }
-{
-    match end {
-        End::Line(line, port, _, _) => number == *line && wanted == *port,
+    match (*end, *other) {
+        (End::Line(line, port, _, _), End::Line(number, wanted, _, _)) => {
+            line == number && port == wanted
+        }
         _ => false,
     }
 }
@@ -93,17 +77,8 @@ fn is_line_with_port(end: &End, number: i64, wanted: i64) -> bool
 fn share_client(end: &End, other: &End) -> bool
     ensures { result ≡ share_client (end_in end.now) (end_in other.now) }
 {
-    match end {
-        End::Client(client) => is_this_client(other, *client),
-        _ => false,
-    }
-}
-
-fn is_this_client(end: &End, number: i64) -> bool
-    ensures { result ≡ is_this_client number (end_in end.now) }
-{
-    match end {
-        End::Client(client) => number == *client,
+    match (*end, *other) {
+        (End::Client(client), End::Client(number)) => client == number,
         _ => false,
     }
 }

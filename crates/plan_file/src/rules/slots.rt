@@ -1,6 +1,6 @@
 // The rule on slots.
 ghost use Rattle.std.specs.Prelude.{◌≡◌};
-ghost use Rattle.plan_file.specs.Rules.{rises, is_slot_list, is_same_kind, suits, has_slots, has_count, has_equal_counts, breaks_slots};
+ghost use Rattle.plan_file.specs.Rules.{rises, is_slot_list, is_same_kind, suits, has_slots, has_equal_counts, breaks_slots};
 ghost use Rattle.plan_file.specs.Seen.{end_in, entry_in, numbers_in, top_in};
 
 use crate::outline::{End, Entry, Numbers, Top};
@@ -75,17 +75,8 @@ fn suits(kind: Kind, count: usize) -> bool
 fn has_equal_counts(from: &End, to: &End) -> bool
     ensures { result ≡ has_equal_counts (end_in from.now) (end_in to.now) }
 {
-    match from {
-        End::Line(_, _, _, slots) => has_count(to, slots.len()),
-        _ => true,
-    }
-}
-
-fn has_count(end: &End, count: usize) -> bool
-    ensures { result ≡ has_count count (end_in end.now) }
-{
-    match end {
-        End::Line(_, _, _, slots) => count == slots.len(),
+    match (*from, *to) {
+        (End::Line(_, _, _, slots), End::Line(_, _, _, others)) => slots.len() == others.len(),
         _ => true,
     }
 }

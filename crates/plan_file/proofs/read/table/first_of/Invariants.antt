@@ -1,9 +1,9 @@
 use Rattle.std.proofs.Common.{◌≡◌, drop}
 use Rattle.toml.specs.View.{table_view}
-use Rattle.plan_file.specs.ByRule.{places_in_table}
+use Rattle.plan_file.specs.TableRules.{table_places}
 use Rattle.plan_file.specs.Places.{first_broken}
 use Rattle.plan_file.proofs.read.table.first_of.Given as goal
 
 abbrev pub invariant-loop-rule : goal.invariant-loop-rule
 invariant-loop-rule l =
-    first_broken (places_in_table (table_view l.top)) l.rules ≡ first_broken (places_in_table (table_view l.top)) (drop l.rule-index l.rules)
+    first_broken (table_places (table_view l.top)) l.rules ≡ first_broken (table_places (table_view l.top)) (drop l.rule-index l.rules)

@@ -1,6 +1,6 @@
 use Rattle.std.proofs.Common.{◌+◌, ◌∙◌, sym, ap, map}
 use Rattle.toml.specs.View.{view}
-use Rattle.plan_file.specs.ByRule.{breaks_in_table}
+use Rattle.plan_file.specs.TableRules.{breaks_in_table}
 use Rattle.plan_file.specs.Places.{first}
 use Rattle.plan_file.proofs.Lists.{slice_get_known}
 use Rattle.plan_file.proofs.Steps.{places_go, places_stop}

@@ -1,6 +1,6 @@
 use Rattle.std.proofs.Common.{◌≡◌, ◌+◌, drop, map}
 use Rattle.toml.specs.View.{view}
-use Rattle.plan_file.specs.ByRule.{breaks_in_table}
+use Rattle.plan_file.specs.TableRules.{breaks_in_table}
 use Rattle.plan_file.specs.Places.{places, places_from}
 use Rattle.plan_file.proofs.read.table.first_place.Given as goal
 

@@ -1,6 +1,6 @@
 use Rattle.std.proofs.Common.{◌≡◌, drop, take}
 use Rattle.std.specs.List.{list_any}
-use Rattle.plan_file.specs.ByRule.{clashes}
+use Rattle.plan_file.specs.PlanRules.{clashes}
 use Rattle.plan_file.specs.Seen.{entries_in, entry_in}
 use Rattle.plan_file.proofs.rules.first.clashes_before.Given as goal
 

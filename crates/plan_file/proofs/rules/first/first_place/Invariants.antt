@@ -1,5 +1,5 @@
 use Rattle.std.proofs.Common.{◌≡◌, ◌+◌, drop}
-use Rattle.plan_file.specs.ByRule.{breaks_alone}
+use Rattle.plan_file.specs.PlanRules.{breaks_alone}
 use Rattle.plan_file.specs.Places.{places_from, places}
 use Rattle.plan_file.specs.Seen.{entries_in, top_in}
 use Rattle.plan_file.proofs.rules.first.first_place.Given as goal
