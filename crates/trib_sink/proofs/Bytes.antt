@@ -18,12 +18,12 @@ pub same_taken : (port : ℕ) (f g : ℕ → List ℕ) (watches : List Watch) �
 same_taken port f g watches same h = record { each = λ k d low high. subst (λ xs. HasTaken port xs (get_or watches (k - 1) d)) (same k) (h.each k d low high) }
 
 -- one watch took a byte
-pub one_taken : (port : ℕ) (taken : ℕ → List ℕ) (watches : List Watch) (slot byte : ℕ) (watch : Watch) → length watches ≡ 8 → 1 ≤ slot → slot ≤ 8
+pub one_taken : (port : ℕ) (taken : ℕ → List ℕ) (watches : List Watch) (slot byte : ℕ) (watch : Watch) → length watches ≡ 32 → 1 ≤ slot → slot ≤ 32
     → Watched port taken watches → HasTaken port (taken slot ++ byte ∷ []) watch
     → Watched port (λ k. taken k ++ cond (slot == k) (byte ∷ []) []) (set watches (slot - 1) watch)
-one_taken port taken watches slot byte watch eight low high h took = record { each = λ k d a b. go k d a b (slot == k) refl }
+one_taken port taken watches slot byte watch many low high h took = record { each = λ k d a b. go k d a b (slot == k) refl }
   where
-    go : (k : ℕ) (d : Watch) → 1 ≤ k → k ≤ 8 → (t : Bool) → (slot == k) ≡ t → HasTaken port (taken k ++ cond (slot == k) (byte ∷ []) []) (get_or (set watches (slot - 1) watch) (k - 1) d)
+    go : (k : ℕ) (d : Watch) → 1 ≤ k → k ≤ 32 → (t : Bool) → (slot == k) ≡ t → HasTaken port (taken k ++ cond (slot == k) (byte ∷ []) []) (get_or (set watches (slot - 1) watch) (k - 1) d)
     go k d a b true e =
         let same : slot ≡ k = same_number slot k e in
         let inside : slot - 1 < length watches = omega arith in

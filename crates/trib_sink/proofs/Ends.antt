@@ -1,25 +1,26 @@
 -- A sink after a turn more.
 use Rattle.std.proofs.Common.{◌≡◌, ◌⊎◌, inl, inr, ℕ, suc, ◌*◌, ◌/◌, ◌-◌, ◌<◌, ◌≤◌, get_or, List, [], ◌∷◌, ◌++◌, Bool, true, false, cond, Option, Some, None, length, refl, ap, ◌∙◌, sym, subst, arith, append-nil}
-use Rattle.std.specs.Prelude.{slice_get, All}
+use Rattle.std.specs.Prelude.{slice_get, All, IsTrue}
 use Rattle.std.proofs.lemmas.List.{get_or_default}
 use Rattle.std.specs.List.{list_any, flat_map}
+use Rattle.otn_base.specs.LineSlots.{slots_of}
 use Rattle.otn_base.specs.SlotList.{IsSlotList}
 use Rattle.msi_table.specs.Marks.{Watch, is_marked}
 use Rattle.tributary_model.specs.declared.turns.Hearing.{Hearing}
 use Rattle.tributary_model.specs.declared.turns.Standing.{Standing}
 use Rattle.tributary_model.specs.declared.turns.Standing.TheVariants.{Waiting, Down, Up}
-use Rattle.tributary_model.specs.Places.{Tributary, Taken, View, greatest, frame_groups, message_in, msi_in, view_of, IsWholeTurn, AreWholeTurns}
+use Rattle.tributary_model.specs.Places.{Tributary, tributary_of, Taken, View, greatest, frame_groups, message_in, msi_in, view_of, IsWholeTurn, AreWholeTurns}
 use Rattle.tributary_model.specs.Messages.{hears_message}
 use Rattle.tributary_model.specs.Stretches.{groups_of, bytes_of, came, any_marked}
 use Rattle.tributary_model.specs.Emission.{data_bytes, emission}
 use Rattle.tributary_model.specs.Machine.{Machine, former_of, number_of, heard_in, after_standing, after_heard, gives_standing, gives_heard, machine_after}
 use Rattle.tributary_model.specs.Laws.{IsTributary}
 use Rattle.tributary_model.proofs.Law.{machine_next, machine_is_emission}
+use Rattle.tributary_model.proofs.OnLine.{evenly}
 use Rattle.tributary_model.proofs.Views.{whole_view}
 use Rattle.trib_sink.specs.Following.{Following, IsAt, IsBetween, listener_after}
 use Rattle.trib_sink.specs.Watching.{Watched}
-use Rattle.trib_sink.specs.Sink.{Sink, IsSink, StandsAfter}
-use Rattle.trib_sink.proofs.Frames.{of_eight}
+use Rattle.trib_sink.specs.Sink.{Sink, IsSink, StandsAfter, ended_view}
 use Rattle.trib_sink.proofs.Stands.{some_greatest, bytes_start}
 use Rattle.trib_sink.proofs.Bytes.{same_taken}
 
@@ -85,15 +86,15 @@ machine_gives own ais past view st heard fresh t e some whole =
 
 -- ---- the sink
 
-at_of : (own : Tributary) (past : List (Option View)) (frames : List Taken) (s : Sink) (g : Following) (heard : Option Hearing) → StandsAfter own past frames s
+pub at_turned : (own : Tributary) (past : List (Option View)) (frames : List Taken) (s : Sink) (g : Following) (heard : Option Hearing) → StandsAfter own past frames s
     → g ≡ record s.following { listener = listener_after s.following heard } → IsAt (machine_after own past) g
-at_of own past frames s g heard h is =
+at_turned own past frames s g heard h is =
     let P : Following → Type 0 = IsAt (machine_after own past) in
     subst P (sym is) (record { standing = h.at.standing; pending = h.at.pending; stream = h.at.stream })
 
-slots_of : (own : Tributary) (past : List (Option View)) (frames : List Taken) (s : Sink) (g : Following) (heard : Option Hearing) → IsSink s → StandsAfter own past frames s
+count_of : (own : Tributary) (past : List (Option View)) (frames : List Taken) (s : Sink) (g : Following) (heard : Option Hearing) → IsSink s → StandsAfter own past frames s
     → g ≡ record s.following { listener = listener_after s.following heard } → g.extraction.slots ≡ length own.slots
-slots_of own past frames s g heard i h is =
+count_of own past frames s g heard i h is =
     ap (λ (x : Following). x.extraction.slots) is ∙ i.count ∙ sym (ap (λ (o : Tributary). length o.slots) h.own_is)
 
 pub stands_turned : (own : Tributary) (past : List (Option View)) (frames : List Taken) (s : Sink) (view : Option View) (f g : Following) (watches : List Watch) (heard : Option Hearing)
@@ -103,7 +104,7 @@ pub stands_turned : (own : Tributary) (past : List (Option View)) (frames : List
     → Watched own.port (λ k. came k (view ∷ past)) watches → StandsAfter own (view ∷ past) [] (turned s f watches)
 stands_turned own past frames s view f g watches heard i h is turn at between watched =
     let m = machine_after own past in
-    let slots = slots_of own past frames s g heard i h is in
+    let slots = count_of own past frames s g heard i h is in
     let fresh : g.extraction.fresh ≡ s.following.extraction.fresh = ap (λ (x : Following). x.extraction.fresh) is in
     let next : after_heard g.extraction.slots heard g.extraction.fresh m ≡ machine_after own (view ∷ past) =
     ap (λ n. after_heard n heard g.extraction.fresh m) slots ∙ ap (λ y. after_heard (length own.slots) heard y m) fresh
@@ -112,12 +113,12 @@ stands_turned own past frames s view f g watches heard i h is turn at between wa
       own_is = h.own_is;
       slots = h.slots;
       whole = (turn.whole, h.whole);
-      at = subst (λ x. IsAt x f) next (at m (at_of own past frames s g heard h is));
+      at = subst (λ x. IsAt x f) next (at m (at_turned own past frames s g heard h is));
       watched = watched;
       taken = refl;
       fresh = between.fresh ∙ sym (bytes_start (number_of f.standing));
       number = between.number;
-      message = λ none. absurd (let some = some_greatest own.slots h.slots in let bad : ⊥ = omega arith in bad);
+      message = λ none. absurd (let some = some_greatest own.line_slots own.slots h.slots in let bad : ⊥ = omega arith in bad);
       msi = refl;
     }
 
@@ -127,15 +128,11 @@ pub gives_turned : (own : Tributary) (ais : ℕ → ℕ) (past : List (Option Vi
     → gives_heard g.extraction.slots ais heard g.extraction.fresh (machine_after own past) ≡ emission own ais past view
 gives_turned own ais past frames s view g heard i h is turn =
     let m = machine_after own past in
-    let slots = slots_of own past frames s g heard i h is in
+    let slots = count_of own past frames s g heard i h is in
     let fresh : g.extraction.fresh ≡ s.following.extraction.fresh = ap (λ (x : Following). x.extraction.fresh) is in
     let some : 0 < length own.slots = h.slots.taken in
     ap (λ n. gives_heard n ais heard g.extraction.fresh m) slots ∙ ap (λ y. gives_heard (length own.slots) ais heard y m) fresh
     ∙ machine_gives own ais past view s.following.standing heard s.following.extraction.fresh turn (sym h.at.standing) some h.whole
-
-pub at_turned : (own : Tributary) (past : List (Option View)) (frames : List Taken) (s : Sink) (g : Following) (heard : Option Hearing) → StandsAfter own past frames s
-    → g ≡ record s.following { listener = listener_after s.following heard } → IsAt (machine_after own past) g
-at_turned own past frames s g heard h is = at_of own past frames s g heard h is
 
 -- ---- a turn without a multiframe
 
@@ -143,18 +140,15 @@ none_heard : (former : Option ℕ) (m : ℕ) (marked : Bool) → None ≡ heard_
 none_heard former m true = refl
 none_heard former m false = refl
 
-pub missed_turn : (own : Tributary) (past : List (Option View)) (st : Standing) (fresh : List ℕ) → IsTurnOf own past None st None fresh
+missed_turn : (own : Tributary) (past : List (Option View)) (st : Standing) (fresh : List ℕ) → IsTurnOf own past None st None fresh
 missed_turn own past st fresh = record { whole = tt; heard_is = none_heard (former_of st) (length own.slots) (any_marked own (None ∷ past)); fresh_is = inr refl }
 
 came_missed : (k : ℕ) (past : List (Option View)) → came k past ≡ came k (None ∷ past)
 unfolding came
 came_missed k past = sym (append-nil (came k past))
 
-pub watched_missed : (port : ℕ) (past : List (Option View)) (watches : List Watch) → Watched port (λ k. came k past) watches → Watched port (λ k. came k (None ∷ past)) watches
+watched_missed : (port : ℕ) (past : List (Option View)) (watches : List Watch) → Watched port (λ k. came k past) watches → Watched port (λ k. came k (None ∷ past)) watches
 watched_missed port past watches h = same_taken port (λ k. came k past) (λ k. came k (None ∷ past)) watches (λ k. came_missed k past) h
-
-pub listener_same : (f : Following) → f ≡ record f { listener = listener_after f None }
-listener_same f = refl
 
 -- ---- a turn with a multiframe
 
@@ -178,7 +172,7 @@ came_whole : (own : Tributary) (frames : List Taken) (past : List (Option View))
     → (k : ℕ) → came k past ++ bytes_of k msi ≡ came k (Some (view_of own frames) ∷ past)
 came_whole own frames past msi e k = ap (λ xs. came k past ++ bytes_of k xs) (e ∙ sym (view_msi own frames)) ∙ came_with k (view_of own frames) past
 
-pub watched_whole : (own : Tributary) (past : List (Option View)) (frames : List Taken) (s : Sink) (watches : List Watch) → StandsAfter own past frames s
+watched_whole : (own : Tributary) (past : List (Option View)) (frames : List Taken) (s : Sink) (watches : List Watch) → StandsAfter own past frames s
     → Watched own.port (λ k. came k past ++ bytes_of k s.msi) watches → Watched own.port (λ k. came k (Some (view_of own frames) ∷ past)) watches
 watched_whole own past frames s watches h w = same_taken own.port (λ k. came k past ++ bytes_of k s.msi) (λ k. came k (Some (view_of own frames) ∷ past)) watches (came_whole own frames past s.msi h.msi) w
 
@@ -197,25 +191,25 @@ heard_by : (former : Option ℕ) (m : ℕ) (marked : Bool) (v : View) → cond {
 heard_by former m true v = refl
 heard_by former m false v = refl
 
-tributary_of : (own : Tributary) (s : Sink) → own ≡ of_eight s.slots s.port → IsSlotList 8 own.slots → IsTributary own
-tributary_of own s e list =
-    let eight : own.line_slots ≡ 8 = ap (λ (o : Tributary). o.line_slots) e in
-    record { slots = subst (λ n. IsSlotList n own.slots) (sym eight) list; even = subst (λ n. n * (3808 / n) ≡ 3808) (sym eight) refl }
+is_of_line : (own : Tributary) (s : Sink) → own ≡ tributary_of s.slots s.port → IsSlotList own.line_slots own.slots → IsTributary own
+is_of_line own s e list =
+    let lines : own.line_slots ≡ slots_of s.slots.kind = ap (λ (o : Tributary). o.line_slots) e in
+    record { slots = list; even = subst (λ n. n * (3808 / n) ≡ 3808) (sym lines) (evenly s.slots.kind) }
 
-pub whole_turn : (own : Tributary) (past : List (Option View)) (frames : List Taken) (s : Sink) (heard : Option Hearing) → IsSink s → StandsAfter own past frames s → s.taken ≡ 8
-    → heard ≡ cond (list_any (λ k. is_marked own.port (came k past ++ bytes_of k s.msi)) s.slots) None (Some (hears_message (former_of s.following.standing) s.following.extraction.slots s.message))
+whole_turn : (own : Tributary) (past : List (Option View)) (frames : List Taken) (s : Sink) (heard : Option Hearing) → IsSink s → StandsAfter own past frames s → s.taken ≡ slots_of s.slots.kind
+    → heard ≡ cond (list_any (λ k. is_marked own.port (came k past ++ bytes_of k s.msi)) s.slots.list) None (Some (hears_message (former_of s.following.standing) s.following.extraction.slots s.message))
     → IsTurnOf own past (Some (view_of own frames)) s.following.standing heard s.following.extraction.fresh
 whole_turn own past frames s heard i h all is =
     let v = view_of own frames in
     let st = s.following.standing in
-    let slots : s.slots ≡ own.slots = sym (ap (λ (o : Tributary). o.slots) h.own_is) in
-    let eight : length frames ≡ 8 = sym h.taken ∙ all in
-    let lines : own.line_slots ≡ 8 = ap (λ (o : Tributary). o.line_slots) h.own_is in
-    let few : greatest own.slots ≤ 8 = greatest_low own.slots h.slots in
+    let slots : s.slots.list ≡ own.slots = sym (ap (λ (o : Tributary). o.slots) h.own_is) in
+    let lines : own.line_slots ≡ slots_of s.slots.kind = ap (λ (o : Tributary). o.line_slots) h.own_is in
+    let many : length frames ≡ own.line_slots = sym h.taken ∙ all ∙ sym lines in
+    let few : greatest own.slots ≤ own.line_slots = greatest_low own.line_slots own.slots h.slots in
     let message : s.message ≡ v.message = h.message (omega arith) ∙ sym (view_message own frames) in
     let count : s.following.extraction.slots ≡ length own.slots = i.count ∙ ap length slots in
     record {
-      whole = whole_view own frames (tributary_of own s h.own_is h.slots) (eight ∙ sym lines);
+      whole = whole_view own frames (is_of_line own s h.own_is h.slots) many;
       heard_is =
           is
           ∙ ap (λ xs. cond {A = Option Hearing} (list_any (λ k. is_marked own.port (came k past ++ bytes_of k s.msi)) xs) None (Some (hears_message (former_of st) s.following.extraction.slots s.message))) slots
@@ -230,18 +224,34 @@ whole_turn own past frames s heard i h all is =
     greatest_all [] n a = omega arith
     greatest_all (x ∷ xs) n a = let first : x ≤ n = a 0 x (omega arith) in let rest = greatest_all xs n (λ k d l. a (suc k) d (omega arith)) in omega arith
 
-    greatest_low : (slots : List ℕ) → IsSlotList 8 slots → greatest slots ≤ 8
-    greatest_low slots list = greatest_all slots 8 (λ k d l. let high : get_or slots k 0 ≤ 8 = list.high k l in let same : get_or slots k d ≡ get_or slots k 0 = get_or_default slots k d 0 l in omega arith)
+    greatest_low : (line : ℕ) (slots : List ℕ) → IsSlotList line slots → greatest slots ≤ line
+    greatest_low line slots list = greatest_all slots line (λ k d l. let high : get_or slots k 0 ≤ line = list.high k l in let same : get_or slots k d ≡ get_or slots k 0 = get_or_default slots k d 0 l in omega arith)
 
 -- the same where the MSI bytes were handed on as another list that is equal
-pub whole_turn_of : (own : Tributary) (past : List (Option View)) (frames : List Taken) (s : Sink) (heard : Option Hearing) (msi : List (ℕ × ℕ)) → msi ≡ s.msi → IsSink s → StandsAfter own past frames s → s.taken ≡ 8
-    → heard ≡ cond (list_any (λ k. is_marked own.port (came k past ++ bytes_of k msi)) s.slots) None (Some (hears_message (former_of s.following.standing) s.following.extraction.slots s.message))
+whole_turn_of : (own : Tributary) (past : List (Option View)) (frames : List Taken) (s : Sink) (heard : Option Hearing) (msi : List (ℕ × ℕ)) → msi ≡ s.msi → IsSink s → StandsAfter own past frames s → s.taken ≡ slots_of s.slots.kind
+    → heard ≡ cond (list_any (λ k. is_marked own.port (came k past ++ bytes_of k msi)) s.slots.list) None (Some (hears_message (former_of s.following.standing) s.following.extraction.slots s.message))
     → IsTurnOf own past (Some (view_of own frames)) s.following.standing heard s.following.extraction.fresh
 whole_turn_of own past frames s heard msi e i h all is =
     whole_turn own past frames s heard i h all
-    (is ∙ ap (λ xs. cond {A = Option Hearing} (list_any (λ k. is_marked own.port (came k past ++ bytes_of k xs)) s.slots) None (Some (hears_message (former_of s.following.standing) s.following.extraction.slots s.message))) e)
+    (is ∙ ap (λ xs. cond {A = Option Hearing} (list_any (λ k. is_marked own.port (came k past ++ bytes_of k xs)) s.slots.list) None (Some (hears_message (former_of s.following.standing) s.following.extraction.slots s.message))) e)
 
-pub watched_whole_of : (own : Tributary) (past : List (Option View)) (frames : List Taken) (s : Sink) (watches : List Watch) (msi : List (ℕ × ℕ)) → msi ≡ s.msi → StandsAfter own past frames s
+watched_whole_of : (own : Tributary) (past : List (Option View)) (frames : List Taken) (s : Sink) (watches : List Watch) (msi : List (ℕ × ℕ)) → msi ≡ s.msi → StandsAfter own past frames s
     → Watched own.port (λ k. came k past ++ bytes_of k msi) watches → Watched own.port (λ k. came k (Some (view_of own frames) ∷ past)) watches
 watched_whole_of own past frames s watches msi e h w =
     watched_whole own past frames s watches h (same_taken own.port (λ k. came k past ++ bytes_of k msi) (λ k. came k past ++ bytes_of k s.msi) watches (λ k. ap (λ xs. came k past ++ bytes_of k xs) e) w)
+
+-- ---- a turn with a multiframe or without one
+
+pub ended_turn : (own : Tributary) (past : List (Option View)) (frames : List Taken) (s : Sink) (whole : Bool) (heard : Option Hearing) (msi : List (ℕ × ℕ)) → msi ≡ s.msi → IsSink s → StandsAfter own past frames s
+    → (IsTrue whole → s.taken ≡ slots_of s.slots.kind) → (whole ≡ false → heard ≡ None)
+    → (whole ≡ true → heard ≡ cond (list_any (λ k. is_marked own.port (came k past ++ bytes_of k msi)) s.slots.list) None (Some (hears_message (former_of s.following.standing) s.following.extraction.slots s.message)))
+    → IsTurnOf own past (ended_view own whole frames) s.following.standing heard s.following.extraction.fresh
+ended_turn own past frames s true heard msi e i h all none some = whole_turn_of own past frames s heard msi e i h (all refl) (some refl)
+ended_turn own past frames s false heard msi e i h all none some =
+    subst (λ o. IsTurnOf own past None s.following.standing o s.following.extraction.fresh) (sym (none refl)) (missed_turn own past s.following.standing s.following.extraction.fresh)
+
+pub ended_watched : (own : Tributary) (past : List (Option View)) (frames : List Taken) (s : Sink) (whole : Bool) (watches : List Watch) (msi : List (ℕ × ℕ)) → msi ≡ s.msi → StandsAfter own past frames s
+    → (whole ≡ false → watches ≡ s.watches) → (whole ≡ true → Watched own.port (λ k. came k past ++ bytes_of k msi) watches)
+    → Watched own.port (λ k. came k (ended_view own whole frames ∷ past)) watches
+ended_watched own past frames s true watches msi e h none some = watched_whole_of own past frames s watches msi e h (some refl)
+ended_watched own past frames s false watches msi e h none some = subst (Watched own.port (λ k. came k (None ∷ past))) (sym (none refl)) (watched_missed own.port past s.watches h.watched)

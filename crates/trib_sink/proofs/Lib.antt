@@ -1,3 +1,4 @@
+pub mod LineRows
 pub mod Rows
 pub mod Runs
 pub mod Ring

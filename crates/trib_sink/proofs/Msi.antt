@@ -1,6 +1,6 @@
--- The greatest of some slots, and the MSI byte of a frame.
-use Rattle.std.proofs.Common.{◌≡◌, ◌≢◌, ℕ, zero, suc, ◌+◌, ◌-◌, ◌<◌, ◌≤◌, List, [], ◌∷◌, ◌++◌, Bool, true, false, cond, Some, length, get_or, refl, ap, ◌∙◌, sym, subst, arith, append-nil}
-use Rattle.std.specs.Prelude.{All, ◌==◌, slice_get}
+-- The MSI byte of a frame.
+use Rattle.std.proofs.Common.{◌≡◌, ◌≢◌, ℕ, zero, suc, ◌+◌, ◌-◌, ◌<◌, ◌≤◌, List, [], ◌∷◌, ◌++◌, Bool, true, false, cond, length, get_or, refl, ap, ◌∙◌, sym, subst, arith, append-nil}
+use Rattle.std.specs.Prelude.{All, ◌==◌}
 use Rattle.std.specs.List.{flat_map, Contains}
 use Rattle.std.specs.List.Sorted.{IsStrictlyIncreasing}
 use Rattle.std.proofs.lemmas.Bool.{eq-eqb, ne_eqb}
@@ -8,28 +8,10 @@ use Rattle.std.proofs.lemmas.Bool.Decides.{nat_tests}
 use Rattle.std.proofs.lemmas.List.Elements.{All-nil, All-cons, All-append, Contains-get_or}
 use Rattle.otn_base.specs.SlotList.{IsSlotList}
 use Rattle.frame_geometry.specs.Places.{place_of}
-use Rattle.tributary_model.specs.Places.{greatest, msi_at}
+use Rattle.tributary_model.specs.Places.{msi_at}
+use Rattle.tributary_model.proofs.Greatest.{rising_head, rising_rest}
 use Rattle.tributary_model.proofs.Views.{slot_low, slot_high}
-use Rattle.trib_sink.specs.Watching.{AreOfEight}
-
-rising_rest : (x : ℕ) (xs : List ℕ) → IsStrictlyIncreasing (x ∷ xs) → IsStrictlyIncreasing xs
-rising_rest x xs h = λ k less. subst (λ i. get_or xs k 0 < get_or (x ∷ xs) i 0) (let e : suc k + 1 ≡ suc (k + 1) = omega arith in e) (h (suc k) (omega arith))
-
-rising_head : (x y : ℕ) (xs : List ℕ) → IsStrictlyIncreasing (x ∷ y ∷ xs) → x < y
-rising_head x y xs h = h 0 (omega arith)
-
-greatest_last : (xs : List ℕ) (r : ℕ) → IsStrictlyIncreasing xs → slice_get xs (length xs - 1) ≡ Some r → greatest xs ≡ r
-greatest_last [] r h e = cc
-greatest_last (x ∷ []) r h e = let same : x ≡ r = cc in omega arith
-greatest_last (x ∷ y ∷ xs) r h e =
-    let less = rising_head x y xs h in
-    let place : slice_get (y ∷ xs) (length (y ∷ xs) - 1) ≡ Some r = subst (λ i. slice_get (x ∷ y ∷ xs) i ≡ Some r) (let f : length (x ∷ y ∷ xs) - 1 ≡ suc (length (y ∷ xs) - 1) = omega arith in f) e in
-    let rest = greatest_last (y ∷ xs) r (rising_rest x (y ∷ xs) h) place in
-    let most : y ≤ greatest (y ∷ xs) = omega arith in
-    omega arith
-
-pub greatest_is_last : (xs : List ℕ) (r : ℕ) → IsSlotList 8 xs → slice_get xs (length xs - 1) ≡ Some r → greatest xs ≡ r
-greatest_is_last xs r h e = greatest_last xs r h.rising e
+use Rattle.trib_sink.specs.Watching.{AreOfSlots}
 
 -- each later number is greater
 above : (x : ℕ) (xs : List ℕ) → IsStrictlyIncreasing (x ∷ xs) → All (λ y. x < y) xs
@@ -85,9 +67,9 @@ one_there e b (x ∷ xs) h some has = go (λ f. one_there e b xs (rising_rest x 
         ∙ later_one (has_rest x xs (e - 1) has other)
 
 -- as a clause says it, one pair more or none
-pub noted : (slots frame : List ℕ) (e b : ℕ) (came new : List (ℕ × ℕ)) → IsSlotList 8 slots → 1 ≤ e → Contains slots (e - 1) → new ≡ came ++ (e - 1, b) ∷ []
+pub noted : (line : ℕ) (slots frame : List ℕ) (e b : ℕ) (came new : List (ℕ × ℕ)) → IsSlotList line slots → 1 ≤ e → Contains slots (e - 1) → new ≡ came ++ (e - 1, b) ∷ []
     → b ≡ get_or frame (place_of 4080 4 15) 0 → new ≡ came ++ msi_at slots e frame
-noted slots frame e b came new list some has is byte =
+noted line slots frame e b came new list some has is byte =
     is ∙ ap {A = ℕ} (λ b. came ++ (e - 1, b) ∷ []) byte ∙ ap (λ xs. came ++ xs) (sym (one_there e (get_or frame (place_of 4080 4 15) 0) slots list.rising some has))
 
 pub not_noted : (slots frame : List ℕ) (e : ℕ) (came : List (ℕ × ℕ)) → (1 ≤ e → Contains slots (e - 1) → ⊥) → came ≡ came ++ msi_at slots e frame
@@ -95,9 +77,9 @@ not_noted slots frame e came without =
     sym (append-nil came) ∙ ap (λ xs. came ++ xs) (sym (none_there e (get_or frame (place_of 4080 4 15) 0) slots
     (λ k has f. without (omega arith) (subst (Contains slots) (let g : k ≡ e - 1 = omega arith in g) has))))
 
-pub noted_slots : (slots : List ℕ) (e b : ℕ) (came new : List (ℕ × ℕ)) → IsSlotList 8 slots → Contains slots (e - 1) → new ≡ came ++ (e - 1, b) ∷ [] → AreOfEight came → AreOfEight new
-noted_slots slots e b came new list has is h =
-    let low = slot_low 8 slots (e - 1) list has in
-    let high = slot_high 8 slots (e - 1) list has in
-    let P : ℕ × ℕ → Type 0 = λ p. (1 ≤ p.0) × (p.0 ≤ 8) in
-    subst AreOfEight (sym is) (All-append P came ((e - 1, b) ∷ []) h (All-cons P (e - 1, b) [] (low, high) (All-nil P)))
+pub noted_slots : (line : ℕ) (slots : List ℕ) (e b : ℕ) (came new : List (ℕ × ℕ)) → IsSlotList line slots → line ≤ 32 → Contains slots (e - 1) → new ≡ came ++ (e - 1, b) ∷ [] → AreOfSlots came → AreOfSlots new
+noted_slots line slots e b came new list most has is h =
+    let low = slot_low line slots (e - 1) list has in
+    let high = slot_high line slots (e - 1) list has in
+    let P : ℕ × ℕ → Type 0 = λ p. (1 ≤ p.0) × (p.0 ≤ 32) in
+    subst AreOfSlots (sym is) (All-append P came ((e - 1, b) ∷ []) h (All-cons P (e - 1, b) [] (low, omega arith) (All-nil P)))

@@ -1,5 +1,6 @@
 -- How a sink follows its tributary.
 use Rattle.std.specs.Prelude.{◌≡◌, ℕ, ◌<◌, ◌≤◌, List, [], Bool, Option, Some, None}
+use Rattle.otn_base.specs.declared.limits.TheConstants.{GROUPS}
 use Rattle.maintenance_signals.specs.declared.signal.Signal.TheVariants.{Ais}
 use Rattle.maintenance_signals.specs.Given.{Standing as Stream, HasGiven}
 use Rattle.tributary_model.specs.declared.turns.Hearing.{Hearing}
@@ -35,7 +36,7 @@ FitsFormer slots pending None = pending ≡ []
 FitsFormer slots pending (Some due) = due < slots
 
 abbrev pub IsSmallSaid : (slots : ℕ) → Said → Type 0
-IsSmallSaid slots said = (said.number ≤ 15232) × (said.rest < slots)
+IsSmallSaid slots said = (said.number ≤ GROUPS) × (said.rest < slots)
 
 abbrev pub FitsStanding : (slots : ℕ) → (pending : List ℕ) → Standing → Type 0
 FitsStanding slots pending (Waiting n) = n ≤ 2
@@ -44,7 +45,7 @@ FitsStanding slots pending (Up said) = IsSmallSaid slots said × FitsFormer slot
 
 -- the pair of a message is one of a multiframe
 pub record IsSmallHearing (slots : ℕ) (heard : Option Hearing) : Type 0 where
-  pub number_low : (number rest : ℕ) (equal : Bool) → heard ≡ Some (Pair number rest equal) → number ≤ 15232
+  pub number_low : (number rest : ℕ) (equal : Bool) → heard ≡ Some (Pair number rest equal) → number ≤ GROUPS
   pub rest_low : (number rest : ℕ) (equal : Bool) → heard ≡ Some (Pair number rest equal) → rest < slots
 
 -- what the first turn of a stretch says, and what a later one does

@@ -1,5 +1,5 @@
-pub mod Rows
 pub mod Extraction
+pub mod Rows
 pub mod Following
 pub mod Watching
 pub mod Sink

@@ -1,19 +1,21 @@
 -- A sink after some turns, and within one.
 use Rattle.std.specs.Prelude.{◌≡◌, ℕ, ◌*◌, ◌-◌, ◌≤◌, List, Bool, if◌then◌else◌, Option, Some, None, length, slice_get}
 use Rattle.std.specs.List.{flat_map}
+use Rattle.otn_base.specs.LineSlots.{LineSlots, slots_of}
 use Rattle.otn_base.specs.SlotList.{IsSlotList}
 use Rattle.msi_table.specs.Marks.{Watch}
-use Rattle.tributary_model.specs.Places.{Tributary, Taken, View, greatest, frame_groups, message_in, msi_in, turn_view, AreWholeTurns}
+use Rattle.tributary_model.specs.Places.{Tributary, tributary_of, Taken, View, greatest, frame_groups, message_in, msi_in, turn_view, AreWholeTurns}
 use Rattle.tributary_model.specs.Stretches.{came}
 use Rattle.tributary_model.specs.Emission.{data_bytes}
 use Rattle.tributary_model.specs.Machine.{number_of, machine_after}
 use Rattle.trib_sink.specs.Following.{Following, Keeps, IsAt}
-use Rattle.trib_sink.specs.Watching.{Watched, AreOfEight}
+use Rattle.trib_sink.specs.Rows.{row_cycles}
+use Rattle.trib_sink.specs.Watching.{Watched, AreOfSlots}
 
 -- what is seen of a sink: its slots and port, how it follows them, the watches over MSI bytes, and how many frames of this turn
 -- it has taken, with their message and MSI bytes
 pub record Sink : Type 0 where
-  pub slots : List ℕ
+  pub slots : LineSlots
   pub port : ℕ
   pub following : Following
   pub watches : List Watch
@@ -21,22 +23,23 @@ pub record Sink : Type 0 where
   pub message : List ℕ
   pub msi : List (ℕ × ℕ)
 
--- what holds of every sink
+-- what holds of every sink: its port is one of its line, and it has taken no more frames than a multiframe of the line has, with
+-- all groups of each
 pub record IsSink (s : Sink) : Type 0 where
   pub port_low : 1 ≤ s.port
-  pub port_high : s.port ≤ 8
-  pub count : s.following.extraction.slots ≡ length s.slots
-  pub taken_low : s.taken ≤ 8
-  pub asked : s.following.extraction.asked ≡ 1904 * s.taken
+  pub port_high : s.port ≤ slots_of s.slots.kind
+  pub count : s.following.extraction.slots ≡ length s.slots.list
+  pub taken_low : s.taken ≤ slots_of s.slots.kind
+  pub asked : s.following.extraction.asked ≡ 4 * row_cycles s.slots.kind * s.taken
   pub keeps : Keeps s.following.standing s.following.listener
   pub msi_few : length s.msi ≤ s.taken
-  pub msi_slots : AreOfEight s.msi
+  pub msi_slots : AreOfSlots s.msi
 
 -- The sink is one of this tributary. These are the views of the turns that ended since it was new or restarted, the last first,
 -- and these the frames of the turn after them that it has taken.
 pub record StandsAfter (own : Tributary) (past : List (Option View)) (frames : List Taken) (s : Sink) : Type 0 where
-  pub own_is : own ≡ record { line_slots = 8; slots = s.slots; port = s.port }
-  pub slots : IsSlotList 8 own.slots
+  pub own_is : own ≡ tributary_of s.slots s.port
+  pub slots : IsSlotList own.line_slots own.slots
   pub whole : AreWholeTurns (length own.slots) past
   pub at : IsAt (machine_after own past) s.following
   pub watched : Watched own.port (λ k. came k past) s.watches

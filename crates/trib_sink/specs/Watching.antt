@@ -1,11 +1,12 @@
 -- The watches over the slots of a line.
 use Rattle.std.specs.Prelude.{ℕ, ◌-◌, ◌≤◌, List, All, slice_index_or}
+use Rattle.otn_base.specs.declared.limits.TheConstants.{MOST_SLOTS}
 use Rattle.msi_table.specs.Marks.{Watch, HasTaken}
 
--- each of eight watches has taken the MSI bytes of its slot
+-- each of as many watches as a line has slots at most has taken the MSI bytes of its slot
 pub record Watched (port : ℕ) (taken : ℕ → List ℕ) (watches : List Watch) : Type 0 where
-  pub each : (k : ℕ) (d : Watch) → 1 ≤ k → k ≤ 8 → HasTaken port (taken k) (slice_index_or watches (k - 1) d)
+  pub each : (k : ℕ) (d : Watch) → 1 ≤ k → k ≤ MOST_SLOTS → HasTaken port (taken k) (slice_index_or watches (k - 1) d)
 
--- slots of a line of eight
-abbrev pub AreOfEight : List (ℕ × ℕ) → Type 0
-AreOfEight came = All (λ p. (1 ≤ p.0) × (p.0 ≤ 8)) came
+-- bytes, each with its slot, of slots that a line can have
+abbrev pub AreOfSlots : List (ℕ × ℕ) → Type 0
+AreOfSlots came = All (λ p. (1 ≤ p.0) × (p.0 ≤ MOST_SLOTS)) came

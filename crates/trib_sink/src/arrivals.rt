@@ -2,18 +2,19 @@
 ghost use Rattle.std.specs.Prelude.{◌≡◌, ◌+◌, ◌<◌, ◌≤◌, ◌++◌, ◌==◌, if◌then◌else◌, length};
 ghost use Rattle.odtu_columns.specs.Message.{message_of};
 ghost use Rattle.tributary_model.specs.Places.{greatest, msi_at};
-ghost use Rattle.trib_sink.specs.Watching.{AreOfEight};
+ghost use Rattle.otn_base.specs.declared.limits.TheConstants.{MOST_SLOTS};
+ghost use Rattle.trib_sink.specs.Watching.{AreOfSlots};
 
 use arrayvec::ArrayVec;
 use frame_geometry::Frame;
 use odtu_columns::message;
 use otn_base::Slots;
+use otn_base::limits::MOST_SLOTS;
 
 /// The message of a multiframe so far: that of frame `n` where it is the frame of the greatest slot.
-#[tactic(auto, using(crate::proofs::Msi::greatest_is_last))]
 pub(crate) fn message_so_far(slots: &Slots, n: u8, frame: &Frame<4080>, former: [u8; 6]) -> [u8; 6]
-    requires { n < 8 }
-    ensures { result ≡ (if n + 1 == greatest slots.now then message_of frame.now else former) }
+    requires { n < MOST_SLOTS }
+    ensures { result ≡ (if n + 1 == greatest slots.now.list then message_of frame.now else former) }
 {
     let _rising = slots.count();
     if n + 1 == slots.last() {
@@ -28,12 +29,12 @@ pub(crate) fn note_msi(
     slots: &Slots,
     frame: &Frame<4080>,
     expected: u8,
-    came: &mut ArrayVec<(u8, u8), 8>,
+    came: &mut ArrayVec<(u8, u8), MOST_SLOTS>,
 )
-    requires room { length came.old.items < 8 }
-    ensures bytes { came.new.items ≡ came.old.items ++ msi_at slots.now expected frame.now }
+    requires room { length came.old.items < MOST_SLOTS }
+    ensures bytes { came.new.items ≡ came.old.items ++ msi_at slots.now.list expected frame.now }
     ensures few { length came.new.items ≤ length came.old.items + 1 }
-    ensures slots { AreOfEight came.old.items → AreOfEight came.new.items }
+    ensures slots { AreOfSlots came.old.items → AreOfSlots came.new.items }
 {
     let _rising = slots.count();
     if expected == 0 {

@@ -1,5 +1,6 @@
 // How a sink follows its tributary from turn to turn, without totals.
 ghost use Rattle.std.specs.Prelude.{◌≡◌, ◌+◌, ◌*◌, ◌<◌, ◌≤◌, [], ◌++◌, Some, IfOk, length, take, drop};
+ghost use Rattle.otn_base.specs.declared.limits.TheConstants.{GROUPS, MOST_SLOTS, NOMINAL};
 ghost use Rattle.maintenance_signals.specs.declared.signal.Signal.TheVariants.{Ais};
 ghost use Rattle.maintenance_signals.specs.Stream.{signal_byte};
 ghost use Rattle.tributary_model.specs.declared.turns.Standing.TheVariants.{Waiting, Down as StandingDown, Up};
@@ -7,7 +8,7 @@ ghost use Rattle.tributary_model.specs.Emission.{stream_bytes};
 ghost use Rattle.tributary_model.specs.Messages.{hears_message};
 ghost use Rattle.tributary_model.specs.Machine.{Machine, start, opened, waits_on, went_on, down_gives, up_gives, former_of, number_of, after_heard, gives_heard};
 ghost use Rattle.trib_sink.specs.Following.{Keeps, FitsStanding, FitsFormer, FitsFirst, FitsNext, IsSmallHearing, IsAt, IsBetween, kept_after};
-ghost use Rattle.trib_sink.specs.Rows.{with_frame};
+ghost use Rattle.trib_sink.specs.Rows.{row_cycles, after_frame};
 
 use crate::hear::hear_message;
 use crate::payload::Payload;
@@ -45,7 +46,7 @@ impl Model for Follower {
 impl Follower {
     /// Waiting, for so many slots. Takes all memory that it will ever need.
     pub(crate) fn new(alloc: Global, slots: usize) -> Result<Self, Memory>
-        requires { slots ≤ 8 }
+        requires { slots ≤ MOST_SLOTS }
         ensures at { IfOk result (λ f. IsAt start f) }
         ensures slots { IfOk result (λ f. f.extraction.slots ≡ slots) }
         ensures asked { IfOk result (λ f. f.extraction.asked ≡ 0) }
@@ -83,9 +84,9 @@ impl Follower {
 
     /// Extracts the data groups of a frame.
     pub(crate) fn take_frame(&mut self, frame: &Frame<4080>, slots: &Slots)
-        requires count { length slots.now ≡ self.old.extraction.slots }
-        requires asked { self.old.extraction.asked + 1904 ≤ 15232 }
-        ensures { self.new ≡ record self.old { extraction = record self.old.extraction { asked = self.old.extraction.asked + 476 + 476 + 476 + 476; fresh = with_frame self.old.extraction.fresh self.old.extraction.number self.old.extraction.asked slots.now frame.now } } }
+        requires count { length slots.now.list ≡ self.old.extraction.slots }
+        requires asked { self.old.extraction.asked + 4 * row_cycles slots.now.kind ≤ GROUPS }
+        ensures { self.new ≡ record self.old { extraction = after_frame slots.now frame.now self.old.extraction } }
     {
         self.payload.take_frame(frame, slots);
     }
@@ -104,7 +105,7 @@ impl Follower {
     /// how many bytes that is.
     pub(crate) fn pass(&mut self, heard: Option<Hearing>, into: &mut [u8]) -> usize
         requires small { IsSmallHearing self.old.extraction.slots heard }
-        requires room { self.old.extraction.slots * 15233 ≤ length into.old }
+        requires room { self.old.extraction.slots * (GROUPS + 1) ≤ length into.old }
         ensures standing { self.new.standing ≡ (after_heard self.old.extraction.slots heard self.old.extraction.fresh (record { standing = self.old.standing; pending = self.old.extraction.pending; place = 0 })).standing }
         ensures at { (s : Machine) → IsAt s self.old → IsAt (after_heard self.old.extraction.slots heard self.old.extraction.fresh s) self.new }
         ensures bytes { (s : Machine) → IsAt s self.old → into.new ≡ gives_heard self.old.extraction.slots (signal_byte Ais) heard self.old.extraction.fresh s ++ drop result into.old }
@@ -152,11 +153,11 @@ impl Follower {
     fn stay_down(&mut self, first: Option<Said>, into: &mut [u8]) -> usize
         requires standing { self.old.standing ≡ StandingDown }
         requires first { FitsFirst self.old.extraction.slots first }
-        requires room { self.old.extraction.slots * 15168 ≤ length into.old }
+        requires room { self.old.extraction.slots * NOMINAL ≤ length into.old }
         ensures standing { self.new.standing ≡ (opened first (record { standing = StandingDown; pending = []; place = 0 })).standing }
-        ensures at { (s : Machine) → IsAt s self.old → IsAt (opened first (record { standing = StandingDown; pending = []; place = s.place + self.old.extraction.slots * 15168 })) self.new }
-        ensures bytes { (s : Machine) → IsAt s self.old → into.new ≡ down_gives first (stream_bytes (signal_byte Ais) s.place (self.old.extraction.slots * 15168)) ++ drop result into.old }
-        ensures count { (s : Machine) → IsAt s self.old → result ≡ length (down_gives first (stream_bytes (signal_byte Ais) s.place (self.old.extraction.slots * 15168))) }
+        ensures at { (s : Machine) → IsAt s self.old → IsAt (opened first (record { standing = StandingDown; pending = []; place = s.place + self.old.extraction.slots * NOMINAL })) self.new }
+        ensures bytes { (s : Machine) → IsAt s self.old → into.new ≡ down_gives first (stream_bytes (signal_byte Ais) s.place (self.old.extraction.slots * NOMINAL)) ++ drop result into.old }
+        ensures count { (s : Machine) → IsAt s self.old → result ≡ length (down_gives first (stream_bytes (signal_byte Ais) s.place (self.old.extraction.slots * NOMINAL))) }
         ensures between { IsBetween self.old self.new }
     {
         match first {
@@ -172,11 +173,11 @@ impl Follower {
     #[tactic(auto, unfolding(maintenance_signals::specs::Stream::signal_bytes, tributary_model::specs::Emission::stream_bytes))]
     fn give_ais(&mut self, into: &mut [u8]) -> usize
         requires standing { self.old.standing ≡ StandingDown }
-        requires room { self.old.extraction.slots * 15168 ≤ length into.old }
+        requires room { self.old.extraction.slots * NOMINAL ≤ length into.old }
         ensures standing { self.new.standing ≡ StandingDown }
-        ensures at { (s : Machine) → IsAt s self.old → IsAt (record { standing = StandingDown; pending = []; place = s.place + self.old.extraction.slots * 15168 }) self.new }
-        ensures bytes { (s : Machine) → IsAt s self.old → into.new ≡ stream_bytes (signal_byte Ais) s.place (self.old.extraction.slots * 15168) ++ drop result into.old }
-        ensures count { result ≡ self.old.extraction.slots * 15168 }
+        ensures at { (s : Machine) → IsAt s self.old → IsAt (record { standing = StandingDown; pending = []; place = s.place + self.old.extraction.slots * NOMINAL }) self.new }
+        ensures bytes { (s : Machine) → IsAt s self.old → into.new ≡ stream_bytes (signal_byte Ais) s.place (self.old.extraction.slots * NOMINAL) ++ drop result into.old }
+        ensures count { result ≡ self.old.extraction.slots * NOMINAL }
         ensures between { IsBetween self.old self.new }
     {
         let count = self.payload.slots() * NOMINAL;
@@ -189,7 +190,7 @@ impl Follower {
     fn stay_up(&mut self, said: Said, next: Option<Said>, into: &mut [u8]) -> usize
         requires standing { self.old.standing ≡ Up said }
         requires next { FitsNext self.old.extraction.slots next said.rest }
-        requires room { self.old.extraction.slots * 15233 ≤ length into.old }
+        requires room { self.old.extraction.slots * (GROUPS + 1) ≤ length into.old }
         ensures standing { self.new.standing ≡ (went_on next said self.old.extraction.pending self.old.extraction.fresh).standing }
         ensures at { (s : Machine) → IsAt s self.old → IsAt (went_on next said s.pending self.old.extraction.fresh) self.new }
         ensures bytes { (s : Machine) → IsAt s self.old → into.new ≡ up_gives next said s.pending self.old.extraction.fresh ++ drop result into.old }
@@ -209,7 +210,7 @@ impl Follower {
     // The first turn after the one that began a stretch emits nothing.
     fn go_first(&mut self, next: Said) -> usize
         requires pending { self.old.extraction.pending ≡ [] }
-        requires next { (next.number ≤ 15232) × (next.rest < self.old.extraction.slots) }
+        requires next { (next.number ≤ GROUPS) × (next.rest < self.old.extraction.slots) }
         requires former { FitsFormer self.old.extraction.slots (self.old.extraction.pending ++ self.old.extraction.fresh) next.former }
         ensures standing { self.new.standing ≡ Up next }
         ensures at { (s : Machine) → IsAt s self.old → IsAt (record { standing = Up next; pending = s.pending ++ self.old.extraction.fresh; place = 0 }) self.new }
@@ -224,10 +225,10 @@ impl Follower {
 
     // A later one emits all pending bytes and as many of its own as are due.
     fn go_on(&mut self, due: u16, next: Said, into: &mut [u8]) -> usize
-        requires next { (next.number ≤ 15232) × (next.rest < self.old.extraction.slots) }
+        requires next { (next.number ≤ GROUPS) × (next.rest < self.old.extraction.slots) }
         requires former { FitsFormer self.old.extraction.slots (drop due self.old.extraction.fresh) next.former }
         requires due { due < self.old.extraction.slots }
-        requires room { self.old.extraction.slots * 15233 ≤ length into.old }
+        requires room { self.old.extraction.slots * (GROUPS + 1) ≤ length into.old }
         ensures standing { self.new.standing ≡ Up next }
         ensures at { (s : Machine) → IsAt s self.old → IsAt (record { standing = Up next; pending = drop due self.old.extraction.fresh; place = 0 }) self.new }
         ensures bytes { into.new ≡ self.old.extraction.pending ++ take due self.old.extraction.fresh ++ drop result into.old }
@@ -242,7 +243,7 @@ impl Follower {
 
     // The ending turn emits all pending bytes.
     fn end(&mut self, into: &mut [u8]) -> usize
-        requires { self.old.extraction.slots * 15232 ≤ length into.old }
+        requires { self.old.extraction.slots * GROUPS ≤ length into.old }
         ensures standing { self.new.standing ≡ StandingDown }
         ensures at { (s : Machine) → IsAt s self.old → IsAt (record { standing = StandingDown; pending = []; place = 0 }) self.new }
         ensures bytes { into.new ≡ self.old.extraction.pending ++ drop result into.old }

@@ -1,9 +1,8 @@
 //! The sink of a tributary: it takes a client's bytes out of the multiframes of a line (G.709 clause 19
 //! and Annex D).
 //!
-//! - `sink`: the sink itself, by turns of eight frames.
-//! - `turn`, `hear`, `said`, `watching`, `arrivals`: what a multiframe says to it: its message and its MSI
-//!   bytes.
+//! - `sink`: the sink itself, by turns of as many frames as the line has slots.
+//! - `turn`, `hear`, `said`, `watching`, `arrivals`: what a turn says to it: its message and its MSI bytes.
 //! - `follower`: how it goes on from turn to turn, without totals.
 //! - `payload`, `extract`: the bytes of the data groups, from the columns of a row into a ring.
 #![tactic(auto)]

@@ -1,7 +1,8 @@
 // The bytes that a sink extracted and did not emit, in a ring.
-ghost use Rattle.std.specs.Prelude.{◌≡◌, ◌+◌, ◌*◌, ◌≤◌, [], ◌++◌, All, IfOk, length, take, drop};
-ghost use Rattle.otn_base.specs.SlotList.{IsSlotList};
-ghost use Rattle.trib_sink.specs.Rows.{row_data, with_rows, with_frame};
+ghost use Rattle.std.specs.Prelude.{◌≡◌, ◌+◌, ◌*◌, ◌≤◌, [], ◌++◌, IfOk, length, take, drop};
+ghost use Rattle.otn_base.specs.LineSlots.{slots_of};
+ghost use Rattle.otn_base.specs.declared.limits.TheConstants.{GROUPS, MOST_SLOTS, PAYLOAD_COLUMNS};
+ghost use Rattle.trib_sink.specs.Rows.{row_cycles, row_data, with_rows, after_frame};
 
 use crate::extract;
 use circular_buffer::HeapCircularBuffer;
@@ -37,7 +38,7 @@ impl Model for Payload {
 impl Payload {
     /// Nothing extracted, for so many slots. Takes all memory that it will ever need.
     pub(crate) fn new(alloc: Global, slots: usize) -> Result<Self, Memory>
-        requires { slots ≤ 8 }
+        requires { slots ≤ MOST_SLOTS }
         ensures { IfOk result (λ p. p ≡ record { slots = slots; number = 0; asked = 0; pending = []; fresh = [] }) }
     {
         let ring = HeapCircularBuffer::with_capacity(alloc, slots * 2 * GROUPS)?;
@@ -54,33 +55,28 @@ impl Payload {
     /// For how many slots it is.
     pub(crate) fn slots(&self) -> usize
         ensures count { result ≡ self.now.slots }
-        ensures few { self.now.slots ≤ 8 }
+        ensures few { self.now.slots ≤ MOST_SLOTS }
     {
         self.slots
     }
 
     /// Extracts the data groups of a frame, row by row.
-    #[tactic(auto, using(odtu_columns::proofs::GroupRows::each_slot))]
     pub(crate) fn take_frame(&mut self, frame: &Frame<4080>, slots: &Slots)
-        requires count { length slots.now ≡ self.old.slots }
-        requires asked { self.old.asked + 1904 ≤ 15232 }
-        ensures { self.new ≡ record self.old { asked = self.old.asked + 476 + 476 + 476 + 476; fresh = with_frame self.old.fresh self.old.number self.old.asked slots.now frame.now } }
+        requires count { length slots.now.list ≡ self.old.slots }
+        requires asked { self.old.asked + 4 * row_cycles slots.now.kind ≤ GROUPS }
+        ensures { self.new ≡ after_frame slots.now frame.now self.old }
     {
-        let _rising = slots.count();
-        let list = slots.as_slice();
-        self.take_rows(frame, list, 1);
-        self.take_rows(frame, list, 3);
+        self.take_rows(frame, slots, 1);
+        self.take_rows(frame, slots, 3);
     }
 
     // Extracts the data groups of a row and of the next one.
-    fn take_rows(&mut self, frame: &Frame<4080>, slots: &[u8], row: u32)
+    fn take_rows(&mut self, frame: &Frame<4080>, slots: &Slots, row: u32)
         requires low { 1 ≤ row }
         requires high { row ≤ 3 }
-        requires slots { All (λ k. (1 ≤ k) × (k ≤ 8)) slots.now }
-        requires list { IsSlotList 8 slots.now }
-        requires count { length slots.now ≡ self.old.slots }
-        requires asked { self.old.asked + 952 ≤ 15232 }
-        ensures { self.new ≡ record self.old { asked = self.old.asked + 476 + 476; fresh = with_rows self.old.fresh self.old.number self.old.asked slots.now frame.now row } }
+        requires count { length slots.now.list ≡ self.old.slots }
+        requires asked { self.old.asked + 2 * row_cycles slots.now.kind ≤ GROUPS }
+        ensures { self.new ≡ record self.old { asked = self.old.asked + row_cycles slots.now.kind + row_cycles slots.now.kind; fresh = with_rows self.old.fresh self.old.number self.old.asked slots.now frame.now row } }
     {
         self.take_row(frame.payload_row(row), slots);
         self.take_row(frame.payload_row(row + 1), slots);
@@ -88,7 +84,7 @@ impl Payload {
 
     /// Drops all bytes, and begins a turn whose groups are data by this number.
     pub(crate) fn clear(&mut self, number: u16)
-        requires { number ≤ 15232 }
+        requires { number ≤ GROUPS }
         ensures { self.new ≡ record self.old { number = number; asked = 0; pending = []; fresh = [] } }
     {
         self.ring.clear();
@@ -98,7 +94,7 @@ impl Payload {
 
     /// Emits nothing, keeps all bytes pending, and begins a turn whose groups are data by this number.
     pub(crate) fn keep_all(&mut self, number: u16)
-        requires number { number ≤ 15232 }
+        requires number { number ≤ GROUPS }
         requires first { self.old.pending ≡ [] }
         ensures { self.new ≡ record self.old { number = number; asked = 0; pending = self.old.pending ++ self.old.fresh; fresh = [] } }
     {
@@ -109,8 +105,8 @@ impl Payload {
     /// Emits all pending bytes and as many of this turn's as are due, keeps the others pending, and
     /// begins a turn whose groups are data by this number.
     pub(crate) fn give_due(&mut self, due: u16, number: u16, into: &mut [u8]) -> usize
-        requires number { number ≤ 15232 }
-        requires room { self.old.slots * 15232 + due ≤ length into.old }
+        requires number { number ≤ GROUPS }
+        requires room { self.old.slots * GROUPS + due ≤ length into.old }
         ensures state { self.new ≡ record self.old { number = number; asked = 0; pending = drop due self.old.fresh; fresh = [] } }
         ensures bytes { into.new ≡ self.old.pending ++ take due self.old.fresh ++ drop result into.old }
         ensures count { result ≡ length (self.old.pending ++ take due self.old.fresh) }
@@ -125,7 +121,7 @@ impl Payload {
 
     /// Emits all pending bytes and drops those of this turn.
     pub(crate) fn give_pending(&mut self, into: &mut [u8]) -> usize
-        requires { self.old.slots * 15232 ≤ length into.old }
+        requires { self.old.slots * GROUPS ≤ length into.old }
         ensures state { self.new ≡ record self.old { number = 0; asked = 0; pending = []; fresh = [] } }
         ensures bytes { into.new ≡ self.old.pending ++ drop result into.old }
         ensures count { result ≡ length self.old.pending }
@@ -138,13 +134,11 @@ impl Payload {
     }
 
     // Extracts the data groups of a row.
-    fn take_row(&mut self, payload: &[u8], slots: &[u8])
-        requires payload { length payload.now ≡ 3808 }
-        requires slots { All (λ k. (1 ≤ k) × (k ≤ 8)) slots.now }
-        requires list { IsSlotList 8 slots.now }
-        requires count { length slots.now ≡ self.old.slots }
-        requires asked { self.old.asked + 476 ≤ 15232 }
-        ensures { self.new ≡ record self.old { asked = self.old.asked + 476; fresh = self.old.fresh ++ row_data self.old.number self.old.asked payload.now slots.now 476 } }
+    fn take_row(&mut self, payload: &[u8], slots: &Slots)
+        requires payload { length payload.now ≡ PAYLOAD_COLUMNS }
+        requires count { length slots.now.list ≡ self.old.slots }
+        requires asked { self.old.asked + row_cycles slots.now.kind ≤ GROUPS }
+        ensures { self.new ≡ record self.old { asked = self.old.asked + row_cycles slots.now.kind; fresh = self.old.fresh ++ row_data (slots_of slots.now.kind) self.old.number self.old.asked payload.now slots.now.list (row_cycles slots.now.kind) } }
     {
         push_row(
             &mut self.runner,
@@ -160,20 +154,17 @@ impl Payload {
 fn push_row(
     runner: &mut Runner,
     payload: &[u8],
-    slots: &[u8],
+    slots: &Slots,
     scratch: &mut [u8],
     ring: &mut HeapCircularBuffer<u8>,
 )
-    requires payload { length payload.now ≡ 3808 }
-    requires slots { All (λ k. (1 ≤ k) × (k ≤ 8)) slots.now }
-    requires list { IsSlotList 8 slots.now }
-    requires few { length slots.now ≤ 8 }
-    requires scratch { length scratch.old ≡ 3808 }
-    requires asked { runner.old.asked + 476 ≤ 15232 }
-    requires room { length ring.old.items + length slots.now * 476 ≤ ring.old.capacity }
-    ensures ring { ring.new ≡ record ring.old { items = ring.old.items ++ row_data runner.old.number runner.old.asked payload.now slots.now 476 } }
-    ensures count { length ring.new.items ≤ length ring.old.items + length slots.now * 476 }
-    ensures runner { runner.new ≡ record runner.old { asked = runner.old.asked + 476 } }
+    requires payload { length payload.now ≡ PAYLOAD_COLUMNS }
+    requires scratch { length scratch.old ≡ PAYLOAD_COLUMNS }
+    requires asked { runner.old.asked + row_cycles slots.now.kind ≤ GROUPS }
+    requires room { length ring.old.items + length slots.now.list * row_cycles slots.now.kind ≤ ring.old.capacity }
+    ensures ring { ring.new ≡ record ring.old { items = ring.old.items ++ row_data (slots_of slots.now.kind) runner.old.number runner.old.asked payload.now slots.now.list (row_cycles slots.now.kind) } }
+    ensures count { length ring.new.items ≤ length ring.old.items + length slots.now.list * row_cycles slots.now.kind }
+    ensures runner { runner.new ≡ record runner.old { asked = runner.old.asked + row_cycles slots.now.kind } }
 {
     let count = extract::take_row(runner, payload, slots, scratch);
     ring.fill_from_slice(&scratch[..count]);

@@ -1,18 +1,21 @@
 // The sink of a tributary.
-ghost use Rattle.std.specs.Prelude.{◌≡◌, ℕ, ◌+◌, ◌*◌, ◌<◌, ◌≤◌, List, [], ◌∷◌, ◌++◌, Option, IfOk, IsTrue, true, false, length, drop};
+ghost use Rattle.std.specs.Prelude.{◌≡◌, ℕ, ◌+◌, ◌*◌, ◌<◌, ◌≤◌, List, [], ◌∷◌, ◌++◌, Option, IfOk, IsTrue, length, drop};
 ghost use Rattle.maintenance_signals.specs.declared.signal.Signal.TheVariants.{Ais};
 ghost use Rattle.maintenance_signals.specs.Stream.{signal_byte};
-ghost use Rattle.tributary_model.specs.Places.{Tributary, Taken, View};
+ghost use Rattle.otn_base.specs.LineSlots.{slots_of};
+ghost use Rattle.otn_base.specs.declared.limits.TheConstants.{GROUPS};
+ghost use Rattle.tributary_model.specs.Places.{Tributary, tributary_of, Taken, View};
 ghost use Rattle.tributary_model.specs.Stretches.{state_after};
 ghost use Rattle.tributary_model.specs.Emission.{emission};
 ghost use Rattle.tributary_model.specs.Machine.{state_of_standing};
 
 use crate::arrivals::{message_so_far, note_msi};
 use crate::follower::Follower;
-use crate::turn::hear_multiframe;
+use crate::turn::hear_turn;
 use arrayvec::ArrayVec;
 use frame_geometry::Frame;
 use msi_table::MsiWatch;
+use otn_base::limits::MOST_SLOTS;
 use otn_base::{Memory, Slots};
 use std::alloc::Global;
 use std::marker::Model;
@@ -25,10 +28,10 @@ pub struct TribSink {
     slots: Slots,
     port: u8,
     follower: Follower,
-    watches: [MsiWatch; 8],
+    watches: [MsiWatch; MOST_SLOTS],
     taken: u8,
     message: [u8; 6],
-    came: ArrayVec<(u8, u8), 8>,
+    came: ArrayVec<(u8, u8), MOST_SLOTS>,
 }
 
 impl Model for TribSink {
@@ -44,12 +47,13 @@ impl Model for TribSink {
 impl TribSink {
     ghost use Rattle.trib_sink.specs.Sink.{StandsAfter, ended_view};
 
-    /// A sink of these slots and this tributary port (1 to 8), before its first turn. Takes all memory
-    /// that it will ever need; answers `Memory` where there is none.
+    /// A sink of these slots and this tributary port (1 to the number of the line's slots), before its
+    /// first turn. Takes all memory that it will ever need, 30,464 bytes a slot and a row; answers
+    /// `Memory` where there is none.
     pub fn new(alloc: Global, slots: &Slots, port: u8) -> Result<TribSink, Memory>
         requires low { 1 ≤ port }
-        requires high { port ≤ 8 }
-        ensures stands { IfOk result (λ s. StandsAfter (record { line_slots = 8; slots = slots.now; port = port }) [] [] s) }
+        requires high { port ≤ slots_of slots.now.kind }
+        ensures stands { IfOk result (λ s. StandsAfter (tributary_of slots.now port) [] [] s) }
         ensures taken { IfOk result (λ s. s.taken ≡ 0) }
         ensures slots { IfOk result (λ s. s.slots ≡ slots.now) }
     {
@@ -59,7 +63,7 @@ impl TribSink {
             slots,
             port,
             follower,
-            watches: [MsiWatch::new(port); 8],
+            watches: [MsiWatch::new(port); MOST_SLOTS],
             taken: 0,
             message: [0; 6],
             came: ArrayVec::new(),
@@ -75,22 +79,22 @@ impl TribSink {
 
     /// Begins anew, as a new sink of the same slots and port.
     pub fn restart(&mut self)
-        ensures stands { StandsAfter (record { line_slots = 8; slots = self.old.slots; port = self.old.port }) [] [] self.new }
+        ensures stands { StandsAfter (tributary_of self.old.slots self.old.port) [] [] self.new }
         ensures taken { self.new.taken ≡ 0 }
         ensures slots { self.new.slots ≡ self.old.slots }
     {
         let _rising = self.slots.count();
         self.follower.restart();
-        let watches = [MsiWatch::new(self.port); 8];
+        let watches = [MsiWatch::new(self.port); MOST_SLOTS];
         self.watches = watches;
         self.came.clear();
         self.taken = 0;
     }
 
-    /// Takes frame `n` (0 to 7) of a turn, of which `n` frames are taken, with the MFAS number that is
-    /// expected of it.
+    /// Takes frame `n` (from 0; a multiframe has as many as the line has slots) of a turn, of which `n`
+    /// frames are taken, with the MFAS number that is expected of it.
     pub fn take_frame(&mut self, n: u8, frame: &Frame<4080>, expected: u8)
-        requires number { n < 8 }
+        requires number { n < slots_of self.old.slots.kind }
         requires taken { n ≡ self.old.taken }
         ensures stands { (own : Tributary) (past : List (Option View)) (frames : List Taken) → StandsAfter own past frames self.old
             → StandsAfter own past (frames ++ record { frame = frame.now; expected = expected } ∷ []) self.new }
@@ -103,12 +107,12 @@ impl TribSink {
         self.taken += 1;
     }
 
-    /// Ends a turn: `whole` says that it has a multiframe, whose eight frames were taken. `into` has at
+    /// Ends a turn: `whole` says that it has a multiframe, all of whose frames were taken. `into` has at
     /// its front the bytes that the turn emits, and the answer is how many they are: at most
     /// `most_bytes` of the slots. In a turn without a multiframe no byte that was taken counts.
     pub fn end_turn(&mut self, whole: bool, into: &mut [u8]) -> usize
-        requires whole { IsTrue whole → self.old.taken ≡ 8 }
-        requires room { length self.old.slots * 15233 ≤ length into.old }
+        requires whole { IsTrue whole → self.old.taken ≡ slots_of self.old.slots.kind }
+        requires room { length self.old.slots.list * (GROUPS + 1) ≤ length into.old }
         ensures stands { (own : Tributary) (past : List (Option View)) (frames : List Taken) → StandsAfter own past frames self.old
             → StandsAfter own (ended_view own whole frames ∷ past) [] self.new }
         ensures bytes { (own : Tributary) (past : List (Option View)) (frames : List Taken) → StandsAfter own past frames self.old
@@ -118,27 +122,8 @@ impl TribSink {
         ensures taken { self.new.taken ≡ 0 }
         ensures slots { self.new.slots ≡ self.old.slots }
     {
-        if whole {
-            self.end_whole(into)
-        } else {
-            self.end_missed(into)
-        }
-    }
-
-    // Ends a turn with a multiframe.
-    fn end_whole(&mut self, into: &mut [u8]) -> usize
-        requires whole { self.old.taken ≡ 8 }
-        requires room { length self.old.slots * 15233 ≤ length into.old }
-        ensures stands { (own : Tributary) (past : List (Option View)) (frames : List Taken) → StandsAfter own past frames self.old
-            → StandsAfter own (ended_view own true frames ∷ past) [] self.new }
-        ensures bytes { (own : Tributary) (past : List (Option View)) (frames : List Taken) → StandsAfter own past frames self.old
-            → into.new ≡ emission own (signal_byte Ais) past (ended_view own true frames) ++ drop result into.old }
-        ensures count { (own : Tributary) (past : List (Option View)) (frames : List Taken) → StandsAfter own past frames self.old
-            → result ≡ length (emission own (signal_byte Ais) past (ended_view own true frames)) }
-        ensures taken { self.new.taken ≡ 0 }
-        ensures slots { self.new.slots ≡ self.old.slots }
-    {
-        let heard = hear_multiframe(
+        let heard = hear_turn(
+            whole,
             &self.slots,
             self.message,
             self.came.as_slice(),
@@ -146,24 +131,6 @@ impl TribSink {
             &mut self.follower,
         );
         let count = self.follower.pass(heard, into);
-        self.came.clear();
-        self.taken = 0;
-        count
-    }
-
-    // Ends a turn without a multiframe.
-    fn end_missed(&mut self, into: &mut [u8]) -> usize
-        requires room { length self.old.slots * 15233 ≤ length into.old }
-        ensures stands { (own : Tributary) (past : List (Option View)) (frames : List Taken) → StandsAfter own past frames self.old
-            → StandsAfter own (ended_view own false frames ∷ past) [] self.new }
-        ensures bytes { (own : Tributary) (past : List (Option View)) (frames : List Taken) → StandsAfter own past frames self.old
-            → into.new ≡ emission own (signal_byte Ais) past (ended_view own false frames) ++ drop result into.old }
-        ensures count { (own : Tributary) (past : List (Option View)) (frames : List Taken) → StandsAfter own past frames self.old
-            → result ≡ length (emission own (signal_byte Ais) past (ended_view own false frames)) }
-        ensures taken { self.new.taken ≡ 0 }
-        ensures slots { self.new.slots ≡ self.old.slots }
-    {
-        let count = self.follower.pass(None, into);
         self.came.clear();
         self.taken = 0;
         count

@@ -1,15 +1,16 @@
 // A sink on turns whose emission is known by hand.
-ghost use Rattle.std.specs.Prelude.{◌≡◌, ◌*◌, ◌≤◌, [], IfOk, length, vec_len};
+ghost use Rattle.std.specs.Prelude.{◌≡◌, ◌+◌, ◌*◌, ◌≤◌, [], IfOk, length, vec_len};
+ghost use Rattle.otn_base.specs.declared.limits.TheConstants.{GROUPS};
 
 use super::{SinkState, TribSink};
 use cnd_codec::say_d;
 use frame_geometry::Frame;
 use jc_codec::say;
-use otn_base::{Memory, Slots};
+use otn_base::{LineKind, Memory, Slots};
 use std::alloc::Global;
 use std::test::Fail;
 
-// What a turn of an ODU0 on slot 3 has: the message of a steady ODU0, one whose JC3 is wrong, or no multiframe.
+// What a turn of an ODU0 has: the message of a steady ODU0, one whose JC3 is wrong, or no multiframe.
 #[derive(Clone, Copy, PartialEq, Eq)]
 enum Turn {
     Steady,
@@ -17,23 +18,36 @@ enum Turn {
     Missed,
 }
 
-// Takes eight frames of one turn, whose payload bytes are all `fill`, with this message in the frame of slot 3
-// and the MSI byte of port 1 at each slot, and ends the turn.
+// What the frames of a turn show on a line of this kind: the message in one of them, from 0, and payload bytes
+// that are all `fill`.
+#[derive(Clone, Copy)]
+struct Shown {
+    kind: LineKind,
+    at: u8,
+    message: [u8; 6],
+    fill: u8,
+}
+
+// Takes all frames of one turn, with the MSI byte of port 1 at each slot, and ends the turn.
 fn pass_turn(
     sink: &mut TribSink,
     frame: &mut Frame<4080>,
-    message: [u8; 6],
-    fill: u8,
+    shown: Shown,
     whole: bool,
     into: &mut [u8],
 ) -> usize
+    requires kind { sink.old.slots.kind ≡ shown.kind }
     requires taken { sink.old.taken ≡ 0 }
-    requires room { length sink.old.slots * 15233 ≤ length into.old }
+    requires room { length sink.old.slots.list * (GROUPS + 1) ≤ length into.old }
     ensures taken { sink.new.taken ≡ 0 }
     ensures slots { sink.new.slots ≡ sink.old.slots }
 {
-    for n in 0..8u8 {
-        write_frame(frame, if n == 2 { message } else { [0; 6] }, fill);
+    for n in 0..shown.kind.slots() {
+        write_frame(
+            frame,
+            if n == shown.at { shown.message } else { [0; 6] },
+            shown.fill,
+        );
         sink.take_frame(n, frame, n);
     }
     sink.end_turn(whole, into)
@@ -109,23 +123,31 @@ fn buffer(alloc: Global, size: usize) -> Result<Vec<u8>, Memory>
     Ok(vec![in alloc; 0u8; size]?)
 }
 
-// The row of the table that a turn does not meet, counted from 1, or 0 where all are met.
-fn first_wrong(sink: &mut TribSink, frame: &mut Frame<4080>, rows: &[Row], into: &mut [u8]) -> u8
+// The row of the table that a turn does not meet, counted from 1, or 0 where all are met. The message stands in
+// frame `at` of each turn.
+fn first_wrong(
+    sink: &mut TribSink,
+    frame: &mut Frame<4080>,
+    kind: LineKind,
+    at: u8,
+    rows: &[Row],
+    into: &mut [u8],
+) -> u8
+    requires kind { sink.old.slots.kind ≡ kind }
     requires taken { sink.old.taken ≡ 0 }
-    requires room { length sink.old.slots * 15233 ≤ length into.old }
+    requires room { length sink.old.slots.list * (GROUPS + 1) ≤ length into.old }
 {
     let mut t = 0u8;
     for row in rows {
         t = t.saturating_add(1);
         let (turn, count, byte, state) = *row;
-        let emitted = pass_turn(
-            sink,
-            frame,
-            message_of(turn, t),
-            t,
-            turn != Turn::Missed,
-            into,
-        );
+        let shown = Shown {
+            kind,
+            at,
+            message: message_of(turn, t),
+            fill: t,
+        };
+        let emitted = pass_turn(sink, frame, shown, turn != Turn::Missed, into);
         if emitted != count || sink.state() != state {
             return t;
         }
@@ -138,12 +160,41 @@ fn first_wrong(sink: &mut TribSink, frame: &mut Frame<4080>, rows: &[Row], into:
 
 #[test]
 fn steady_damaged_and_missed_turns(rt: HostRuntime) -> Result<(), Fail> {
-    let slots = Slots::new(&[3]).ok_or("slot 3")?;
+    let slots = Slots::new(&[3], LineKind::Otu2).ok_or("slot 3")?;
     let mut frame = Frame::<4080>::new(rt.alloc())?;
     let mut into = buffer(rt.alloc(), 15_233)?;
     let mut sink = TribSink::new(rt.alloc(), &slots, 1)?;
+    let kind = slots.kind();
     if slots.count() == 1 {
-        assert_eq!(rt; first_wrong(&mut sink, &mut frame, &ROWS, &mut into), 0);
+        assert_eq!(rt;
+            first_wrong(&mut sink, &mut frame, kind, 2, &ROWS, &mut into),
+            0
+        );
+    }
+    Ok(())
+}
+
+// The message of slot 17 of 32 stands in frame 16 of a multiframe, counted from 0. Each other frame says that no
+// group is data.
+const STEADY: [Row; 4] = [
+    (Turn::Steady, 0, 0, SinkState::Up),
+    (Turn::Steady, 0, 0, SinkState::Up),
+    (Turn::Steady, 15_168, 2, SinkState::Up),
+    (Turn::Steady, 15_168, 3, SinkState::Up),
+];
+
+#[test]
+fn slot_17_of_32(rt: HostRuntime) -> Result<(), Fail> {
+    let slots = Slots::new(&[17], LineKind::Otu3).ok_or("slot 17")?;
+    let mut frame = Frame::<4080>::new(rt.alloc())?;
+    let mut into = buffer(rt.alloc(), 15_233)?;
+    let mut sink = TribSink::new(rt.alloc(), &slots, 1)?;
+    let kind = slots.kind();
+    if slots.count() == 1 {
+        assert_eq!(rt;
+            first_wrong(&mut sink, &mut frame, kind, 16, &STEADY, &mut into),
+            0
+        );
     }
     Ok(())
 }
@@ -158,12 +209,16 @@ const MISSED: [Row; 4] = [
 
 #[test]
 fn never_accepted(rt: HostRuntime) -> Result<(), Fail> {
-    let slots = Slots::new(&[3]).ok_or("slot 3")?;
+    let slots = Slots::new(&[3], LineKind::Otu2).ok_or("slot 3")?;
     let mut frame = Frame::<4080>::new(rt.alloc())?;
     let mut into = buffer(rt.alloc(), 15_233)?;
     let mut sink = TribSink::new(rt.alloc(), &slots, 1)?;
+    let kind = slots.kind();
     if slots.count() == 1 {
-        assert_eq!(rt; first_wrong(&mut sink, &mut frame, &MISSED, &mut into), 0);
+        assert_eq!(rt;
+            first_wrong(&mut sink, &mut frame, kind, 2, &MISSED, &mut into),
+            0
+        );
     }
     // A frame of AIS begins with FAS and MFAS, seven bytes 0 and then ones.
     for (place, byte) in [
@@ -191,15 +246,27 @@ const PAIRS: [(u16, u16, usize); 7] = [
     (15_000, 0, 45_000),
 ];
 
-// The pair, counted from 1, at which another number of bytes is emitted, or 0 where there is none.
+// All groups of all turns are data: 32 slots of 15,232 bytes.
+const FULL: [(u16, u16, usize); 4] = [
+    (15_232, 0, 0),
+    (15_232, 0, 0),
+    (15_232, 0, 487_424),
+    (15_232, 0, 487_424),
+];
+
+// The pair, counted from 1, at which another number of bytes is emitted, or 0 where there is none. The message
+// stands in frame `at` of each turn.
 fn first_wrong_pair(
     sink: &mut TribSink,
     frame: &mut Frame<4080>,
+    kind: LineKind,
+    at: u8,
     pairs: &[(u16, u16, usize)],
     into: &mut [u8],
 ) -> u8
+    requires kind { sink.old.slots.kind ≡ kind }
     requires taken { sink.old.taken ≡ 0 }
-    requires room { length sink.old.slots * 15233 ≤ length into.old }
+    requires room { length sink.old.slots.list * (GROUPS + 1) ≤ length into.old }
 {
     let mut t = 0u8;
     let mut former = None;
@@ -210,7 +277,13 @@ fn first_wrong_pair(
         let [jc1, jc2, jc3] = say(former, number);
         let [jc4, jc5, jc6] = say_d(rest.min(1023));
         former = Some(number);
-        if pass_turn(sink, frame, [jc1, jc2, jc3, jc4, jc5, jc6], t, true, into) != count {
+        let shown = Shown {
+            kind,
+            at,
+            message: [jc1, jc2, jc3, jc4, jc5, jc6],
+            fill: t,
+        };
+        if pass_turn(sink, frame, shown, true, into) != count {
             return t;
         }
     }
@@ -219,17 +292,38 @@ fn first_wrong_pair(
 
 #[test]
 fn remainders_of_three_slots(rt: HostRuntime) -> Result<(), Fail> {
-    let slots = Slots::new(&[1, 2, 3]).ok_or("three slots")?;
+    let slots = Slots::new(&[1, 2, 3], LineKind::Otu2).ok_or("three slots")?;
     let mut frame = Frame::<4080>::new(rt.alloc())?;
     let mut into = buffer(rt.alloc(), 45_699)?;
     let mut sink = TribSink::new(rt.alloc(), &slots, 1)?;
+    let kind = slots.kind();
     if slots.count() == 3 {
         assert_eq!(rt;
-            first_wrong_pair(&mut sink, &mut frame, &PAIRS, &mut into),
+            first_wrong_pair(&mut sink, &mut frame, kind, 2, &PAIRS, &mut into),
             0
         );
     }
     sink.restart();
     assert_eq!(rt; sink.state(), SinkState::Waiting);
+    Ok(())
+}
+
+#[test]
+fn all_of_32_slots(rt: HostRuntime) -> Result<(), Fail> {
+    let list = [
+        1, 2, 3, 4, 5, 6, 7, 8, 9, 10, 11, 12, 13, 14, 15, 16, 17, 18, 19, 20, 21, 22, 23, 24, 25,
+        26, 27, 28, 29, 30, 31, 32,
+    ];
+    let slots = Slots::new(&list, LineKind::Otu3).ok_or("all slots")?;
+    let mut frame = Frame::<4080>::new(rt.alloc())?;
+    let mut into = buffer(rt.alloc(), 487_456)?;
+    let mut sink = TribSink::new(rt.alloc(), &slots, 1)?;
+    let kind = slots.kind();
+    if slots.count() == 32 {
+        assert_eq!(rt;
+            first_wrong_pair(&mut sink, &mut frame, kind, 31, &FULL, &mut into),
+            0
+        );
+    }
     Ok(())
 }

@@ -1,12 +1,13 @@
-// What a turn's multiframe says to a sink.
-ghost use Rattle.std.specs.Prelude.{◌≡◌, ℕ, ◌≤◌, List, [], ◌++◌, Bool, Option, Some, None, if◌then◌else◌, length};
+// What a turn says to a sink.
+ghost use Rattle.std.specs.Prelude.{◌≡◌, ℕ, ◌≤◌, List, [], ◌++◌, Bool, true, false, Option, Some, None, if◌then◌else◌, length};
 ghost use Rattle.std.specs.List.{list_any};
+ghost use Rattle.otn_base.specs.declared.limits.TheConstants.{MOST_SLOTS};
 ghost use Rattle.msi_table.specs.Marks.{is_marked};
 ghost use Rattle.tributary_model.specs.Messages.{hears_message};
 ghost use Rattle.tributary_model.specs.Stretches.{bytes_of};
 ghost use Rattle.tributary_model.specs.Machine.{former_of};
 ghost use Rattle.trib_sink.specs.Following.{Keeps, IsSmallHearing, listener_after};
-ghost use Rattle.trib_sink.specs.Watching.{Watched, AreOfEight};
+ghost use Rattle.trib_sink.specs.Watching.{Watched, AreOfSlots};
 
 use crate::follower::Follower;
 use crate::watching::{any_marked, take_all};
@@ -14,26 +15,31 @@ use msi_table::MsiWatch;
 use otn_base::Slots;
 use tributary_model::Hearing;
 
-/// Watches the MSI bytes that came in a turn with a multiframe, and hears its message where no slot is
-/// marked.
-#[tactic(auto, using(odtu_columns::proofs::GroupRows::each_slot, crate::proofs::Fits::heard_is_small))]
-pub(crate) fn hear_multiframe(
+/// Watches the MSI bytes that came in a turn, and hears its message where no slot is marked. Where the
+/// turn has no multiframe (`whole` is false) none of them counts, and nothing is heard.
+#[tactic(auto, using(crate::proofs::LineRows::slots_inside, crate::proofs::Fits::heard_is_small, crate::proofs::Fits::nothing_is_small))]
+pub(crate) fn hear_turn(
+    whole: bool,
     slots: &Slots,
     message: [u8; 6],
     came: &[(u8, u8)],
     watches: &mut [MsiWatch],
     follower: &mut Follower,
 ) -> Option<Hearing>
-    requires eight { length watches.old ≡ 8 }
-    requires came { AreOfEight came.now }
+    requires watches { length watches.old ≡ MOST_SLOTS }
+    requires came { AreOfSlots came.now }
     requires keeps { Keeps follower.old.standing follower.old.listener }
-    ensures watched { (port : ℕ) (taken : ℕ → List ℕ) → Watched port taken watches.old → Watched port (λ k. taken k ++ bytes_of k came.now) watches.new }
-    ensures heard { (port : ℕ) (taken : ℕ → List ℕ) → Watched port taken watches.old
-        → result ≡ (if list_any (λ k. is_marked port (taken k ++ bytes_of k came.now)) slots.now then None
+    ensures missed { whole ≡ false → (result ≡ None) × (watches.new ≡ watches.old) }
+    ensures watched { whole ≡ true → (port : ℕ) (taken : ℕ → List ℕ) → Watched port taken watches.old → Watched port (λ k. taken k ++ bytes_of k came.now) watches.new }
+    ensures heard { whole ≡ true → (port : ℕ) (taken : ℕ → List ℕ) → Watched port taken watches.old
+        → result ≡ (if list_any (λ k. is_marked port (taken k ++ bytes_of k came.now)) slots.now.list then None
         else Some (hears_message (former_of follower.old.standing) follower.old.extraction.slots message)) }
     ensures small { IsSmallHearing follower.old.extraction.slots result }
     ensures follower { follower.new ≡ record follower.old { listener = listener_after follower.old result } }
 {
+    if !whole {
+        return None;
+    }
     let _rising = slots.count();
     take_all(watches, came);
     if any_marked(watches, slots.as_slice()) {

@@ -1,16 +1,17 @@
 // The watches over the slots of a line.
 ghost use Rattle.std.specs.Prelude.{◌≡◌, ℕ, ◌≤◌, List, [], ◌∷◌, ◌++◌, ◌==◌, if◌then◌else◌, All, length};
 ghost use Rattle.std.specs.List.{list_any};
+ghost use Rattle.otn_base.specs.declared.limits.TheConstants.{MOST_SLOTS};
 ghost use Rattle.msi_table.specs.Marks.{is_marked};
 ghost use Rattle.tributary_model.specs.Stretches.{bytes_of};
-ghost use Rattle.trib_sink.specs.Watching.{Watched, AreOfEight};
+ghost use Rattle.trib_sink.specs.Watching.{Watched, AreOfSlots};
 
 use msi_table::MsiWatch;
 
 /// Takes the MSI bytes that came in a turn, each with its slot.
 pub(crate) fn take_all(watches: &mut [MsiWatch], came: &[(u8, u8)])
-    requires eight { length watches.old ≡ 8 }
-    requires slots { AreOfEight came.now }
+    requires watches { length watches.old ≡ MOST_SLOTS }
+    requires slots { AreOfSlots came.now }
     ensures { (port : ℕ) (taken : ℕ → List ℕ) → Watched port taken watches.old → Watched port (λ k. taken k ++ bytes_of k came.now) watches.new }
 {
     for pair in came {
@@ -20,9 +21,9 @@ pub(crate) fn take_all(watches: &mut [MsiWatch], came: &[(u8, u8)])
 
 // Takes the MSI byte of one slot.
 fn take_one(watches: &mut [MsiWatch], slot: u8, byte: u8)
-    requires eight { length watches.old ≡ 8 }
+    requires watches { length watches.old ≡ MOST_SLOTS }
     requires low { 1 ≤ slot }
-    requires high { slot ≤ 8 }
+    requires high { slot ≤ MOST_SLOTS }
     ensures { (port : ℕ) (taken : ℕ → List ℕ) → Watched port taken watches.old → Watched port (λ k. taken k ++ (if slot == k then byte ∷ [] else [])) watches.new }
 {
     let watch = &mut watches[slot as usize - 1];
@@ -31,8 +32,8 @@ fn take_one(watches: &mut [MsiWatch], slot: u8, byte: u8)
 
 /// Whether one of these slots is marked.
 pub(crate) fn any_marked(watches: &[MsiWatch], slots: &[u8]) -> bool
-    requires eight { length watches.now ≡ 8 }
-    requires slots { All (λ k. (1 ≤ k) × (k ≤ 8)) slots.now }
+    requires watches { length watches.now ≡ MOST_SLOTS }
+    requires slots { All (λ k. (1 ≤ k) × (k ≤ MOST_SLOTS)) slots.now }
     ensures { (port : ℕ) (taken : ℕ → List ℕ) → Watched port taken watches.now → result ≡ list_any (λ k. is_marked port (taken k)) slots.now }
 {
     for k in slots {

@@ -4,6 +4,6 @@ use Rattle.trib_sink.proofs.extract.put_cycle.Goals as goal
 
 pub returns-clause-bytes : goal.returns-clause-bytes
 returns-clause-bytes c =
-    behind c.args.into.now c.cycle_group.new.into c.args.at (c.args.at + length c.args.slots.now - c.args.at) (c.args.at + length c.args.slots.now) (omega arith)
-    (let e : c.args.at + length c.args.slots.now ≡ c.args.at + length c.cycle_group.new.into = omega arith in e)
+    let end = c.args.at + c.count.result in
+    behind c.args.into.now c.cycle_group.new.into c.args.at (end - c.args.at) end (omega arith) (let e : end ≡ c.args.at + length c.cycle_group.new.into = omega arith in e)
     ∙ ap (λ ys. take c.args.at c.args.into.now ++ ys) c.cycle_group.ensures

@@ -1,8 +1,18 @@
-use Rattle.std.proofs.Common.{◌≡◌, ◌+◌, ◌++◌, [], cond, ap, arith, subst, take, ◌∙◌}
+use Rattle.std.proofs.Common.{◌≡◌, ◌+◌, ◌*◌, ◌≤◌, ◌++◌, [], cond, length, ap, arith, subst, take, ◌∙◌}
 use Rattle.gmp_rule.specs.DataRule.{Progress, IsData, is_data_at}
+use Rattle.otn_base.specs.LineSlots.{slots_of}
 use Rattle.odtu_columns.specs.Payload.{payload_group}
+use Rattle.trib_sink.proofs.LineRows.{room_behind}
 use Rattle.trib_sink.proofs.Runs.{row_more}
 use Rattle.trib_sink.proofs.extract.take_row.Goals as goal
+
+pub put_cycles-end-requires-clause-room : goal.put_cycles-end-requires-clause-room
+put_cycles-end-requires-clause-room c =
+    let m = length c.args.slots.now.list in
+    let x = c.loop-cycle.cycle in
+    let behind : c.take_cycle-end.result ≤ m * (x + 1) = (let end = c.take_cycle-end.ensures.end in let few = c.loop-cycle.invariant.few in let more : m * (x + 1) ≡ m * x + m = omega arith in omega arith) in
+    let room = room_behind m c.take_cycle-end.result (x + 1) c.data_run-run.result c.groups_of_row-groups.result 3808 behind (omega arith) c.groups_of_row-groups.ensures.inside in
+    omega arith
 
 pub loop-cycle-preserved : goal.loop-cycle-preserved
 loop-cycle-preserved c =
@@ -11,7 +21,7 @@ loop-cycle-preserved c =
     let x = c.loop-cycle.cycle in
     let run = c.data_run-run.result in
     let front = take c.loop-cycle.end c.loop-cycle.into in
-    let here = payload_group c.args.payload.now c.args.slots.now x in
+    let here = payload_group (slots_of c.args.slots.now.kind) c.args.payload.now c.args.slots.now.list x in
     let asked : c.take_cycle-end.new.runner ≡ record { number = number; asked = before + x + 1 } =
     c.take_cycle-end.ensures.runner ∙ ap (λ (r : Progress). record r { asked = r.asked + 1 }) c.loop-cycle.invariant.runner in
     let one : take c.take_cycle-end.result c.take_cycle-end.new.into ≡ front ++ cond (is_data_at number (before + x + 1)) here [] =
@@ -21,7 +31,7 @@ loop-cycle-preserved c =
       runner = c.data_run-run.ensures.step ∙ ap (λ (r : Progress). record r { asked = r.asked + run }) asked
           ∙ ap (λ n. record { number = number; asked = n }) (let e : before + x + 1 + run ≡ before + (x + (run + 1)) = omega arith in e);
       few = grind arith;
-      bytes = row_more number before c.args.payload.now c.args.slots.now c.loop-cycle.into c.take_cycle-end.new.into c.put_cycles-end.new.into
+      bytes = row_more (slots_of c.args.slots.now.kind) number before c.args.payload.now c.args.slots.now.list c.loop-cycle.into c.take_cycle-end.new.into c.put_cycles-end.new.into
           c.loop-cycle.end c.take_cycle-end.result c.put_cycles-end.result x run c.loop-cycle.invariant.bytes one c.put_cycles-end.ensures.bytes
           (λ i below. subst (λ (r : Progress). IsData r.number (r.asked + i + 1)) asked (c.data_run-run.ensures.«data» i below));
     }

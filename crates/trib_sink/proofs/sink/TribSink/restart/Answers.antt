@@ -1,4 +1,4 @@
-use Rattle.std.proofs.Common.{[], ◌∷◌}
+use Rattle.std.specs.Prelude.{replicate}
 use Rattle.trib_sink.proofs.Stands.{stands_start, none_taken}
 use Rattle.trib_sink.proofs.sink.TribSink.restart.Goals as goal
 
@@ -7,5 +7,5 @@ returns-clause-stands c =
     let i = c.self.inside in
     let w = c.new-watches.result in
     rw (c.clear.ensures, ← c.self.view_is)
-    (stands_start i.slots i.message i.port c.restart.new.self (w ∷ w ∷ w ∷ w ∷ w ∷ w ∷ w ∷ w ∷ []) c.count-rising.ensures.list
+    (stands_start i.slots i.message i.port c.restart.new.self (replicate 32 w) c.count-rising.ensures.list
     c.restart.ensures.at c.restart.ensures.fresh c.restart.ensures.number (none_taken i.port w c.new-watches.ensures))
