@@ -1,8 +1,8 @@
 -- The tributary of a port on some slots of a line of either kind.
-use Rattle.std.proofs.Common.{◌≡◌, ℕ, ◌*◌, ◌/◌, ◌≤◌, refl, arith}
+use Rattle.std.proofs.Common.{◌≡◌, ℕ, ◌*◌, ◌/◌, ◌≤◌, inl, inr, refl, arith}
 use Rattle.otn_base.specs.declared.line_kind.LineKind.{LineKind}
 use Rattle.otn_base.specs.declared.line_kind.LineKind.TheVariants.{Otu2, Otu3}
-use Rattle.otn_base.specs.LineSlots.{LineSlots, slots_of}
+use Rattle.otn_base.specs.LineSlots.{LineSlots, slots_of, IsSlotNumber}
 use Rattle.otn_base.specs.SlotList.{IsSlotList}
 use Rattle.otn_base.proofs.RisingSlots.{few_slots}
 use Rattle.tributary_model.specs.Places.{tributary_of}
@@ -13,6 +13,10 @@ use Rattle.tributary_model.specs.Sending.{IsSent}
 pub evenly : (kind : LineKind) → slots_of kind * (3808 / slots_of kind) ≡ 3808
 evenly Otu2 = refl
 evenly Otu3 = refl
+
+pub number_of_kind : (kind : LineKind) → IsSlotNumber (slots_of kind)
+number_of_kind Otu2 = inl refl
+number_of_kind Otu3 = inr refl
 
 pub few_of_kind : (kind : LineKind) → slots_of kind ≤ 32
 few_of_kind Otu2 = omega arith
