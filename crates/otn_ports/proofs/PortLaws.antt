@@ -1,5 +1,5 @@
 -- A port that stands in no place, from one moment to a later one.
-use Rattle.std.proofs.Common.{◌≡◌, ◌≤◌, ℕ, List, [], ◌++◌, take, arith, ap, ◌∙◌, refl}
+use Rattle.std.proofs.Common.{ℕ, List, [], ◌++◌, take, arith, ap, ◌∙◌, refl}
 use Rattle.otn_ports.specs.Bytes.{before, after}
 use Rattle.otn_ports.specs.PortViews.{SourceView, SinkView, SourceGave, SinkGot, SourceLater, SinkLater, SourceReads, SinkWrites}
 use Rattle.otn_ports.specs.declared.drain.Written.{Written}

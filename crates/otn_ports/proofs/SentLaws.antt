@@ -1,7 +1,7 @@
 -- What is gone of what was due to a place: one whole write, and one move after the other.
 use Rattle.std.proofs.Common.{◌≡◌, ◌≢◌, ℕ, List, [], ◌++◌, take, drop, refl, sym, ap, ◌∙◌, append_assoc, append-nil, inr}
 use Rattle.std.proofs.lemmas.List.{take-append-drop}
-use Rattle.otn_ports.specs.Given.{Gained, GainedBy}
+use Rattle.otn_ports.specs.Given.{GainedBy}
 use Rattle.otn_ports.specs.Sent.{IsSent}
 use Rattle.otn_ports.specs.Views.{State, Empty, Live, Dead, OutView}
 use Rattle.otn_ports.specs.Writes.{Writes, state_after_write}

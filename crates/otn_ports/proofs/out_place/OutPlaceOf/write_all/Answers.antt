@@ -1,6 +1,5 @@
-use Rattle.std.proofs.Common.{◌≡◌, refl, ap, ◌∙◌, rules}
+use Rattle.std.proofs.Common.{◌≡◌, refl, ap, rules}
 use Rattle.otn_ports.specs.OutPlace.{out_view, live_out}
-use Rattle.otn_ports.specs.Views.{Live}
 use Rattle.otn_ports.specs.Writes.{Writes}
 use Rattle.otn_ports.specs.declared.drain.Written.TheVariants.{Lost}
 use Rattle.otn_ports.proofs.SentLaws.{lost_sent}
