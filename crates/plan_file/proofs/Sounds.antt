@@ -5,7 +5,7 @@ use Rattle.std.proofs.lemmas.Bool.Decides.{nat_tests}
 use Rattle.std.proofs.lemmas.Int.{ints}
 use Rattle.std.proofs.lemmas.Option.{slice_get-map}
 use Rattle.std.specs.List.{list_all}
-use Rattle.std.specs.Option.{option_map_or, option_or}
+use Rattle.std.specs.Option.{option_or}
 use Rattle.std.specs.Prelude.{codes, int_le, nat_le, ◌≢◌, Result, Ok, Err, IfOk}
 use Rattle.std.proofs.lemmas.Simd.{map-map}
 use Rattle.otn_base.specs.LineSlots.{slots_of}
@@ -25,11 +25,13 @@ use Rattle.plan_file.specs.Answer.{fault_of, fault_in, accepted_or, refusal_of}
 use Rattle.plan_file.specs.PlanRules.{plan_places, plan_rules, breaks_whole, breaks_alone, clashes}
 use Rattle.plan_file.specs.TableRules.{table_places, table_rules}
 use Rattle.plan_file.specs.Entry.{End, at_line, at_client, of_signal, is_line, slot_count, slots_between, Entry, Top, Outline, natural, from_seen, to_seen, seen, outline, from_of, to_of, connection_of, plan_of}
-use Rattle.plan_file.specs.Keys.{has}
+use Rattle.plan_file.specs.declared.ends.Form.TheVariants.{Client, Line}
+use Rattle.plan_file.specs.declared.ends.Side.TheVariants.{To}
+use Rattle.plan_file.specs.Ends.{has, form_of}
 use Rattle.plan_file.specs.Places.{broken_or, first_broken, places, places_from, later_places, top_place}
 use Rattle.plan_file.specs.Rules.{is_within, is_name, is_sapi, rises, is_line_list, breaks_lines, is_placed, is_slot_list, is_same_kind, has_slots, has_equal_counts, suits, least_pace, most_pace, is_span, can_retire, breaks_name, breaks_place, breaks_slots, breaks_pace, breaks_span}
 use Rattle.plan_file.specs.Sound.{is_sound, is_no_signal, IsSoundTop, IsSound, AreSound, IsSoundOutline}
-use Rattle.plan_file.specs.Table.{entry_at, to_at, no_end, top_at, connections_at, outline_at}
+use Rattle.plan_file.specs.Table.{entry_at, end_of, form_at, top_at, connections_at, outline_at}
 use Rattle.plan_file.specs.Lines.{line_kind, line_slots}
 use Rattle.plan_file.proofs.Fitting.{within, is_within-wider, list_all-wider, pos-natural}
 use Rattle.plan_file.proofs.Places.{both_none, top_none}
@@ -131,13 +133,14 @@ sound_of top e in_range name place slots pace span no_signal =
 
 -- ---- the connections of a table
 
-client_or_line : (b : Bool) (client line : End) → is_no_signal client ≡ true → is_no_signal line ≡ true → is_no_signal (cond b client line) ≡ true
-client_or_line true client line c l = c
-client_or_line false client line c l = l
+-- only a client or a line is in `to`
+no_signal_of : (otu3 : List ℤ) (is_client : Bool) (value : Data) → is_no_signal (form_at otu3 (cond is_client Client Line) value) ≡ true
+no_signal_of otu3 true value = refl
+no_signal_of otu3 false value = refl
 
-no_signal_at : (otu3 : List ℤ) (to : Option Data) → is_no_signal (option_map_or (to_at otu3) to no_end) ≡ true
+no_signal_at : (otu3 : List ℤ) (to : Option Data) → is_no_signal (end_of otu3 (option_map (λ value. record { form = form_of To value; value = value }) to)) ≡ true
 no_signal_at otu3 None = refl
-no_signal_at otu3 (Some to) = client_or_line (has (codes "client") to) _ _ refl refl
+no_signal_at otu3 (Some to) = no_signal_of otu3 (has (codes "client") to) to
 
 mapped_at : {A B : Type 0} (f : A → B) (o : Option A) (y : B) → option_map f o ≡ Some y → (x : A) × (y ≡ f x)
 mapped_at f None y e = cc

@@ -4,7 +4,11 @@ use Rattle.std.specs.List.{list_any}
 use Rattle.std.specs.Option.{option_map_or}
 use Rattle.std.specs.Ordering.{int_eq}
 use Rattle.std.specs.Str.{bytes_eq}
-use Rattle.toml.specs.Data.{Data, Members, no_members, member, get, get_member, as_integer, as_table}
+use Rattle.toml.specs.Data.{Data, Members, no_members, member, get_member, as_integer, as_table}
+use Rattle.plan_file.specs.declared.ends.Form.{Form}
+use Rattle.plan_file.specs.declared.ends.Form.TheVariants.{Client, Signal, Line}
+use Rattle.plan_file.specs.declared.ends.Side.TheVariants.{From, To}
+use Rattle.plan_file.specs.Ends.{is_table, has, TableEnd, end_at}
 
 -- ---- the lists of keys
 
@@ -41,34 +45,24 @@ is_this_number wanted value = option_map_or (λ number. int_eq number wanted) (a
 abbrev pub is_second_version : Members → Bool
 is_second_version top = option_map_or (is_this_number (pos 2)) (get_member (codes "version") top) false
 
-abbrev pub is_table : Data → Bool
-is_table value = is_some (as_table value)
+-- the list of an end
+abbrev pub end_keys : Form → List (List ℕ)
+end_keys Client = client_keys
+end_keys Signal = signal_keys
+end_keys Line = line_keys
 
--- the value is a table with the key
-abbrev pub has : List ℕ → Data → Bool
-has key value = is_some (get key value)
+-- the list of a connection from an end of the form: a pace only from a client or a signal, what belongs to a client input only from a client
+abbrev pub form_keys : Form → List (List ℕ)
+form_keys Client = connection_keys true true
+form_keys Signal = connection_keys true false
+form_keys Line = connection_keys false false
 
--- the list of a table `from`: an end at a client where it has the key `client`, else a signal where it has the key `signal`
-abbrev pub from_keys : Data → List (List ℕ)
-from_keys from = if has (codes "client") from then client_keys else if has (codes "signal") from then signal_keys else line_keys
+-- the list of a connection: `from` decides where it is a table
+abbrev pub keys_from : TableEnd → List (List ℕ)
+keys_from end = if is_table end.value then form_keys end.form else connection_keys true true
 
--- the list of a table `to`
-abbrev pub to_keys : Data → List (List ℕ)
-to_keys to = if has (codes "client") to then client_keys else line_keys
-
--- a connection with this `from` may have a pace: where it is a table, only with a client or a signal
-abbrev pub may_have_pace : Data → Bool
-may_have_pace from = not (is_table from) || (has (codes "client") from || has (codes "signal") from)
-
--- a connection with this `from` may have what belongs to a client input: where it is a table, only with a client
-abbrev pub may_have_client_keys : Data → Bool
-may_have_client_keys from = not (is_table from) || has (codes "client") from
-
--- the list of a connection
 abbrev pub keys_of_connection : Data → List (List ℕ)
-keys_of_connection connection =
-    let from = get (codes "from") connection in
-    connection_keys (option_map_or may_have_pace from true) (option_map_or may_have_client_keys from true)
+keys_of_connection connection = option_map_or keys_from (end_at From connection) (connection_keys true true)
 
 -- ---- a key that is not known
 
@@ -89,18 +83,15 @@ has_unknown_top_key top = not (knows_all (top_keys (is_second_version top)) top)
 abbrev pub has_other : List (List ℕ) → Data → Bool
 has_other keys value = option_map_or (λ members. not (knows_all keys members)) (as_table value) false
 
-abbrev pub from_has_other : Data → Bool
-from_has_other from = has_other (from_keys from) from
-
-abbrev pub to_has_other : Data → Bool
-to_has_other to = has_other (to_keys to) to
+abbrev pub end_has_other : TableEnd → Bool
+end_has_other end = has_other (end_keys end.form) end.value
 
 -- the connection, its `from` or its `to` is a table with a key that is not in its list
 abbrev pub has_unknown_key : Data → Bool
 has_unknown_key connection =
     (has_other (keys_of_connection connection) connection
-    || option_map_or from_has_other (get (codes "from") connection) false)
-    || option_map_or to_has_other (get (codes "to") connection) false
+    || option_map_or end_has_other (end_at From connection) false)
+    || option_map_or end_has_other (end_at To connection) false
 
 -- ---- a key that is missing
 
@@ -112,12 +103,13 @@ lacks key value = is_table value && not (has key value)
 abbrev pub lacks_line_key : Data → Bool
 lacks_line_key end = (lacks (codes "line") end || lacks (codes "port") end) || lacks (codes "slots") end
 
--- the table `from`, or `to`, has no short form and lacks a key
-abbrev pub from_lacks_key : Data → Bool
-from_lacks_key from = not (has (codes "client") from || has (codes "signal") from) && lacks_line_key from
+-- the short forms lack nothing
+abbrev pub form_lacks_key : Form → Data → Bool
+form_lacks_key Line end = lacks_line_key end
+form_lacks_key _ end = false
 
-abbrev pub to_lacks_key : Data → Bool
-to_lacks_key to = not (has (codes "client") to) && lacks_line_key to
+abbrev pub end_lacks_key : TableEnd → Bool
+end_lacks_key end = form_lacks_key end.form end.value
 
 -- the connection is a table and lacks a key of its own
 abbrev pub lacks_own_key : Data → Bool
@@ -129,5 +121,5 @@ lacks_own_key connection =
 abbrev pub lacks_key : Data → Bool
 lacks_key connection =
     (lacks_own_key connection
-    || option_map_or from_lacks_key (get (codes "from") connection) false)
-    || option_map_or to_lacks_key (get (codes "to") connection) false
+    || option_map_or end_lacks_key (end_at From connection) false)
+    || option_map_or end_lacks_key (end_at To connection) false

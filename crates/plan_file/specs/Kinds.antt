@@ -3,7 +3,11 @@ use Rattle.std.specs.Prelude.{ℕ, pos, List, Bool, true, false, ◌&&◌, ◌||
 use Rattle.std.specs.Option.{option_map_or}
 use Rattle.std.specs.Str.{bytes_eq}
 use Rattle.toml.specs.Data.{Data, Items, no_items, item, get, get_member, Members, as_str, as_integer, as_bool, as_array}
-use Rattle.plan_file.specs.Keys.{has, is_table, is_this_number}
+use Rattle.plan_file.specs.declared.ends.Form.{Form}
+use Rattle.plan_file.specs.declared.ends.Form.TheVariants.{Client, Signal, Line}
+use Rattle.plan_file.specs.declared.ends.Side.TheVariants.{From, To}
+use Rattle.plan_file.specs.Ends.{is_table, TableEnd, end_at}
+use Rattle.plan_file.specs.Keys.{is_this_number}
 
 -- a number, a truth value, a text
 abbrev pub is_number : Data → Bool
@@ -50,21 +54,21 @@ each_at key test value = option_map_or test (get key value) true
 abbrev pub is_line_end : Data → Bool
 is_line_end end = (each_at (codes "line") is_number end && each_at (codes "port") is_number end) && each_at (codes "slots") is_number_list end
 
--- the value of `from`, and that of `to`: a table of one of the forms
-abbrev pub is_from : Data → Bool
-is_from from = is_table from
-    && (if has (codes "client") from then each_at (codes "client") is_number from
-    else if has (codes "signal") from then each_at (codes "signal") is_signal from
-    else is_line_end from)
+-- an end of the form
+abbrev pub has_form : Form → Data → Bool
+has_form Client end = each_at (codes "client") is_number end
+has_form Signal end = each_at (codes "signal") is_signal end
+has_form Line end = is_line_end end
 
-abbrev pub is_to : Data → Bool
-is_to to = is_table to && (if has (codes "client") to then each_at (codes "client") is_number to else is_line_end to)
+-- the value of `from` or `to`: a table of one of the forms
+abbrev pub is_end : TableEnd → Bool
+is_end end = is_table end.value && has_form end.form end.value
 
 -- the keys that each connection has, and those of a pace, of a client input, of a span and of its end
 abbrev pub has_plain_kinds : Data → Bool
 has_plain_kinds connection =
     (each_at (codes "name") is_text connection && each_at (codes "kind") is_kind connection)
-    && (each_at (codes "from") is_from connection && each_at (codes "to") is_to connection)
+    && (option_map_or is_end (end_at From connection) true && option_map_or is_end (end_at To connection) true)
 
 abbrev pub has_other_kinds : Data → Bool
 has_other_kinds connection =

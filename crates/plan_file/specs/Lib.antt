@@ -1,4 +1,5 @@
 pub mod Code
+pub mod Ends
 pub mod Keys
 pub mod KeyList
 pub mod Kinds

@@ -14,6 +14,11 @@ use Rattle.plan_file.specs.declared.outline.entries.Entries.{Entries}
 use Rattle.plan_file.specs.declared.outline.entries.Entries.TheVariants as entries
 use Rattle.plan_file.specs.Entry.{End, at_line, at_client, of_signal, Entry, Top, Outline, seen}
 use Rattle.plan_file.specs.Table.{numbers, entry_at, nominal}
+use Rattle.plan_file.specs.Ends.{TableEnd}
+use Rattle.plan_file.specs.declared.ends.TableEnd.{TableEnd as TableEndView}
+
+abbrev pub table_end_in : TableEndView → TableEnd
+table_end_in end = record { form = end.form; value = view end.value.now }
 
 abbrev pub numbers_in : Numbers → List ℤ
 numbers_in (list.Values values) = numbers (map view values.now)

@@ -8,7 +8,10 @@ use Rattle.otn_base.specs.declared.kind.Kind.{Kind}
 use Rattle.otn_base.specs.declared.kind.Kind.TheVariants.{Odu0, Flex}
 use Rattle.otn_base.specs.declared.line_kind.LineKind.TheVariants.{Otu2}
 use Rattle.toml.specs.Data.{Data, Items, no_items, item, Members, get, get_member, as_str, as_integer, as_bool, as_array}
-use Rattle.plan_file.specs.Keys.{has}
+use Rattle.plan_file.specs.declared.ends.Form.{Form}
+use Rattle.plan_file.specs.declared.ends.Form.TheVariants as form
+use Rattle.plan_file.specs.declared.ends.Side.TheVariants.{From, To}
+use Rattle.plan_file.specs.Ends.{TableEnd, end_at}
 use Rattle.plan_file.specs.Entry.{End, at_line, at_client, of_signal, Entry, Top, Outline, slots_between}
 use Rattle.plan_file.specs.Lines.{line_kind}
 
@@ -49,18 +52,19 @@ line_at otu3 end =
 abbrev pub client_at : Data → End
 client_at end = at_client (number_or (pos 0) (get (codes "client") end))
 
-abbrev pub from_at : List ℤ → Data → End
-from_at otu3 from =
-    if has (codes "client") from then client_at from
-    else if has (codes "signal") from then of_signal (signal_of (get (codes "signal") from))
-    else line_at otu3 from
-
-abbrev pub to_at : List ℤ → Data → End
-to_at otu3 to = if has (codes "client") to then client_at to else line_at otu3 to
+-- an end of the form, where these lines of its side are OTU3
+abbrev pub form_at : List ℤ → Form → Data → End
+form_at otu3 form.Client end = client_at end
+form_at otu3 form.Signal end = of_signal (signal_of (get (codes "signal") end))
+form_at otu3 form.Line end = line_at otu3 end
 
 -- no end: each connection that is accepted has both
 abbrev pub no_end : End
 no_end = at_line (pos 0) (pos 0) Otu2 []
+
+-- an end of a connection, where these lines of its side are OTU3
+abbrev pub end_of : List ℤ → Option TableEnd → End
+end_of otu3 end = option_map_or (λ (e : TableEnd). form_at otu3 e.form e.value) end no_end
 
 -- ---- a connection
 
@@ -78,8 +82,8 @@ pace_at m value = option_map_or (λ pace. numbers (list_of (Some pace))) value (
 -- a connection of a plan with this top
 abbrev pub entry_at : Top → Data → Entry
 entry_at top connection =
-    let from = option_map_or (from_at top.otu3_in) (get (codes "from") connection) no_end in
-    let to = option_map_or (to_at top.otu3_out) (get (codes "to") connection) no_end in
+    let from = end_of top.otu3_in (end_at From connection) in
+    let to = end_of top.otu3_out (end_at To connection) in
     record {
       name = text_of (get (codes "name") connection);
       kind = kind_of (get (codes "kind") connection);

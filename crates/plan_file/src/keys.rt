@@ -6,4 +6,4 @@ mod value;
 
 pub(crate) use known::{has_unknown_key, has_unknown_top_key};
 pub(crate) use required::{lacks_key, lacks_turns};
-pub(crate) use value::{has, is_table, is_this_number, top_value};
+pub(crate) use value::{is_this_number, top_value};

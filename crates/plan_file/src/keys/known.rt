@@ -1,13 +1,15 @@
 // Whether a table has a key that is not in its list.
-ghost use Rattle.std.specs.Prelude.{◌≡◌, true, false, option_map, codes};
+ghost use Rattle.std.specs.Prelude.{◌≡◌, false};
 ghost use Rattle.std.specs.Option.{option_map_or};
-ghost use Rattle.toml.specs.Data.{get};
 ghost use Rattle.toml.specs.View.{table_view, view};
-ghost use Rattle.plan_file.specs.Keys.{top_keys, is_second_version, has_unknown_top_key, from_keys, to_keys, connection_keys, keys_of_connection, may_have_pace, may_have_client_keys, from_has_other, to_has_other, has_unknown_key};
+ghost use Rattle.plan_file.specs.Ends.{end_at};
+ghost use Rattle.plan_file.specs.Keys.{top_keys, end_keys, form_keys, keys_from, keys_of_connection, is_second_version, has_unknown_top_key, end_has_other, has_unknown_key};
 ghost use Rattle.plan_file.specs.KeyList.{keys_in};
+ghost use Rattle.plan_file.specs.Seen.{table_end_in};
 
+use crate::ends::{Form, Side, TableEnd, end_at, is_table};
 use crate::keys::list::KeyList;
-use crate::keys::value::{has, is_table, is_this_number, top_value};
+use crate::keys::value::{is_this_number, top_value};
 use toml::{Table, Value};
 
 /// Whether the top has a key that is not in its list.
@@ -42,69 +44,56 @@ pub(crate) fn has_unknown_key(connection: &Value) -> bool
     ensures { result ≡ has_unknown_key (view connection.now) }
 {
     connection_list(connection).lacks_a_key_of(connection)
-        || from_has_other(connection)
-        || to_has_other(connection)
+        || end_has_other(connection, Side::From)
+        || end_has_other(connection, Side::To)
 }
 
 // The list of a connection, by its `from`.
 fn connection_list(connection: &Value) -> KeyList
     ensures { keys_in result ≡ keys_of_connection (view connection.now) }
 {
-    match connection.get("from") {
-        Some(from) => list_with(from),
+    match end_at(connection, Side::From) {
+        Some(from) => list_from(&from),
         None => KeyList::FromClient,
     }
 }
 
 // The list of a connection with this `from`.
-fn list_with(from: &Value) -> KeyList
-    ensures { keys_in result ≡ connection_keys (may_have_pace (view from.now)) (may_have_client_keys (view from.now)) }
+fn list_from(from: &TableEnd) -> KeyList
+    ensures { keys_in result ≡ keys_from (table_end_in from.now) }
 {
-    if !is_table(from) || has(from, "client") {
+    if is_table(from.value) {
+        form_list(from.form)
+    } else {
         KeyList::FromClient
-    } else if has(from, "signal") {
-        KeyList::FromSignal
-    } else {
-        KeyList::FromLine
     }
 }
 
-fn from_has_other(connection: &Value) -> bool
-    ensures { result ≡ option_map_or from_has_other (get (codes "from") (view connection.now)) false }
+fn form_list(form: Form) -> KeyList
+    ensures { keys_in result ≡ form_keys form }
 {
-    match connection.get("from") {
-        Some(from) => from_list(from).lacks_a_key_of(from),
+    match form {
+        Form::Client => KeyList::FromClient,
+        Form::Signal => KeyList::FromSignal,
+        Form::Line => KeyList::FromLine,
+    }
+}
+
+fn end_has_other(connection: &Value, side: Side) -> bool
+    ensures { result ≡ option_map_or end_has_other (end_at side (view connection.now)) false }
+{
+    match end_at(connection, side) {
+        Some(end) => end_list(end.form).lacks_a_key_of(end.value),
         None => false,
     }
 }
 
-fn from_list(from: &Value) -> KeyList
-    ensures { keys_in result ≡ from_keys (view from.now) }
+fn end_list(form: Form) -> KeyList
+    ensures { keys_in result ≡ end_keys form }
 {
-    if has(from, "client") {
-        KeyList::Client
-    } else if has(from, "signal") {
-        KeyList::Signal
-    } else {
-        KeyList::Line
-    }
-}
-
-fn to_has_other(connection: &Value) -> bool
-    ensures { result ≡ option_map_or to_has_other (get (codes "to") (view connection.now)) false }
-{
-    match connection.get("to") {
-        Some(to) => to_list(to).lacks_a_key_of(to),
-        None => false,
-    }
-}
-
-fn to_list(to: &Value) -> KeyList
-    ensures { keys_in result ≡ to_keys (view to.now) }
-{
-    if has(to, "client") {
-        KeyList::Client
-    } else {
-        KeyList::Line
+    match form {
+        Form::Client => KeyList::Client,
+        Form::Signal => KeyList::Signal,
+        Form::Line => KeyList::Line,
     }
 }

@@ -1,11 +1,13 @@
 // Whether a table lacks a key that it must have.
 ghost use Rattle.std.specs.Prelude.{◌≡◌, false, codes, is_none};
 ghost use Rattle.std.specs.Option.{option_map_or};
-ghost use Rattle.toml.specs.Data.{get, get_member};
+ghost use Rattle.toml.specs.Data.{get_member};
 ghost use Rattle.toml.specs.View.{table_view, view};
-ghost use Rattle.plan_file.specs.Keys.{lacks, lacks_line_key, from_lacks_key, to_lacks_key, lacks_own_key, lacks_key};
+ghost use Rattle.plan_file.specs.Ends.{end_at};
+ghost use Rattle.plan_file.specs.Keys.{lacks, lacks_line_key, form_lacks_key, end_lacks_key, lacks_own_key, lacks_key};
 
-use crate::keys::value::{has, is_table, top_value};
+use crate::ends::{Form, Side, end_at, has, is_table};
+use crate::keys::value::top_value;
 use toml::{Table, Value};
 
 /// Whether the top lacks the number of turns.
@@ -22,7 +24,9 @@ pub(crate) fn lacks_turns(top: &Table) -> bool
 pub(crate) fn lacks_key(connection: &Value) -> bool
     ensures { result ≡ lacks_key (view connection.now) }
 {
-    lacks_own_key(connection) || from_lacks_key(connection) || to_lacks_key(connection)
+    lacks_own_key(connection)
+        || end_lacks_key(connection, Side::From)
+        || end_lacks_key(connection, Side::To)
 }
 
 fn lacks(value: &Value, key: &str) -> bool
@@ -40,21 +44,21 @@ fn lacks_own_key(connection: &Value) -> bool
         || lacks(connection, "to")
 }
 
-fn from_lacks_key(connection: &Value) -> bool
-    ensures { result ≡ option_map_or from_lacks_key (get (codes "from") (view connection.now)) false }
+fn end_lacks_key(connection: &Value, side: Side) -> bool
+    ensures { result ≡ option_map_or end_lacks_key (end_at side (view connection.now)) false }
 {
-    match connection.get("from") {
-        Some(from) => !has(from, "client") && !has(from, "signal") && lacks_line_key(from),
+    match end_at(connection, side) {
+        Some(end) => form_lacks_key(end.form, end.value),
         None => false,
     }
 }
 
-fn to_lacks_key(connection: &Value) -> bool
-    ensures { result ≡ option_map_or to_lacks_key (get (codes "to") (view connection.now)) false }
+fn form_lacks_key(form: Form, end: &Value) -> bool
+    ensures { result ≡ form_lacks_key form (view end.now) }
 {
-    match connection.get("to") {
-        Some(to) => !has(to, "client") && lacks_line_key(to),
-        None => false,
+    match form {
+        Form::Line => lacks_line_key(end),
+        _ => false,
     }
 }
 

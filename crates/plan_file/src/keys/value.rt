@@ -2,7 +2,7 @@
 ghost use Rattle.std.specs.Prelude.{◌≡◌, option_map};
 ghost use Rattle.toml.specs.Data.{get_member};
 ghost use Rattle.toml.specs.View.{table_view, view};
-ghost use Rattle.plan_file.specs.Keys.{has, is_table, is_this_number};
+ghost use Rattle.plan_file.specs.Keys.{is_this_number};
 
 use toml::{Table, Value};
 
@@ -13,16 +13,6 @@ pub(crate) fn top_value<'a>(top: &'a Table, key: &str) -> Option<&'a Value>
     top.get(key)
 }
 
-/// Whether the value is a table with the key.
-pub(crate) fn has(value: &Value, key: &str) -> bool
-    ensures { result ≡ has key.now (view value.now) }
-{
-    match value.get(key) {
-        Some(_) => true,
-        None => false,
-    }
-}
-
 /// Whether the value is this number.
 pub(crate) fn is_this_number(value: &Value, wanted: i64) -> bool
     ensures { result ≡ is_this_number wanted (view value.now) }
@@ -31,11 +21,4 @@ pub(crate) fn is_this_number(value: &Value, wanted: i64) -> bool
         Some(number) => number == wanted,
         None => false,
     }
-}
-
-/// Whether the value is a table.
-pub(crate) fn is_table(value: &Value) -> bool
-    ensures { result ≡ is_table (view value.now) }
-{
-    value.is_table()
 }

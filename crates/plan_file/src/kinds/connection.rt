@@ -3,7 +3,8 @@ ghost use Rattle.std.specs.Prelude.{◌≡◌};
 ghost use Rattle.toml.specs.View.{view};
 ghost use Rattle.plan_file.specs.Kinds.{has_kinds, has_plain_kinds, has_other_kinds};
 
-use crate::kinds::end::{has_from, has_to};
+use crate::ends::Side;
+use crate::kinds::end::has_end;
 use crate::kinds::value::{has_either, has_number, has_number_list, has_text, has_truth};
 use toml::Value;
 
@@ -19,8 +20,8 @@ fn has_plain_kinds(connection: &Value) -> bool
 {
     has_text(connection, "name")
         && has_either(connection, "kind", "odu0", "flex")
-        && has_from(connection)
-        && has_to(connection)
+        && has_end(connection, Side::From)
+        && has_end(connection, Side::To)
 }
 
 fn has_other_kinds(connection: &Value) -> bool

@@ -1,57 +1,38 @@
 // Whether the value of `from`, or of `to`, is one of the forms of an end.
-ghost use Rattle.std.specs.Prelude.{◌≡◌, true, codes};
+ghost use Rattle.std.specs.Prelude.{◌≡◌, true};
 ghost use Rattle.std.specs.Option.{option_map_or};
-ghost use Rattle.toml.specs.Data.{get};
 ghost use Rattle.toml.specs.View.{view};
-ghost use Rattle.plan_file.specs.Kinds.{is_from, is_to, is_line_end, each_at};
+ghost use Rattle.plan_file.specs.Ends.{end_at};
+ghost use Rattle.plan_file.specs.Kinds.{has_form, is_end, is_line_end};
+ghost use Rattle.plan_file.specs.Seen.{table_end_in};
 
-use crate::keys::{has, is_table};
+use crate::ends::{Form, Side, TableEnd, end_at, is_table};
 use crate::kinds::value::{has_either, has_number, has_number_list};
 use toml::Value;
 
-/// Whether the connection's `from`, if it has one, is of one of the forms.
-pub(crate) fn has_from(connection: &Value) -> bool
-    ensures { result ≡ each_at (codes "from") is_from (view connection.now) }
+/// Whether the connection's end at the side, if it has one, is of one of the forms.
+pub(crate) fn has_end(connection: &Value, side: Side) -> bool
+    ensures { result ≡ option_map_or is_end (end_at side (view connection.now)) true }
 {
-    match connection.get("from") {
-        Some(from) => is_from(from),
+    match end_at(connection, side) {
+        Some(end) => is_end(&end),
         None => true,
     }
 }
 
-/// Whether the connection's `to`, if it has one, is of one of the forms.
-pub(crate) fn has_to(connection: &Value) -> bool
-    ensures { result ≡ each_at (codes "to") is_to (view connection.now) }
+fn is_end(end: &TableEnd) -> bool
+    ensures { result ≡ is_end (table_end_in end.now) }
 {
-    match connection.get("to") {
-        Some(to) => is_to(to),
-        None => true,
-    }
+    is_table(end.value) && has_form(end.form, end.value)
 }
 
-fn is_from(from: &Value) -> bool
-    ensures { result ≡ is_from (view from.now) }
+fn has_form(form: Form, end: &Value) -> bool
+    ensures { result ≡ has_form form (view end.now) }
 {
-    if !is_table(from) {
-        false
-    } else if has(from, "client") {
-        has_number(from, "client")
-    } else if has(from, "signal") {
-        has_either(from, "signal", "oci", "lck")
-    } else {
-        is_line_end(from)
-    }
-}
-
-fn is_to(to: &Value) -> bool
-    ensures { result ≡ is_to (view to.now) }
-{
-    if !is_table(to) {
-        false
-    } else if has(to, "client") {
-        has_number(to, "client")
-    } else {
-        is_line_end(to)
+    match form {
+        Form::Client => has_number(end, "client"),
+        Form::Signal => has_either(end, "signal", "oci", "lck"),
+        Form::Line => is_line_end(end),
     }
 }
 

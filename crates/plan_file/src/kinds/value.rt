@@ -1,7 +1,7 @@
 // Whether a value is of a kind.
 ghost use Rattle.std.specs.Prelude.{◌≡◌};
 ghost use Rattle.toml.specs.View.{array_view, items_view, view};
-ghost use Rattle.plan_file.specs.Keys.{is_table};
+ghost use Rattle.plan_file.specs.Ends.{is_table};
 ghost use Rattle.plan_file.specs.Kinds.{is_number, is_number_list, is_table_list, is_either, is_version, each_item, each_at, is_text, is_truth};
 
 use crate::keys::is_this_number;

@@ -3,11 +3,11 @@ ghost use Rattle.std.specs.Prelude.{◌≡◌, codes};
 ghost use Rattle.toml.specs.Data.{get};
 ghost use Rattle.toml.specs.View.{view};
 ghost use Rattle.plan_file.specs.Entry.{from_seen, to_seen};
-ghost use Rattle.plan_file.specs.Table.{line_at, client_at, from_at, to_at, signal_of};
+ghost use Rattle.plan_file.specs.Table.{line_at, client_at, form_at, signal_of};
 ghost use Rattle.plan_file.specs.Seen.{end_in, numbers_in};
 
 use crate::connection::{FromEnd, ToEnd};
-use crate::keys::has;
+use crate::ends::Form;
 use crate::outline::field::{list_or_empty, number_or, text_or_empty};
 use crate::outline::numbers::Numbers;
 use maintenance_signals::Signal;
@@ -24,27 +24,14 @@ pub(crate) enum End<'a> {
 }
 
 impl<'a> End<'a> {
-    /// The end that the value of `from` says, where these input lines are OTU3.
-    pub(crate) fn of_from(from: &'a Value, otu3: &Numbers) -> End<'a>
-        ensures { end_in result ≡ from_at (numbers_in otu3.now) (view from.now) }
+    /// The end of the form that the value says, where these lines of its side are OTU3.
+    pub(crate) fn of_table(form: Form, end: &'a Value, otu3: &Numbers) -> End<'a>
+        ensures { end_in result ≡ form_at (numbers_in otu3.now) form (view end.now) }
     {
-        if has(from, "client") {
-            End::of_client(from)
-        } else if has(from, "signal") {
-            End::Signal(signal_at(from))
-        } else {
-            End::of_line(from, otu3)
-        }
-    }
-
-    /// The end that the value of `to` says, where these output lines are OTU3.
-    pub(crate) fn of_to(to: &'a Value, otu3: &Numbers) -> End<'a>
-        ensures { end_in result ≡ to_at (numbers_in otu3.now) (view to.now) }
-    {
-        if has(to, "client") {
-            End::of_client(to)
-        } else {
-            End::of_line(to, otu3)
+        match form {
+            Form::Client => End::of_client(end),
+            Form::Signal => End::Signal(signal_at(end)),
+            Form::Line => End::of_line(end, otu3),
         }
     }
 

@@ -1,13 +1,14 @@
 // A connection as the rules see it.
 ghost use Rattle.std.specs.Prelude.{◌≡◌, ℕ, codes};
-ghost use Rattle.std.specs.Option.{option_map_or};
 ghost use Rattle.toml.specs.Data.{get};
 ghost use Rattle.toml.specs.View.{view};
+ghost use Rattle.plan_file.specs.Ends.{end_at};
 ghost use Rattle.plan_file.specs.Entry.{slots_between};
-ghost use Rattle.plan_file.specs.Table.{kind_of, number_or, from_at, to_at, no_end, pace_at};
+ghost use Rattle.plan_file.specs.Table.{kind_of, number_or, end_of, pace_at};
 ghost use Rattle.plan_file.specs.Seen.{end_in, entry_in, numbers_in, pace_in, top_in};
 
 use crate::connection::Connection;
+use crate::ends::{Side, end_at};
 use crate::outline::end::End;
 use crate::outline::field::{list_or_empty, number_or, text_or_empty, truth_or};
 use crate::outline::numbers::Numbers;
@@ -45,7 +46,7 @@ impl<'a> Entry<'a> {
         ensures { end_in result ≡ (entry_in self.now).from }
     {
         match *self {
-            Entry::Read(table, top) => from_at(table, &top.otu3_in),
+            Entry::Read(table, top) => end_of(table, Side::From, &top.otu3_in),
             Entry::Planned(connection) => End::from_plan(&connection.from),
         }
     }
@@ -54,7 +55,7 @@ impl<'a> Entry<'a> {
         ensures { end_in result ≡ (entry_in self.now).to }
     {
         match *self {
-            Entry::Read(table, top) => to_at(table, &top.otu3_out),
+            Entry::Read(table, top) => end_of(table, Side::To, &top.otu3_out),
             Entry::Planned(connection) => End::to_plan(&connection.to),
         }
     }
@@ -126,20 +127,11 @@ fn kind_at(table: &Value) -> Kind
     }
 }
 
-fn from_at<'a>(table: &'a Value, otu3: &Numbers) -> End<'a>
-    ensures { end_in result ≡ option_map_or (from_at (numbers_in otu3.now)) (get (codes "from") (view table.now)) no_end }
+fn end_of<'a>(connection: &'a Value, side: Side, otu3: &Numbers) -> End<'a>
+    ensures { end_in result ≡ end_of (numbers_in otu3.now) (end_at side (view connection.now)) }
 {
-    match table.get("from") {
-        Some(from) => End::of_from(from, otu3),
-        None => End::Line(0, 0, LineKind::Otu2, Numbers::Bytes(&[])),
-    }
-}
-
-fn to_at<'a>(table: &'a Value, otu3: &Numbers) -> End<'a>
-    ensures { end_in result ≡ option_map_or (to_at (numbers_in otu3.now)) (get (codes "to") (view table.now)) no_end }
-{
-    match table.get("to") {
-        Some(to) => End::of_to(to, otu3),
+    match end_at(connection, side) {
+        Some(end) => End::of_table(end.form, end.value, otu3),
         None => End::Line(0, 0, LineKind::Otu2, Numbers::Bytes(&[])),
     }
 }

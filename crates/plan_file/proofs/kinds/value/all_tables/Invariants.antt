@@ -1,6 +1,6 @@
 use Rattle.std.proofs.Common.{◌≡◌, drop}
 use Rattle.toml.specs.View.{items_view}
-use Rattle.plan_file.specs.Keys.{is_table}
+use Rattle.plan_file.specs.Ends.{is_table}
 use Rattle.plan_file.specs.Kinds.{each_item}
 use Rattle.plan_file.proofs.kinds.value.all_tables.Given as goal
 
