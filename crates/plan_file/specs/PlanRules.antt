@@ -2,6 +2,7 @@
 use Rattle.std.specs.Prelude.{ℕ, nat_lt, List, [], ◌∷◌, ◌++◌, length, Bool, false, not}
 use Rattle.plan_file.specs.declared.error.PlanError.{PlanError}
 use Rattle.plan_file.specs.declared.error.PlanError.TheVariants.{Turns, TooMany, BadName, NameTwice, BadPlace, BadSlots, SlotTwice, PortTwice, ClientTwice, BadPace, BadSpan}
+use Rattle.otn_base.specs.declared.limits.TheConstants.{MOST_TURNS, MOST_CONNECTIONS}
 use Rattle.plan_file.specs.Entry.{Entry, Top, Outline}
 use Rattle.plan_file.specs.Places.{top_place, places, later_places}
 use Rattle.plan_file.specs.Rules.{is_within, breaks_name, have_one_name, breaks_lines, breaks_place, breaks_slots, have_one_slot, have_one_port, have_one_client, breaks_pace, breaks_span}
@@ -14,8 +15,8 @@ abbrev pub plan_rules : List PlanError
 plan_rules = Turns ∷ TooMany ∷ connection_rules
 
 abbrev pub breaks_whole : PlanError → Outline → Bool
-breaks_whole Turns o = not (is_within 1 16384 o.top.turns)
-breaks_whole TooMany o = nat_lt 48 (length o.entries)
+breaks_whole Turns o = not (is_within 1 MOST_TURNS o.top.turns)
+breaks_whole TooMany o = nat_lt MOST_CONNECTIONS (length o.entries)
 breaks_whole BadPlace o = breaks_lines o.top
 breaks_whole _ o = false
 

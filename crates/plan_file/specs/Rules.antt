@@ -1,9 +1,10 @@
 -- The rules of a plan's values: of the number of turns, of each connection, and of two connections.
-use Rattle.std.specs.Prelude.{ℕ, ◌*◌, ℤ, pos, negsuc, int_lt, int_le, nat_le, ◌==◌, List, [], ◌∷◌, length, Bool, true, false, not, ◌&&◌, ◌||◌}
+use Rattle.std.specs.Prelude.{ℕ, ◌*◌, ◌+◌, ◌-◌, ℤ, pos, negsuc, int_lt, int_le, nat_le, ◌==◌, List, [], ◌∷◌, length, Bool, true, false, not, ◌&&◌, ◌||◌}
 use Rattle.std.specs.Int.{is_in_range, int_max, int_min}
 use Rattle.std.specs.List.{list_all, list_any}
 use Rattle.std.specs.Ordering.{int_eq}
 use Rattle.std.specs.Str.{bytes_eq}
+use Rattle.otn_base.specs.declared.limits.TheConstants.{NOMINAL, GROUPS, MOST_PACES}
 use Rattle.otn_base.specs.declared.kind.Kind.{Kind}
 use Rattle.otn_base.specs.declared.kind.Kind.TheVariants.{Odu0, Flex}
 use Rattle.otn_base.specs.declared.line_kind.LineKind.{LineKind}
@@ -90,15 +91,15 @@ breaks_slots top e = not ((has_slots top.otu3_in e.kind e.from && has_slots top.
 
 -- the least and the greatest number of bytes in a turn, on M slots
 abbrev pub least_pace : Kind → ℕ → ℕ
-least_pace Odu0 m = 15167
+least_pace Odu0 m = NOMINAL - 1
 least_pace Flex m = m
 
 abbrev pub most_pace : Kind → ℕ → ℕ
-most_pace Odu0 m = 15169
-most_pace Flex m = m * 15232
+most_pace Odu0 m = NOMINAL + 1
+most_pace Flex m = m * GROUPS
 
 abbrev pub is_pace : Kind → ℕ → List ℤ → Bool
-is_pace kind m pace = (nat_le 1 (length pace) && nat_le (length pace) 64) && list_all (is_within (least_pace kind m) (most_pace kind m)) pace
+is_pace kind m pace = (nat_le 1 (length pace) && nat_le (length pace) MOST_PACES) && list_all (is_within (least_pace kind m) (most_pace kind m)) pace
 
 abbrev pub breaks_pace : Entry → Bool
 breaks_pace e = not (is_pace e.kind (slots_between e.from e.to) e.pace)

@@ -4,6 +4,7 @@ use Rattle.std.specs.Option.{option_and_then, option_map_or}
 use Rattle.std.specs.Str.{bytes_eq}
 use Rattle.maintenance_signals.specs.declared.signal.Signal.{Signal}
 use Rattle.maintenance_signals.specs.declared.signal.Signal.TheVariants.{Oci, Lck}
+use Rattle.otn_base.specs.declared.limits.TheConstants.{NOMINAL}
 use Rattle.otn_base.specs.declared.kind.Kind.{Kind}
 use Rattle.otn_base.specs.declared.kind.Kind.TheVariants.{Odu0, Flex}
 use Rattle.otn_base.specs.declared.line_kind.LineKind.TheVariants.{Otu2}
@@ -73,7 +74,7 @@ kind_of value = if bytes_eq (text_of value) (codes "odu0") then Odu0 else Flex
 
 -- the nominal pace of M slots
 abbrev pub nominal : ℕ → List ℤ
-nominal m = pos (15168 * m) ∷ []
+nominal m = pos (NOMINAL * m) ∷ []
 
 -- the pace, or the nominal one of M slots
 abbrev pub pace_at : ℕ → Option Data → List ℤ

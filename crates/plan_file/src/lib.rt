@@ -26,6 +26,7 @@ pub use connection::{Connection, FromEnd, ToEnd};
 pub use connections::Connections;
 pub use error::{NoPlan, PlanError};
 pub use lines::LineList;
+pub use maintenance_signals::Signal;
 pub use name::Name;
 pub use pace::Pace;
 pub use plan::Plan;

@@ -1,10 +1,10 @@
 // The rules of a plan's values, tried one after another.
-mod ends;
 mod fault;
 mod first;
 mod names;
 mod pace;
 mod pairs;
+mod places;
 mod range;
 mod slots;
 mod span;

@@ -7,8 +7,8 @@ ghost use Rattle.plan_file.specs.Seen.{entries_in, outline_in, top_in};
 
 use crate::error::PlanError;
 use crate::outline::{Entries, Outline, Top};
-use crate::rules::ends::breaks_lines;
 use crate::rules::first::{first_clash, first_place};
+use crate::rules::places::breaks_lines;
 use crate::rules::range::is_within;
 use otn_base::limits::{MOST_CONNECTIONS, MOST_TURNS};
 

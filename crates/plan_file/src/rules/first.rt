@@ -7,10 +7,10 @@ ghost use Rattle.plan_file.specs.Seen.{entries_in, entry_in, top_in};
 
 use crate::error::PlanError;
 use crate::outline::{Entries, Entry, Top};
-use crate::rules::ends::breaks_place;
 use crate::rules::names::breaks_name;
 use crate::rules::pace::breaks_pace;
 use crate::rules::pairs::{have_one_client, have_one_name, have_one_port, have_one_slot};
+use crate::rules::places::breaks_place;
 use crate::rules::slots::breaks_slots;
 use crate::rules::span::breaks_span;
 

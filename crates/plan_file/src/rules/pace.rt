@@ -6,7 +6,7 @@ ghost use Rattle.plan_file.specs.Seen.{end_in, entry_in, numbers_in};
 ghost use Rattle.plan_file.specs.Table.{nominal};
 
 use crate::outline::{End, Entry, Numbers};
-use crate::rules::ends::is_line;
+use crate::rules::places::is_line;
 use crate::rules::range::all_within;
 use otn_base::Kind;
 use otn_base::limits::{GROUPS, MOST_PACES, NOMINAL};

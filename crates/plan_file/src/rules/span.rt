@@ -4,7 +4,7 @@ ghost use Rattle.plan_file.specs.Rules.{is_span, can_retire, breaks_span};
 ghost use Rattle.plan_file.specs.Seen.{entry_in};
 
 use crate::outline::Entry;
-use crate::rules::ends::is_client;
+use crate::rules::places::is_client;
 
 /// Whether the connection's turns are no span of a plan of so many turns, or it has no client to be retired.
 pub(crate) fn breaks_span(turns: i64, entry: &Entry) -> bool
