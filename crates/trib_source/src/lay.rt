@@ -31,10 +31,16 @@ pub(crate) fn lay_groups(
         lay_runs(runner, fresh, m, cycles, into);
         return;
     }
+    if m == 1 {
+        // A body of its own, in which a group is copied as one byte.
+        lay_each(runner, fresh, 1, cycles, into);
+        return;
+    }
     lay_each(runner, fresh, m, cycles, into);
 }
 
 // Lays them out one by one, where all is 0 so far.
+#[inline(always)]
 fn lay_each(runner: &mut Runner, fresh: &[u8], m: usize, cycles: usize, into: &mut [u8])
     requires some { 1 ≤ m }
     requires number { runner.old.number ≤ GROUPS }
@@ -75,6 +81,7 @@ fn lay_runs(runner: &mut Runner, fresh: &[u8], m: usize, cycles: usize, into: &m
 
 // Lays out the next group at `at`: where it is data, `m` bytes from byte `from` on. Answers where the next
 // one's bytes begin.
+#[inline(always)]
 fn lay_next(
     runner: &mut Runner,
     fresh: &[u8],
@@ -99,6 +106,7 @@ fn lay_next(
 }
 
 // Copies `count` bytes from byte `from` on to `at`. Answers where the next ones begin.
+#[inline(always)]
 fn copy_at(fresh: &[u8], from: usize, into: &mut [u8], at: usize, count: usize) -> usize
     requires fresh { from + count ≤ length fresh.now }
     requires room { at + count ≤ length into.old }

@@ -17,7 +17,10 @@ use otn_base::{LineKind, Slots};
 // The rows of a frame, in the type of their numbers.
 const ALL: u32 = ROWS as u32;
 
-// From so many data groups of a multiframe on, three of four, they are laid out by runs.
+// From so many data groups of a multiframe on they are laid out by runs: nine of ten, where a group has one
+// byte, and three of four, where it has more.
+const BY_RUNS_OF_BYTES: u32 = GROUPS as u32 * 9 / 10;
+
 const BY_RUNS: u32 = GROUPS as u32 * 3 / 4;
 
 /// Puts the groups of a frame, behind so many groups of a turn with so many data groups, into the columns
@@ -52,11 +55,16 @@ pub(crate) fn put_rows(
             &fresh[..count],
             m,
             cycles as usize,
-            number >= BY_RUNS,
+            goes_by_runs(number, m),
             row,
         );
         put_row_groups(frame, done + 1, slots, row);
     }
+}
+
+// Whether it is best to lay out groups of `m` bytes by runs where so many are data. The frame is the same.
+fn goes_by_runs(number: u32, m: usize) -> bool {
+    number >= if m == 1 { BY_RUNS_OF_BYTES } else { BY_RUNS }
 }
 
 /// How many groups a row has: 476, or 119.
