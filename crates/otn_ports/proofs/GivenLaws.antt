@@ -71,14 +71,14 @@ empty_not_dead e = cc
 
 -- lives on, or died, twice
 lives_twice : (a b c : State) (f g h : ℕ) → f ≤ g → Lives a b f g → Lives b c g h → (b ≢ Live → h ≡ g) → Lives a c f h
-lives_twice a b c f g h le (inl e) (inl d) same = inl (d ∙ e)
-lives_twice a b c f g h le (inl e) (inr (l, d, k)) same = inr (sym e ∙ l, d, has_failed_since f g h le k)
-lives_twice a b c f g h le (inr (l, d, k)) (inl e) same = inr (l, e ∙ d, rw (same (λ live. dead_not_live (sym d ∙ live))) k)
+lives_twice a b c f g h le (inl (e, m)) (inl (d, n)) same = inl (d ∙ e, n ∙ m)
+lives_twice a b c f g h le (inl (e, m)) (inr (l, d, k)) same = inr (sym e ∙ l, d, has_failed_since f g h le k)
+lives_twice a b c f g h le (inr (l, d, k)) (inl (e, n)) same = inr (l, e ∙ d, rw (same (λ live. dead_not_live (sym d ∙ live))) k)
 lives_twice a b c f g h le (inr (l, d, k)) (inr (l', d', k')) same = absurd (dead_not_live (sym d ∙ l'))
 
 -- a place that is as it was gave nothing
 pub gave_none : (place : InView) → Gave place [] place
-gave_none place = record { takes = takes_none place; state = inl refl; idle = λ _. (refl, refl) }
+gave_none place = record { takes = takes_none place; state = inl (refl, refl); idle = λ _. (refl, refl) }
 
 -- what a place gave from a first moment to one in between and to the last one adds up
 pub gave_twice : (first old new : InView) (x y : List ℕ) → Gave first x old → Gave old y new → Gave first (x ++ y) new
@@ -89,7 +89,7 @@ gave_twice first old new x y h k = record {
 }
 
 pub gained_none : (place : OutView) → Gained place [] place
-gained_none place = record { sends = sends_none place; state = inl refl; idle = λ _. (refl, refl) }
+gained_none place = record { sends = sends_none place; state = inl (refl, refl); idle = λ _. (refl, refl) }
 
 pub gained_twice : (first old new : OutView) (x y : List ℕ) → Gained first x old → Gained old y new → Gained first (x ++ y) new
 gained_twice first old new x y h k = record {
@@ -110,8 +110,8 @@ nothing [] e = refl
 nothing (x ∷ xs) e = grind arith
 
 live_read : (result : Reading) (old new : InView) (into : List ℕ) → old.state ≡ Live → new.state ≡ state_after Live result → Reads result old into new → GaveBy result old into new
-live_read Full old new into live state reads = live_gave old new into live reads (inl (state ∙ sym live))
-live_read (End n) old new into live state reads = live_gave old new (take n into) live reads.1 (inl (state ∙ sym live))
+live_read Full old new into live state (takes, calm) = live_gave old new into live takes (inl (state ∙ sym live, calm))
+live_read (End n) old new into live state (n_less, takes, ended, calm) = live_gave old new (take n into) live takes (inl (state ∙ sym live, calm))
 live_read Lost old new into live state (n, less, takes, failed) = (n, less, live_gave old new (take n into) live takes (inr (live, state, failed)))
 
 idle_read : (result : Reading) (old new : InView) (into : List ℕ) → new ≡ old → result ≡ idle_reading (length into) → GaveBy result old into new
@@ -129,7 +129,7 @@ read_gave result old new into room fits state live idle = by_state old.state ref
     by_state Dead e = let h = idle (λ l. dead_not_live (sym e ∙ l)) in idle_read result old new into h.0 (h.1 ∙ ap idle_reading (sym fits))
 
 live_write : (result : Written) (old new : OutView) (bytes : List ℕ) → old.state ≡ Live → new.state ≡ state_after_write Live result → Writes result old bytes new → GainedBy result old bytes new
-live_write written.Whole old new bytes live state sends = (bytes, live_gained old new bytes live sends (inl (state ∙ sym live)), λ _. refl)
+live_write written.Whole old new bytes live state (sends, calm) = (bytes, live_gained old new bytes live sends (inl (state ∙ sym live, calm)), λ _. refl)
 live_write written.Lost old new bytes live state (n, less, sends, failed) = (n, less, live_gained old new (take n bytes) live sends (inr (live, state, failed)))
 
 idle_write : (result : Written) (old new : OutView) (bytes : List ℕ) → old.state ≢ Live → new ≡ old → result ≡ written.Whole → GainedBy result old bytes new
@@ -169,11 +169,11 @@ beyond : (s t : State) (f g : ℕ) (first left : Option (List ℕ)) (bytes given
     → given_between s t first left given → Beyond bytes given t left
 beyond Live Live f g first left bytes given e lives idle all = lived bytes given left (sym all ∙ e)
 beyond Live Dead f g first left bytes given e lives idle took = died bytes given first left e took
-beyond Live Empty f g first left bytes given e (inl same) idle all = absurd (empty_not_live same)
+beyond Live Empty f g first left bytes given e (inl (same, n)) idle all = absurd (empty_not_live same)
 beyond Live Empty f g first left bytes given e (inr (l, d, k)) idle all = absurd (empty_not_dead d)
-beyond Empty t f g first left bytes given e (inl same) idle none = idled bytes given t left (λ l. empty_not_live (sym same ∙ l)) (idle empty_not_live) none
+beyond Empty t f g first left bytes given e (inl (same, n)) idle none = idled bytes given t left (λ l. empty_not_live (sym same ∙ l)) (idle empty_not_live) none
 beyond Empty t f g first left bytes given e (inr (l, d, k)) idle none = absurd (empty_not_live l)
-beyond Dead t f g first left bytes given e (inl same) idle none = idled bytes given t left (λ l. dead_not_live (sym same ∙ l)) (idle dead_not_live) none
+beyond Dead t f g first left bytes given e (inl (same, n)) idle none = idled bytes given t left (λ l. dead_not_live (sym same ∙ l)) (idle dead_not_live) none
 beyond Dead t f g first left bytes given e (inr (l, d, k)) idle none = absurd (dead_not_live l)
 
 -- Given is what was taken, and all that a live place has yet

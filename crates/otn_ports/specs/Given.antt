@@ -49,9 +49,9 @@ gone_between other state first now bytes = bytes ≡ []
 abbrev pub IsGone : OutView → OutView → List ℕ → Type 0
 IsGone first now bytes = gone_between first.state now.state first.got now.got bytes
 
--- a place is as live as it was, or it was live and died by its own port's fault
+-- a place is as live as it was, and its port's count of faults is as it was; or it was live and died by its own port's fault
 abbrev pub Lives : State → State → ℕ → ℕ → Type 0
-Lives first now old_faults new_faults = (now ≡ first) ⊎ ((first ≡ Live) × (now ≡ Dead) × HasFailed old_faults new_faults)
+Lives first now old_faults new_faults = ((now ≡ first) × (new_faults ≡ old_faults)) ⊎ ((first ≡ Live) × (now ≡ Dead) × HasFailed old_faults new_faults)
 
 -- an input place from one moment to a later one, in which these bytes were taken of its port
 pub record Gave (first : InView) (bytes : List ℕ) (now : InView) : Type 0 where

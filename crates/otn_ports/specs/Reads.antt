@@ -16,10 +16,11 @@ pub record Takes (old : InView) (bytes : List ℕ) (new : InView) : Type 0 where
 abbrev pub HasEnded : Option (List ℕ) → Type 0
 HasEnded left = IfSome left (λ bytes. bytes ≡ [])
 
--- what the answer of a live place says, with the slice as it was left
+-- what the answer of a live place says, with the slice as it was left: its port's count of faults rose or stands at its end where the read
+-- is lost, and else it is as it was
 abbrev pub Reads : Reading → InView → List ℕ → InView → Type 0
-Reads Full old into new = Takes old into new
-Reads (End n) old into new = (n < length into) × Takes old (take n into) new × HasEnded new.left
+Reads Full old into new = Takes old into new × (new.faults ≡ old.faults)
+Reads (End n) old into new = (n < length into) × Takes old (take n into) new × HasEnded new.left × (new.faults ≡ old.faults)
 Reads Lost old into new = (n : ℕ) × (n < length into) × Takes old (take n into) new × HasFailed old.faults new.faults
 
 -- a live place dies exactly where a read is lost
