@@ -16,12 +16,19 @@ pub(crate) fn message_so_far(slots: &Slots, n: u8, frame: &Frame<4080>, former: 
     requires { n < MOST_SLOTS }
     ensures { result ≡ (if n + 1 == greatest slots.now.list then message_of frame.now else former) }
 {
-    let _rising = slots.count();
-    if n + 1 == slots.last() {
+    if n + 1 == greatest_slot(slots) {
         message(frame)
     } else {
         former
     }
+}
+
+// The slot in whose frame the message of a multiframe stands.
+fn greatest_slot(slots: &Slots) -> u8
+    ensures { result ≡ greatest slots.now.list }
+{
+    let _rising = slots.count();
+    slots.last()
 }
 
 /// Notes the MSI byte of a frame, with its slot, where an own one has its MSI byte there.
