@@ -34,81 +34,82 @@ and_false true = refl
 and_false false = refl
 
 -- the frame in hand has no MFAS with which a multiframe may begin
-no_look : (given : List ℕ) (n u w : ℕ) (r : ReaderView) → r.ahead ≡ None → eqb (frame_mfas (frame_at given u) % 8) 0 ≡ false → HasRead given n (u + 1) w r → Began given n u w false r
-no_look given n u w r alone other h =
+no_look : (size : ℕ) (given : List ℕ) (n u w : ℕ) (r : ReaderView) → r.ahead ≡ None → eqb (frame_mfas (frame_at given u) % size) 0 ≡ false → HasRead given n (u + 1) w r → Began size given n u w false r
+no_look size given n u w r alone other h =
     let zero : count_of r.ahead ≡ 0 = ap count_of alone in
     let within = h.within in
     let cover = covers given n (u + 1) w r h in
     let mf = index_mfas given u (omega arith) in
-    let test : eqb (slice_index (mfas_of given) u % 8) 0 ≡ false = ap (λ m. eqb (m % 8) 0) mf ∙ other in
-    let looked : looked_ahead 8 (mfas_of given) u ≡ false = ap (λ b. ltb u (length (mfas_of given)) && b) test ∙ and_false (ltb u (length (mfas_of given))) in
-    let one : one_if (looked_ahead 8 (mfas_of given) u) ≡ 0 = ap one_if looked in
+    let test : eqb (slice_index (mfas_of given) u % size) 0 ≡ false = ap (λ m. eqb (m % size) 0) mf ∙ other in
+    let ahead : looked_ahead size (mfas_of given) u ≡ false = ap (λ b. ltb u (length (mfas_of given)) && b) test ∙ and_false (ltb u (length (mfas_of given))) in
+    let one : one_if (looked_ahead size (mfas_of given) u) ≡ 0 = ap one_if ahead in
     record {
-      read = same_wanted given n (u + 1) w (max w (u + 1 + one_if (looked_ahead 8 (mfas_of given) u))) r (omega arith) h;
+      read = same_wanted given n (u + 1) w (max w (u + 1 + one_if (looked_ahead size (mfas_of given) u))) r (omega arith) h;
       start = ap (λ b. ltb (u + 1) (length (mfas_of given)) && (b && eqb (slice_index (mfas_of given) (u + 1)) (slice_index (mfas_of given) u + 1))) test
           ∙ and_false (ltb (u + 1) (length (mfas_of given)));
     }
 
-pub begins_not : (old : ReaderView) (was : InView) → old.ahead ≡ None → eqb (frame_mfas old.hand % 8) 0 ≡ false → Begins false old was old was
-begins_not old was alone other = record {
+pub begins_not : (size : ℕ) (old : ReaderView) (was : InView) → old.ahead ≡ None → eqb (frame_mfas old.hand % size) 0 ≡ false → Begins size false old was old was
+begins_not size old was alone other = record {
   came = [];
-  step = step_none old.ending was;
+  step = step_none old was;
   hand = refl;
-  told = λ given taken u w may h hand. rw (append-nil taken) (no_look given (length taken) u w old alone (ap (λ frame. eqb (frame_mfas frame % 8) 0) (sym hand) ∙ other) h);
+  line = λ given taken used w may h u e hand. rw (append-nil taken)
+      (no_look size given (length taken) u w old alone (ap (λ frame. eqb (frame_mfas frame % size) 0) (sym hand) ∙ other) (same_used given (length taken) used (u + 1) w old e h));
 }
 
--- it has, and the next frame was looked at
-looked : (given : List ℕ) (n' u w : ℕ) (result said : Bool) (r : ReaderView) → eqb (frame_mfas (frame_at given u) % 8) 0 ≡ true → u + 1 ≤ whole_frames given
+-- it has, and the next frame was looked size at
+looked : (size : ℕ) (given : List ℕ) (n' u w : ℕ) (result said : Bool) (r : ReaderView) → eqb (frame_mfas (frame_at given u) % size) 0 ≡ true → u + 1 ≤ whole_frames given
     → LookedAhead given n' (u + 1) (max w (u + 1 + 1)) result r
-    → (result ≡ false → said ≡ false) → (result ≡ true → IfSome r.ahead (λ frame. said ≡ begins 8 (frame_mfas (frame_at given u)) (frame_mfas frame)))
-    → Began given n' u w said r
-looked given n' u w result said r fits within look none some =
-    let size = length_mfas given in
+    → (result ≡ false → said ≡ false) → (result ≡ true → IfSome r.ahead (λ frame. said ≡ begins size (frame_mfas (frame_at given u)) (frame_mfas frame)))
+    → Began size given n' u w said r
+looked size given n' u w result said r fits within look none some =
+    let count = length_mfas given in
     let mf = index_mfas given u (omega arith) in
-    let test : eqb (slice_index (mfas_of given) u % 8) 0 ≡ true = ap (λ m. eqb (m % 8) 0) mf ∙ fits in
+    let test : eqb (slice_index (mfas_of given) u % size) 0 ≡ true = ap (λ m. eqb (m % size) 0) mf ∙ fits in
     let there : ltb u (length (mfas_of given)) ≡ true = grind (arith, nat_tests) in
-    let ahead : looked_ahead 8 (mfas_of given) u ≡ true = rw (there, test) refl in
-    let one : one_if (looked_ahead 8 (mfas_of given) u) ≡ 1 = ap one_if ahead in
+    let ahead : looked_ahead size (mfas_of given) u ≡ true = rw (there, test) refl in
+    let one : one_if (looked_ahead size (mfas_of given) u) ≡ 1 = ap one_if ahead in
     record {
-      read = same_wanted given n' (u + 1) (max w (u + 1 + 1)) (max w (u + 1 + one_if (looked_ahead 8 (mfas_of given) u))) r (omega arith) look.read;
+      read = same_wanted given n' (u + 1) (max w (u + 1 + 1)) (max w (u + 1 + one_if (looked_ahead size (mfas_of given) u))) r (omega arith) look.read;
       start = by_result result refl;
     }
   where
     mf : slice_index (mfas_of given) u ≡ frame_mfas (frame_at given u)
     mf = index_mfas given u (omega arith)
 
-    by_result : (b : Bool) → result ≡ b → is_start 8 (mfas_of given) u ≡ said
+    by_result : (b : Bool) → result ≡ b → is_start size (mfas_of given) u ≡ said
     by_result false e =
         let end = (look.none e).0 in
-        let past : ltb (u + 1) (length (mfas_of given)) ≡ false = (let size = length_mfas given in grind (arith, nat_tests)) in
+        let past : ltb (u + 1) (length (mfas_of given)) ≡ false = (let count = length_mfas given in grind (arith, nat_tests)) in
         rw past (sym (none e))
     by_result true e =
         let f = look.frame e in
-        let inside : ltb (u + 1) (length (mfas_of given)) ≡ true = (let l = f.0 in let size = length_mfas given in grind (arith, nat_tests)) in
+        let inside : ltb (u + 1) (length (mfas_of given)) ≡ true = (let l = f.0 in let count = length_mfas given in grind (arith, nat_tests)) in
         let next : slice_index (mfas_of given) (u + 1) ≡ frame_mfas (frame_at given (u + 1)) = index_mfas given (u + 1) f.0 in
-        let P : Option (List ℕ) → Type 0 = λ a. IfSome a (λ frame. said ≡ begins 8 (frame_mfas (frame_at given u)) (frame_mfas frame)) in
-        let s : said ≡ begins 8 (frame_mfas (frame_at given u)) (frame_mfas (frame_at given (u + 1))) = subst P f.1 (some e) in
-        ap (λ b. b && begins 8 (slice_index (mfas_of given) u) (slice_index (mfas_of given) (u + 1))) inside
-        ∙ ap (λ m. begins 8 m (slice_index (mfas_of given) (u + 1))) mf
-        ∙ ap (λ m. begins 8 (frame_mfas (frame_at given u)) m) next
+        let P : Option (List ℕ) → Type 0 = λ a. IfSome a (λ frame. said ≡ begins size (frame_mfas (frame_at given u)) (frame_mfas frame)) in
+        let s : said ≡ begins size (frame_mfas (frame_at given u)) (frame_mfas (frame_at given (u + 1))) = subst P f.1 (some e) in
+        ap (λ b. b && begins size (slice_index (mfas_of given) u) (slice_index (mfas_of given) (u + 1))) inside
+        ∙ ap (λ m. begins size m (slice_index (mfas_of given) (u + 1))) mf
+        ∙ ap (λ m. begins size (frame_mfas (frame_at given u)) m) next
         ∙ sym s
 
-pub begins_by : (result said : Bool) (old : ReaderView) (was : InView) (new : ReaderView) (is : InView) → old.ahead ≡ None → eqb (frame_mfas old.hand % 8) 0 ≡ true → LooksAhead result old was new is
-    → (result ≡ false → said ≡ false) → (result ≡ true → IfSome new.ahead (λ frame. said ≡ begins 8 (frame_mfas old.hand) (frame_mfas frame))) → Begins said old was new is
-begins_by result said old was new is alone fits look none some = record {
+pub begins_by : (size : ℕ) (result said : Bool) (old : ReaderView) (was : InView) (new : ReaderView) (is : InView) → old.ahead ≡ None → eqb (frame_mfas old.hand % size) 0 ≡ true → LooksAhead result old was new is
+    → (result ≡ false → said ≡ false) → (result ≡ true → IfSome new.ahead (λ frame. said ≡ begins size (frame_mfas old.hand) (frame_mfas frame))) → Begins size said old was new is
+begins_by size result said old was new is alone fits look none some = record {
   came = look.came;
   step = look.step;
   hand = look.hand;
-  told = λ given taken u w may h hand.
+  line = λ given taken used w may h u e hand.
       let within = h.within in
       let zero : count_of old.ahead ≡ 0 = ap count_of alone in
-      looked given (length (taken ++ look.came)) u w result said new
-      (ap (λ frame. eqb (frame_mfas frame % 8) 0) (sym hand) ∙ fits) (omega arith) (look.told given taken (u + 1) w may h) none
-      (λ e. let P : List ℕ → Type 0 = λ hand. IfSome new.ahead (λ frame. said ≡ begins 8 (frame_mfas hand) (frame_mfas frame)) in subst P hand (some e));
+      looked size given (length (taken ++ look.came)) u w result said new
+      (ap (λ frame. eqb (frame_mfas frame % size) 0) (sym hand) ∙ fits) (omega arith) (look.line given taken (u + 1) w may (same_used given (length taken) used (u + 1) w old e h)) none
+      (λ e. let P : List ℕ → Type 0 = λ hand. IfSome new.ahead (λ frame. said ≡ begins size (frame_mfas hand) (frame_mfas frame)) in subst P hand (some e));
 }
 
 -- what is said of the frame in hand and of the next MFAS
-pub some_said : (ahead : Option (List ℕ)) (first hand next : ℕ) (said : Bool) → said ≡ begins 8 first next → first ≡ hand → IfSome ahead (λ frame. next ≡ frame_mfas frame)
-    → IfSome ahead (λ frame. said ≡ begins 8 hand (frame_mfas frame))
-some_said None first hand next said e f h = tt
-some_said (Some frame) first hand next said e f h = e ∙ ap (λ m. begins 8 m next) f ∙ ap (begins 8 hand) h
+pub some_said : (size : ℕ) (ahead : Option (List ℕ)) (first hand next : ℕ) (said : Bool) → said ≡ begins size first next → first ≡ hand → IfSome ahead (λ frame. next ≡ frame_mfas frame)
+    → IfSome ahead (λ frame. said ≡ begins size hand (frame_mfas frame))
+some_said size None first hand next said e f h = tt
+some_said size (Some frame) first hand next said e f h = e ∙ ap (λ m. begins size m next) f ∙ ap (begins size hand) h

@@ -6,6 +6,7 @@ use Rattle.otn_ports.specs.Views.{InView}
 use Rattle.multiframe.specs.LineTurns.{Lock, Standing, Hunting, Locked, Ended, CutShort, Lost, Whole, lock_of, outcome_of, after_outcome, after_hunt, after_turn, standing, wrong_count}
 use Rattle.multiframe.specs.Alignment.{Alignment, taken_of}
 use Rattle.multiframe.specs.TurnPieces.{AlignedIn, aligned_by, ended_in, in_hand, hand_at}
+use Rattle.line_side.specs.LineForm.{LineForm, size_of}
 use Rattle.line_side.specs.LineFile.{mfas_of}
 use Rattle.line_side.specs.MayBe.{MayBe}
 use Rattle.line_side.specs.LineStands.{LineView, LineStands}
@@ -17,53 +18,54 @@ Within ms (Hunting i) = ⊤
 Within ms (Locked lock) = lock.frame ≤ length ms
 Within ms Ended = ⊤
 
-outcome_within : (ms : List ℕ) (lock : Lock) → Within ms (after_outcome 8 lock (outcome_of 8 ms lock))
-outcome_within ms lock = by_tests (ltb (length ms) (lock.frame + 8)) (ltb (8 / 2) (wrong_count lock.expected (take 8 (drop lock.frame ms)))) refl
+outcome_within : (size : ℕ) (ms : List ℕ) (lock : Lock) → Within ms (after_outcome size lock (outcome_of size ms lock))
+outcome_within size ms lock = by_tests (ltb (length ms) (lock.frame + size)) (ltb (size / 2) (wrong_count lock.expected (take size (drop lock.frame ms)))) refl
   where
-    by_tests : (cut wrong : Bool) → ltb (length ms) (lock.frame + 8) ≡ cut → Within ms (after_outcome 8 lock (cond cut CutShort (cond wrong Lost Whole)))
+    by_tests : (cut wrong : Bool) → ltb (length ms) (lock.frame + size) ≡ cut → Within ms (after_outcome size lock (cond cut CutShort (cond wrong Lost Whole)))
     by_tests true wrong e = tt
     by_tests false true e = tt
     by_tests false false e = ltb-false _ _ e
 
-hunt_within : (ms : List ℕ) (i : ℕ) (lock : Option Lock) → Within ms (after_hunt 8 ms i lock)
-hunt_within ms i (Some lock) = outcome_within ms lock
-hunt_within ms i None = by_test (leb (i + 8) (length ms))
+hunt_within : (size : ℕ) (ms : List ℕ) (i : ℕ) (lock : Option Lock) → Within ms (after_hunt size ms i lock)
+hunt_within size ms i (Some lock) = outcome_within size ms lock
+hunt_within size ms i None = by_test (leb (i + size) (length ms))
   where
-    by_test : (b : Bool) → Within ms (cond b (Hunting (i + 8)) Ended)
+    by_test : (b : Bool) → Within ms (cond b (Hunting (i + size)) Ended)
     by_test true = tt
     by_test false = tt
 
-turn_within : (ms : List ℕ) (st : Standing) → Within ms (after_turn 8 ms st)
-turn_within ms (Hunting i) = hunt_within ms i (lock_of 8 ms (Hunting i))
-turn_within ms (Locked lock) = outcome_within ms lock
-turn_within ms Ended = tt
+turn_within : (size : ℕ) (ms : List ℕ) (st : Standing) → Within ms (after_turn size ms st)
+turn_within size ms (Hunting i) = hunt_within size ms i (lock_of size ms (Hunting i))
+turn_within size ms (Locked lock) = outcome_within size ms lock
+turn_within size ms Ended = tt
 
-standing_within : (ms : List ℕ) (t : ℕ) → Within ms (standing 8 ms t)
-standing_within ms zero = subst (Within ms) (sym (standing_none ms)) tt
-standing_within ms (suc t) = subst (Within ms) (sym (standing_suc ms t)) (turn_within ms (standing 8 ms t))
+standing_within : (size : ℕ) (ms : List ℕ) (t : ℕ) → Within ms (standing size ms t)
+standing_within size ms zero = subst (Within ms) (sym (standing_none size ms)) tt
+standing_within size ms (suc t) = subst (Within ms) (sym (standing_suc size ms t)) (turn_within size ms (standing size ms t))
 
-ended_now : (ms : List ℕ) (st : Standing) → Within ms st → (ended_in 8 ms st 0 ≡ true) ↔ (st ≡ Ended)
-ended_now ms (Hunting i) h = (λ e. cc, λ e. cc)
-ended_now ms (Locked lock) h = let no_more = le-ltb (length ms) (lock.frame + 0) (omega arith) in (λ e. absurd (let x : false ≡ true = sym no_more ∙ e in cc), λ e. cc)
-ended_now ms Ended h = (λ e. refl, λ e. refl)
+ended_now : (size : ℕ) (ms : List ℕ) (st : Standing) → Within ms st → (ended_in size ms st 0 ≡ true) ↔ (st ≡ Ended)
+ended_now size ms (Hunting i) h = (λ e. cc, λ e. cc)
+ended_now size ms (Locked lock) h = let no_more = le-ltb (length ms) (lock.frame + 0) (omega arith) in (λ e. absurd (let x : false ≡ true = sym no_more ∙ e in cc), λ e. cc)
+ended_now size ms Ended h = (λ e. refl, λ e. refl)
 
 -- a line that stands before turn t + 1 knows whether it has ended
-pub ended_is : (first now : InView) (taken given : List ℕ) (t : ℕ) (line : LineView) → line.pieces ≡ 0 → LineStands first now taken t line → MayBe line.reader.ending taken given
-    → (line.ended ≡ true) ↔ (standing 8 (mfas_of given) t ≡ Ended)
-ended_is first now taken given t line none h may =
-    let said : line.ended ≡ ended_in 8 (mfas_of given) (standing 8 (mfas_of given) t) 0 = (h.told given may).ended ∙ ap (ended_in 8 (mfas_of given) (standing 8 (mfas_of given) t)) none in
-    let x = ended_now (mfas_of given) (standing 8 (mfas_of given) t) (standing_within (mfas_of given) t) in
+pub ended_is : (form : LineForm) (first now : InView) (taken given : List ℕ) (t : ℕ) (line : LineView) → line.pieces ≡ 0 → LineStands form first now taken t line → MayBe form.scrambled line.reader.ending taken given
+    → (line.ended ≡ true) ↔ (standing (size_of form) (mfas_of given) t ≡ Ended)
+ended_is form first now taken given t line none h may =
+    let said : line.ended ≡ ended_in (size_of form) (mfas_of given) (standing (size_of form) (mfas_of given) t) 0
+    = (h.is_line given may).ended ∙ ap (ended_in (size_of form) (mfas_of given) (standing (size_of form) (mfas_of given) t)) none in
+    let x = ended_now (size_of form) (mfas_of given) (standing (size_of form) (mfas_of given) t) (standing_within (size_of form) (mfas_of given) t) in
     (λ e. x.0 (sym said ∙ e), λ e. said ∙ x.1 e)
 
 -- the alignment of a turn that is locked
-aligned : (ms : List ℕ) (st : Standing) (k : ℕ) (alignment : Option Alignment) → AlignedIn 8 ms st (suc k) alignment → IfSome (lock_of 8 ms st) (λ lock. alignment ≡ Some (taken_of (suc k) ms lock))
-aligned ms (Hunting i) k alignment h = by_lock (lock_of 8 ms (Hunting i)) h
+aligned : (size : ℕ) (ms : List ℕ) (st : Standing) (k : ℕ) (alignment : Option Alignment) → AlignedIn size ms st (suc k) alignment → IfSome (lock_of size ms st) (λ lock. alignment ≡ Some (taken_of (suc k) ms lock))
+aligned size ms (Hunting i) k alignment h = by_lock (lock_of size ms (Hunting i)) h
   where
     by_lock : (lock : Option Lock) → aligned_by ms lock (suc k) alignment → IfSome lock (λ lock. alignment ≡ Some (taken_of (suc k) ms lock))
     by_lock None h = tt
     by_lock (Some lock) h = h
-aligned ms (Locked lock) k alignment h = h
-aligned ms Ended k alignment h = tt
+aligned size ms (Locked lock) k alignment h = h
+aligned size ms Ended k alignment h = tt
 
 expected_by : (ms : List ℕ) (lock : Option Lock) (k result : ℕ) (alignment : Option Alignment) → IfSome lock (λ lock. alignment ≡ Some (taken_of (suc k) ms lock))
     → IfSome alignment (λ a. result ≡ (a.expected + k) % 256) → IfSome (hand_at ms lock k) (λ member. result ≡ member.expected)
@@ -77,12 +79,14 @@ expected_by ms (Some lock) k result alignment h e =
     by_test false e = tt
 
 -- the MFAS that is expected in hand is that of the alignment
-pub expected_is : (first now : InView) (taken given : List ℕ) (t k result : ℕ) (line : LineView) → line.pieces ≡ suc k → LineStands first now taken t line → MayBe line.reader.ending taken given
-    → IfSome line.alignment (λ a. result ≡ (a.expected + (line.pieces - 1)) % 256) → IfSome (in_hand 8 (mfas_of given) (standing 8 (mfas_of given) t) line.pieces) (λ member. result ≡ member.expected)
-expected_is first now taken given t k result line some h may e =
-    let P : ℕ → Type 0 = λ k. AlignedIn 8 (mfas_of given) (standing 8 (mfas_of given) t) k line.alignment in
-    let Q : ℕ → Type 0 = λ k. IfSome (in_hand 8 (mfas_of given) (standing 8 (mfas_of given) t) k) (λ member. result ≡ member.expected) in
+pub expected_is : (form : LineForm) (first now : InView) (taken given : List ℕ) (t k result : ℕ) (line : LineView) → line.pieces ≡ suc k → LineStands form first now taken t line
+    → MayBe form.scrambled line.reader.ending taken given → IfSome line.alignment (λ a. result ≡ (a.expected + (line.pieces - 1)) % 256)
+    → IfSome (in_hand (size_of form) (mfas_of given) (standing (size_of form) (mfas_of given) t) line.pieces) (λ member. result ≡ member.expected)
+expected_is form first now taken given t k result line some h may e =
+    let size = size_of form in
+    let P : ℕ → Type 0 = λ k. AlignedIn size (mfas_of given) (standing size (mfas_of given) t) k line.alignment in
+    let Q : ℕ → Type 0 = λ k. IfSome (in_hand size (mfas_of given) (standing size (mfas_of given) t) k) (λ member. result ≡ member.expected) in
     let R : ℕ → Type 0 = λ p. IfSome line.alignment (λ a. result ≡ (a.expected + p) % 256) in
     let one : line.pieces - 1 ≡ k = omega arith in
-    subst Q (sym some) (expected_by (mfas_of given) (lock_of 8 (mfas_of given) (standing 8 (mfas_of given) t)) k result line.alignment
-    (aligned (mfas_of given) (standing 8 (mfas_of given) t) k line.alignment (subst P some (h.told given may).alignment)) (subst R one e))
+    subst Q (sym some) (expected_by (mfas_of given) (lock_of size (mfas_of given) (standing size (mfas_of given) t)) k result line.alignment
+    (aligned size (mfas_of given) (standing size (mfas_of given) t) k line.alignment (subst P some (h.is_line given may).alignment)) (subst R one e))

@@ -6,6 +6,7 @@ use Rattle.otn_ports.specs.Views.{State, Empty, Live, Dead}
 use Rattle.otn_ports.specs.Reads.{HasEnded}
 use Rattle.otn_ports.proofs.GivenLaws.{given_of_gave}
 use Rattle.multiframe.specs.LineTurns.{wanted_so_far, took}
+use Rattle.line_side.specs.LineForm.{size_of, through_mask}
 use Rattle.line_side.specs.LineFile.{mfas_of}
 use Rattle.line_side.specs.Laws.{GivenIsAmong, TakesTheWanted}
 use Rattle.line_side.specs.LineStands.{LineView, IsLine}
@@ -28,30 +29,30 @@ none_left s left rest live other ended = go (live_or_not s)
     go (inr idle) = other idle
 
 pub given_among : GivenIsAmong
-given_among first now taken given t line h g =
-    let b = given_of_gave first now taken given h.gave g in
-    record { rest = b.rest; over = λ closed. none_left now.state now.left b.rest b.live b.other (h.over closed); parts = b.parts }
+given_among form first now taken file t line h g =
+    let b = given_of_gave first now taken file h.gave g in
+    record { rest = b.rest; over = λ closed. none_left now.state now.left b.rest b.live b.other (h.over closed); parts = ap (through_mask form.scrambled) b.parts }
 
 -- so many bytes were read as the turns and pieces so far want
-took_of : (given : List ℕ) (n t : ℕ) (line : LineView) → IsLine given n t line → n ≡ took 16320 (length given) (mfas_of given) (wanted_so_far 8 (mfas_of given) t line.pieces)
-took_of given n t line h = by_ending line.reader.ending refl
+took_of : (size : ℕ) (given : List ℕ) (n t : ℕ) (line : LineView) → IsLine size given n t line → n ≡ took 16320 (length given) (mfas_of given) (wanted_so_far size (mfas_of given) t line.pieces)
+took_of size given n t line h = by_ending line.reader.ending refl
   where
-    over : line.reader.ending ≢ Open → n ≡ took 16320 (length given) (mfas_of given) (wanted_so_far 8 (mfas_of given) t line.pieces)
+    over : line.reader.ending ≢ Open → n ≡ took 16320 (length given) (mfas_of given) (wanted_so_far size (mfas_of given) t line.pieces)
     over closed =
         let o = h.read.over closed in
         let e = length_mfas given in
-        let past : ltb (length (mfas_of given)) (wanted_so_far 8 (mfas_of given) t line.pieces) ≡ true = lt-ltb _ _ (omega arith) in
-        o.1 ∙ sym (ap (λ b. cond b (length given) (16320 * wanted_so_far 8 (mfas_of given) t line.pieces)) past)
+        let past : ltb (length (mfas_of given)) (wanted_so_far size (mfas_of given) t line.pieces) ≡ true = lt-ltb _ _ (omega arith) in
+        o.1 ∙ sym (ap (λ b. cond b (length given) (16320 * wanted_so_far size (mfas_of given) t line.pieces)) past)
 
-    by_ending : (e : Ending) → line.reader.ending ≡ e → n ≡ took 16320 (length given) (mfas_of given) (wanted_so_far 8 (mfas_of given) t line.pieces)
+    by_ending : (e : Ending) → line.reader.ending ≡ e → n ≡ took 16320 (length given) (mfas_of given) (wanted_so_far size (mfas_of given) t line.pieces)
     by_ending Open e =
         let s = h.read.still e in
         let within = h.read.within in
-        let size = length_mfas given in
-        let inside : ltb (length (mfas_of given)) (wanted_so_far 8 (mfas_of given) t line.pieces) ≡ false = le-ltb _ _ (omega arith) in
-        s.0 ∙ ap (λ x. 16320 * x) s.1 ∙ sym (ap (λ b. cond b (length given) (16320 * wanted_so_far 8 (mfas_of given) t line.pieces)) inside)
+        let count = length_mfas given in
+        let inside : ltb (length (mfas_of given)) (wanted_so_far size (mfas_of given) t line.pieces) ≡ false = le-ltb _ _ (omega arith) in
+        s.0 ∙ ap (λ x. 16320 * x) s.1 ∙ sym (ap (λ b. cond b (length given) (16320 * wanted_so_far size (mfas_of given) t line.pieces)) inside)
     by_ending Seen e = over (λ f. cc)
     by_ending Died e = over (λ f. cc)
 
 pub took_is : TakesTheWanted
-took_is first now taken given t line h may = took_of given (length taken) t line (h.told given may)
+took_is form first now taken given t line h may = took_of (size_of form) given (length taken) t line (h.is_line given may)

@@ -1,3 +1,4 @@
+pub mod Masks
 pub mod Giving
 pub mod Reading
 pub mod Frames
@@ -15,3 +16,4 @@ pub mod Ended
 pub mod Exits
 pub mod Members
 pub mod Made
+pub mod LineFiles

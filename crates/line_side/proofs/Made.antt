@@ -1,5 +1,5 @@
 -- A frame more of an output line.
-use Rattle.std.proofs.Common.{◌≡◌, ◌≢◌, ◌+◌, ◌-◌, ◌*◌, ◌^◌, min, ℕ, Bool, true, false, List, [], ◌∷◌, ◌++◌, length, take, drop, refl, sym, ap, ◌∙◌, arith, inl, inr, append-nil, append_assoc, length-append}
+use Rattle.std.proofs.Common.{◌≡◌, ◌≢◌, ◌+◌, ◌-◌, ◌*◌, ◌^◌, min, ℕ, Bool, true, false, List, [], ◌∷◌, ◌++◌, length, take, drop, refl, sym, ap, ◌∙◌, arith, inl, inr, append-nil, append_assoc, length-append, subst}
 use Rattle.std.specs.List.{concat}
 use Rattle.std.proofs.lemmas.List.{length-set, length-take-le, take-append-drop, get_or-set_same, get_or-set_other}
 use Rattle.std.proofs.Math.Dec.{eqb}
@@ -23,7 +23,10 @@ use Rattle.msi_table.specs.Psi.{psi_of}
 use Rattle.multiframe.specs.LineTurns.{one_if}
 use Rattle.odu_path.specs.Path.{path_byte, IsOduFrame}
 use Rattle.otu_overhead.specs.Section.{otu_byte, IsOtuFrame}
-use Rattle.line_side.specs.LineOutput.{line_tti, psi_byte_at, LineOutView, LineMade, MadeMore, Writes, counted_frames}
+use Rattle.line_side.specs.LineForm.{LineForm, masked_from, through_mask}
+use Rattle.otn_base.specs.declared.line_kind.LineKind.{LineKind}
+use Rattle.line_side.specs.LineOutput.{FramePut, IsLineFrame, AreLineFrames, line_sapi, line_tti, psi_byte_at, LineOutView, LineMade, Writes, counted_frames}
+use Rattle.line_side.proofs.Masks.{length_through, through_append}
 
 dead_not_empty : Dead ≢ Empty
 dead_not_empty e = cc
@@ -87,11 +90,32 @@ writes_dead place frame dead = record {
   dead = λ _. refl;
 }
 
-sizes : (made : List (List ℕ)) (frame : List ℕ) → length (concat made) ≡ 16320 * length made → length frame ≡ 16320 → length (concat (made ++ frame ∷ [])) ≡ 16320 * length (made ++ frame ∷ [])
-sizes made frame size one =
-    let a : length (concat (made ++ frame ∷ [])) ≡ length (concat made) + length frame = ap length (concat_more made frame) ∙ length-append (concat made) frame in
-    let b : length (made ++ frame ∷ []) ≡ length made + 1 = length-append made (frame ∷ []) in
-    omega (arith, a, b, size, one)
+-- ---- the frames of a line
+
+pub file_more : (scrambled : Bool) (made : List (List ℕ)) (frame : List ℕ) → length (concat made) ≡ 16320 * length made
+    → through_mask scrambled (concat (made ++ frame ∷ [])) ≡ through_mask scrambled (concat made) ++ through_mask scrambled frame
+file_more scrambled made frame size = ap (through_mask scrambled) (concat_more made frame) ∙ through_append scrambled (concat made) frame (length made) size
+
+pub frames_size : (n : ℕ) (before : List (List ℕ)) (puts : List FramePut) (made : List (List ℕ)) → AreLineFrames n before puts made → length (concat made) ≡ 16320 * length made
+frames_size n before [] [] h = refl
+frames_size n before (put ∷ puts) (frame ∷ made) h =
+    let rest = frames_size n (before ++ frame ∷ []) puts made h.1 in
+    omega (arith, length-append frame (concat made), h.0.size, rest)
+frames_size n before (put ∷ puts) [] h = absurd h
+frames_size n before [] (frame ∷ made) h = absurd h
+
+pub frames_more : (n : ℕ) (before : List (List ℕ)) (puts : List FramePut) (made : List (List ℕ)) (put : FramePut) (frame : List ℕ) → AreLineFrames n before puts made
+    → IsLineFrame n (or_zero (parity_due 4080 (before ++ made))) put frame → AreLineFrames n before (puts ++ put ∷ []) (made ++ frame ∷ [])
+frames_more n before [] [] put frame h here = (let P : List (List ℕ) → Type 0 = λ b. IsLineFrame n (or_zero (parity_due 4080 b)) put frame in subst P (append-nil before) here, tt)
+frames_more n before (p ∷ puts) (f ∷ made) put frame h here = (
+  h.0,
+  frames_more n (before ++ f ∷ []) puts made put frame h.1
+      (let P : List (List ℕ) → Type 0 = λ b. IsLineFrame n (or_zero (parity_due 4080 b)) put frame in subst P (sym (append_assoc before (f ∷ []) made)) here),
+)
+frames_more n before (p ∷ puts) [] put frame h here = absurd h
+frames_more n before [] (f ∷ made) put frame h here = absurd h
+
+-- ---- what went out
 
 still_live : (was is : OutView) (more : List ℕ) → Gained was more is → is.state ≡ Live → was.state ≡ Live
 still_live was is more gained live = elim gained.state [
@@ -99,47 +123,52 @@ still_live was is more gained live = elim gained.state [
   | inr died ↦ absurd (dead_not_live (sym died.1 ∙ live))
 ]
 
--- all went, or a part from the front
-parts_more : (counts : Bool) (was is : OutView) (made : List (List ℕ)) (went frame : List ℕ) (w : Writes counts was frame is) → (was.state ≡ Live → went ≡ concat made)
-    → (rest : List ℕ) × (concat made ≡ went ++ rest) → (rest : List ℕ) × (concat (made ++ frame ∷ []) ≡ (went ++ w.went) ++ rest)
-parts_more counts was is made went frame w whole (rest, e) = by_state was.state is.state refl refl
+-- what of the bytes that were due, and of a frame more, is gone
+pub record SentMore (due went more frame : List ℕ) (is : OutView) : Type 0 where
+  pub rest : List ℕ
+  pub parts : (went ++ more) ++ rest ≡ due ++ frame
+  pub whole : is.state ≡ Live → rest ≡ []
+
+parts_more : (counts : Bool) (was is : OutView) (due went rest frame : List ℕ) (w : Writes counts was frame is) → (was.state ≡ Live → rest ≡ []) → went ++ rest ≡ due → SentMore due went w.went frame is
+parts_more counts was is due went rest frame w whole parts = by_state was.state is.state refl refl
   where
-    Part : Type 0
-    Part = (rest : List ℕ) × (concat (made ++ frame ∷ []) ≡ (went ++ w.went) ++ rest)
+    all : was.state ≡ Live → went ≡ due
+    all live = sym (append-nil went) ∙ ap (λ r. went ++ r) (sym (whole live)) ∙ parts
 
-    idle : was.state ≢ Live → Part
-    idle rests = (
-      rest ++ frame,
-      concat_more made frame ∙ ap (λ xs. xs ++ frame) e ∙ append_assoc went rest frame
-          ∙ ap (λ xs. xs ++ (rest ++ frame)) (sym (append-nil went) ∙ ap (λ xs. went ++ xs) (sym (w.gained.idle rests).1)),
-    )
+    idle : was.state ≢ Live → SentMore due went w.went frame is
+    idle rests = record {
+      rest = rest ++ frame;
+      parts = ap (λ xs. (went ++ xs) ++ (rest ++ frame)) (w.gained.idle rests).1 ∙ ap (λ xs. xs ++ (rest ++ frame)) (append-nil went) ∙ sym (append_assoc went rest frame) ∙ ap (λ xs. xs ++ frame) parts;
+      whole = λ live. absurd (rests (still_live was is w.went w.gained live));
+    }
 
-    cut : was.state ≡ Live → is.state ≢ Live → Part
+    cut : was.state ≡ Live → is.state ≢ Live → SentMore due went w.went frame is
     cut live dead =
-        let (n, less, is_part) = (w.part live dead).1 in (
-          drop n frame,
-          concat_more made frame ∙ ap (λ xs. xs ++ frame) (sym (whole live)) ∙ ap (λ xs. went ++ xs) (sym (take-append-drop n frame))
-              ∙ sym (append_assoc went (take n frame) (drop n frame)) ∙ ap (λ xs. (went ++ xs) ++ drop n frame) (sym is_part),
-        )
+        let (n, less, is_part) = (w.part live dead).1 in record {
+          rest = drop n frame;
+          parts = append_assoc went w.went (drop n frame) ∙ ap (λ xs. went ++ (xs ++ drop n frame)) is_part ∙ ap (λ xs. went ++ xs) (take-append-drop n frame) ∙ ap (λ xs. xs ++ frame) (all live);
+          whole = λ l. absurd (dead l);
+        }
 
-    by_state : (s t : State) → was.state ≡ s → is.state ≡ t → Part
+    by_state : (s t : State) → was.state ≡ s → is.state ≡ t → SentMore due went w.went frame is
     by_state Empty t d f = idle (λ l. empty_not_live (sym d ∙ l))
     by_state Dead t d f = idle (λ l. dead_not_live (sym d ∙ l))
     by_state Live Empty d f = cut d (λ l. empty_not_live (sym f ∙ l))
     by_state Live Dead d f = cut d (λ l. dead_not_live (sym f ∙ l))
-    by_state Live Live d f = (
-      [],
-      concat_more made frame ∙ ap (λ xs. xs ++ frame) (sym (whole d)) ∙ ap (λ xs. went ++ xs) (sym (w.whole d f).1) ∙ sym (append-nil (went ++ w.went)),
-    )
+    by_state Live Live d f = record {
+      rest = [];
+      parts = append-nil (went ++ w.went) ∙ ap (λ xs. went ++ xs) (w.whole d f).1 ∙ ap (λ xs. xs ++ frame) (all d);
+      whole = λ _. refl;
+    }
 
 -- how many count
-counts_more : (counts : Bool) (first was is : OutView) (made : List (List ℕ)) (went frame : List ℕ) (w : Writes counts was frame is) → Gained first went was
-    → length (concat made) ≡ 16320 * length made → length frame ≡ 16320 → (was.state ≡ Live → went ≡ concat made)
-    → counted_frames first.state (made ++ frame ∷ []) (went ++ w.went) ≡ counted_frames first.state made went + one_if counts
-counts_more counts first was is made went frame w gained size one whole = by_state first.state was.state is.state refl refl refl
+counts_more : (counts : Bool) (first was is : OutView) (made : List (List ℕ)) (due went frame one_more : List ℕ) (w : Writes counts was frame is) → Gained first went was
+    → length due ≡ 16320 * length made → length frame ≡ 16320 → (was.state ≡ Live → went ≡ due)
+    → counted_frames first.state (made ++ one_more ∷ []) (went ++ w.went) ≡ counted_frames first.state made went + one_if counts
+counts_more counts first was is made due went frame one_more w gained size one whole = by_state first.state was.state is.state refl refl refl
   where
     Counts : Type 0
-    Counts = counted_frames first.state (made ++ frame ∷ []) (went ++ w.went) ≡ counted_frames first.state made went + one_if counts
+    Counts = counted_frames first.state (made ++ one_more ∷ []) (went ++ w.went) ≡ counted_frames first.state made went + one_if counts
 
     all : length (went ++ w.went) ≡ length went + length w.went
     all = length-append went w.went
@@ -159,7 +188,7 @@ counts_more counts first was is made went frame w gained size one whole = by_sta
         rw (e, (w.part d f).0) (omega (arith, all, k, m, less, one, size))
 
     by_state : (s t u : State) → first.state ≡ s → was.state ≡ t → is.state ≡ u → Counts
-    by_state Empty Empty u e d f = rw (e, w.empty d) (length-append made (frame ∷ []))
+    by_state Empty Empty u e d f = rw (e, w.empty d) (length-append made (one_more ∷ []))
     by_state Live Empty u e d f = absurd (elim gained.state [ inl same ↦ empty_not_live (sym d ∙ same ∙ e) | inr died ↦ dead_not_empty (sym died.1 ∙ d) ])
     by_state Dead Empty u e d f = absurd (elim gained.state [ inl same ↦ dead_not_empty (sym e ∙ sym same ∙ d) | inr died ↦ dead_not_empty (sym died.1 ∙ d) ])
     by_state Empty Dead u e d f = absurd (elim gained.state [ inl same ↦ dead_not_empty (sym d ∙ same ∙ e) | inr died ↦ empty_not_live (sym e ∙ died.0) ])
@@ -198,43 +227,72 @@ set_psi ports frame mfas row col size place =
     ]
 
 -- what `finish` has made
-pub made_more : (n : ℕ) (ports : List ℕ) (mfas : ℕ) (first was is : OutView) (made : List (List ℕ)) (went : List ℕ) (old new : LineOutView) (put pathed : List ℕ) (counts : Bool)
-    → put ≡ slice_set old.frame (place_of 4080 4 15) (psi_of ports mfas)
-    → (HasSent 4080 made old.path → IsOduFrame 4080 old.sapi mfas (or_zero (parity_due 4080 made)) put pathed)
-    → (HasSent 4080 made old.path → HasSent 4080 (made ++ pathed ∷ []) new.path)
-    → (HasSent 4080 made old.section → IsOtuFrame old.sapi mfas (or_zero (parity_due 4080 made)) pathed new.frame)
-    → (HasSent 4080 made old.section → HasSent 4080 (made ++ new.frame ∷ []) new.section)
-    → parity_of 4080 pathed ≡ parity_of 4080 new.frame → length new.frame ≡ 16320
-    → Writes counts was new.frame is → new.frames ≡ stopped (old.frames + one_if counts) → new.sapi ≡ old.sapi
-    → LineMade n first was made went old → MadeMore n ports mfas first is made went old new
-made_more n ports mfas first was is made went old new put pathed counts set path path_sent section section_sent same sized w frames sapi h =
-    let pm = rw h.sapi at (path h.path) in
-    let sm = rw h.sapi at (section h.section) in
-    let size : length old.frame ≡ 16320 = sym (length-set old.frame (place_of 4080 4 15) (psi_of ports mfas)) ∙ sym (ap length set) ∙ sym pm.size ∙ sym sm.size ∙ sized in record {
-      more = w.went;
-      frame = record {
-        size = sized;
+pub made_more : (n : ℕ) (form : LineForm) (put : FramePut) (first was is : OutView) (puts : List FramePut) (old new : LineOutView) (set pathed frame sent : List ℕ) (counts : Bool)
+    → put.bytes ≡ old.frame → set ≡ slice_set old.frame (place_of 4080 4 15) (psi_of put.ports put.mfas)
+    → ((made : List (List ℕ)) → HasSent 4080 made old.path → IsOduFrame 4080 old.sapi put.mfas (or_zero (parity_due 4080 made)) set pathed)
+    → ((made : List (List ℕ)) → HasSent 4080 made old.path → HasSent 4080 (made ++ pathed ∷ []) new.path)
+    → ((made : List (List ℕ)) → HasSent 4080 made old.section → IsOtuFrame old.sapi put.mfas (or_zero (parity_due 4080 made)) pathed frame)
+    → ((made : List (List ℕ)) → HasSent 4080 made old.section → HasSent 4080 (made ++ frame ∷ []) new.section)
+    → parity_of 4080 pathed ≡ parity_of 4080 frame → sent ≡ through_mask old.form.scrambled frame → length sent ≡ 16320
+    → Writes counts was sent is → new.frames ≡ stopped (old.frames + one_if counts) → new.sapi ≡ old.sapi → new.form ≡ old.form
+    → LineMade n form first was puts old → LineMade n form first is (puts ++ put ∷ []) new
+made_more n form put first was is puts old new set pathed frame sent counts here set_is path path_sent section section_sent same masked sized w frames sapi kept h =
+    let pm = rw h.sapi at (path h.made h.path) in
+    let sm = rw h.sapi at (section h.made h.section) in
+    let wide : length frame ≡ 16320 = sym (length_through old.form.scrambled frame) ∙ sym (ap length masked) ∙ sized in
+    let size : length old.frame ≡ 16320 = sym (length-set old.frame (place_of 4080 4 15) (psi_of put.ports put.mfas)) ∙ sym (ap length set_is) ∙ sym pm.size ∙ sym sm.size ∙ wide in
+    let scrambled : sent ≡ through_mask form.scrambled frame = masked ∙ ap (λ (f : LineForm). through_mask f.scrambled frame) h.is_form in
+    let due = through_mask form.scrambled (concat h.made) in
+    let count = frames_size n [] puts h.made h.are_frames in
+    let long : length due ≡ 16320 * length h.made = length_through form.scrambled (concat h.made) ∙ count in
+    let more = parts_more counts was is due h.sent.went h.sent.rest sent w h.sent.whole h.sent.parts in
+    let all : was.state ≡ Live → h.sent.went ≡ due = λ live. sym (append-nil h.sent.went) ∙ ap (λ r. h.sent.went ++ r) (sym (h.sent.whole live)) ∙ h.sent.parts in
+    record {
+      is_form = kept ∙ h.is_form;
+      made = h.made ++ frame ∷ [];
+      are_frames = frames_more n [] puts h.made put frame h.are_frames (record {
+        size = wide;
         byte = λ row col place. sm.byte row col place
-            ∙ ap (otu_byte mfas (line_tti n mfas) (or_zero (parity_due 4080 made)) row col)
+            ∙ ap (otu_byte put.mfas (line_tti n put.mfas) (or_zero (parity_due 4080 h.made)) row col)
             (pm.byte row col place
-            ∙ ap (path_byte (line_tti n mfas) (or_zero (parity_due 4080 made)) row col)
-            (ap (λ frame. get_or frame (place_of 4080 row col) 0) set ∙ set_psi ports old.frame mfas row col size place));
+            ∙ ap (path_byte (line_tti n put.mfas) (or_zero (parity_due 4080 h.made)) row col)
+            (ap (λ frame. get_or frame (place_of 4080 row col) 0) set_is ∙ set_psi put.ports old.frame put.mfas row col size place
+            ∙ ap (λ bytes. psi_byte_at put.ports put.mfas row col (get_or bytes (place_of 4080 row col) 0)) (sym here)));
+      });
+      sent = record {
+        went = h.sent.went ++ w.went;
+        rest = more.rest;
+        parts = more.parts ∙ ap (λ xs. due ++ xs) scrambled ∙ sym (file_more form.scrambled h.made frame count);
+        gained = gained_twice first was is h.sent.went w.went h.sent.gained w.gained;
+        whole = more.whole;
       };
-      stands = record {
-        sapi = sapi ∙ h.sapi;
-        section = section_sent h.section;
-        path = sent_as 4080 made pathed new.frame new.path same (path_sent h.path);
-        size = sizes made new.frame h.size sized;
-        gained = gained_twice first was is went w.went h.gained w.gained;
-        whole = λ live. let l = still_live was is w.went w.gained live in
-            ap (λ xs. xs ++ w.went) (h.whole l) ∙ ap (λ xs. concat made ++ xs) (w.whole l live).1 ∙ sym (concat_more made new.frame);
-        part = parts_more counts was is made went new.frame w h.whole h.part;
-        frames = frames ∙ ap (λ k. stopped (k + one_if counts)) h.frames ∙ stopped_more (counted_frames first.state made went) (one_if counts)
-            ∙ sym (ap stopped (counts_more counts first was is made went new.frame w h.gained h.size sized h.whole));
-      };
+      frames = frames ∙ ap (λ k. stopped (k + one_if counts)) h.frames ∙ stopped_more (counted_frames first.state h.made h.sent.went) (one_if counts)
+          ∙ sym (ap stopped (counts_more counts first was is h.made due h.sent.went sent frame w h.sent.gained long sized all));
+      sapi = sapi ∙ h.sapi;
+      section = section_sent h.made h.section;
+      path = sent_as 4080 h.made pathed frame new.path same (path_sent h.made h.path);
     }
 
 pub none_count : (s : State) → 0 ≡ stopped (counted_frames s [] [])
 none_count Empty = refl
 none_count Live = refl
 none_count Dead = refl
+
+nothing : (scrambled : Bool) → [] ≡ through_mask scrambled []
+unfolding masked_from
+nothing true = refl
+nothing false = refl
+
+-- a line that has made no frame
+pub new_made : (n : ℕ) (kind : LineKind) (scrambled : Bool) (mask : Bool) (first : OutView) (line : LineOutView) → line.form ≡ record { kind = kind; scrambled = mask } → mask ≡ scrambled → line.sapi ≡ line_sapi n
+    → HasSent 4080 [] line.section → HasSent 4080 [] line.path → line.frames ≡ 0 → LineMade n (record { kind = kind; scrambled = scrambled }) first first [] line
+new_made n kind scrambled mask first line form same sapi section path frames = record {
+  is_form = form ∙ (let of_mask : Bool → LineForm = λ s. record { kind = kind; scrambled = s } in ap of_mask same);
+  made = [];
+  are_frames = tt;
+  sent = record { went = []; rest = []; parts = nothing scrambled; gained = gained_none first; whole = λ _. refl };
+  frames = frames ∙ none_count first.state;
+  sapi = sapi;
+  section = section;
+  path = path;
+}

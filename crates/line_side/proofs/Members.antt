@@ -5,22 +5,22 @@ use Rattle.multiframe.specs.LineTurns.{Lock, CutShort, Lost, Whole, lock_of, kep
 use Rattle.multiframe.specs.TurnPieces.{in_hand, hand_at}
 
 -- where a turn has a multiframe, its frames are whole
-whole_frames : (ms : List ℕ) (lock : Lock) (member : Lock) (cut wrong : Bool) → ltb (length ms) (lock.frame + 8) ≡ cut → kept_if (cond cut CutShort (cond wrong Lost Whole)) lock ≡ Some member
-    → (lock ≡ member) × (lock.frame + 8 ≤ length ms)
-whole_frames ms lock member true wrong e k = absurd (cc)
-whole_frames ms lock member false true e k = absurd (cc)
-whole_frames ms lock member false false e k = (cc, ltb-false _ _ e)
+whole_frames : (size : ℕ) (ms : List ℕ) (lock : Lock) (member : Lock) (cut wrong : Bool) → ltb (length ms) (lock.frame + size) ≡ cut → kept_if (cond cut CutShort (cond wrong Lost Whole)) lock ≡ Some member
+    → (lock ≡ member) × (lock.frame + size ≤ length ms)
+whole_frames size ms lock member true wrong e k = absurd (cc)
+whole_frames size ms lock member false true e k = absurd (cc)
+whole_frames size ms lock member false false e k = (cc, ltb-false _ _ e)
 
-hand_of : (ms : List ℕ) (lock : Option Lock) (member : Lock) (k : ℕ) → multiframe_at 8 ms lock ≡ Some member → k < 8
+hand_of : (size : ℕ) (ms : List ℕ) (lock : Option Lock) (member : Lock) (k : ℕ) → multiframe_at size ms lock ≡ Some member → k < size
     → hand_at ms lock k ≡ Some (record { frame = member.frame + k; expected = (member.expected + k) % 256 })
-hand_of ms None member k e h = absurd (cc)
-hand_of ms (Some lock) member k e h =
-    let w = whole_frames ms lock member (ltb (length ms) (lock.frame + 8)) (ltb (8 / 2) (wrong_count lock.expected (take 8 (drop lock.frame ms)))) refl e in
+hand_of size ms None member k e h = absurd (cc)
+hand_of size ms (Some lock) member k e h =
+    let w = whole_frames size ms lock member (ltb (length ms) (lock.frame + size)) (ltb (size / 2) (wrong_count lock.expected (take size (drop lock.frame ms)))) refl e in
     let all = w.1 in
     ap (λ b. cond b (Some (record { frame = lock.frame + k; expected = (lock.expected + k) % 256 })) None) (lt-ltb (lock.frame + k) (length ms) (omega arith))
     ∙ ap (λ (l : Lock). Some (record { frame = l.frame + k; expected = (l.expected + k) % 256 })) w.0
 
 -- each of the eight pieces of a turn that has a multiframe has its next frame in hand
-pub whole_hand : (ms : List ℕ) (t k : ℕ) (member : Lock) → multiframe 8 ms t ≡ Some member → k < 8
-    → in_hand 8 ms (standing 8 ms t) (suc k) ≡ Some (record { frame = member.frame + k; expected = (member.expected + k) % 256 })
-whole_hand ms t k member e h = hand_of ms (lock_of 8 ms (standing 8 ms t)) member k e h
+pub whole_hand : (size : ℕ) (ms : List ℕ) (t k : ℕ) (member : Lock) → multiframe size ms t ≡ Some member → k < size
+    → in_hand size ms (standing size ms t) (suc k) ≡ Some (record { frame = member.frame + k; expected = (member.expected + k) % 256 })
+whole_hand size ms t k member e h = hand_of size ms (lock_of size ms (standing size ms t)) member k e h

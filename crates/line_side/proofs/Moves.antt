@@ -18,10 +18,10 @@ pub takes_none : (old : LineView) (was is : InView) (r : ReaderView) → Advance
 takes_none old was is r a = record {
   came = a.came;
   step = a.step;
-  keeps = record { pieces = refl; lost = refl };
+  keeps = record { kind = refl; pieces = refl; lost = refl };
   lead_in = refl;
   frame = λ t. absurd (cc);
-  none = λ _ given taken u w may h. let x = (a.told given taken u w may h).none refl in
+  none = λ _ given taken u w may h. let x = (a.line given taken u w may h).none refl in
       record { read = x.0; end = x.1; alignment = refl; ended = refl };
 }
 
@@ -30,9 +30,9 @@ pub takes_frame : (old : LineView) (was is : InView) (r : ReaderView) (m : ℕ) 
 takes_frame old was is r m a e = record {
   came = a.came;
   step = a.step;
-  keeps = record { pieces = refl; lost = refl };
+  keeps = record { kind = refl; pieces = refl; lost = refl };
   lead_in = refl;
-  frame = λ _ given taken u w may h. let x = (a.told given taken u w may h).frame refl in
+  frame = λ _ given taken u w may h. let x = (a.line given taken u w may h).frame refl in
       record {
         read = x.0;
         there = x.1;
@@ -50,36 +50,36 @@ none_passed lead before e = omega arith
 one_passed : (lead : ℕ) (before : ℕ) → lead ≡ stopped before → min (lead + 1) (2 ^ 64 - 1) ≡ stopped (before + 1)
 one_passed lead before e = omega arith
 
-pub tries_ends : (old : LineView) (was is : InView) (r : ReaderView) → Advances false old.reader was r is → Tries Ends old was (record old { reader = r; ended = true }) is
-tries_ends old was is r a = record {
+pub tries_ends : (size : ℕ) (old : LineView) (was is : InView) (r : ReaderView) → Advances false old.reader was r is → Tries size Ends old was (record old { reader = r; ended = true }) is
+tries_ends size old was is r a = record {
   came = a.came;
   step = a.step;
-  keeps = record { pieces = refl; lost = refl };
+  keeps = record { kind = refl; pieces = refl; lost = refl };
   passes_over = none_passed old.lead_in;
   passed = λ t. absurd (cc);
   locks = λ t. absurd (cc);
   passes = λ t. absurd (cc);
-  ends = λ _ given taken u w may h. let x = (a.told given taken u w may h).none refl in
+  ends = λ _ given taken u w may h. let x = (a.line given taken u w may h).none refl in
       record { read = x.0; end = x.1; alignment = refl; ended = refl };
 }
 
 twice_wanted : (w u x : ℕ) → max (max w (u + 1)) (u + 1 + x) ≡ max w (u + 1 + x)
 twice_wanted w u x = omega arith
 
-pub tries_passes : (old : LineView) (was mid is : InView) (r s : ReaderView) → Advances true old.reader was r mid → Begins false r mid s is
-    → Tries Passes old was (record old { reader = s; lead_in = min (old.lead_in + 1) (2 ^ 64 - 1) }) is
-tries_passes old was mid is r s a b = record {
+pub tries_passes : (size : ℕ) (old : LineView) (was mid is : InView) (r s : ReaderView) → Advances true old.reader was r mid → Begins size false r mid s is
+    → Tries size Passes old was (record old { reader = s; lead_in = min (old.lead_in + 1) (2 ^ 64 - 1) }) is
+tries_passes size old was mid is r s a b = record {
   came = a.came ++ b.came;
-  step = step_twice old.reader.ending r.ending s.ending was mid is a.came b.came a.step b.step;
-  keeps = record { pieces = refl; lost = refl };
+  step = step_twice old.reader r s was mid is a.came b.came a.step b.step;
+  keeps = record { kind = refl; pieces = refl; lost = refl };
   passes_over = one_passed old.lead_in;
   passed = λ _. (refl, refl);
   locks = λ t. absurd (cc);
   passes = λ _ given taken u w may h.
-      let x = (a.told given taken u w (may_first r.ending s.ending mid is a.came b.came taken given b.step may) h).frame refl in
-      let y = b.told given (taken ++ a.came) u (max w (u + 1)) (may_second s.ending a.came b.came taken given may) x.0 x.2 in
+      let x = (a.line given taken u w (may_first r s mid is a.came b.came taken given b.step may) h).frame refl in
+      let y = b.line given (taken ++ a.came) (u + 1) (max w (u + 1)) (may_second s a.came b.came taken given may) x.0 u refl x.2 in
       record {
-        read = rw (← append_assoc taken a.came b.came) (same_wanted given _ (u + 1) _ _ s (twice_wanted w u (one_if (looked_ahead 8 (mfas_of given) u))) y.read);
+        read = rw (← append_assoc taken a.came b.came) (same_wanted given _ (u + 1) _ _ s (twice_wanted w u (one_if (looked_ahead size (mfas_of given) u))) y.read);
         start = y.start;
       };
   ends = λ t. absurd (cc);
@@ -94,28 +94,28 @@ and_second true b e = e
 and_second false b e = absurd (cc)
 
 -- a frame at which a multiframe begins is one of those after which the next one is looked at
-pub start_looked : (ms : List ℕ) (u : ℕ) → is_start 8 ms u ≡ true → (u + 1 < length ms) × (looked_ahead 8 ms u ≡ true)
-start_looked ms u e =
+pub start_looked : (size : ℕ) (ms : List ℕ) (u : ℕ) → is_start size ms u ≡ true → (u + 1 < length ms) × (looked_ahead size ms u ≡ true)
+start_looked size ms u e =
     let inside = ltb-true (u + 1) (length ms) (and_first _ _ e) in
     let here : ltb u (length ms) ≡ true = lt-ltb u (length ms) (omega arith) in
-    let fits : eqb (slice_index ms u % 8) 0 ≡ true = and_first (eqb (slice_index ms u % 8) 0) _ (and_second (ltb (u + 1) (length ms)) _ e) in
-    (inside, ap (λ b. b && eqb (slice_index ms u % 8) 0) here ∙ fits)
+    let fits : eqb (slice_index ms u % size) 0 ≡ true = and_first (eqb (slice_index ms u % size) 0) _ (and_second (ltb (u + 1) (length ms)) _ e) in
+    (inside, ap (λ b. b && eqb (slice_index ms u % size) 0) here ∙ fits)
 
-pub tries_locks : (old : LineView) (was mid is : InView) (r s : ReaderView) (m : ℕ) → Advances true old.reader was r mid → Begins true r mid s is → m ≡ frame_mfas s.hand
-    → Tries Locks old was (record old { reader = s; alignment = Some (with_frame m (aligned_at m)) }) is
-tries_locks old was mid is r s m a b e = record {
+pub tries_locks : (size : ℕ) (old : LineView) (was mid is : InView) (r s : ReaderView) (m : ℕ) → Advances true old.reader was r mid → Begins size true r mid s is → m ≡ frame_mfas s.hand
+    → Tries size Locks old was (record old { reader = s; alignment = Some (with_frame m (aligned_at m)) }) is
+tries_locks size old was mid is r s m a b e = record {
   came = a.came ++ b.came;
-  step = step_twice old.reader.ending r.ending s.ending was mid is a.came b.came a.step b.step;
-  keeps = record { pieces = refl; lost = refl };
+  step = step_twice old.reader r s was mid is a.came b.came a.step b.step;
+  keeps = record { kind = refl; pieces = refl; lost = refl };
   passes_over = none_passed old.lead_in;
   passed = λ t. absurd (cc);
   locks = λ _ given taken u w may h.
-      let x = (a.told given taken u w (may_first r.ending s.ending mid is a.came b.came taken given b.step may) h).frame refl in
-      let y = b.told given (taken ++ a.came) u (max w (u + 1)) (may_second s.ending a.came b.came taken given may) x.0 x.2 in
+      let x = (a.line given taken u w (may_first r s mid is a.came b.came taken given b.step may) h).frame refl in
+      let y = b.line given (taken ++ a.came) (u + 1) (max w (u + 1)) (may_second s a.came b.came taken given may) x.0 u refl x.2 in
       let hand : s.hand ≡ frame_at given u = b.hand ∙ x.2 in
-      let looked : one_if (looked_ahead 8 (mfas_of given) u) ≡ 1 = ap one_if (start_looked (mfas_of given) u y.start).1 in
+      let looked : one_if (looked_ahead size (mfas_of given) u) ≡ 1 = ap one_if (start_looked size (mfas_of given) u y.start).1 in
       record {
-        read = rw (← append_assoc taken a.came b.came) (same_wanted given _ (u + 1) _ _ s (twice_wanted w u (one_if (looked_ahead 8 (mfas_of given) u)) ∙ ap (λ k. max w (u + 1 + k)) looked) y.read);
+        read = rw (← append_assoc taken a.came b.came) (same_wanted given _ (u + 1) _ _ s (twice_wanted w u (one_if (looked_ahead size (mfas_of given) u)) ∙ ap (λ k. max w (u + 1 + k)) looked) y.read);
         start = y.start;
         hand = hand;
         alignment = ap (λ k. Some (with_frame k (aligned_at k))) (e ∙ ap frame_mfas hand ∙ sym (index_mfas given u x.1));

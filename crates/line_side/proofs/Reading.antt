@@ -1,5 +1,5 @@
 -- What a read of a frame says.
-use Rattle.std.proofs.Common.{◌≡◌, ◌≢◌, ◌<◌, ℕ, List, [], length, take, arith, refl, sym, ap, ◌∙◌}
+use Rattle.std.proofs.Common.{◌≡◌, ◌≢◌, ◌<◌, ℕ, Bool, false, List, [], length, take, arith, refl, sym, ap, ◌∙◌}
 use Rattle.std.proofs.lemmas.List.{length-take-le}
 use Rattle.otn_ports.specs.Views.{State, Empty, Live, Dead, InView}
 use Rattle.otn_ports.specs.Reads.{Reads, HasEnded, state_after}
@@ -7,10 +7,12 @@ use Rattle.otn_ports.specs.Given.{Gave, GaveBy}
 use Rattle.otn_ports.proofs.GivenLaws.{read_gave}
 use Rattle.otn_ports.specs.declared.in_place.Reading.{Reading}
 use Rattle.otn_ports.specs.declared.in_place.Reading.TheVariants.{Full, End, Lost}
+use Rattle.otn_ports.specs.declared.sealed.Sealed.{Sealed}
 use Rattle.otn_ports.specs.InPlace.{in_view}
 use Rattle.otn_ports.specs.declared.source.Source.{Ghosts}
 use Rattle.otn_ports.specs.declared.in_place.InPlaceOf.{InPlaceOf}
 use Rattle.otn_ports.specs.declared.in_place.InPlaceOf.TheVariants as place
+use Rattle.line_side.specs.LineForm.{through_mask}
 use Rattle.line_side.specs.Reader.{FrameRead}
 use Rattle.line_side.proofs.Giving.{dead_not_live, empty_not_live}
 
@@ -74,18 +76,18 @@ frame_came reading was is into len state live idle = by_state was.state refl
     by_state Dead e = dull (λ l. dead_not_live (sym e ∙ l))
 
 -- the place is not dead
-pub frame_alive : (reading : Reading) (was is : InView) (into : List ℕ) → is.state ≢ Dead → FrameCame reading was into is → (reading ≡ Lost → is.state ≡ Dead) → FrameRead reading was into is
+pub frame_alive : (reading : Reading) (was is : InView) (into : List ℕ) → is.state ≢ Dead → FrameCame reading was into is → (reading ≡ Lost → is.state ≡ Dead) → FrameRead false reading was into is
 frame_alive reading was is into alive h lost = record {
   came = h.came;
   gave = h.gave;
-  whole = λ e. let w = h.whole e in (w.0, w.1);
+  whole = λ e. let w = h.whole e in (sym w.0, w.1);
   short = h.short;
   end = λ k e. (h.end k e, alive);
   lost = lost;
 }
 
 -- the place is dead
-pub frame_dead : (reading : Reading) (was is : InView) (into : List ℕ) → is.state ≡ Dead → FrameCame reading was into is → FrameRead Lost was into is
+pub frame_dead : (reading : Reading) (was is : InView) (into : List ℕ) → is.state ≡ Dead → FrameCame reading was into is → FrameRead false Lost was into is
 frame_dead reading was is into dead h = record {
   came = h.came;
   gave = h.gave;
@@ -93,6 +95,28 @@ frame_dead reading was is into dead h = record {
   short = λ _. h.short (λ full. (h.whole full).2 dead);
   end = λ k e. absurd (cc);
   lost = λ _. dead;
+}
+
+-- a whole frame that was read as it stands in the file, through the mask
+pub frame_masked : (s : Bool) (was is : InView) (raw frame : List ℕ) → frame ≡ through_mask s raw → FrameRead false Full was raw is → FrameRead s Full was frame is
+frame_masked s was is raw frame e h = record {
+  came = h.came;
+  gave = h.gave;
+  whole = λ f. let w = h.whole f in (e ∙ ap (through_mask s) w.0, w.1);
+  short = λ other. absurd (other refl);
+  end = λ k e. absurd (cc);
+  lost = h.lost;
+}
+
+-- no whole frame came, so none goes through the mask
+pub frame_short : (s : Bool) (reading : Reading) (was is : InView) (raw : List ℕ) → reading ≢ Full → FrameRead false reading was raw is → FrameRead s reading was raw is
+frame_short s reading was is raw other h = record {
+  came = h.came;
+  gave = h.gave;
+  whole = λ f. absurd (other f);
+  short = h.short;
+  end = h.end;
+  lost = h.lost;
 }
 
 -- a read is lost only where the place dies
@@ -108,7 +132,7 @@ lost_dead reading was is state idle lost = by_state was.state refl
     by_state Dead e = other (λ l. dead_not_live (sym e ∙ l))
 
 -- a place that is no dead one is seen so
-pub not_dead : {P : Type 0} (source : Ghosts P) (is : InPlaceOf P) → ((port : P) (n : ℕ) → is ≡ place.Dead port n → ⊥) → (in_view source is).state ≢ Dead
+pub not_dead : {P : Type 0} (source : Ghosts P) (is : InPlaceOf P) → ((port : Sealed P) (n : ℕ) → is ≡ place.Dead port n → ⊥) → (in_view source is).state ≢ Dead
 not_dead source place.Empty other e = cc
 not_dead source (place.Live port n) other e = cc
 not_dead source (place.Dead port n) other e = other port n refl

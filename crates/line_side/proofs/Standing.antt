@@ -2,16 +2,20 @@
 use Rattle.std.proofs.Common.{◌≡◌, ◌+◌, ℕ, zero, suc, Bool, true, false, eqb, List, [], ◌++◌, Option, Some, None, length, arith, refl, sym, ap, ◌∙◌, subst, append-nil, add-one}
 use Rattle.std.specs.Prelude.{is_some}
 use Rattle.std.proofs.lemmas.Bool.Decides.{nat_tests}
+use Rattle.otn_base.specs.LineSlots.{slots_of}
+use Rattle.otn_base.specs.declared.line_kind.LineKind.{LineKind}
+use Rattle.otn_base.specs.declared.line_kind.LineKind.TheVariants.{Otu2, Otu3}
 use Rattle.otn_ports.specs.Views.{InView}
 use Rattle.otn_ports.specs.Given.{Gave}
 use Rattle.otn_ports.proofs.GivenLaws.{gave_none, gave_twice}
 use Rattle.multiframe.specs.LineTurns.{Standing, lock_of, standing, multiframe}
 use Rattle.multiframe.specs.Alignment.{Alignment}
+use Rattle.line_side.specs.LineForm.{LineForm, size_of}
 use Rattle.line_side.specs.LineFile.{mfas_of}
 use Rattle.line_side.specs.MayBe.{MayBe}
 use Rattle.line_side.specs.Counted.{HasCounted}
 use Rattle.line_side.specs.Reader.{ReaderView, ReadStep, EndedAs}
-use Rattle.line_side.specs.LineStands.{LineView, IsLine, LineStands, PieceStands}
+use Rattle.line_side.specs.LineStands.{LineView, form_of, IsLine, LineStands, PieceStands}
 use Rattle.line_side.specs.LineMoves.{TakesNext, Hunts, Waits, StepMoves, EndMoves}
 use Rattle.line_side.specs.declared.ending.Ending.{Ending}
 use Rattle.line_side.specs.declared.ending.Ending.TheVariants.{Open}
@@ -23,16 +27,16 @@ use Rattle.line_side.proofs.Hands.{hand_is}
 -- ---- a piece
 
 -- the bytes that came in a piece, and what it does for all bytes that may come
-pub record Stepped (first result : Bool) (old : LineView) (was : InView) (new : LineView) (is : InView) : Type 0 where
+pub record Stepped (size : ℕ) (first result : Bool) (old : LineView) (was : InView) (new : LineView) (is : InView) : Type 0 where
   pub came : List ℕ
-  pub step : ReadStep old.reader.ending was came new.reader.ending is
-  pub moved : (given taken : List ℕ) → MayBe new.reader.ending (taken ++ came) given → Moved given (length taken) (length (taken ++ came)) first result old new
+  pub step : ReadStep old.reader was came new.reader is
+  pub moved : (given taken : List ℕ) → MayBe new.reader.scrambled new.reader.ending (taken ++ came) given → Moved size given (length taken) (length (taken ++ came)) first result old new
 
-waits : (first result : Bool) (old : LineView) (was : InView) (new : LineView) (is : InView) → Waits result old was new is
-    → (old.ended ≡ false → (a : Alignment) → old.alignment ≡ Some a → ⊥) → (old.ended ≡ false → old.alignment ≡ None → first ≡ true → ⊥) → Stepped first result old was new is
-waits first result old was new is w locked hunting = record {
+waits : (size : ℕ) (first result : Bool) (old : LineView) (was : InView) (new : LineView) (is : InView) → Waits result old was new is
+    → (old.ended ≡ false → (a : Alignment) → old.alignment ≡ Some a → ⊥) → (old.ended ≡ false → old.alignment ≡ None → first ≡ true → ⊥) → Stepped size first result old was new is
+waits size first result old was new is w locked hunting = record {
   came = [];
-  step = rw (w.line, w.place) (step_none old.reader.ending was);
+  step = rw (w.line, w.place) (step_none old.reader was);
   moved = λ given taken may. let same : length (taken ++ []) ≡ length taken = ap length (append-nil taken) in record {
     over = λ e. (same, w.line, w.answer);
     lost = ap (λ (l : LineView). l.lost) w.line;
@@ -45,8 +49,8 @@ waits first result old was new is w locked hunting = record {
   };
 }
 
-takes : (first result : Bool) (a : Alignment) (old : LineView) (was : InView) (new : LineView) (is : InView) → old.ended ≡ false → old.alignment ≡ Some a → TakesNext result old was new is → Stepped first result old was new is
-takes first result a old was new is opened some m = record {
+takes : (size : ℕ) (first result : Bool) (a : Alignment) (old : LineView) (was : InView) (new : LineView) (is : InView) → old.ended ≡ false → old.alignment ≡ Some a → TakesNext result old was new is → Stepped size first result old was new is
+takes size first result a old was new is opened some m = record {
   came = m.came;
   step = m.step;
   moved = λ given taken may. record {
@@ -61,8 +65,8 @@ takes first result a old was new is opened some m = record {
   };
 }
 
-hunts : (result : Bool) (old : LineView) (was : InView) (new : LineView) (is : InView) → old.ended ≡ false → old.alignment ≡ None → Hunts result old was new is → Stepped true result old was new is
-hunts result old was new is opened none m = record {
+hunts : (size : ℕ) (result : Bool) (old : LineView) (was : InView) (new : LineView) (is : InView) → old.ended ≡ false → old.alignment ≡ None → Hunts size result old was new is → Stepped size true result old was new is
+hunts size result old was new is opened none m = record {
   came = m.came;
   step = m.step;
   moved = λ given taken may. record {
@@ -77,25 +81,25 @@ hunts result old was new is opened none m = record {
   };
 }
 
-pub stepped : (first result : Bool) (old : LineView) (was : InView) (new : LineView) (is : InView) → StepMoves first result old was new is → Stepped first result old was new is
-stepped first result old was new is m = by_cases first old.ended old.alignment refl refl refl
+pub stepped : (size : ℕ) (first result : Bool) (old : LineView) (was : InView) (new : LineView) (is : InView) → StepMoves size first result old was new is → Stepped size first result old was new is
+stepped size first result old was new is m = by_cases first old.ended old.alignment refl refl refl
   where
-    by_cases : (f ended : Bool) (alignment : Option Alignment) → first ≡ f → old.ended ≡ ended → old.alignment ≡ alignment → Stepped first result old was new is
-    by_cases f true a e g h = waits first result old was new is (m.over g) (λ o. absurd (cc)) (λ o. absurd (cc))
-    by_cases f false (Some a) e g h = takes first result a old was new is g h (m.locked a g h)
-    by_cases true false None e g h = rw e (hunts result old was new is g h (m.hunting g h e))
-    by_cases false false None e g h = waits first result old was new is (m.waiting g h e) (λ o a f. cc) (λ o a f. cc)
+    by_cases : (f ended : Bool) (alignment : Option Alignment) → first ≡ f → old.ended ≡ ended → old.alignment ≡ alignment → Stepped size first result old was new is
+    by_cases f true a e g h = waits size first result old was new is (m.over g) (λ o. absurd (cc)) (λ o. absurd (cc))
+    by_cases f false (Some a) e g h = takes size first result a old was new is g h (m.locked a g h)
+    by_cases true false None e g h = rw e (hunts size result old was new is g h (m.hunting g h e))
+    by_cases false false None e g h = waits size first result old was new is (m.waiting g h e) (λ o a f. cc) (λ o a f. cc)
 
 -- ---- a line between its definition and its views
 
 -- the same line with so many pieces done, of which the last came so
 abbrev pub with_pieces : LineView → ℕ → Bool → LineView
-with_pieces line k member = record { alignment = line.alignment; reader = line.reader; pieces = k; member = member; ended = line.ended; lead_in = line.lead_in; lost = line.lost }
+with_pieces line k member = record { kind = line.kind; alignment = line.alignment; reader = line.reader; pieces = k; member = member; ended = line.ended; lead_in = line.lead_in; lost = line.lost }
 
-is_line : (given : List ℕ) (n t k : ℕ) (result : Bool) (line : LineView) → LineIs given n t (standing 8 (mfas_of given) t) (suc k) line → MemberIs given (standing 8 (mfas_of given) t) k result line
-    → IsLine given n t (with_pieces line (suc k) result)
-is_line given n t k result line h m =
-    let hand = hand_is given (lock_of 8 (mfas_of given) (standing 8 (mfas_of given) t)) k result line.reader.hand m.member m.hand in
+is_line : (size : ℕ) (given : List ℕ) (n t k : ℕ) (result : Bool) (line : LineView) → LineIs size given n t (standing size (mfas_of given) t) (suc k) line → MemberIs size given (standing size (mfas_of given) t) k result line
+    → IsLine size given n t (with_pieces line (suc k) result)
+is_line size given n t k result line h m =
+    let hand = hand_is given (lock_of size (mfas_of given) (standing size (mfas_of given) t)) k result line.reader.hand m.member m.hand in
     record {
       read = h.read;
       alignment = h.alignment;
@@ -106,94 +110,141 @@ is_line given n t k result line h m =
       lost = h.lost;
     }
 
-of_line : (given : List ℕ) (n t : ℕ) (line : LineView) → IsLine given n t line → LineIs given n t (standing 8 (mfas_of given) t) line.pieces line
-of_line given n t line h = record { read = h.read; alignment = h.alignment; ended = h.ended; lead_in = h.lead_in; lost = h.lost }
+of_line : (size : ℕ) (given : List ℕ) (n t : ℕ) (line : LineView) → IsLine size given n t line → LineIs size given n t (standing size (mfas_of given) t) line.pieces line
+of_line size given n t line h = record { read = h.read; alignment = h.alignment; ended = h.ended; lead_in = h.lead_in; lost = h.lost }
 
 -- a line before a turn
-at_turn : (given : List ℕ) (n t : ℕ) (line : LineView) → LineIs given n t (standing 8 (mfas_of given) t) 0 line → IsLine given n t (with_pieces line 0 false)
-at_turn given n t line h = record { read = h.read; alignment = h.alignment; member = refl; hand = tt; ended = h.ended; lead_in = h.lead_in; lost = h.lost }
+at_turn : (size : ℕ) (given : List ℕ) (n t : ℕ) (line : LineView) → LineIs size given n t (standing size (mfas_of given) t) 0 line → IsLine size given n t (with_pieces line 0 false)
+at_turn size given n t line h = record { read = h.read; alignment = h.alignment; member = refl; hand = tt; ended = h.ended; lead_in = h.lead_in; lost = h.lost }
 
 -- ---- the three laws
 
+-- a line has frames in its multiframes
+some_frames : (kind : LineKind) → (p : ℕ) × (slots_of kind ≡ suc p)
+some_frames Otu2 = (7, refl)
+some_frames Otu3 = (31, refl)
+
+-- the form of a new line
+pub new_form : (k kind : LineKind) (s scrambled : Bool) → k ≡ kind → s ≡ scrambled → ◌≡◌ {A = LineForm} (record { kind = k; scrambled = s }) (record { kind = kind; scrambled = scrambled })
+new_form k kind s scrambled e f =
+    let of_kind : LineKind → LineForm = λ x. record { kind = x; scrambled = s } in
+    let of_mask : Bool → LineForm = λ x. record { kind = kind; scrambled = x } in
+    ap of_kind e ∙ ap of_mask f
+
 -- a new line stands before its first turn on any place
-pub new_stands : (first : InView) (line : LineView) → line.alignment ≡ None → line.reader.ahead ≡ None → line.reader.ending ≡ Open → line.reader.frames ≡ 0 → line.reader.rest ≡ 0 → HasCounted [] line.reader.seen
-    → line.ended ≡ false → line.lead_in ≡ 0 → line.lost ≡ 0 → line.pieces ≡ 0 → line.member ≡ false → LineStands first first [] 0 line
-new_stands first line alignment ahead opened frames rest seen ended lead lost pieces member = record {
+pub new_stands : (form : LineForm) (first : InView) (line : LineView) → form_of line ≡ form → line.alignment ≡ None → line.reader.ahead ≡ None → line.reader.ending ≡ Open → line.reader.frames ≡ 0 → line.reader.rest ≡ 0
+    → HasCounted [] line.reader.seen → line.ended ≡ false → line.lead_in ≡ 0 → line.lost ≡ 0 → line.pieces ≡ 0 → line.member ≡ false → LineStands form first first [] 0 line
+new_stands form first line is_form alignment ahead opened frames rest seen ended lead lost pieces member = let size = size_of form in record {
+  is_form = is_form;
   gave = gave_none first;
   ending = record { died = λ d. absurd (cc); seen = λ s. absurd (cc) };
   over = λ closed. absurd (closed opened);
-  told = λ given m.
-      let fresh : LineIs given 0 0 (standing 8 (mfas_of given) 0) 0 line = (let P : Standing → Type 0 = λ s. LineIs given 0 0 s 0 line in
-      subst P (sym (standing_none (mfas_of given))) (turn_first given line alignment ahead opened frames rest seen ended lead lost)) in
-      let P : ℕ → Type 0 = λ k. IsLine given 0 0 (with_pieces line k line.member) in
-      let Q : Bool → Type 0 = λ b. IsLine given 0 0 (with_pieces line 0 b) in
-      subst P (sym pieces) (subst Q (sym member) (at_turn given 0 0 line fresh));
+  is_line = λ given m.
+      let fresh : LineIs size given 0 0 (standing size (mfas_of given) 0) 0 line = (let P : Standing → Type 0 = λ s. LineIs size given 0 0 s 0 line in
+      subst P (sym (standing_none size (mfas_of given))) (turn_first size given line alignment ahead opened frames rest seen ended lead lost)) in
+      let P : ℕ → Type 0 = λ k. IsLine size given 0 0 (with_pieces line k line.member) in
+      let Q : Bool → Type 0 = λ b. IsLine size given 0 0 (with_pieces line 0 b) in
+      subst P (sym pieces) (subst Q (sym member) (at_turn size given 0 0 line fresh));
 }
 
 -- a piece, by the bytes that came in it
-piece_told : (was is : InView) (taken given : List ℕ) (t : ℕ) (result : Bool) (old new : LineView) → (s : Stepped (is_first old.pieces) result (with_pieces old (old.pieces + 1) false) was new is)
-    → new.pieces ≡ old.pieces + 1 → IsLine given (length taken) t old → MayBe new.reader.ending (taken ++ s.came) given → IsLine given (length (taken ++ s.came)) t (with_pieces new new.pieces result)
-piece_told was is taken given t result old new s pieces h may =
-    let line = of_line given (length taken) t old h in
-    let before : LineIs given (length taken) t (standing 8 (mfas_of given) t) old.pieces (with_pieces old (old.pieces + 1) false)
+piece_is : (size : ℕ) (was is : InView) (taken given : List ℕ) (t : ℕ) (result : Bool) (old new : LineView) → (s : Stepped size (is_first old.pieces) result (with_pieces old (old.pieces + 1) false) was new is)
+    → new.pieces ≡ old.pieces + 1 → IsLine size given (length taken) t old → MayBe new.reader.scrambled new.reader.ending (taken ++ s.came) given
+    → IsLine size given (length (taken ++ s.came)) t (with_pieces new new.pieces result)
+piece_is size was is taken given t result old new s pieces h may =
+    let line = of_line size given (length taken) t old h in
+    let before : LineIs size given (length taken) t (standing size (mfas_of given) t) old.pieces (with_pieces old (old.pieces + 1) false)
     = record { read = line.read; alignment = line.alignment; ended = line.ended; lead_in = line.lead_in; lost = line.lost } in
-    let after = turn_piece given (length taken) (length (taken ++ s.came)) t (standing 8 (mfas_of given) t) old.pieces result (with_pieces old (old.pieces + 1) false) new before (s.moved given taken may) in
-    let P : ℕ → Type 0 = λ k. IsLine given (length (taken ++ s.came)) t (with_pieces new k result) in
-    subst P (sym (pieces ∙ add-one old.pieces)) (is_line given (length (taken ++ s.came)) t old.pieces result new after.0 after.1)
+    let after = turn_piece size given (length taken) (length (taken ++ s.came)) t (standing size (mfas_of given) t) old.pieces result (with_pieces old (old.pieces + 1) false) new before (s.moved given taken may) in
+    let P : ℕ → Type 0 = λ k. IsLine size given (length (taken ++ s.came)) t (with_pieces new k result) in
+    subst P (sym (pieces ∙ add-one old.pieces)) (is_line size given (length (taken ++ s.came)) t old.pieces result new after.0 after.1)
 
-pub piece_stands : (first was is : InView) (taken : List ℕ) (t : ℕ) (b result : Bool) (old new : LineView) → b ≡ is_first old.pieces → StepMoves b result (with_pieces old (old.pieces + 1) false) was new is → new.pieces ≡ old.pieces + 1
-    → (EndedAs old.reader.ending was → EndedAs new.reader.ending is) → LineStands first was taken t old → PieceStands first is taken t old (with_pieces new new.pieces result)
-piece_stands first was is taken t b result old new e moves pieces ending h =
-    let F : Bool → Type 0 = λ b. StepMoves b result (with_pieces old (old.pieces + 1) false) was new is in
-    let s = stepped (is_first old.pieces) result (with_pieces old (old.pieces + 1) false) was new is (subst F e moves) in
-    let earlier : (given : List ℕ) → MayBe new.reader.ending (taken ++ s.came) given → MayBe old.reader.ending taken given
-    = λ given may. may_before old.reader.ending new.reader.ending was is s.came taken given s.step may in
+-- the form of a line stays
+same_form : (old new : LineView) → new.kind ≡ old.kind → new.reader.scrambled ≡ old.reader.scrambled → form_of new ≡ form_of old
+same_form old new kind scrambled = new_form new.kind old.kind new.reader.scrambled old.reader.scrambled kind scrambled
+
+piece_of : (first was is : InView) (taken : List ℕ) (t : ℕ) (b result : Bool) (old new : LineView) → b ≡ is_first old.pieces → StepMoves (slots_of old.kind) b result (with_pieces old (old.pieces + 1) false) was new is
+    → new.pieces ≡ old.pieces + 1 → new.kind ≡ old.kind → LineStands (form_of old) first was taken t old → PieceStands (form_of old) first is taken t old (with_pieces new new.pieces result)
+piece_of first was is taken t b result old new e moves pieces kind h =
+    let size = slots_of old.kind in
+    let F : Bool → Type 0 = λ b. StepMoves size b result (with_pieces old (old.pieces + 1) false) was new is in
+    let s = stepped size (is_first old.pieces) result (with_pieces old (old.pieces + 1) false) was new is (subst F e moves) in
+    let M : List ℕ → Bool → Type 0 = λ given m. MayBe m new.reader.ending (taken ++ s.came) given in
+    let here : (given : List ℕ) → MayBe old.reader.scrambled new.reader.ending (taken ++ s.came) given → MayBe new.reader.scrambled new.reader.ending (taken ++ s.came) given
+    = λ given may. subst (M given) (sym s.step.scrambled) may in
+    let earlier : (given : List ℕ) → MayBe old.reader.scrambled new.reader.ending (taken ++ s.came) given → MayBe old.reader.scrambled old.reader.ending taken given
+    = λ given may. may_before old.reader new.reader was is s.came taken given s.step (here given may) in
     record {
       came = s.came;
       stands = record {
+        is_form = same_form old (with_pieces new new.pieces result) kind s.step.scrambled;
         gave = gave_twice first was is taken s.came h.gave s.step.gave;
-        ending = ending h.ending;
+        ending = s.step.ended h.ending;
         over = s.step.over h.over;
-        told = λ given may. piece_told was is taken given t result old new s pieces (h.told given (earlier given may)) may;
+        is_line = λ given may. piece_is size was is taken given t result old new s pieces (h.is_line given (earlier given may)) (here given may);
       };
       earlier = earlier;
     }
 
+pub piece_stands : (form : LineForm) (first was is : InView) (taken : List ℕ) (t : ℕ) (b result : Bool) (old new : LineView) → b ≡ is_first old.pieces
+    → StepMoves (slots_of old.kind) b result (with_pieces old (old.pieces + 1) false) was new is → new.pieces ≡ old.pieces + 1 → new.kind ≡ old.kind
+    → LineStands form first was taken t old → PieceStands form first is taken t old (with_pieces new new.pieces result)
+piece_stands form first was is taken t b result old new e moves pieces kind h =
+    let P : LineForm → Type 0 = λ f. LineStands f first was taken t old → PieceStands f first is taken t old (with_pieces new new.pieces result) in
+    subst P h.is_form (piece_of first was is taken t b result old new e moves pieces kind) h
+
 -- bytes are taken of the place in a piece, or none
-pub piece_gave : (was is : InView) (b result : Bool) (old new : LineView) → StepMoves b result old was new is → (came : List ℕ) × Gave was came is
-piece_gave was is b result old new moves = let s = stepped b result old was new is moves in (s.came, s.step.gave)
+pub piece_gave : (size : ℕ) (was is : InView) (b result : Bool) (old new : LineView) → StepMoves size b result old was new is → (came : List ℕ) × Gave was came is
+piece_gave size was is b result old new moves = let s = stepped size b result old was new is moves in (s.came, s.step.gave)
 
 -- the end of a turn
-ends_of : (first now : InView) (taken given : List ℕ) (t : ℕ) (result : Bool) (old new : LineView) → old.pieces ≡ 8 → EndMoves result old new → LineStands first now taken t old → MayBe old.reader.ending taken given
-    → Ends given (length taken) t (standing 8 (mfas_of given) t) result new
-ends_of first now taken given t result old new all m h may =
-    let P : ℕ → Type 0 = λ k. LineIs given (length taken) t (standing 8 (mfas_of given) t) k old in
-    turn_end given (length taken) t (standing 8 (mfas_of given) t) result old new refl (subst P all (of_line given (length taken) t old (h.told given may))) m
+ends_of : (form : LineForm) (first now : InView) (taken given : List ℕ) (t : ℕ) (result : Bool) (old new : LineView) → old.pieces ≡ size_of form → EndMoves (size_of form) result old new
+    → LineStands form first now taken t old → MayBe form.scrambled old.reader.ending taken given → Ends (size_of form) given (length taken) t (standing (size_of form) (mfas_of given) t) result new
+ends_of form first now taken given t result old new all m h may =
+    let size = size_of form in
+    let some = some_frames form.kind in
+    let P : ℕ → Type 0 = λ k. LineIs size given (length taken) t (standing size (mfas_of given) t) k old in
+    turn_end size given (length taken) t (standing size (mfas_of given) t) some.0 result old new some.1 refl (subst P all (of_line size given (length taken) t old (h.is_line given may))) m
 
 -- how the bytes ended stays
-pub same_ending : (result : Bool) (old new : LineView) → EndMoves result old new → new.reader.ending ≡ old.reader.ending
-same_ending result old new m = ap (λ (r : ReaderView). r.ending) m.reader
+pub same_ending : (size : ℕ) (result : Bool) (old new : LineView) → EndMoves size result old new → new.reader.ending ≡ old.reader.ending
+same_ending size result old new m = ap (λ (r : ReaderView). r.ending) m.reader
 
-pub end_stands : (first now : InView) (taken : List ℕ) (t : ℕ) (result : Bool) (old new : LineView) → old.pieces ≡ 8 → EndMoves result old new → LineStands first now taken t old → LineStands first now taken (t + 1) new
-end_stands first now taken t result old new all m h =
-    let same = same_ending result old new m in
+-- the end of a turn, said of the form of the line as it stands
+pub record TurnMoves (form : LineForm) (result : Bool) (old new : LineView) : Type 0 where
+  pub all : old.pieces ≡ size_of form
+  pub moves : EndMoves (size_of form) result old new
+
+pub turn_moves : (form : LineForm) (result : Bool) (old new : LineView) → form_of old ≡ form → old.pieces ≡ slots_of old.kind → EndMoves (slots_of old.kind) result old new → TurnMoves form result old new
+turn_moves form result old new e all m = let P : LineForm → Type 0 = λ f. TurnMoves f result old new in subst P e (record { all = all; moves = m })
+
+pub end_stands : (form : LineForm) (first now : InView) (taken : List ℕ) (t : ℕ) (result : Bool) (old new : LineView) → old.pieces ≡ slots_of old.kind → EndMoves (slots_of old.kind) result old new
+    → LineStands form first now taken t old → LineStands form first now taken (t + 1) new
+end_stands form first now taken t result old new all moves h =
+    let size = size_of form in
+    let turn = turn_moves form result old new h.is_form all moves in
+    let m = turn.moves in
+    let same = same_ending size result old new m in
     record {
+      is_form = same_form old new m.kind (ap (λ (r : ReaderView). r.scrambled) m.reader) ∙ h.is_form;
       gave = h.gave;
       ending = (let P : Ending → Type 0 = λ e. EndedAs e now in subst P (sym same) h.ending);
       over = λ closed. h.over (λ opened. closed (same ∙ opened));
-      told = λ given may.
-          let e = ends_of first now taken given t result old new all m h (let P : Ending → Type 0 = λ e. MayBe e taken given in subst P same may) in
-          let P : Standing → Type 0 = λ s. LineIs given (length taken) (suc t) s 0 new in
-          let next = subst P (sym (standing_suc (mfas_of given) t)) e.line in
-          let Q : ℕ → Type 0 = λ t. IsLine given (length taken) t new in
-          let R : ℕ → Type 0 = λ k. IsLine given (length taken) (suc t) (with_pieces new k new.member) in
-          let S : Bool → Type 0 = λ b. IsLine given (length taken) (suc t) (with_pieces new 0 b) in
-          subst Q (sym (add-one t)) (subst R (sym m.pieces) (subst S (sym m.member) (at_turn given (length taken) (suc t) new next)));
+      is_line = λ given may.
+          let e = ends_of form first now taken given t result old new turn.all m h (let P : Ending → Type 0 = λ e. MayBe form.scrambled e taken given in subst P same may) in
+          let P : Standing → Type 0 = λ s. LineIs size given (length taken) (suc t) s 0 new in
+          let next = subst P (sym (standing_suc size (mfas_of given) t)) e.line in
+          let Q : ℕ → Type 0 = λ t. IsLine size given (length taken) t new in
+          let R : ℕ → Type 0 = λ k. IsLine size given (length taken) (suc t) (with_pieces new k new.member) in
+          let S : Bool → Type 0 = λ b. IsLine size given (length taken) (suc t) (with_pieces new 0 b) in
+          subst Q (sym (add-one t)) (subst R (sym m.pieces) (subst S (sym m.member) (at_turn size given (length taken) (suc t) new next)));
     }
 
-pub end_multiframe : (first now : InView) (taken given : List ℕ) (t : ℕ) (result : Bool) (old new : LineView) → old.pieces ≡ 8 → EndMoves result old new → LineStands first now taken t old → MayBe old.reader.ending taken given
-    → result ≡ is_some (multiframe 8 (mfas_of given) t)
-end_multiframe first now taken given t result old new all m h may = (ends_of first now taken given t result old new all m h may).multiframe
+pub end_multiframe : (form : LineForm) (first now : InView) (taken given : List ℕ) (t : ℕ) (result : Bool) (old new : LineView) → old.pieces ≡ slots_of old.kind → EndMoves (slots_of old.kind) result old new
+    → LineStands form first now taken t old → MayBe form.scrambled old.reader.ending taken given → result ≡ is_some (multiframe (size_of form) (mfas_of given) t)
+end_multiframe form first now taken given t result old new all moves h may =
+    let turn = turn_moves form result old new h.is_form all moves in
+    (ends_of form first now taken given t result old new turn.all turn.moves h may).multiframe
 
 pub first_is : (k : ℕ) → eqb k 0 ≡ is_first k
 first_is zero = refl

@@ -1,15 +1,16 @@
 -- What a step of the reader does, over plain views.
 use Rattle.std.proofs.Common.{◌≡◌, ◌≢◌, ◌<◌, ◌+◌, ◌-◌, ◌*◌, ◌%◌, ◌^◌, min, max, ℕ, suc, Bool, true, false, List, [], ◌∷◌, ◌++◌, Option, Some, None, length, arith, refl, sym, ap, ◌∙◌, length-append, append-nil, append_assoc, subst}
 use Rattle.std.specs.Prelude.{IfSome, IsTrue, ◌↔◌, if◌then◌else◌}
-use Rattle.otn_ports.specs.Views.{InView}
+use Rattle.otn_ports.specs.Views.{InView, Dead}
 use Rattle.otn_ports.specs.declared.in_place.Reading.{Reading}
 use Rattle.otn_ports.specs.declared.in_place.Reading.TheVariants.{Full, End, Lost}
 use Rattle.line_side.specs.declared.ending.Ending.{Ending}
 use Rattle.line_side.specs.declared.ending.Ending.TheVariants.{Open}
+use Rattle.line_side.specs.LineForm.{through_mask}
 use Rattle.line_side.specs.LineFile.{frame_at, first_frames, whole_frames}
 use Rattle.line_side.specs.Counted.{Counted, HasCounted, CountsOn}
-use Rattle.line_side.specs.Reader.{ReaderView, HasRead, FrameRead, Advanced, LookedAhead, Advances, LooksAhead, with_ahead, taking, with_reading, ending_after, left_after, stopped, count_of, rest_of, ReadStep}
-use Rattle.line_side.proofs.Giving.{step_none}
+use Rattle.line_side.specs.Reader.{ReaderView, HasRead, FrameRead, Advanced, LookedAhead, Advances, LooksAhead, with_ahead, taking, with_reading, ending_after, left_after, stopped, count_of, rest_of, ReadStep, EndedAs}
+use Rattle.line_side.proofs.Giving.{step_none, step_kept}
 use Rattle.line_side.proofs.Frames.{frame_here, whole_here, short_here}
 
 stopped_twice : (u f : ℕ) → f ≡ stopped u → min (f + 1) (2 ^ 64 - 1) ≡ stopped (u + 1)
@@ -30,7 +31,6 @@ took_ahead given frame n u w old seen e sees h =
     let here : frame ≡ frame_at given u = (let P : Option (List ℕ) → Type 0 = λ a. IfSome a (λ frame. frame ≡ frame_at given u) in subst P e h.ahead) in
     let within = h.within in
     record {
-      alone = refl;
       frame = λ _. (
         record {
           within = omega arith;
@@ -55,23 +55,23 @@ ended_already given n u w old e closed h =
     (record { within = h.within; ahead = h.ahead; still = λ opened. absurd (closed opened); over = λ _. (o.0, o.1, omega arith); frames = h.frames; rest = h.rest; seen = h.seen }, omega arith)
 
 -- a read gave no whole frame
-short_read : (taken came rest : List ℕ) (u w : ℕ) (old new : ReaderView) → HasRead (taken ++ (came ++ rest)) (length taken) u w old
+short_read : (s : Bool) (taken came rest : List ℕ) (u w : ℕ) (old new : ReaderView) → HasRead (through_mask s (taken ++ (came ++ rest))) (length taken) u w old
     → old.ahead ≡ None → old.ending ≡ Open → length came < 16320 → rest ≡ []
-    → new.ahead ≡ None → new.ending ≢ Open → new.frames ≡ old.frames → new.rest ≡ rest_of new.ending (taken ++ (came ++ rest)) → new.seen ≡ old.seen
-    → HasRead (taken ++ (came ++ rest)) (length (taken ++ came)) u (max w (u + 1)) new × (u ≡ whole_frames (taken ++ (came ++ rest)))
-short_read taken came rest u w old new h e opened less none f closed frames left seen =
+    → new.ahead ≡ None → new.ending ≢ Open → new.frames ≡ old.frames → new.rest ≡ rest_of new.ending (through_mask s (taken ++ (came ++ rest))) → new.seen ≡ old.seen
+    → HasRead (through_mask s (taken ++ (came ++ rest))) (length (taken ++ came)) u (max w (u + 1)) new × (u ≡ whole_frames (through_mask s (taken ++ (came ++ rest))))
+short_read s taken came rest u w old new h e opened less none f closed frames left seen =
     let zero : count_of old.ahead ≡ 0 = ap count_of e in
     let zero' : count_of new.ahead ≡ 0 = ap count_of f in
-    let s = h.still opened in
-    let here = short_here taken came rest u (omega arith) less none in (
+    let still = h.still opened in
+    let here = short_here s taken came rest u (omega arith) less none in (
       record {
         within = omega (arith, here.0);
-        ahead = (let P : Option (List ℕ) → Type 0 = λ a. IfSome a (λ frame. frame ≡ frame_at (taken ++ (came ++ rest)) u) in subst P (sym f) tt);
+        ahead = (let P : Option (List ℕ) → Type 0 = λ a. IfSome a (λ frame. frame ≡ frame_at (through_mask s (taken ++ (came ++ rest))) u) in subst P (sym f) tt);
         still = λ o. absurd (closed o);
         over = λ _. (omega (arith, here.0), here.1, omega (arith, here.0));
         frames = frames ∙ h.frames;
         rest = left;
-        seen = (let P : Counted → Type 0 = λ s. HasCounted (first_frames (taken ++ (came ++ rest)) u) s in subst P (sym seen) h.seen);
+        seen = (let P : Counted → Type 0 = λ c. HasCounted (first_frames (through_mask s (taken ++ (came ++ rest))) u) c in subst P (sym seen) h.seen);
       },
       here.0,
     )
@@ -97,72 +97,97 @@ closed_after Full ending other = absurd (other refl)
 closed_after (End k) ending other = λ o. cc
 closed_after Lost ending other = λ o. cc
 
-short_step : (reading : Reading) (ending : Ending) (was is : InView) (frame : List ℕ) → ending ≡ Open → reading ≢ Full → (f : FrameRead reading was frame is) → ReadStep ending was f.came (ending_after reading ending) is
-short_step reading ending was is frame opened other f = record { gave = f.gave; quiet = λ closed. absurd (closed opened); over = λ _ _. (f.short other).1 }
+ended_short : (reading : Reading) (ending : Ending) (is : InView) → reading ≢ Full → ((k : ℕ) → reading ≡ End k → is.state ≢ Dead) → (reading ≡ Lost → is.state ≡ Dead) → EndedAs (ending_after reading ending) is
+ended_short Full ending is other end lost = absurd (other refl)
+ended_short (End k) ending is other end lost = record { died = λ d. absurd (cc); seen = λ _. end k refl }
+ended_short Lost ending is other end lost = record { died = λ _. lost refl; seen = λ e. absurd (cc) }
 
-whole_step : (reading : Reading) (ending : Ending) (was is : InView) (frame : List ℕ) → ending ≡ Open → (f : FrameRead reading was frame is) → ReadStep ending was f.came ending is
-whole_step reading ending was is frame opened f = record { gave = f.gave; quiet = λ closed. absurd (closed opened); over = λ _ closed. absurd (closed opened) }
+ended_open : (ending : Ending) (is : InView) → ending ≡ Open → EndedAs ending is
+ended_open ending is opened = record { died = λ d. absurd (cc); seen = λ e. absurd (cc) }
+
+short_step : (reading : Reading) (old new : ReaderView) (was is : InView) (frame : List ℕ) → old.ending ≡ Open → reading ≢ Full → new.scrambled ≡ old.scrambled → new.ending ≡ ending_after reading old.ending
+    → (f : FrameRead old.scrambled reading was frame is) → ReadStep old was f.came new is
+short_step reading old new was is frame opened other same after f = record {
+  scrambled = same;
+  gave = f.gave;
+  quiet = λ closed. absurd (closed opened);
+  over = λ _ _. (f.short other).1;
+  ended = λ _. (let P : Ending → Type 0 = λ e. EndedAs e is in subst P (sym after) (ended_short reading old.ending is other (λ k e. (f.end k e).1) f.lost));
+}
+
+whole_step : (reading : Reading) (old new : ReaderView) (was is : InView) (frame : List ℕ) → old.ending ≡ Open → new.scrambled ≡ old.scrambled → new.ending ≡ old.ending
+    → (f : FrameRead old.scrambled reading was frame is) → ReadStep old was f.came new is
+whole_step reading old new was is frame opened same kept f = record {
+  scrambled = same;
+  gave = f.gave;
+  quiet = λ closed. absurd (closed opened);
+  over = λ _ closed. absurd (closed (kept ∙ opened));
+  ended = λ _. ended_open new.ending is (kept ∙ opened);
+}
 
 -- ---- the steps as the reader's calls make them
 
 pub advance_ahead : (old : ReaderView) (was : InView) (frame : List ℕ) (seen : Counted) → old.ahead ≡ Some frame → IfSome old.ahead (λ frame. CountsOn old.seen frame seen) → Advances true old was (with_ahead seen old) was
 advance_ahead old was frame seen e sees = rw (ap (λ a. taking a seen old) e) (record {
   came = [];
-  step = step_none old.ending was;
-  told = λ given taken u w may h.
+  step = step_kept old (taking (Some frame) seen old) was refl refl;
+  alone = refl;
+  line = λ given taken u w may h.
       let P : List ℕ → Type 0 = λ g. HasRead g (length taken) u w old → Advanced g (length (taken ++ [])) u (max w (u + 1)) true (taking (Some frame) seen old) in
       let A : Option (List ℕ) → Type 0 = λ a. IfSome a (λ frame. CountsOn old.seen frame seen) in
-      subst P (sym (may.parts ∙ append_assoc taken [] may.rest)) (λ h. rw (append-nil taken) (took_ahead (taken ++ may.rest) frame (length taken) u w old seen e (subst A e sees) h)) h;
+      subst P (sym (may.parts ∙ ap (through_mask old.scrambled) (append_assoc taken [] may.rest))) (λ h. rw (append-nil taken) (took_ahead (through_mask old.scrambled (taken ++ may.rest)) frame (length taken) u w old seen e (subst A e sees) h)) h;
 })
 
 pub advance_over : (old : ReaderView) (was : InView) → old.ahead ≡ None → old.ending ≢ Open → Advances false old was old was
 advance_over old was e closed = record {
   came = [];
-  step = step_none old.ending was;
-  told = λ given taken u w may h.
+  step = step_none old was;
+  alone = e;
+  line = λ given taken u w may h.
       let P : List ℕ → Type 0 = λ g. HasRead g (length taken) u w old → Advanced g (length (taken ++ [])) u (max w (u + 1)) false old in
-      subst P (sym (may.parts ∙ append_assoc taken [] may.rest)) (λ h. rw (append-nil taken) (let o = ended_already (taken ++ may.rest) (length taken) u w old e closed h in
-      record { alone = e; frame = λ t. absurd (cc); none = λ _. (o.0, o.1, closed) })) h;
+      subst P (sym (may.parts ∙ ap (through_mask old.scrambled) (append_assoc taken [] may.rest))) (λ h. rw (append-nil taken) (let o = ended_already (through_mask old.scrambled (taken ++ may.rest)) (length taken) u w old e closed h in
+      record { frame = λ t. absurd (cc); none = λ _. (o.0, o.1, closed) })) h;
 }
 
-pub advance_short : (reading : Reading) (old : ReaderView) (was is : InView) (frame : List ℕ) (new : ReaderView) → old.ahead ≡ None → old.ending ≡ Open → reading ≢ Full → FrameRead reading was frame is
+pub advance_short : (reading : Reading) (old : ReaderView) (was is : InView) (frame : List ℕ) (new : ReaderView) → old.ahead ≡ None → old.ending ≡ Open → reading ≢ Full → FrameRead old.scrambled reading was frame is
     → new ≡ with_reading reading (record old { hand = frame }) → Advances false old was new is
 advance_short reading old was is frame new e opened other f same = let closed = closed_after reading old.ending other in rw same (record {
   came = f.came;
-  step = short_step reading old.ending was is frame opened other f;
-  told = λ given taken u w may h.
+  step = short_step reading old (with_reading reading (record old { hand = frame })) was is frame opened other refl refl f;
+  alone = (with_reading_ahead reading (record old { hand = frame })).0 ∙ e;
+  line = λ given taken u w may h.
       let P : List ℕ → Type 0 = λ g. HasRead g (length taken) u w old → Advanced g (length (taken ++ f.came)) u (max w (u + 1)) false (with_reading reading (record old { hand = frame })) in
-      subst P (sym (may.parts ∙ append_assoc taken f.came may.rest)) (λ h.
+      subst P (sym (may.parts ∙ ap (through_mask old.scrambled) (append_assoc taken f.came may.rest))) (λ h.
       let short = f.short other in
       let none = may.over closed in
-      let zero = closed_rest (taken ++ (f.came ++ may.rest)) (length taken) u w old opened h in
+      let zero = closed_rest (through_mask old.scrambled (taken ++ (f.came ++ may.rest))) (length taken) u w old opened h in
       let size = h.still opened in
       let zero' : count_of old.ahead ≡ 0 = ap count_of e in
-      let here = short_here taken f.came may.rest u (omega arith) short.0 none in
+      let here = short_here old.scrambled taken f.came may.rest u (omega arith) short.0 none in
       let r = record old { hand = frame } in
       let kept = with_reading_ahead reading r in
-      let after = rest_after reading (taken ++ (f.came ++ may.rest)) f.came r zero other (λ k q. (f.end k q).0) here.2 in
-      let read = short_read taken f.came may.rest u w old (with_reading reading r) h e opened short.0 none (kept.0 ∙ e) closed kept.1 after kept.3 in
-      record { alone = kept.0 ∙ e; frame = λ t. absurd (cc); none = λ _. (read.0, read.1, closed) }) h;
+      let after = rest_after reading (through_mask old.scrambled (taken ++ (f.came ++ may.rest))) f.came r zero other (λ k q. (f.end k q).0) here.2 in
+      let read = short_read old.scrambled taken f.came may.rest u w old (with_reading reading r) h e opened short.0 none (kept.0 ∙ e) closed kept.1 after kept.3 in
+      record { frame = λ t. absurd (cc); none = λ _. (read.0, read.1, closed) }) h;
 })
 
-pub advance_whole : (reading : Reading) (old : ReaderView) (was is : InView) (frame : List ℕ) (new : ReaderView) (seen : Counted) → CountsOn old.seen frame seen → old.ahead ≡ None → old.ending ≡ Open → reading ≡ Full → FrameRead reading was frame is
-    → new ≡ record { hand = frame; ahead = None; ending = old.ending; frames = stopped (old.frames + 1); rest = old.rest; seen = seen } → Advances true old was new is
+pub advance_whole : (reading : Reading) (old : ReaderView) (was is : InView) (frame : List ℕ) (new : ReaderView) (seen : Counted) → CountsOn old.seen frame seen → old.ahead ≡ None → old.ending ≡ Open → reading ≡ Full → FrameRead old.scrambled reading was frame is
+    → new ≡ record { scrambled = old.scrambled; hand = frame; ahead = None; ending = old.ending; frames = stopped (old.frames + 1); rest = old.rest; seen = seen } → Advances true old was new is
 advance_whole reading old was is frame new seen sees e opened full f same = rw same (record {
   came = f.came;
-  step = whole_step reading old.ending was is frame opened f;
-  told = λ given taken u w may h.
-      let P : List ℕ → Type 0 = λ g. HasRead g (length taken) u w old → Advanced g (length (taken ++ f.came)) u (max w (u + 1)) true (record { hand = frame; ahead = None; ending = old.ending; frames = stopped (old.frames + 1); rest = old.rest; seen = seen }) in
-      subst P (sym (may.parts ∙ append_assoc taken f.came may.rest)) (λ h.
+  step = whole_step reading old (record { scrambled = old.scrambled; hand = frame; ahead = None; ending = old.ending; frames = stopped (old.frames + 1); rest = old.rest; seen = seen }) was is frame opened refl refl f;
+  alone = refl;
+  line = λ given taken u w may h.
+      let P : List ℕ → Type 0 = λ g. HasRead g (length taken) u w old → Advanced g (length (taken ++ f.came)) u (max w (u + 1)) true (record { scrambled = old.scrambled; hand = frame; ahead = None; ending = old.ending; frames = stopped (old.frames + 1); rest = old.rest; seen = seen }) in
+      subst P (sym (may.parts ∙ ap (through_mask old.scrambled) (append_assoc taken f.came may.rest))) (λ h.
       let whole = f.whole full in
       let size = h.still opened in
       let zero : count_of old.ahead ≡ 0 = ap count_of e in
       let n : length taken ≡ 16320 * u = omega arith in
-      let here = frame_here taken f.came may.rest u n whole.1 in
-      let there = whole_here taken f.came may.rest u n whole.1 in
+      let here = frame_here old.scrambled taken f.came may.rest u n whole.1 in
+      let there = whole_here old.scrambled taken f.came may.rest u n whole.1 in
       let m = length-append taken f.came in
       record {
-        alone = refl;
         frame = λ _. (
           record {
             within = omega arith;
@@ -171,10 +196,10 @@ advance_whole reading old was is frame new seen sees e opened full f same = rw s
             over = λ closed. absurd (closed opened);
             frames = stopped_twice u old.frames h.frames;
             rest = h.rest;
-            seen = one_more (taken ++ (f.came ++ may.rest)) frame u old.seen seen (sym (here ∙ whole.0)) sees h.seen;
+            seen = one_more (through_mask old.scrambled (taken ++ (f.came ++ may.rest))) frame u old.seen seen (whole.0 ∙ sym here) sees h.seen;
           },
           there,
-          sym (here ∙ whole.0),
+          whole.0 ∙ sym here,
         );
         none = λ t. absurd (cc);
       }) h;
@@ -183,75 +208,76 @@ advance_whole reading old was is frame new seen sees e opened full f same = rw s
 pub look_over : (old : ReaderView) (was : InView) → old.ahead ≡ None → old.ending ≢ Open → LooksAhead false old was old was
 look_over old was e closed = record {
   came = [];
-  step = step_none old.ending was;
+  step = step_none old was;
   hand = refl;
-  told = λ given taken u w may h.
+  line = λ given taken u w may h.
       let P : List ℕ → Type 0 = λ g. HasRead g (length taken) u w old → LookedAhead g (length (taken ++ [])) u (max w (u + 1)) false old in
-      subst P (sym (may.parts ∙ append_assoc taken [] may.rest)) (λ h. rw (append-nil taken) (let o = ended_already (taken ++ may.rest) (length taken) u w old e closed h in
+      subst P (sym (may.parts ∙ ap (through_mask old.scrambled) (append_assoc taken [] may.rest))) (λ h. rw (append-nil taken) (let o = ended_already (through_mask old.scrambled (taken ++ may.rest)) (length taken) u w old e closed h in
       record { read = o.0; frame = λ t. absurd (cc); none = λ _. (o.1, e) })) h;
 }
 
-pub look_short : (reading : Reading) (old : ReaderView) (was is : InView) (frame : List ℕ) (new : ReaderView) → old.ahead ≡ None → old.ending ≡ Open → reading ≢ Full → FrameRead reading was frame is
+pub look_short : (reading : Reading) (old : ReaderView) (was is : InView) (frame : List ℕ) (new : ReaderView) → old.ahead ≡ None → old.ending ≡ Open → reading ≢ Full → FrameRead old.scrambled reading was frame is
     → new ≡ with_reading reading old → LooksAhead false old was new is
 look_short reading old was is frame new e opened other f same = let closed = closed_after reading old.ending other in rw same (record {
   came = f.came;
-  step = short_step reading old.ending was is frame opened other f;
+  step = short_step reading old (with_reading reading old) was is frame opened other refl refl f;
   hand = (with_reading_ahead reading old).2;
-  told = λ given taken u w may h.
+  line = λ given taken u w may h.
       let P : List ℕ → Type 0 = λ g. HasRead g (length taken) u w old → LookedAhead g (length (taken ++ f.came)) u (max w (u + 1)) false (with_reading reading old) in
-      subst P (sym (may.parts ∙ append_assoc taken f.came may.rest)) (λ h.
+      subst P (sym (may.parts ∙ ap (through_mask old.scrambled) (append_assoc taken f.came may.rest))) (λ h.
       let short = f.short other in
       let none = may.over closed in
-      let zero = closed_rest (taken ++ (f.came ++ may.rest)) (length taken) u w old opened h in
+      let zero = closed_rest (through_mask old.scrambled (taken ++ (f.came ++ may.rest))) (length taken) u w old opened h in
       let size = h.still opened in
       let zero' : count_of old.ahead ≡ 0 = ap count_of e in
-      let here = short_here taken f.came may.rest u (omega arith) short.0 none in
+      let here = short_here old.scrambled taken f.came may.rest u (omega arith) short.0 none in
       let kept = with_reading_ahead reading old in
-      let after = rest_after reading (taken ++ (f.came ++ may.rest)) f.came old zero other (λ k q. (f.end k q).0) here.2 in
-      let read = short_read taken f.came may.rest u w old (with_reading reading old) h e opened short.0 none (kept.0 ∙ e) closed kept.1 after kept.3 in
+      let after = rest_after reading (through_mask old.scrambled (taken ++ (f.came ++ may.rest))) f.came old zero other (λ k q. (f.end k q).0) here.2 in
+      let read = short_read old.scrambled taken f.came may.rest u w old (with_reading reading old) h e opened short.0 none (kept.0 ∙ e) closed kept.1 after kept.3 in
       record { read = read.0; frame = λ t. absurd (cc); none = λ _. (read.1, kept.0 ∙ e) }) h;
 })
 
-pub look_whole : (reading : Reading) (old : ReaderView) (was is : InView) (frame : List ℕ) (new : ReaderView) → old.ahead ≡ None → old.ending ≡ Open → reading ≡ Full → FrameRead reading was frame is
+pub look_whole : (reading : Reading) (old : ReaderView) (was is : InView) (frame : List ℕ) (new : ReaderView) → old.ahead ≡ None → old.ending ≡ Open → reading ≡ Full → FrameRead old.scrambled reading was frame is
     → new ≡ record old { ahead = Some frame } → LooksAhead true old was new is
 look_whole reading old was is frame new e opened full f same = rw same (record {
   came = f.came;
-  step = whole_step reading old.ending was is frame opened f;
+  step = whole_step reading old (record old { ahead = Some frame }) was is frame opened refl refl f;
   hand = refl;
-  told = λ given taken u w may h.
+  line = λ given taken u w may h.
       let P : List ℕ → Type 0 = λ g. HasRead g (length taken) u w old → LookedAhead g (length (taken ++ f.came)) u (max w (u + 1)) true (record old { ahead = Some frame }) in
-      subst P (sym (may.parts ∙ append_assoc taken f.came may.rest)) (λ h.
+      subst P (sym (may.parts ∙ ap (through_mask old.scrambled) (append_assoc taken f.came may.rest))) (λ h.
       let whole = f.whole full in
       let size = h.still opened in
       let zero : count_of old.ahead ≡ 0 = ap count_of e in
       let n : length taken ≡ 16320 * u = omega arith in
-      let here = frame_here taken f.came may.rest u n whole.1 in
-      let there = whole_here taken f.came may.rest u n whole.1 in
+      let here = frame_here old.scrambled taken f.came may.rest u n whole.1 in
+      let there = whole_here old.scrambled taken f.came may.rest u n whole.1 in
       let m = length-append taken f.came in
       record {
         read = record {
           within = omega arith;
-          ahead = sym (here ∙ whole.0);
+          ahead = whole.0 ∙ sym here;
           still = λ o. (omega (arith, whole.1), omega arith);
           over = λ closed. absurd (closed opened);
           frames = h.frames;
           rest = h.rest;
           seen = h.seen;
         };
-        frame = λ _. (there, ap Some (sym (here ∙ whole.0)));
+        frame = λ _. (there, ap Some (whole.0 ∙ sym here));
         none = λ t. absurd (cc);
       }) h;
 })
 
 -- two views are equal where their fields are
-pub same_view : (r s : ReaderView) → r.hand ≡ s.hand → r.ahead ≡ s.ahead → r.ending ≡ s.ending → r.frames ≡ s.frames → r.rest ≡ s.rest → r.seen ≡ s.seen → r ≡ s
-same_view r s a b c d e f =
-    ap (λ x. record { hand = x; ahead = r.ahead; ending = r.ending; frames = r.frames; rest = r.rest; seen = r.seen }) a
-    ∙ ap (λ x. record { hand = s.hand; ahead = x; ending = r.ending; frames = r.frames; rest = r.rest; seen = r.seen }) b
-    ∙ ap (λ x. record { hand = s.hand; ahead = s.ahead; ending = x; frames = r.frames; rest = r.rest; seen = r.seen }) c
-    ∙ ap (λ x. record { hand = s.hand; ahead = s.ahead; ending = s.ending; frames = x; rest = r.rest; seen = r.seen }) d
-    ∙ ap (λ x. record { hand = s.hand; ahead = s.ahead; ending = s.ending; frames = s.frames; rest = x; seen = r.seen }) e
-    ∙ ap (λ x. record { hand = s.hand; ahead = s.ahead; ending = s.ending; frames = s.frames; rest = s.rest; seen = x }) f
+pub same_view : (r s : ReaderView) → r.scrambled ≡ s.scrambled → r.hand ≡ s.hand → r.ahead ≡ s.ahead → r.ending ≡ s.ending → r.frames ≡ s.frames → r.rest ≡ s.rest → r.seen ≡ s.seen → r ≡ s
+same_view r s m a b c d e f =
+    ap (λ x. record { scrambled = x; hand = r.hand; ahead = r.ahead; ending = r.ending; frames = r.frames; rest = r.rest; seen = r.seen }) m
+    ∙ ap (λ x. record { scrambled = s.scrambled; hand = x; ahead = r.ahead; ending = r.ending; frames = r.frames; rest = r.rest; seen = r.seen }) a
+    ∙ ap (λ x. record { scrambled = s.scrambled; hand = s.hand; ahead = x; ending = r.ending; frames = r.frames; rest = r.rest; seen = r.seen }) b
+    ∙ ap (λ x. record { scrambled = s.scrambled; hand = s.hand; ahead = s.ahead; ending = x; frames = r.frames; rest = r.rest; seen = r.seen }) c
+    ∙ ap (λ x. record { scrambled = s.scrambled; hand = s.hand; ahead = s.ahead; ending = s.ending; frames = x; rest = r.rest; seen = r.seen }) d
+    ∙ ap (λ x. record { scrambled = s.scrambled; hand = s.hand; ahead = s.ahead; ending = s.ending; frames = s.frames; rest = x; seen = r.seen }) e
+    ∙ ap (λ x. record { scrambled = s.scrambled; hand = s.hand; ahead = s.ahead; ending = s.ending; frames = s.frames; rest = s.rest; seen = x }) f
 
 false_not_true : false ≢ true
 false_not_true e = cc
@@ -273,10 +299,10 @@ is_opened ending true e h = h.0 refl
 is_opened ending false e h = absurd (cc)
 
 -- the reading says whether there is a frame
-pub look_by : (reading : Reading) (result : Bool) (old : ReaderView) (was is : InView) (frame : List ℕ) (new : ReaderView) → (IsTrue result ↔ (reading ≡ Full)) → old.ahead ≡ None → old.ending ≡ Open → FrameRead reading was frame is
-    → new.hand ≡ old.hand → new.ahead ≡ (if result then Some frame else None) → new.ending ≡ ending_after reading old.ending → new.frames ≡ old.frames → new.rest ≡ left_after reading old.rest → new.seen ≡ old.seen → LooksAhead result old was new is
-look_by reading true old was is frame new said e opened f hand ahead ending frames rest seen =
+pub look_by : (reading : Reading) (result : Bool) (old : ReaderView) (was is : InView) (frame : List ℕ) (new : ReaderView) → (IsTrue result ↔ (reading ≡ Full)) → old.ahead ≡ None → old.ending ≡ Open → FrameRead old.scrambled reading was frame is
+    → new.scrambled ≡ old.scrambled → new.hand ≡ old.hand → new.ahead ≡ (if result then Some frame else None) → new.ending ≡ ending_after reading old.ending → new.frames ≡ old.frames → new.rest ≡ left_after reading old.rest → new.seen ≡ old.seen → LooksAhead result old was new is
+look_by reading true old was is frame new said e opened f same hand ahead ending frames rest seen =
     let full = said.0 refl in
-    look_whole reading old was is frame new e opened full f (same_view new (record old { ahead = Some frame }) hand ahead (ending ∙ ap (λ r. ending_after r old.ending) full) frames (rest ∙ ap (λ r. left_after r old.rest) full) seen)
-look_by reading false old was is frame new said e opened f hand ahead ending frames rest seen =
-    look_short reading old was is frame new e opened (λ full. false_not_true (said.1 full)) f (same_view new (with_reading reading old) hand (ahead ∙ sym e) ending frames rest seen)
+    look_whole reading old was is frame new e opened full f (same_view new (record old { ahead = Some frame }) same hand ahead (ending ∙ ap (λ r. ending_after r old.ending) full) frames (rest ∙ ap (λ r. left_after r old.rest) full) seen)
+look_by reading false old was is frame new said e opened f same hand ahead ending frames rest seen =
+    look_short reading old was is frame new e opened (λ full. false_not_true (said.1 full)) f (same_view new (with_reading reading old) same hand (ahead ∙ sym e) ending frames rest seen)

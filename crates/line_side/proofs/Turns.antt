@@ -15,50 +15,50 @@ use Rattle.line_side.proofs.Mfas.{length_mfas}
 use Rattle.line_side.proofs.LockedTurns.{InLocked, MemberAt, member_at, take_next, took_next, found_none, ended_before}
 
 -- the line stands so before a turn, and k pieces of the turn are done
-pub record LineIs (given : List ℕ) (n t : ℕ) (st : Standing) (k : ℕ) (line : LineView) : Type 0 where
-  pub read : HasRead given n (used_in 8 (mfas_of given) st k) (max (wanted 8 (mfas_of given) t) (wanted_in 8 (mfas_of given) st k)) line.reader
-  pub alignment : AlignedIn 8 (mfas_of given) st k line.alignment
-  pub ended : line.ended ≡ ended_in 8 (mfas_of given) st k
-  pub lead_in : line.lead_in ≡ stopped (lead_in 8 (mfas_of given) t + lead_in_by 8 (mfas_of given) st k)
-  pub lost : line.lost ≡ stopped (lost_count 8 (mfas_of given) t)
+pub record LineIs (size : ℕ) (given : List ℕ) (n t : ℕ) (st : Standing) (k : ℕ) (line : LineView) : Type 0 where
+  pub read : HasRead given n (used_in size (mfas_of given) st k) (max (wanted size (mfas_of given) t) (wanted_in size (mfas_of given) st k)) line.reader
+  pub alignment : AlignedIn size (mfas_of given) st k line.alignment
+  pub ended : line.ended ≡ ended_in size (mfas_of given) st k
+  pub lead_in : line.lead_in ≡ stopped (lead_in size (mfas_of given) t + lead_in_by size (mfas_of given) st k)
+  pub lost : line.lost ≡ stopped (lost_count size (mfas_of given) t)
 
-pub record MemberIs (given : List ℕ) (st : Standing) (k : ℕ) (result : Bool) (line : LineView) : Type 0 where
-  pub member : result ≡ member_at (mfas_of given) (lock_of 8 (mfas_of given) st) k
-  pub hand : result ≡ true → IfSome (lock_of 8 (mfas_of given) st) (λ lock. line.reader.hand ≡ frame_at given (lock.frame + k))
+pub record MemberIs (size : ℕ) (given : List ℕ) (st : Standing) (k : ℕ) (result : Bool) (line : LineView) : Type 0 where
+  pub member : result ≡ member_at (mfas_of given) (lock_of size (mfas_of given) st) k
+  pub hand : result ≡ true → IfSome (lock_of size (mfas_of given) st) (λ lock. line.reader.hand ≡ frame_at given (lock.frame + k))
 
 -- the same where the turn hunts at frame i, k pieces after the first one, by the least start among the eight frames
-pub record HuntIs (given : List ℕ) (n t i : ℕ) (least : Option ℕ) (k : ℕ) (line : LineView) : Type 0 where
-  pub read : HasRead given n (used_at 8 (mfas_of given) (lock_from (mfas_of given) i least) i (suc k)) (max (wanted 8 (mfas_of given) t) (wanted_from 8 (mfas_of given) i least (suc k))) line.reader
+pub record HuntIs (size : ℕ) (given : List ℕ) (n t i : ℕ) (least : Option ℕ) (k : ℕ) (line : LineView) : Type 0 where
+  pub read : HasRead given n (used_at size (mfas_of given) (lock_from (mfas_of given) i least) i (suc k)) (max (wanted size (mfas_of given) t) (wanted_from size (mfas_of given) i least (suc k))) line.reader
   pub alignment : aligned_by (mfas_of given) (lock_from (mfas_of given) i least) (suc k) line.alignment
-  pub ended : line.ended ≡ ended_at 8 (mfas_of given) (lock_from (mfas_of given) i least) i (suc k)
-  pub lead_in : line.lead_in ≡ stopped (lead_in 8 (mfas_of given) t + lead_in_from 8 (mfas_of given) i least)
-  pub lost : line.lost ≡ stopped (lost_count 8 (mfas_of given) t)
+  pub ended : line.ended ≡ ended_at size (mfas_of given) (lock_from (mfas_of given) i least) i (suc k)
+  pub lead_in : line.lead_in ≡ stopped (lead_in size (mfas_of given) t + lead_in_from size (mfas_of given) i least)
+  pub lost : line.lost ≡ stopped (lost_count size (mfas_of given) t)
 
-pub record HuntMember (given : List ℕ) (i : ℕ) (least : Option ℕ) (k : ℕ) (result : Bool) (line : LineView) : Type 0 where
+pub record HuntMember (size : ℕ) (given : List ℕ) (i : ℕ) (least : Option ℕ) (k : ℕ) (result : Bool) (line : LineView) : Type 0 where
   pub member : result ≡ member_at (mfas_of given) (lock_from (mfas_of given) i least) k
   pub hand : result ≡ true → IfSome (lock_from (mfas_of given) i least) (λ lock. line.reader.hand ≡ frame_at given (lock.frame + k))
 
-pub as_hunt : (given : List ℕ) (n t i k : ℕ) (line : LineView) → LineIs given n t (Hunting i) (suc k) line → HuntIs given n t i (least_start 8 (mfas_of given) i 8) k line
-as_hunt given n t i k line h = record { read = h.read; alignment = h.alignment; ended = h.ended; lead_in = h.lead_in; lost = h.lost }
+pub as_hunt : (size : ℕ) (given : List ℕ) (n t i k : ℕ) (line : LineView) → LineIs size given n t (Hunting i) (suc k) line → HuntIs size given n t i (least_start size (mfas_of given) i size) k line
+as_hunt size given n t i k line h = record { read = h.read; alignment = h.alignment; ended = h.ended; lead_in = h.lead_in; lost = h.lost }
 
-pub of_hunt : (given : List ℕ) (n t i k : ℕ) (line : LineView) → HuntIs given n t i (least_start 8 (mfas_of given) i 8) k line → LineIs given n t (Hunting i) (suc k) line
-of_hunt given n t i k line h = record { read = h.read; alignment = h.alignment; ended = h.ended; lead_in = h.lead_in; lost = h.lost }
+pub of_hunt : (size : ℕ) (given : List ℕ) (n t i k : ℕ) (line : LineView) → HuntIs size given n t i (least_start size (mfas_of given) i size) k line → LineIs size given n t (Hunting i) (suc k) line
+of_hunt size given n t i k line h = record { read = h.read; alignment = h.alignment; ended = h.ended; lead_in = h.lead_in; lost = h.lost }
 
 -- what a piece says of all bytes that may come
-pub record Moved (given : List ℕ) (n n' : ℕ) (first result : Bool) (old new : LineView) : Type 0 where
+pub record Moved (size : ℕ) (given : List ℕ) (n n' : ℕ) (first result : Bool) (old new : LineView) : Type 0 where
   pub over : old.ended ≡ true → (n' ≡ n) × (new ≡ old) × (result ≡ false)
   pub lost : new.lost ≡ old.lost
   pub lead_in : (a : Alignment) → old.alignment ≡ Some a → new.lead_in ≡ old.lead_in
   pub frame : (a : Alignment) → old.ended ≡ false → old.alignment ≡ Some a → result ≡ true → (u w : ℕ) → HasRead given n u w old.reader → TookFrame given n' u (max w (u + 1)) old new
   pub none : (a : Alignment) → old.ended ≡ false → old.alignment ≡ Some a → result ≡ false → (u w : ℕ) → HasRead given n u w old.reader → FoundNone given n' u (max w (u + 1)) old new
-  pub locks : old.ended ≡ false → old.alignment ≡ None → first ≡ true → result ≡ true → (i w : ℕ) → HasRead given n i w old.reader → (m : ℕ) × HuntLocked given n' i w m old new
-  pub fails : old.ended ≡ false → old.alignment ≡ None → first ≡ true → result ≡ false → (i w : ℕ) → HasRead given n i w old.reader → HuntFailed given n' i w old new
+  pub locks : old.ended ≡ false → old.alignment ≡ None → first ≡ true → result ≡ true → (i w : ℕ) → HasRead given n i w old.reader → (m : ℕ) × HuntLocked size given n' i w m old new
+  pub fails : old.ended ≡ false → old.alignment ≡ None → first ≡ true → result ≡ false → (i w : ℕ) → HasRead given n i w old.reader → HuntFailed size given n' i w old new
   pub waiting : old.ended ≡ false → old.alignment ≡ None → first ≡ false → (n' ≡ n) × (new ≡ old) × (result ≡ false)
 
 -- a piece of a turn that is locked
-locked_piece : (given : List ℕ) (n n' : ℕ) (first result : Bool) (lock : Lock) (k w w' : ℕ) (old new : LineView) → InLocked given n lock k w old → max w (lock.frame + k + 1) ≡ w' → lock.frame + k ≤ w
-    → Moved given n n' first result old new → InLocked given n' lock (suc k) w' new × MemberAt given lock k result new
-locked_piece given n n' first result lock k w w' old new h more cover m = by_ended old.ended result refl refl
+locked_piece : (size : ℕ) (given : List ℕ) (n n' : ℕ) (first result : Bool) (lock : Lock) (k w w' : ℕ) (old new : LineView) → InLocked given n lock k w old → max w (lock.frame + k + 1) ≡ w' → lock.frame + k ≤ w
+    → Moved size given n n' first result old new → InLocked given n' lock (suc k) w' new × MemberAt given lock k result new
+locked_piece size given n n' first result lock k w w' old new h more cover m = by_ended old.ended result refl refl
   where
     by_ended : (ended member : Bool) → old.ended ≡ ended → result ≡ member → InLocked given n' lock (suc k) w' new × MemberAt given lock k result new
     by_ended true member e f =
@@ -78,44 +78,44 @@ locked_piece given n n' first result lock k w w' old new h more cover m = by_end
         (x.0, record { member = f ∙ x.1.member; hand = λ t. absurd (cc) })
 
 -- a later piece of a turn that hunted
-hunt_piece : (given : List ℕ) (n n' t i : ℕ) (least : Option ℕ) (k : ℕ) (result : Bool) (old new : LineView) → HuntIs given n t i least k old → Moved given n n' false result old new
-    → HuntIs given n' t i least (suc k) new × HuntMember given i least (suc k) result new
-hunt_piece given n n' t i None k result old new h m = same (by_ended old.ended refl)
+hunt_piece : (size : ℕ) (given : List ℕ) (n n' t i : ℕ) (least : Option ℕ) (k : ℕ) (result : Bool) (old new : LineView) → HuntIs size given n t i least k old → Moved size given n n' false result old new
+    → HuntIs size given n' t i least (suc k) new × HuntMember size given i least (suc k) result new
+hunt_piece size given n n' t i None k result old new h m = same (by_ended old.ended refl)
   where
     by_ended : (b : Bool) → old.ended ≡ b → (n' ≡ n) × (new ≡ old) × (result ≡ false)
     by_ended true e = m.over e
     by_ended false e = m.waiting e h.alignment refl
 
-    same : (n' ≡ n) × (new ≡ old) × (result ≡ false) → HuntIs given n' t i None (suc k) new × HuntMember given i None (suc k) result new
+    same : (n' ≡ n) × (new ≡ old) × (result ≡ false) → HuntIs size given n' t i None (suc k) new × HuntMember size given i None (suc k) result new
     same (e, line, answer) = (rw (e, line) (record { read = h.read; alignment = h.alignment; ended = h.ended; lead_in = h.lead_in; lost = h.lost }), record { member = answer; hand = λ t. absurd (cc) })
-hunt_piece given n n' t i (Some s) k result old new h m =
-    let W = max (wanted 8 (mfas_of given) t) (wanted_from 8 (mfas_of given) i (Some s) (suc k)) in
-    let W' = max (wanted 8 (mfas_of given) t) (wanted_from 8 (mfas_of given) i (Some s) (suc (suc k))) in
+hunt_piece size given n n' t i (Some s) k result old new h m =
+    let W = max (wanted size (mfas_of given) t) (wanted_from size (mfas_of given) i (Some s) (suc k)) in
+    let W' = max (wanted size (mfas_of given) t) (wanted_from size (mfas_of given) i (Some s) (suc (suc k))) in
     let lock : Lock = record { frame = i + s; expected = slice_index (mfas_of given) (i + s) } in
-    let x = locked_piece given n n' false result lock (suc k) W W' old new (record { read = h.read; alignment = h.alignment; ended = h.ended }) (omega arith) (omega arith) m in (
+    let x = locked_piece size given n n' false result lock (suc k) W W' old new (record { read = h.read; alignment = h.alignment; ended = h.ended }) (omega arith) (omega arith) m in (
       record { read = x.0.read; alignment = x.0.alignment; ended = x.0.ended; lead_in = m.lead_in _ h.alignment ∙ h.lead_in; lost = m.lost ∙ h.lost },
       record { member = x.1.member; hand = x.1.hand },
     )
 
-of_member : (given : List ℕ) (i k : ℕ) (result : Bool) (line : LineView) → HuntMember given i (least_start 8 (mfas_of given) i 8) k result line → MemberIs given (Hunting i) k result line
-of_member given i k result line h = record { member = h.member; hand = h.hand }
+of_member : (size : ℕ) (given : List ℕ) (i k : ℕ) (result : Bool) (line : LineView) → HuntMember size given i (least_start size (mfas_of given) i size) k result line → MemberIs size given (Hunting i) k result line
+of_member size given i k result line h = record { member = h.member; hand = h.hand }
 
 -- the first piece of a turn that hunts
-first_locks : (given : List ℕ) (n n' t i s : ℕ) (result : Bool) (old new : LineView) → LineIs given n t (Hunting i) 0 old → Moved given n n' true result old new → result ≡ true
-    → HuntLocked given n' i (max (wanted 8 (mfas_of given) t) 0) s old new
-    → HuntIs given n' t i (Some s) 0 new × HuntMember given i (Some s) 0 result new
-first_locks given n n' t i s result old new h m f x =
-    let size = length_mfas given in
-    let inside : i + s + 1 < length (mfas_of given) = (start_looked (mfas_of given) (i + s) x.locked.start).0 in
+first_locks : (size : ℕ) (given : List ℕ) (n n' t i s : ℕ) (result : Bool) (old new : LineView) → LineIs size given n t (Hunting i) 0 old → Moved size given n n' true result old new → result ≡ true
+    → HuntLocked size given n' i (max (wanted size (mfas_of given) t) 0) s old new
+    → HuntIs size given n' t i (Some s) 0 new × HuntMember size given i (Some s) 0 result new
+first_locks size given n n' t i s result old new h m f x =
+    let count = length_mfas given in
+    let inside : i + s + 1 < length (mfas_of given) = (start_looked size (mfas_of given) (i + s) x.locked.start).0 in
     let here : i + s + 0 ≡ i + s = omega arith in
     let fresh : take 0 (drop (i + s) (mfas_of given)) ++ slice_index (mfas_of given) (i + s + 0) ∷ [] ≡ take 1 (drop (i + s) (mfas_of given)) = take_next (mfas_of given) (i + s) 0 (omega arith) in (
       record {
         read = same_used given n' _ _ _ new.reader (let e : i + s + 1 ≡ min (length (mfas_of given)) (i + s + 1) = omega arith in e)
-            (same_wanted given n' _ _ _ new.reader (let e : max (max (wanted 8 (mfas_of given) t) 0) (i + s + 2) ≡ max (wanted 8 (mfas_of given) t) (i + s + 2) = omega arith in e) x.locked.read);
+            (same_wanted given n' _ _ _ new.reader (let e : max (max (wanted size (mfas_of given) t) 0) (i + s + 2) ≡ max (wanted size (mfas_of given) t) (i + s + 2) = omega arith in e) x.locked.read);
         alignment = x.locked.alignment ∙ ap (λ l. Some (record { expected = slice_index (mfas_of given) (i + s); taken = l }))
             (ap (λ u. slice_index (mfas_of given) u ∷ []) (sym here) ∙ fresh);
         ended = x.locked.ended ∙ h.ended ∙ sym (le-ltb (length (mfas_of given)) (i + s + 1) (omega arith));
-        lead_in = x.passes_over (lead_in 8 (mfas_of given) t + 0) h.lead_in ∙ ap stopped (let e : lead_in 8 (mfas_of given) t + 0 + s ≡ lead_in 8 (mfas_of given) t + s = omega arith in e);
+        lead_in = x.passes_over (lead_in size (mfas_of given) t + 0) h.lead_in ∙ ap stopped (let e : lead_in size (mfas_of given) t + 0 + s ≡ lead_in size (mfas_of given) t + s = omega arith in e);
         lost = m.lost ∙ h.lost;
       },
       record {
@@ -124,38 +124,38 @@ first_locks given n n' t i s result old new h m f x =
       },
     )
 
-first_fails : (given : List ℕ) (n n' t i : ℕ) (result : Bool) (old new : LineView) → LineIs given n t (Hunting i) 0 old → Moved given n n' true result old new → result ≡ false
-    → HuntFailed given n' i (max (wanted 8 (mfas_of given) t) 0) old new
-    → HuntIs given n' t i None 0 new × HuntMember given i None 0 result new
-first_fails given n n' t i result old new h m f x = (
+first_fails : (size : ℕ) (given : List ℕ) (n n' t i : ℕ) (result : Bool) (old new : LineView) → LineIs size given n t (Hunting i) 0 old → Moved size given n n' true result old new → result ≡ false
+    → HuntFailed size given n' i (max (wanted size (mfas_of given) t) 0) old new
+    → HuntIs size given n' t i None 0 new × HuntMember size given i None 0 result new
+first_fails size given n n' t i result old new h m f x = (
   record {
     read = same_wanted given n' _ _ _ new.reader
-        (let e : (x : ℕ) → max (max (wanted 8 (mfas_of given) t) 0) x ≡ max (wanted 8 (mfas_of given) t) x = λ x. omega arith in e (i + 8 + one_if (looked_ahead 8 (mfas_of given) (i + 8 - 1)))) x.read;
+        (let e : (x : ℕ) → max (max (wanted size (mfas_of given) t) 0) x ≡ max (wanted size (mfas_of given) t) x = λ x. omega arith in e (i + size + one_if (looked_ahead size (mfas_of given) (i + size - 1)))) x.read;
     alignment = x.alignment ∙ h.alignment;
     ended = x.ended;
-    lead_in = x.passes_over (lead_in 8 (mfas_of given) t + 0) h.lead_in
-        ∙ ap stopped (let e : lead_in 8 (mfas_of given) t + 0 + min 8 (length (mfas_of given) - i) ≡ lead_in 8 (mfas_of given) t + min 8 (length (mfas_of given) - i) = omega arith in e);
+    lead_in = x.passes_over (lead_in size (mfas_of given) t + 0) h.lead_in
+        ∙ ap stopped (let e : lead_in size (mfas_of given) t + 0 + min size (length (mfas_of given) - i) ≡ lead_in size (mfas_of given) t + min size (length (mfas_of given) - i) = omega arith in e);
     lost = m.lost ∙ h.lost;
   },
   record { member = f; hand = λ t. absurd (cc) },
 )
 
-first_piece : (given : List ℕ) (n n' t i : ℕ) (result : Bool) (old new : LineView) → LineIs given n t (Hunting i) 0 old → Moved given n n' true result old new
-    → LineIs given n' t (Hunting i) 1 new × MemberIs given (Hunting i) 0 result new
-first_piece given n n' t i result old new h m = back (by_result result refl)
+first_piece : (size : ℕ) (given : List ℕ) (n n' t i : ℕ) (result : Bool) (old new : LineView) → LineIs size given n t (Hunting i) 0 old → Moved size given n n' true result old new
+    → LineIs size given n' t (Hunting i) 1 new × MemberIs size given (Hunting i) 0 result new
+first_piece size given n n' t i result old new h m = back (by_result result refl)
   where
-    back : HuntIs given n' t i (least_start 8 (mfas_of given) i 8) 0 new × HuntMember given i (least_start 8 (mfas_of given) i 8) 0 result new → LineIs given n' t (Hunting i) 1 new × MemberIs given (Hunting i) 0 result new
-    back (x, y) = (of_hunt given n' t i 0 new x, of_member given i 0 result new y)
+    back : HuntIs size given n' t i (least_start size (mfas_of given) i size) 0 new × HuntMember size given i (least_start size (mfas_of given) i size) 0 result new → LineIs size given n' t (Hunting i) 1 new × MemberIs size given (Hunting i) 0 result new
+    back (x, y) = (of_hunt size given n' t i 0 new x, of_member size given i 0 result new y)
 
-    by_result : (b : Bool) → result ≡ b → HuntIs given n' t i (least_start 8 (mfas_of given) i 8) 0 new × HuntMember given i (least_start 8 (mfas_of given) i 8) 0 result new
+    by_result : (b : Bool) → result ≡ b → HuntIs size given n' t i (least_start size (mfas_of given) i size) 0 new × HuntMember size given i (least_start size (mfas_of given) i size) 0 result new
     by_result true f =
         let x = m.locks h.ended h.alignment refl f i _ h.read in
-        let P : Option ℕ → Type 0 = λ o. HuntIs given n' t i o 0 new × HuntMember given i o 0 result new in
-        subst P (sym x.1.least) (first_locks given n n' t i x.0 result old new h m f x.1)
+        let P : Option ℕ → Type 0 = λ o. HuntIs size given n' t i o 0 new × HuntMember size given i o 0 result new in
+        subst P (sym x.1.least) (first_locks size given n n' t i x.0 result old new h m f x.1)
     by_result false f =
         let x = m.fails h.ended h.alignment refl f i _ h.read in
-        let P : Option ℕ → Type 0 = λ o. HuntIs given n' t i o 0 new × HuntMember given i o 0 result new in
-        subst P (sym x.least) (first_fails given n n' t i result old new h m f x)
+        let P : Option ℕ → Type 0 = λ o. HuntIs size given n' t i o 0 new × HuntMember size given i o 0 result new in
+        subst P (sym x.least) (first_fails size given n n' t i result old new h m f x)
 
 -- whether no piece of the turn was done
 abbrev pub is_first : ℕ → Bool
@@ -163,41 +163,41 @@ is_first zero = true
 is_first (suc k) = false
 
 -- a piece of any turn
-pub turn_piece : (given : List ℕ) (n n' t : ℕ) (st : Standing) (k : ℕ) (result : Bool) (old new : LineView) → LineIs given n t st k old → Moved given n n' (is_first k) result old new
-    → LineIs given n' t st (suc k) new × MemberIs given st k result new
-turn_piece given n n' t (Hunting i) zero result old new h m = first_piece given n n' t i result old new h m
-turn_piece given n n' t (Hunting i) (suc k) result old new h m =
-    let x = hunt_piece given n n' t i (least_start 8 (mfas_of given) i 8) k result old new (as_hunt given n t i k old h) m in
-    (of_hunt given n' t i (suc k) new x.0, of_member given i (suc k) result new x.1)
-turn_piece given n n' t (Locked lock) k result old new h m =
-    let w = max (wanted 8 (mfas_of given) t) (lock.frame + k) in
-    let w' = max (wanted 8 (mfas_of given) t) (lock.frame + suc k) in
-    let x = locked_piece given n n' (is_first k) result lock k w w' old new (record { read = h.read; alignment = h.alignment; ended = h.ended }) (omega arith) (omega arith) m in (
+pub turn_piece : (size : ℕ) (given : List ℕ) (n n' t : ℕ) (st : Standing) (k : ℕ) (result : Bool) (old new : LineView) → LineIs size given n t st k old → Moved size given n n' (is_first k) result old new
+    → LineIs size given n' t st (suc k) new × MemberIs size given st k result new
+turn_piece size given n n' t (Hunting i) zero result old new h m = first_piece size given n n' t i result old new h m
+turn_piece size given n n' t (Hunting i) (suc k) result old new h m =
+    let x = hunt_piece size given n n' t i (least_start size (mfas_of given) i size) k result old new (as_hunt size given n t i k old h) m in
+    (of_hunt size given n' t i (suc k) new x.0, of_member size given i (suc k) result new x.1)
+turn_piece size given n n' t (Locked lock) k result old new h m =
+    let w = max (wanted size (mfas_of given) t) (lock.frame + k) in
+    let w' = max (wanted size (mfas_of given) t) (lock.frame + suc k) in
+    let x = locked_piece size given n n' (is_first k) result lock k w w' old new (record { read = h.read; alignment = h.alignment; ended = h.ended }) (omega arith) (omega arith) m in (
       record {
         read = x.0.read;
         alignment = x.0.alignment;
         ended = x.0.ended;
-        lead_in = m.lead_in _ h.alignment ∙ h.lead_in ∙ ap (λ x. stopped (lead_in 8 (mfas_of given) t + x)) (none_by k);
+        lead_in = m.lead_in _ h.alignment ∙ h.lead_in ∙ ap (λ x. stopped (lead_in size (mfas_of given) t + x)) (none_by k);
         lost = m.lost ∙ h.lost;
       },
       record { member = x.1.member; hand = x.1.hand },
     )
   where
-    none_by : (k : ℕ) → lead_in_by 8 (mfas_of given) (Locked lock) k ≡ 0
+    none_by : (k : ℕ) → lead_in_by size (mfas_of given) (Locked lock) k ≡ 0
     none_by zero = refl
     none_by (suc k) = refl
-turn_piece given n n' t Ended k result old new h m =
+turn_piece size given n n' t Ended k result old new h m =
     let (e, line, answer) = m.over h.ended in (
       rw (e, line) (record {
         read = h.read;
         alignment = tt;
         ended = h.ended;
-        lead_in = h.lead_in ∙ ap (λ x. stopped (lead_in 8 (mfas_of given) t + x)) (none_by k);
+        lead_in = h.lead_in ∙ ap (λ x. stopped (lead_in size (mfas_of given) t + x)) (none_by k);
         lost = h.lost;
       }),
       record { member = answer; hand = λ t. absurd (cc) },
     )
   where
-    none_by : (k : ℕ) → lead_in_by 8 (mfas_of given) Ended k ≡ 0
+    none_by : (k : ℕ) → lead_in_by size (mfas_of given) Ended k ≡ 0
     none_by zero = refl
     none_by (suc k) = refl

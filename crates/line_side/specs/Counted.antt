@@ -1,5 +1,7 @@
 -- What is counted of the overhead of the frames that a line has used.
 use Rattle.std.specs.Prelude.{ℕ, List, [], ◌∷◌, ◌++◌}
+use Rattle.otn_base.specs.declared.limits.TheConstants.{LINE_COLUMNS}
+use Rattle.frame_geometry.specs.declared.overhead.TheConstants.{PM_ROW, PM_BIP8_COLUMN}
 use Rattle.frame_overhead.specs.TwoBefore.{Checked, HasChecked}
 use Rattle.otu_overhead.specs.Section.{Taken, HasTaken}
 
@@ -8,10 +10,10 @@ pub record Counted : Type 0 where
   pub section : Taken
   pub path : Checked
 
--- These frames were taken. The PM parity stands in row 3, column 11.
+-- These frames were taken.
 pub record HasCounted (frames : List (List ℕ)) (seen : Counted) : Type 0 where
   pub section : HasTaken frames seen.section
-  pub path : HasChecked 4080 3 11 frames seen.path
+  pub path : HasChecked LINE_COLUMNS PM_ROW PM_BIP8_COLUMN frames seen.path
 
 -- one frame more was taken, whatever was before it
 abbrev pub CountsOn : (old : Counted) → (frame : List ℕ) → (new : Counted) → Type 0

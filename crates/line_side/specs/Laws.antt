@@ -1,19 +1,36 @@
 -- What is proved of a line's bytes.
-use Rattle.std.specs.Prelude.{◌≡◌, ℕ, List, length}
+use Rattle.std.specs.Prelude.{◌≡◌, ◌<◌, ◌+◌, ◌*◌, ℕ, Bool, List, length, slice_index, bit_xor}
 use Rattle.otn_ports.specs.Given.{IsGiven}
 use Rattle.otn_ports.specs.Views.{InView}
 use Rattle.multiframe.specs.LineTurns.{wanted_so_far, took}
-use Rattle.line_side.specs.LineFile.{mfas_of}
+use Rattle.otn_base.specs.declared.limits.TheConstants.{LINE_FRAME_BYTES}
+use Rattle.line_side.specs.LineForm.{LineForm, size_of, through_mask}
+use Rattle.otu_overhead.specs.Mask.{mask}
+use Rattle.line_side.specs.LineFile.{frame_at, mfas_of}
 use Rattle.line_side.specs.LineStands.{LineView, LineStands}
+use Rattle.line_side.specs.LineOutput.{FramePut, AreLineFrames}
 use Rattle.line_side.specs.MayBe.{MayBe}
 
--- What a place that tells its bytes gave in the whole run is among what the line may have.
+-- What a place that tells its bytes gave in the whole run is, through the mask, among what the line may have.
 abbrev pub GivenIsAmong : Type 0
-GivenIsAmong = (first now : InView) (taken given : List ℕ) (t : ℕ) (line : LineView)
-    → LineStands first now taken t line → IsGiven first now given → MayBe line.reader.ending taken given
+GivenIsAmong = (form : LineForm) (first now : InView) (taken file : List ℕ) (t : ℕ) (line : LineView)
+    → LineStands form first now taken t line → IsGiven first now file → MayBe form.scrambled line.reader.ending taken (through_mask form.scrambled file)
 
 -- So many bytes were taken as the turns and pieces so far want: the frames, or all where they want one that is not whole.
 abbrev pub TakesTheWanted : Type 0
-TakesTheWanted = (first now : InView) (taken given : List ℕ) (t : ℕ) (line : LineView)
-    → LineStands first now taken t line → MayBe line.reader.ending taken given
-    → length taken ≡ took 16320 (length given) (mfas_of given) (wanted_so_far 8 (mfas_of given) t line.pieces)
+TakesTheWanted = (form : LineForm) (first now : InView) (taken given : List ℕ) (t : ℕ) (line : LineView)
+    → LineStands form first now taken t line → MayBe form.scrambled line.reader.ending taken given
+    → length taken ≡ took LINE_FRAME_BYTES (length given) (mfas_of given) (wanted_so_far (size_of form) (mfas_of given) t line.pieces)
+
+-- The frames of a line in which these were put are the only ones.
+abbrev pub OneLineFile : Type 0
+OneLineFile = (n : ℕ) (before : List (List ℕ)) (puts : List FramePut) (some others : List (List ℕ)) → AreLineFrames n before puts some → AreLineFrames n before puts others → some ≡ others
+
+-- What went through the mask comes back through it.
+abbrev pub MaskedTwice : Type 0
+MaskedTwice = (scrambled : Bool) (bytes : List ℕ) → through_mask scrambled (through_mask scrambled bytes) ≡ bytes
+
+-- G.709 clause 11.2: a frame of a line is the file's frame, each byte with that of the line's mask by exclusive or.
+abbrev pub FramesThroughMask : Type 0
+FramesThroughMask = (scrambled : Bool) (file : List ℕ) (f place : ℕ) → place < LINE_FRAME_BYTES → LINE_FRAME_BYTES * f + place < length file
+    → slice_index (frame_at (through_mask scrambled file) f) place ≡ bit_xor (slice_index file (LINE_FRAME_BYTES * f + place)) (slice_index (mask scrambled) place)

@@ -1,9 +1,10 @@
+pub mod LineForm
 pub mod LineFile
 pub mod MayBe
 pub mod Reader
 pub mod LineStands
 pub mod LineMoves
-pub mod Laws
 pub mod LineOutput
+pub mod Laws
 pub mod Rows
 pub mod Counted

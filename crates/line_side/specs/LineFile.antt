@@ -1,18 +1,20 @@
--- The frames of a line, in the order in which their bytes come.
+-- The frames of a line, in the order in which their bytes come. The bytes are those of the line's file, through its mask.
 use Rattle.std.specs.Prelude.{ℕ, zero, suc, ◌*◌, ◌/◌, List, [], ◌∷◌, ◌++◌, length, take, drop, slice_index}
+use Rattle.otn_base.specs.declared.limits.TheConstants.{LINE_COLUMNS, LINE_FRAME_BYTES}
 use Rattle.frame_geometry.specs.Places.{place_of}
+use Rattle.frame_geometry.specs.declared.overhead.TheConstants.{SECTION_ROW, MFAS_COLUMN}
 
--- frame f, from 0: 16,320 bytes (G.709 clause 11.1)
+-- G.709 clause 11.1: frame f, from 0
 unfoldable pub frame_at : List ℕ → ℕ → List ℕ
-frame_at bytes f = take 16320 (drop (16320 * f) bytes)
+frame_at bytes f = take LINE_FRAME_BYTES (drop (LINE_FRAME_BYTES * f) bytes)
 
--- the MFAS of a frame: row 1, column 7 (G.709 clause 15.6)
+-- G.709 clause 15.6.2.2: the MFAS of a frame
 abbrev pub frame_mfas : List ℕ → ℕ
-frame_mfas frame = slice_index frame (place_of 4080 1 7)
+frame_mfas frame = slice_index frame (place_of LINE_COLUMNS SECTION_ROW MFAS_COLUMN)
 
 -- how many whole frames these bytes have
 abbrev pub whole_frames : List ℕ → ℕ
-whole_frames bytes = length bytes / 16320
+whole_frames bytes = length bytes / LINE_FRAME_BYTES
 
 -- the MFAS bytes of the first n frames
 unfoldable pub first_mfas : List ℕ → ℕ → List ℕ

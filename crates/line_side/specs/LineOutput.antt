@@ -1,14 +1,18 @@
--- The frames of a line that is put out.
-use Rattle.std.specs.Prelude.{◌≡◌, ◌≢◌, ◌<◌, ℕ, ◌+◌, ◌*◌, ◌/◌, ◌%◌, ◌==◌, ◌&&◌, Bool, true, false, if◌then◌else◌, List, [], ◌∷◌, ◌++◌, length, take, slice_index}
+-- The frames of a line that is put out, and its file.
+use Rattle.std.specs.Prelude.{◌≡◌, ◌≢◌, ◌<◌, ℕ, ◌+◌, ◌/◌, ◌%◌, ◌==◌, ◌&&◌, Bool, true, false, if◌then◌else◌, List, [], ◌∷◌, ◌++◌, length, take, slice_index, ⊤}
 use Rattle.std.specs.List.{concat}
 use Rattle.otn_base.specs.TrailTrace.{trail_trace}
+use Rattle.otn_base.specs.declared.limits.TheConstants.{LINE_COLUMNS, LINE_FRAME_BYTES}
 use Rattle.otn_ports.specs.Given.{Gained}
+use Rattle.otn_ports.specs.Sent.{IsSent}
 use Rattle.otn_ports.specs.Views.{State, Empty, Live, Dead, OutView}
+use Rattle.frame_geometry.specs.declared.overhead.TheConstants.{PSI_ROW, PSI_COLUMN}
 use Rattle.frame_overhead.specs.Runs.{IsPlace, byte_of}
 use Rattle.frame_overhead.specs.TwoBefore.{Kept, HasSent, parity_due, or_zero}
 use Rattle.msi_table.specs.Psi.{psi_of}
 use Rattle.odu_path.specs.Path.{path_byte}
 use Rattle.otu_overhead.specs.Section.{otu_byte}
+use Rattle.line_side.specs.LineForm.{LineForm, through_mask}
 use Rattle.line_side.specs.Reader.{stopped}
 
 -- the source access point identifier of line n, 0 to 3, in SM and PM: LINE-n
@@ -19,24 +23,40 @@ line_sapi n = 76 ∷ 73 ∷ 78 ∷ 69 ∷ 45 ∷ (48 + n) ∷ []
 abbrev pub line_tti : (n mfas : ℕ) → ℕ
 line_tti n mfas = slice_index (trail_trace (line_sapi n)) (mfas % 64)
 
+-- what is put into a frame of a line before its overhead: the frame's MFAS, the tributary port of each of the line's slots, 0
+-- for a free one, and the bytes
+pub record FramePut : Type 0 where
+  pub mfas : ℕ
+  pub ports : List ℕ
+  pub bytes : List ℕ
+
 -- G.709 clause 15.9.2.1: the PSI byte stands in row 4, column 15
-abbrev pub psi_byte_at : (ports : List ℕ) → (mfas row col put : ℕ) → ℕ
-psi_byte_at ports mfas row col put = if (row == 4) && (col == 15) then psi_of ports mfas else put
+abbrev pub psi_byte_at : (ports : List ℕ) → (mfas row col byte : ℕ) → ℕ
+psi_byte_at ports mfas row col byte = if (row == PSI_ROW) && (col == PSI_COLUMN) then psi_of ports mfas else byte
 
--- The byte of line n in a row and a column of the frame with this MFAS, where another was put: section overhead and the
--- columns of the FEC, path overhead, and the PSI byte of the ports that use its slots. Every other byte is as it was put.
-abbrev pub line_byte : (n : ℕ) → (ports : List ℕ) → (mfas bip row col put : ℕ) → ℕ
-line_byte n ports mfas bip row col put =
-    otu_byte mfas (line_tti n mfas) bip row col (path_byte (line_tti n mfas) bip row col (psi_byte_at ports mfas row col put))
+-- The byte of line n in a row and a column of a frame with this parity, where a byte was put: section overhead and the columns
+-- of the FEC, path overhead, and the PSI byte by the ports of the slots. Every other byte is as it was put.
+abbrev pub line_byte : (n bip : ℕ) → FramePut → (row col byte : ℕ) → ℕ
+line_byte n bip put row col byte =
+    otu_byte put.mfas (line_tti n put.mfas) bip row col (path_byte (line_tti n put.mfas) bip row col (psi_byte_at put.ports put.mfas row col byte))
 
--- the frame of line n after those that were made so far; SM and PM carry the parity of the frame two before
-pub record IsLineFrame (n : ℕ) (ports : List ℕ) (mfas : ℕ) (made : List (List ℕ)) (put frame : List ℕ) : Type 0 where
-  pub size : length frame ≡ 16320
-  pub byte : (row col : ℕ) → IsPlace 4080 row col
-      → byte_of 4080 row col frame ≡ line_byte n ports mfas (or_zero (parity_due 4080 made)) row col (byte_of 4080 row col put)
+-- the frame of line n with this parity in which this was put
+pub record IsLineFrame (n bip : ℕ) (put : FramePut) (frame : List ℕ) : Type 0 where
+  pub size : length frame ≡ LINE_FRAME_BYTES
+  pub byte : (row col : ℕ) → IsPlace LINE_COLUMNS row col → byte_of LINE_COLUMNS row col frame ≡ line_byte n bip put row col (byte_of LINE_COLUMNS row col put.bytes)
 
--- what is seen of an output line: its identifier, the frame to come, what its writers keep, and how many frames count
+-- The frames of line n in which these were put, one after the other, behind others that went before. G.709 clauses 15.7.2.1 and
+-- 15.8.2.1: each carries the parity of the frame two before it, 0 where there is none.
+abbrev pub AreLineFrames : (n : ℕ) → (before : List (List ℕ)) → (puts : List FramePut) → (frames : List (List ℕ)) → Type 0
+AreLineFrames n before [] [] = ⊤
+AreLineFrames n before (put ∷ puts) (frame ∷ frames) = IsLineFrame n (or_zero (parity_due LINE_COLUMNS before)) put frame × AreLineFrames n (before ++ frame ∷ []) puts frames
+AreLineFrames n before (put ∷ puts) [] = ⊥
+AreLineFrames n before [] (frame ∷ frames) = ⊥
+
+-- what is seen of an output line: what is fixed of it, its identifier, the frame to come, what its writers keep, and how many
+-- frames count
 pub record LineOutView : Type 0 where
+  pub form : LineForm
   pub sapi : List ℕ
   pub frame : List ℕ
   pub section : Kept
@@ -46,26 +66,20 @@ pub record LineOutView : Type 0 where
 -- how many frames count of those that were made: all on an empty place, else those that went out whole
 abbrev pub counted_frames : State → (made : List (List ℕ)) → (went : List ℕ) → ℕ
 counted_frames Empty made went = length made
-counted_frames Live made went = length went / 16320
-counted_frames Dead made went = length went / 16320
+counted_frames Live made went = length went / LINE_FRAME_BYTES
+counted_frames Dead made went = length went / LINE_FRAME_BYTES
 
--- Line n has made these frames. `first` and `now` are views of its place, between which these bytes went to it: all
--- frames while it lives, and a part of them, from the front, where it died.
-pub record LineMade (n : ℕ) (first now : OutView) (made : List (List ℕ)) (went : List ℕ) (line : LineOutView) : Type 0 where
+-- Line n of this form has made the frames in which these were put. `first` and `now` are views of its place: between them the
+-- line's file was due to it, which is these frames, through the mask where the line is scrambled.
+pub record LineMade (n : ℕ) (form : LineForm) (first now : OutView) (puts : List FramePut) (line : LineOutView) : Type 0 where
+  pub is_form : line.form ≡ form
+  pub made : List (List ℕ)
+  pub are_frames : AreLineFrames n [] puts made
+  pub sent : IsSent first (through_mask form.scrambled (concat made)) now
+  pub frames : line.frames ≡ stopped (counted_frames first.state made sent.went)
   pub sapi : line.sapi ≡ line_sapi n
-  pub section : HasSent 4080 made line.section
-  pub path : HasSent 4080 made line.path
-  pub size : length (concat made) ≡ 16320 * length made
-  pub gained : Gained first went now
-  pub whole : now.state ≡ Live → went ≡ concat made
-  pub part : (rest : List ℕ) × (concat made ≡ went ++ rest)
-  pub frames : line.frames ≡ stopped (counted_frames first.state made went)
-
--- a frame more was made, and more went to the place
-pub record MadeMore (n : ℕ) (ports : List ℕ) (mfas : ℕ) (first now : OutView) (made : List (List ℕ)) (went : List ℕ) (old new : LineOutView) : Type 0 where
-  pub more : List ℕ
-  pub frame : IsLineFrame n ports mfas made old.frame new.frame
-  pub stands : LineMade n first now (made ++ new.frame ∷ []) (went ++ more) new
+  pub section : HasSent LINE_COLUMNS made line.section
+  pub path : HasSent LINE_COLUMNS made line.path
 
 -- a frame was written to a place, and counts or does not
 pub record Writes (counts : Bool) (old : OutView) (frame : List ℕ) (new : OutView) : Type 0 where

@@ -1,19 +1,22 @@
 -- Where an input line stands in its turns.
-use Rattle.std.specs.Prelude.{◌≡◌, ◌≢◌, ℕ, Bool, List, ◌++◌, length, Option, Some, None, IfSome, is_some}
+use Rattle.std.specs.Prelude.{◌≡◌, ◌≢◌, ◌↔◌, ◌+◌, ℕ, Bool, true, List, ◌++◌, length, Option, Some, None, IfSome, is_some}
+use Rattle.otn_base.specs.declared.line_kind.LineKind.{LineKind}
 use Rattle.otn_ports.specs.Views.{InView, Live}
 use Rattle.otn_ports.specs.Given.{Gave}
 use Rattle.otn_ports.specs.Reads.{HasEnded}
-use Rattle.multiframe.specs.LineTurns.{standing, used_in, wanted_so_far, lost_count}
+use Rattle.multiframe.specs.LineTurns.{Ended, standing, multiframe, used_in, wanted_so_far, lost_count}
 use Rattle.multiframe.specs.Alignment.{Alignment}
+use Rattle.line_side.specs.LineForm.{LineForm, size_of}
 use Rattle.line_side.specs.LineFile.{frame_at, first_frames, mfas_of}
 use Rattle.line_side.specs.MayBe.{MayBe}
 use Rattle.line_side.specs.Reader.{ReaderView, HasRead, EndedAs, stopped}
 use Rattle.line_side.specs.declared.ending.Ending.TheVariants.{Open}
 use Rattle.multiframe.specs.TurnPieces.{AlignedIn, in_hand, ended_in, lead_in_so_far}
 
--- what is seen of an input line: its alignment, its reader, how many pieces of the turn are done, whether the last one
--- came to a frame of a multiframe, whether the line has ended, and how many frames were lead-in and multiframes lost
+-- what is seen of an input line: its kind, its alignment, its reader, how many pieces of the turn are done, whether the last
+-- one came to a frame of a multiframe, whether the line has ended, and how many frames were lead-in and multiframes lost
 pub record LineView : Type 0 where
+  pub kind : LineKind
   pub alignment : Option Alignment
   pub reader : ReaderView
   pub pieces : ℕ
@@ -21,6 +24,10 @@ pub record LineView : Type 0 where
   pub ended : Bool
   pub lead_in : ℕ
   pub lost : ℕ
+
+-- what is fixed of it
+abbrev pub form_of : LineView → LineForm
+form_of line = record { kind = line.kind; scrambled = line.reader.scrambled }
 
 abbrev pub taken_count : Option Alignment → ℕ
 taken_count None = 0
@@ -32,30 +39,42 @@ members line = taken_count line.alignment
 
 -- the frames of the line that these bytes are which are used after so many pieces of turn t + 1: lead-in among them, and a
 -- frame that was looked ahead at once its turn takes it or passes over it
-abbrev pub used_frames : (given : List ℕ) → (t pieces : ℕ) → List (List ℕ)
-used_frames given t pieces = first_frames given (used_in 8 (mfas_of given) (standing 8 (mfas_of given) t) pieces)
+abbrev pub used_frames : (size : ℕ) → (given : List ℕ) → (t pieces : ℕ) → List (List ℕ)
+used_frames size given t pieces = first_frames given (used_in size (mfas_of given) (standing size (mfas_of given) t) pieces)
 
--- The line is in turn t + 1 of the line that these bytes are, after line.pieces of its pieces. Of the bytes n were read:
--- so many frames as the turns so far want, or all where they want one that is not whole.
-pub record IsLine (given : List ℕ) (n t : ℕ) (line : LineView) : Type 0 where
-  pub read : HasRead given n (used_in 8 (mfas_of given) (standing 8 (mfas_of given) t) line.pieces) (wanted_so_far 8 (mfas_of given) t line.pieces) line.reader
-  pub alignment : AlignedIn 8 (mfas_of given) (standing 8 (mfas_of given) t) line.pieces line.alignment
-  pub member : line.member ≡ is_some (in_hand 8 (mfas_of given) (standing 8 (mfas_of given) t) line.pieces)
-  pub hand : IfSome (in_hand 8 (mfas_of given) (standing 8 (mfas_of given) t) line.pieces) (λ member. line.reader.hand ≡ frame_at given member.frame)
-  pub ended : line.ended ≡ ended_in 8 (mfas_of given) (standing 8 (mfas_of given) t) line.pieces
-  pub lead_in : line.lead_in ≡ stopped (lead_in_so_far 8 (mfas_of given) t line.pieces)
-  pub lost : line.lost ≡ stopped (lost_count 8 (mfas_of given) t)
+-- The line, whose multiframes have so many frames, is in turn t + 1 of the line that these bytes are, after line.pieces of its
+-- pieces. Of the bytes n were read: so many frames as the turns so far want, or all where they want one that is not whole.
+pub record IsLine (size : ℕ) (given : List ℕ) (n t : ℕ) (line : LineView) : Type 0 where
+  pub read : HasRead given n (used_in size (mfas_of given) (standing size (mfas_of given) t) line.pieces) (wanted_so_far size (mfas_of given) t line.pieces) line.reader
+  pub alignment : AlignedIn size (mfas_of given) (standing size (mfas_of given) t) line.pieces line.alignment
+  pub member : line.member ≡ is_some (in_hand size (mfas_of given) (standing size (mfas_of given) t) line.pieces)
+  pub hand : IfSome (in_hand size (mfas_of given) (standing size (mfas_of given) t) line.pieces) (λ member. line.reader.hand ≡ frame_at given member.frame)
+  pub ended : line.ended ≡ ended_in size (mfas_of given) (standing size (mfas_of given) t) line.pieces
+  pub lead_in : line.lead_in ≡ stopped (lead_in_so_far size (mfas_of given) t line.pieces)
+  pub lost : line.lost ≡ stopped (lost_count size (mfas_of given) t)
 
--- The line stands in turn t + 1 after line.pieces of its pieces. `first` and `now` are views of its place, between which
--- these bytes were taken: whatever it may turn out to have behind them, it is a line of all these bytes.
-pub record LineStands (first now : InView) (taken : List ℕ) (t : ℕ) (line : LineView) : Type 0 where
+-- A line of this form stands in turn t + 1 after line.pieces of its pieces. `first` and `now` are views of its place, between
+-- which these bytes were taken: whatever it may turn out to have behind them, it is a line of all these bytes.
+pub record LineStands (form : LineForm) (first now : InView) (taken : List ℕ) (t : ℕ) (line : LineView) : Type 0 where
+  pub is_form : form_of line ≡ form
   pub gave : Gave first taken now
   pub ending : EndedAs line.reader.ending now
   pub over : line.reader.ending ≢ Open → now.state ≡ Live → HasEnded now.left
-  pub told : (given : List ℕ) → MayBe line.reader.ending taken given → IsLine given (length taken) t line
+  pub is_line : (given : List ℕ) → MayBe form.scrambled line.reader.ending taken given → IsLine (size_of form) given (length taken) t line
 
 -- after a piece: more bytes were taken, and what the line may have from then on it might have before
-pub record PieceStands (first now : InView) (taken : List ℕ) (t : ℕ) (old new : LineView) : Type 0 where
+pub record PieceStands (form : LineForm) (first now : InView) (taken : List ℕ) (t : ℕ) (old new : LineView) : Type 0 where
   pub came : List ℕ
-  pub stands : LineStands first now (taken ++ came) t new
-  pub earlier : (given : List ℕ) → MayBe new.reader.ending (taken ++ came) given → MayBe old.reader.ending taken given
+  pub stands : LineStands form first now (taken ++ came) t new
+  pub earlier : (given : List ℕ) → MayBe form.scrambled new.reader.ending (taken ++ came) given → MayBe form.scrambled old.reader.ending taken given
+
+-- What holds of a line in each turn, whatever place it is read from and whatever it may turn out to have: `given` are all bytes
+-- of the line, and it stands in turn t + 1.
+abbrev pub InEachTurn : LineView → ((form : LineForm) → (given : List ℕ) → (t : ℕ) → Type 0) → Type 0
+InEachTurn line Holds = (form : LineForm) (first now : InView) (taken given : List ℕ) (t : ℕ) → LineStands form first now taken t line → MayBe form.scrambled line.reader.ending taken given
+    → Holds form given t
+
+-- turn t + 1 has ended: whether it has a multiframe, and whether the line has ended
+pub record TurnEnded (form : LineForm) (given : List ℕ) (t : ℕ) (result : Bool) (new : LineView) : Type 0 where
+  pub has_multiframe : result ≡ is_some (multiframe (size_of form) (mfas_of given) t)
+  pub has_ended : (new.ended ≡ true) ↔ (standing (size_of form) (mfas_of given) (t + 1) ≡ Ended)

@@ -1,5 +1,7 @@
 // What is counted of the overhead of a line's frames.
 ghost use Rattle.std.specs.Prelude.{◌≡◌, ℕ, List, []};
+ghost use Rattle.otn_base.specs.declared.limits.TheConstants.{LINE_COLUMNS as COLUMNS};
+ghost use Rattle.frame_geometry.specs.declared.overhead.TheConstants.{SECTION_ROW, SM_BIP8_COLUMN, PM_ROW, PM_BIP8_COLUMN};
 ghost use Rattle.frame_overhead.specs.TwoBefore.{stopped, wrong_parities};
 ghost use Rattle.otu_overhead.specs.Section.{wrong_fas};
 
@@ -56,14 +58,14 @@ impl FrameChecks {
 
     /// How many frames had a wrong SM parity.
     pub(crate) fn sm(&self) -> u64
-        ensures { (frames : List (List ℕ)) → HasCounted frames self.now → result ≡ stopped (wrong_parities 4080 1 9 frames) }
+        ensures { (frames : List (List ℕ)) → HasCounted frames self.now → result ≡ stopped (wrong_parities COLUMNS SECTION_ROW SM_BIP8_COLUMN frames) }
     {
         self.section.sm()
     }
 
     /// How many frames had a wrong PM parity.
     pub(crate) fn pm(&self) -> u64
-        ensures { (frames : List (List ℕ)) → HasCounted frames self.now → result ≡ stopped (wrong_parities 4080 3 11 frames) }
+        ensures { (frames : List (List ℕ)) → HasCounted frames self.now → result ≡ stopped (wrong_parities COLUMNS PM_ROW PM_BIP8_COLUMN frames) }
     {
         self.path.pm()
     }

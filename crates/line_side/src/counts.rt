@@ -7,7 +7,7 @@ pub struct LineCounts {
     pub frames: u64,
     /// Frames passed over in search of a multiframe.
     pub lead_in: u64,
-    /// Multiframes with five or more wrong MFAS bytes.
+    /// Multiframes of which more than half of the MFAS bytes are wrong.
     pub lost: u64,
     /// Bytes after the last whole frame, where the end was seen.
     pub rest: u64,

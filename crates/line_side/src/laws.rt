@@ -1,5 +1,5 @@
 // The laws about a line's bytes, each the contract of a function.
-ghost use Rattle.line_side.specs.Laws.{GivenIsAmong, TakesTheWanted};
+ghost use Rattle.line_side.specs.Laws.{FramesThroughMask, GivenIsAmong, MaskedTwice, OneLineFile, TakesTheWanted};
 
 /// What a place that tells its bytes gave in the whole run is among what the line may have.
 pub fn given_is_among()
@@ -9,4 +9,19 @@ pub fn given_is_among()
 /// Of any place so many bytes were taken as the turns of the line and their pieces want.
 pub fn takes_the_wanted()
     ensures { TakesTheWanted }
+{}
+
+/// A line output has one file for what is put into its frames.
+pub fn one_line_file()
+    ensures { OneLineFile }
+{}
+
+/// A frame of a scrambled line is the file's frame through the mask of G.709 clause 11.2, and one of a plain line as it stands.
+pub fn frames_through_mask()
+    ensures { FramesThroughMask }
+{}
+
+/// What a scrambled line output writes is read back by a scrambled line input.
+pub fn masked_twice()
+    ensures { MaskedTwice }
 {}

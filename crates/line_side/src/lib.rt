@@ -8,11 +8,14 @@ mod ending;
 mod laws;
 mod line_in;
 mod line_out;
+mod mask;
 mod reader;
 mod tried;
 
 pub use counts::LineCounts;
-pub use laws::{given_is_among, takes_the_wanted};
+pub use laws::{
+    frames_through_mask, given_is_among, masked_twice, one_line_file, takes_the_wanted,
+};
 pub use line_in::LineIn;
 pub use line_out::LineOut;
 

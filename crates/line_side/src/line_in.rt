@@ -1,6 +1,7 @@
 // An input line: it finds multiframes in the frames that come, one in each turn.
 ghost use Rattle.std.specs.Prelude.{◌≡◌, ◌≢◌, ◌↔◌, ◌+◌, ◌-◌, ◌%◌, ◌<◌, ◌≤◌, ℕ, List, [], true, false, None, IfOk, IfSome, IsSome, IsSomeAnd, IsTrue, is_some, length};
 ghost use Rattle.std.specs.Option.{ForSome};
+ghost use Rattle.otn_base.specs.LineSlots.{slots_of};
 ghost use Rattle.otn_ports.specs.Given.{Gave};
 ghost use Rattle.otn_ports.specs.InPlace.{in_view};
 ghost use Rattle.otn_ports.specs.Views.{InView};
@@ -10,15 +11,16 @@ use crate::reader::LineReader;
 use crate::tried::Tried;
 use frame_geometry::Frame;
 use multiframe::Phase;
-use otn_base::Memory;
-use otn_base::limits::{LINE_COLUMNS, MULTIFRAME};
+use otn_base::limits::LINE_COLUMNS;
+use otn_base::{LineKind, Memory};
 use otn_ports::{InPlaceOf, Source};
 use std::alloc::Global;
 use std::marker::Model;
 
-/// An input line of a node. Each of its turns is one multiframe, done in eight pieces of one frame each. It hunts for
-/// a multiframe, and passes over the frames before it as lead-in, which takes no turn; it is locked while at most four
-/// of the eight MFAS bytes of each multiframe differ from the expected ones (G.709 clause 15.6).
+/// An input line of a node, of either kind, plain or scrambled. Each of its turns is one multiframe, of S frames where the
+/// line has S slots, done in S pieces of one frame each. It hunts for a multiframe, and passes over the frames before it as
+/// lead-in, which takes no turn; it is locked while at most half of the MFAS bytes of each multiframe differ from the
+/// expected ones (G.709 clause 15.6).
 #[derive(Drop)]
 pub struct LineIn {
     phase: Phase,
@@ -33,40 +35,44 @@ pub struct LineIn {
 impl Model for LineIn {
     ghost use Rattle.std.specs.Prelude.{◌≡◌, ◌≤◌, true, IsSome, length};
     ghost use Rattle.std.specs.Option.{ForSome};
+    ghost use Rattle.otn_base.specs.LineSlots.{slots_of};
     ghost use Rattle.line_side.specs.LineStands.{LineView};
 
     ghost Value = { LineView };
 
-    ghost view = { λ l. record { alignment = l.phase; reader = l.reader; pieces = l.pieces; member = l.member; ended = l.ended; lead_in = l.lead_in; lost = l.lost } };
+    ghost view = { λ l. record { kind = l.phase.kind; alignment = l.phase.alignment; reader = l.reader; pieces = l.pieces; member = l.member; ended = l.ended; lead_in = l.lead_in; lost = l.lost } };
 
     ghost invariant = { λ l. record {
-      pieces : l.pieces ≤ 8;
-      taken : ForSome l.phase (λ a. length a.taken ≤ l.pieces);
-      member : l.member ≡ true → (1 ≤ l.pieces) × IsSome l.phase;
+      pieces : l.pieces ≤ slots_of l.phase.kind;
+      taken : ForSome l.phase.alignment (λ a. length a.taken ≤ l.pieces);
+      member : l.member ≡ true → (1 ≤ l.pieces) × IsSome l.phase.alignment;
     } };
 }
 
 impl LineIn {
-    ghost use Rattle.line_side.specs.LineStands.{LineStands, PieceStands, members, used_frames};
+    ghost use Rattle.otn_base.specs.declared.limits.TheConstants.{LINE_COLUMNS as COLUMNS};
+    ghost use Rattle.frame_geometry.specs.declared.overhead.TheConstants.{SECTION_ROW, SM_BIP8_COLUMN, PM_ROW, PM_BIP8_COLUMN};
+    ghost use Rattle.line_side.specs.LineForm.{LineForm, size_of};
+    ghost use Rattle.line_side.specs.LineStands.{LineStands, PieceStands, InEachTurn, TurnEnded, members, used_frames};
     ghost use Rattle.frame_overhead.specs.TwoBefore.{stopped, wrong_parities};
     ghost use Rattle.otu_overhead.specs.Section.{wrong_fas};
-    ghost use Rattle.line_side.specs.LineMoves.{TakesNext, Tries, Hunts, StepMoves, EndMoves, is_locked};
-    ghost use Rattle.line_side.specs.Reader.{EndedAs};
-    ghost use Rattle.line_side.specs.MayBe.{MayBe};
+    ghost use Rattle.line_side.specs.LineMoves.{TakesNext, Tries, Hunts, StepMoves, EndMoves, TakesMember, is_locked};
+    ghost use Rattle.line_side.specs.Reader.{AsksNoMore};
     ghost use Rattle.line_side.specs.LineFile.{mfas_of};
-    ghost use Rattle.multiframe.specs.LineTurns.{Ended, standing, multiframe, one_if};
+    ghost use Rattle.multiframe.specs.LineTurns.{standing, one_if};
     ghost use Rattle.multiframe.specs.TurnPieces.{in_hand};
     ghost use Rattle.line_side.specs.declared.ending.Ending.TheVariants.{Open, Seen};
 
-    /// A line before its first turn, of which nothing was read.
-    pub fn new(alloc: Global) -> Result<LineIn, Memory>
-        ensures stands { IfOk result (λ line. (first : InView) → LineStands first first [] 0 line) }
+    /// A line of this kind, scrambled or plain, before its first turn, of which nothing was read.
+    pub fn new(alloc: Global, kind: LineKind, scrambled: bool) -> Result<LineIn, Memory>
+        ensures stands { IfOk result (λ line. (first : InView) → LineStands (record { kind = kind; scrambled = scrambled }) first first [] 0 line) }
+        ensures kind { IfOk result (λ line. line.kind ≡ kind) }
         ensures pieces { IfOk result (λ line. line.pieces ≡ 0) }
         ensures members { IfOk result (λ line. members line ≡ 0) }
     {
         Ok(LineIn {
-            phase: Phase::new(),
-            reader: LineReader::new(alloc)?,
+            phase: Phase::new(kind),
+            reader: LineReader::new(alloc, scrambled)?,
             pieces: 0,
             member: false,
             ended: false,
@@ -76,12 +82,13 @@ impl LineIn {
     }
 
     /// Does the next piece of the turn, and says whether a frame of the turn's multiframe is now in hand. The first
-    /// piece of a turn that hunts reads up to nine frames. A line that has ended, or that found no multiframe in this
+    /// piece of a turn that hunts reads up to S + 1 frames. A line that has ended, or that found no multiframe in this
     /// turn, reads nothing.
     pub fn piece<P: Source>(&mut self, place: &mut InPlaceOf<P>) -> bool
-        requires { self.old.pieces < 8 }
-        ensures stands { (first : InView) (taken : List ℕ) (t : ℕ) → LineStands first (in_view P.Source place.old) taken t self.old
-            → PieceStands first (in_view P.Source place.new) taken t self.old self.new }
+        requires { self.old.pieces < slots_of self.old.kind }
+        ensures stands { (form : LineForm) (first : InView) (taken : List ℕ) (t : ℕ) → LineStands form first (in_view P.Source place.old) taken t self.old
+            → PieceStands form first (in_view P.Source place.new) taken t self.old self.new }
+        ensures kind { self.new.kind ≡ self.old.kind }
         ensures pieces { self.new.pieces ≡ self.old.pieces + 1 }
         ensures member { result ≡ self.new.member }
         ensures members { members self.new ≡ members self.old + one_if result }
@@ -113,33 +120,29 @@ impl LineIn {
     pub fn expected(&self) -> u8
         requires { self.now.member ≡ true }
         ensures alignment { IfSome self.now.alignment (λ a. result ≡ (a.expected + (self.now.pieces - 1)) % 256) }
-        ensures line { (first now : InView) (taken given : List ℕ) (t : ℕ) → LineStands first now taken t self.now → MayBe self.now.reader.ending taken given
-            → IfSome (in_hand 8 (mfas_of given) (standing 8 (mfas_of given) t) self.now.pieces) (λ member. result ≡ member.expected) }
+        ensures line { InEachTurn self.now (λ form given t.
+            IfSome (in_hand (size_of form) (mfas_of given) (standing (size_of form) (mfas_of given) t) self.now.pieces) (λ member. result ≡ member.expected)) }
     {
         let _ = &self.member;
         self.phase.expected(self.pieces - 1)
     }
 
-    /// Ends the turn, and says whether it has a multiframe.
+    /// Ends the turn, all of whose pieces are done, and says whether it has a multiframe.
     pub fn end_turn(&mut self) -> bool
-        requires { self.old.pieces ≡ 8 }
-        ensures stands { (first now : InView) (taken : List ℕ) (t : ℕ) → LineStands first now taken t self.old → LineStands first now taken (t + 1) self.new }
+        requires { self.old.pieces ≡ slots_of self.old.kind }
+        ensures stands { (form : LineForm) (first now : InView) (taken : List ℕ) (t : ℕ) → LineStands form first now taken t self.old → LineStands form first now taken (t + 1) self.new }
+        ensures turn { InEachTurn self.old (λ form given t. TurnEnded form given t result self.new) }
+        ensures kind { self.new.kind ≡ self.old.kind }
         ensures ending { self.new.reader.ending ≡ self.old.reader.ending }
-        ensures multiframe { (first now : InView) (taken given : List ℕ) (t : ℕ) → LineStands first now taken t self.old → MayBe self.old.reader.ending taken given
-            → result ≡ is_some (multiframe 8 (mfas_of given) t) }
-        ensures ended { (first now : InView) (taken given : List ℕ) (t : ℕ) → LineStands first now taken t self.old → MayBe self.old.reader.ending taken given
-            → (self.new.ended ≡ true) ↔ (standing 8 (mfas_of given) (t + 1) ≡ Ended) }
         ensures pieces { self.new.pieces ≡ 0 }
-        ensures whole { result ≡ true → members self.old ≡ 8 }
+        ensures whole { result ≡ true → members self.old ≡ slots_of self.old.kind }
         ensures members { members self.new ≡ 0 }
     {
         self.close()
     }
 
     fn close(&mut self) -> bool
-        ensures moves { EndMoves result self.old self.new }
-        ensures whole { result ≡ true → members self.old ≡ 8 }
-        ensures members { members self.new ≡ 0 }
+        ensures { EndMoves (slots_of self.old.kind) result self.old self.new }
     {
         let hunted = self.phase.hunting();
         let whole = self.phase.end_turn();
@@ -174,12 +177,11 @@ impl LineIn {
         ensures lead_in { result.lead_in ≡ self.now.lead_in }
         ensures lost { result.lost ≡ self.now.lost }
         ensures rest { result.rest ≡ self.now.reader.rest }
-        ensures fas { (first now : InView) (taken given : List ℕ) (t : ℕ) → LineStands first now taken t self.now → MayBe self.now.reader.ending taken given
-            → result.fas ≡ stopped (wrong_fas (used_frames given t self.now.pieces)) }
-        ensures sm { (first now : InView) (taken given : List ℕ) (t : ℕ) → LineStands first now taken t self.now → MayBe self.now.reader.ending taken given
-            → result.sm ≡ stopped (wrong_parities 4080 1 9 (used_frames given t self.now.pieces)) }
-        ensures pm { (first now : InView) (taken given : List ℕ) (t : ℕ) → LineStands first now taken t self.now → MayBe self.now.reader.ending taken given
-            → result.pm ≡ stopped (wrong_parities 4080 3 11 (used_frames given t self.now.pieces)) }
+        ensures fas { InEachTurn self.now (λ form given t. result.fas ≡ stopped (wrong_fas (used_frames (size_of form) given t self.now.pieces))) }
+        ensures sm { InEachTurn self.now (λ form given t.
+            result.sm ≡ stopped (wrong_parities COLUMNS SECTION_ROW SM_BIP8_COLUMN (used_frames (size_of form) given t self.now.pieces))) }
+        ensures pm { InEachTurn self.now (λ form given t.
+            result.pm ≡ stopped (wrong_parities COLUMNS PM_ROW PM_BIP8_COLUMN (used_frames (size_of form) given t self.now.pieces))) }
     {
         let seen = self.reader.seen();
         LineCounts {
@@ -197,15 +199,14 @@ impl LineIn {
     fn step<P: Source>(&mut self, place: &mut InPlaceOf<P>, first: bool) -> bool
         requires room { ForSome self.old.alignment (λ a. length a.taken < self.old.pieces) }
         requires pieces { 1 ≤ self.old.pieces }
-        requires most { self.old.pieces ≤ 8 }
+        requires most { self.old.pieces ≤ slots_of self.old.kind }
         requires fresh { self.old.member ≡ false }
-        ensures moves { StepMoves first result self.old (in_view P.Source place.old) self.new (in_view P.Source place.new) }
+        ensures moves { StepMoves (slots_of self.old.kind) first result self.old (in_view P.Source place.old) self.new (in_view P.Source place.new) }
+        ensures kind { self.new.kind ≡ self.old.kind }
         ensures pieces { self.new.pieces ≡ self.old.pieces }
-        ensures aligned { result ≡ true → IsSome self.new.alignment }
-        ensures members { members self.new ≡ members self.old + one_if result }
-        ensures ending { EndedAs self.old.reader.ending (in_view P.Source place.old) → EndedAs self.new.reader.ending (in_view P.Source place.new) }
+        ensures member { TakesMember result self.old self.new }
         ensures rests { self.old.ended ≡ true → place.new ≡ place.old }
-        ensures quiet { self.old.reader.ending ≢ Open → (place.new ≡ place.old) × (self.new.reader.ending ≢ Open) }
+        ensures quiet { AsksNoMore self.old.reader.ending place.old self.new.reader.ending place.new }
     {
         if self.ended {
             return false;
@@ -219,12 +220,10 @@ impl LineIn {
     // Takes the next frame of a turn that is locked. The line ends where it isn't whole.
     fn take_next<P: Source>(&mut self, place: &mut InPlaceOf<P>) -> bool
         requires room { IsSomeAnd self.old.alignment (λ a. length a.taken < self.old.pieces) }
-        requires most { self.old.pieces ≤ 8 }
+        requires most { self.old.pieces ≤ slots_of self.old.kind }
         ensures takes { TakesNext result self.old (in_view P.Source place.old) self.new (in_view P.Source place.new) }
-        ensures aligned { result ≡ true → IsSome self.new.alignment }
-        ensures members { members self.new ≡ members self.old + one_if result }
-        ensures ending { EndedAs self.old.reader.ending (in_view P.Source place.old) → EndedAs self.new.reader.ending (in_view P.Source place.new) }
-        ensures quiet { self.old.reader.ending ≢ Open → (place.new ≡ place.old) × (self.new.reader.ending ≢ Open) }
+        ensures member { TakesMember result self.old self.new }
+        ensures quiet { AsksNoMore self.old.reader.ending place.old self.new.reader.ending place.new }
     {
         if !self.reader.advance(place) {
             self.ended = true;
@@ -234,18 +233,16 @@ impl LineIn {
         true
     }
 
-    // Hunts for the first frame of a multiframe. It passes over eight frames at most.
+    // Hunts for the first frame of a multiframe. It passes over as many frames as a multiframe has at most.
     fn hunt<P: Source>(&mut self, place: &mut InPlaceOf<P>) -> bool
         requires hunting { self.old.alignment ≡ None }
         requires pieces { 1 ≤ self.old.pieces }
         requires going { self.old.ended ≡ false }
-        ensures hunts { Hunts result self.old (in_view P.Source place.old) self.new (in_view P.Source place.new) }
-        ensures aligned { result ≡ true → IsSome self.new.alignment }
-        ensures members { members self.new ≡ members self.old + one_if result }
-        ensures ending { EndedAs self.old.reader.ending (in_view P.Source place.old) → EndedAs self.new.reader.ending (in_view P.Source place.new) }
-        ensures quiet { self.old.reader.ending ≢ Open → (place.new ≡ place.old) × (self.new.reader.ending ≢ Open) }
+        ensures hunts { Hunts (slots_of self.old.kind) result self.old (in_view P.Source place.old) self.new (in_view P.Source place.new) }
+        ensures member { TakesMember result self.old self.new }
+        ensures quiet { AsksNoMore self.old.reader.ending place.old self.new.reader.ending place.new }
     {
-        for _ in 0..MULTIFRAME {
+        for _ in 0..self.phase.kind().slots() {
             match self.try_frame(place) {
                 Tried::Locks => return true,
                 Tried::Passes => {}
@@ -259,17 +256,15 @@ impl LineIn {
     fn try_frame<P: Source>(&mut self, place: &mut InPlaceOf<P>) -> Tried
         requires hunting { self.old.alignment ≡ None }
         requires pieces { 1 ≤ self.old.pieces }
-        ensures tries { Tries result self.old (in_view P.Source place.old) self.new (in_view P.Source place.new) }
-        ensures aligned { result ≡ Tried.Locks → IsSome self.new.alignment }
-        ensures members { members self.new ≡ members self.old + one_if (is_locked result) }
-        ensures ending { EndedAs self.old.reader.ending (in_view P.Source place.old) → EndedAs self.new.reader.ending (in_view P.Source place.new) }
-        ensures quiet { self.old.reader.ending ≢ Open → (place.new ≡ place.old) × (self.new.reader.ending ≢ Open) }
+        ensures tries { Tries (slots_of self.old.kind) result self.old (in_view P.Source place.old) self.new (in_view P.Source place.new) }
+        ensures member { TakesMember (is_locked result) self.old self.new }
+        ensures quiet { AsksNoMore self.old.reader.ending place.old self.new.reader.ending place.new }
     {
         if !self.reader.advance(place) {
             self.ended = true;
             return Tried::Ends;
         }
-        if !self.reader.begins(place) {
+        if !self.reader.begins(place, self.phase.kind()) {
             self.lead_in = self.lead_in.saturating_add(1);
             return Tried::Passes;
         }

@@ -1,27 +1,28 @@
 // An output line: it gives a frame to be filled, adds the overhead and writes it.
-ghost use Rattle.std.specs.Prelude.{◌≡◌, ◌<◌, ℕ, List, [], IfOk, length, slice_index};
+ghost use Rattle.std.specs.Prelude.{◌≡◌, ◌<◌, ◌++◌, ◌∷◌, ℕ, List, [], IfOk, length, slice_index};
+ghost use Rattle.otn_base.specs.declared.limits.TheConstants.{LINE_FRAME_BYTES as FRAME_BYTES};
 ghost use Rattle.otn_ports.specs.OutPlace.{out_view};
 ghost use Rattle.otn_ports.specs.Views.{OutView};
 
+use crate::mask::LineMask;
 use frame_geometry::Frame;
+use frame_geometry::overhead::{PSI_COLUMN, PSI_ROW};
 use frame_overhead::parity;
 use msi_table::{SlotMap, psi_byte};
 use odu_path::PathWriter;
 use otn_base::limits::LINE_COLUMNS;
-use otn_base::{Memory, Trace};
+use otn_base::{LineKind, Memory, Trace};
 use otn_ports::{OutPlaceOf, Sink, Written};
 use otu_overhead::OtuWriter;
 use std::alloc::Global;
 use std::marker::Model;
 
-// Where the PSI byte stands (G.709 clause 15.9.2.1).
-const PSI_ROW: u32 = 4;
-
-const PSI_COLUMN: u32 = 15;
-
-/// An output line of a node. Each of its frames is put into the frame that `begin` gives, and written by `finish`.
+/// An output line of a node, of either kind, plain or scrambled. Each of its frames is put into the frame that `begin` gives,
+/// and written by `finish`.
 #[derive(Drop)]
 pub struct LineOut {
+    kind: LineKind,
+    mask: LineMask,
     trace: Trace,
     frame: Frame<LINE_COLUMNS>,
     section: OtuWriter,
@@ -34,21 +35,24 @@ impl Model for LineOut {
 
     ghost Value = { LineOutView };
 
-    ghost view = { λ l. record { sapi = l.trace; frame = l.frame; section = l.section; path = l.path; frames = l.frames } };
+    ghost view = { λ l. record { form = record { kind = l.kind; scrambled = l.mask }; sapi = l.trace; frame = l.frame; section = l.section; path = l.path; frames = l.frames } };
 }
 
 impl LineOut {
     ghost use Rattle.std.specs.Borrow.{Lends, sem};
     ghost use Rattle.line_side.specs.contracts.line_out.LineOut.{the_row};
     ghost use Rattle.line_side.specs.Rows.{frame_row};
-    ghost use Rattle.line_side.specs.LineOutput.{LineMade, MadeMore};
+    ghost use Rattle.line_side.specs.LineForm.{LineForm};
+    ghost use Rattle.line_side.specs.LineOutput.{FramePut, LineMade};
 
-    /// Line output n, 0 to 3, before its first frame.
-    pub fn new(alloc: Global, line: u8) -> Result<LineOut, Memory>
+    /// Line output n, 0 to 3, of this kind, scrambled or plain, before its first frame.
+    pub fn new(alloc: Global, line: u8, kind: LineKind, scrambled: bool) -> Result<LineOut, Memory>
         requires { line < 4 }
-        ensures { IfOk result (λ out. (first : OutView) → LineMade line first first [] [] out) }
+        ensures { IfOk result (λ out. (first : OutView) → LineMade line (record { kind = kind; scrambled = scrambled }) first first [] out) }
     {
         Ok(LineOut {
+            kind,
+            mask: LineMask::new(alloc, scrambled)?,
             trace: trace_of(line),
             frame: Frame::new(alloc)?,
             section: OtuWriter::new(),
@@ -57,20 +61,28 @@ impl LineOut {
         })
     }
 
+    /// The kind of the line, whose slots the map is of that `finish` is given.
+    pub fn kind(&self) -> LineKind
+        ensures { result ≡ self.now.form.kind }
+    {
+        self.kind
+    }
+
     /// The next frame, all 0, to be filled.
     pub fn begin(&mut self) -> &mut Frame<LINE_COLUMNS>
         ensures* writes_back { sem 𝓛 (Lends the_row frame_row self.entry result (λ w. record self.entry.now { frame = w })) }
         ensures zero { (place : ℕ) → slice_index result.now place ≡ 0 }
-        ensures size { length result.now ≡ 16320 }
+        ensures size { length result.now ≡ FRAME_BYTES }
     {
         self.frame.clear();
         &mut self.frame
     }
 
-    /// Adds the overhead to the frame, which has this MFAS on a line whose slots are used so, and writes it.
+    /// Adds the overhead to the frame, which has this MFAS on a line whose slots are used so, and writes it through the
+    /// line's mask.
     pub fn finish<K: Sink>(&mut self, mfas: u8, map: &SlotMap, place: &mut OutPlaceOf<K>)
-        ensures { (n : ℕ) (first : OutView) (made : List (List ℕ)) (went : List ℕ) → LineMade n first (out_view K.Sink place.old) made went self.old
-            → MadeMore n map.now mfas first (out_view K.Sink place.new) made went self.old self.new }
+        ensures { (n : ℕ) (form : LineForm) (first : OutView) (puts : List FramePut) → LineMade n form first (out_view K.Sink place.old) puts self.old
+            → LineMade n form first (out_view K.Sink place.new) (puts ++ record { mfas = mfas; ports = map.now; bytes = self.old.frame } ∷ []) self.new }
     {
         self.frame.set(PSI_ROW, PSI_COLUMN, psi_byte(mfas, map));
         let parity = parity(&self.frame);
@@ -78,6 +90,7 @@ impl LineOut {
             .write_with(&mut self.frame, mfas, &self.trace, parity);
         self.section
             .write_with(&mut self.frame, mfas, &self.trace, parity);
+        self.mask.apply(&mut self.frame);
         let counts = send(place, self.frame.as_bytes());
         self.frames = self.frames.saturating_add(one_if(counts));
     }

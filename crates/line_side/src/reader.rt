@@ -1,26 +1,25 @@
 // The frames of a line, one after the other, with one frame looked ahead at.
-ghost use Rattle.std.specs.Prelude.{◌≡◌, ◌≢◌, ◌%◌, [], true, IfOk, IfSome, IsTrue, ◌↔◌, None};
+ghost use Rattle.std.specs.Prelude.{◌≡◌, ◌≢◌, ◌%◌, [], true, false, IfOk, IfSome, IsTrue, ◌↔◌, None};
+ghost use Rattle.otn_base.specs.LineSlots.{slots_of};
 ghost use Rattle.otn_ports.specs.InPlace.{in_view};
 
 use crate::checks::FrameChecks;
 use crate::ending::Ending;
+use crate::mask::LineMask;
 use frame_geometry::Frame;
+use frame_geometry::overhead::{MFAS_COLUMN, SECTION_ROW};
 use multiframe::starts;
-use otn_base::Memory;
-use otn_base::limits::{LINE_COLUMNS, MULTIFRAME};
+use otn_base::limits::LINE_COLUMNS;
+use otn_base::{LineKind, Memory};
 use otn_ports::{InPlaceOf, Reading, Source};
 use std::alloc::Global;
 use std::marker::Model;
 use std::mem;
 
-// The place of the MFAS in a frame (G.709 clause 15.6).
-const MFAS_ROW: u32 = 1;
-
-const MFAS_COLUMN: u32 = 7;
-
-/// A reader of a line's frames.
+/// A reader of a line's frames, which come through the line's mask.
 #[derive(Drop)]
 pub(crate) struct LineReader {
+    mask: LineMask,
     hand: Frame<LINE_COLUMNS>,
     next: Frame<LINE_COLUMNS>,
     is_ahead: bool,
@@ -36,14 +35,33 @@ impl Model for LineReader {
 
     ghost Value = { ReaderView };
 
-    ghost view = { λ r. record { hand = r.hand; ahead = if r.is_ahead then Some r.next else None; ending = r.ending; frames = r.frames; rest = r.rest; seen = r.seen } };
+    ghost view = { λ r. record { scrambled = r.mask; hand = r.hand; ahead = if r.is_ahead then Some r.next else None; ending = r.ending; frames = r.frames; rest = r.rest; seen = r.seen } };
 }
 
 ghost use Rattle.line_side.specs.Reader.{FrameRead};
 
-// Reads a frame. `End` says how many bytes came of one that isn't whole, and `Lost` that the place is dead.
-fn read_frame<P: Source>(place: &mut InPlaceOf<P>, frame: &mut Frame<LINE_COLUMNS>) -> Reading
-    ensures { FrameRead result (in_view P.Source place.old) frame.new (in_view P.Source place.new) }
+// Reads a frame through the mask. `End` says how many bytes came of one that isn't whole, and `Lost` that the place is
+// dead.
+fn read_frame<P: Source>(
+    place: &mut InPlaceOf<P>,
+    frame: &mut Frame<LINE_COLUMNS>,
+    mask: &LineMask,
+) -> Reading
+    ensures { FrameRead mask.now result (in_view P.Source place.old) frame.new (in_view P.Source place.new) }
+{
+    match read_bytes(place, frame) {
+        Reading::Full => {
+            mask.apply(frame);
+            Reading::Full
+        }
+        Reading::End(n) => Reading::End(n),
+        Reading::Lost => Reading::Lost,
+    }
+}
+
+// Reads a frame as it stands in the file.
+fn read_bytes<P: Source>(place: &mut InPlaceOf<P>, frame: &mut Frame<LINE_COLUMNS>) -> Reading
+    ensures { FrameRead false result (in_view P.Source place.old) frame.new (in_view P.Source place.new) }
 {
     let reading = place.read_full(frame.as_bytes_mut());
     match place {
@@ -52,15 +70,16 @@ fn read_frame<P: Source>(place: &mut InPlaceOf<P>, frame: &mut Frame<LINE_COLUMN
     }
 }
 
-ghost use Rattle.line_side.specs.Reader.{Advances, LooksAhead, Begins, EndedAs, with_ahead, ending_after, left_after};
+ghost use Rattle.line_side.specs.Reader.{Advances, LooksAhead, Begins, AsksNoMore, with_ahead, ending_after, left_after};
 ghost use Rattle.line_side.specs.LineFile.{frame_mfas};
 ghost use Rattle.line_side.specs.declared.ending.Ending.TheVariants.{Open, Seen};
 
 impl LineReader {
     ghost use Rattle.line_side.specs.Counted.{HasCounted, CountsOn};
 
-    /// A reader that has read nothing.
-    pub(crate) fn new(alloc: Global) -> Result<LineReader, Memory>
+    /// A reader that has read nothing of a line, scrambled or plain.
+    pub(crate) fn new(alloc: Global, scrambled: bool) -> Result<LineReader, Memory>
+        ensures scrambled { IfOk result (λ r. r.scrambled ≡ scrambled) }
         ensures ahead { IfOk result (λ r. r.ahead ≡ None) }
         ensures ending { IfOk result (λ r. r.ending ≡ Open) }
         ensures frames { IfOk result (λ r. r.frames ≡ 0) }
@@ -68,6 +87,7 @@ impl LineReader {
         ensures seen { IfOk result (λ r. HasCounted [] r.seen) }
     {
         Ok(LineReader {
+            mask: LineMask::new(alloc, scrambled)?,
             hand: Frame::new(alloc)?,
             next: Frame::new(alloc)?,
             is_ahead: false,
@@ -82,9 +102,7 @@ impl LineReader {
     /// first.
     pub(crate) fn advance<P: Source>(&mut self, place: &mut InPlaceOf<P>) -> bool
         ensures advances { Advances result self.old (in_view P.Source place.old) self.new (in_view P.Source place.new) }
-        ensures ending { EndedAs self.old.ending (in_view P.Source place.old) → EndedAs self.new.ending (in_view P.Source place.new) }
-        ensures quiet { self.old.ending ≢ Open → (place.new ≡ place.old) × (self.new.ending ≢ Open) }
-        ensures alone { self.new.ahead ≡ None }
+        ensures quiet { AsksNoMore self.old.ending place.old self.new.ending place.new }
     {
         if self.is_ahead {
             self.take_ahead();
@@ -97,38 +115,36 @@ impl LineReader {
     pub(crate) fn look_ahead<P: Source>(&mut self, place: &mut InPlaceOf<P>) -> bool
         requires { self.old.ahead ≡ None }
         ensures looks { LooksAhead result self.old (in_view P.Source place.old) self.new (in_view P.Source place.new) }
-        ensures ending { EndedAs self.old.ending (in_view P.Source place.old) → EndedAs self.new.ending (in_view P.Source place.new) }
-        ensures quiet { self.old.ending ≢ Open → (place.new ≡ place.old) × (self.new.ending ≢ Open) }
+        ensures quiet { AsksNoMore self.old.ending place.old self.new.ending place.new }
     {
         if !self.is_open() {
             return false;
         }
-        let reading = read_frame(place, &mut self.next);
+        let reading = read_frame(place, &mut self.next, &self.mask);
         self.is_ahead = has_come(reading, &mut self.ending, &mut self.rest);
         self.is_ahead
     }
 
-    /// Whether a multiframe may begin with the frame in hand. It looks ahead at the next frame only where one might
-    /// begin by the frame in hand.
-    pub(crate) fn begins<P: Source>(&mut self, place: &mut InPlaceOf<P>) -> bool
+    /// Whether a multiframe of a line of this kind may begin with the frame in hand. It looks ahead at the next frame only
+    /// where one might begin by the frame in hand.
+    pub(crate) fn begins<P: Source>(&mut self, place: &mut InPlaceOf<P>, kind: LineKind) -> bool
         requires { self.old.ahead ≡ None }
-        ensures begins { Begins result self.old (in_view P.Source place.old) self.new (in_view P.Source place.new) }
-        ensures ending { EndedAs self.old.ending (in_view P.Source place.old) → EndedAs self.new.ending (in_view P.Source place.new) }
-        ensures quiet { self.old.ending ≢ Open → (place.new ≡ place.old) × (self.new.ending ≢ Open) }
-        ensures first { result ≡ true → frame_mfas self.new.hand % 8 ≡ 0 }
+        ensures begins { Begins (slots_of kind) result self.old (in_view P.Source place.old) self.new (in_view P.Source place.new) }
+        ensures quiet { AsksNoMore self.old.ending place.old self.new.ending place.new }
+        ensures first { result ≡ true → frame_mfas self.new.hand % slots_of kind ≡ 0 }
     {
         let mfas = self.mfas();
-        if mfas as usize % MULTIFRAME != 0 {
+        if mfas % kind.slots() != 0 {
             return false;
         }
-        self.look_ahead(place) && starts(mfas, self.next_mfas())
+        self.look_ahead(place) && starts(mfas, self.next_mfas(), kind)
     }
 
     /// The MFAS of the frame in hand.
     pub(crate) fn mfas(&self) -> u8
         ensures { result ≡ frame_mfas self.now.hand }
     {
-        self.hand.get(MFAS_ROW, MFAS_COLUMN)
+        self.hand.get(SECTION_ROW, MFAS_COLUMN)
     }
 
     /// The frame in hand.
@@ -174,7 +190,7 @@ impl LineReader {
     fn next_mfas(&self) -> u8
         ensures { IfSome self.now.ahead (λ frame. result ≡ frame_mfas frame) }
     {
-        self.next.get(MFAS_ROW, MFAS_COLUMN)
+        self.next.get(SECTION_ROW, MFAS_COLUMN)
     }
 
     // Takes the frame that was looked ahead at into the hand.
@@ -194,14 +210,12 @@ impl LineReader {
     fn read_next<P: Source>(&mut self, place: &mut InPlaceOf<P>) -> bool
         requires { self.old.ahead ≡ None }
         ensures advances { Advances result self.old (in_view P.Source place.old) self.new (in_view P.Source place.new) }
-        ensures ending { EndedAs self.old.ending (in_view P.Source place.old) → EndedAs self.new.ending (in_view P.Source place.new) }
-        ensures quiet { self.old.ending ≢ Open → (place.new ≡ place.old) × (self.new.ending ≢ Open) }
-        ensures alone { self.new.ahead ≡ None }
+        ensures quiet { AsksNoMore self.old.ending place.old self.new.ending place.new }
     {
         if !self.is_open() {
             return false;
         }
-        let reading = read_frame(place, &mut self.hand);
+        let reading = read_frame(place, &mut self.hand, &self.mask);
         if !has_come(reading, &mut self.ending, &mut self.rest) {
             return false;
         }

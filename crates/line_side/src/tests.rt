@@ -3,8 +3,8 @@ ghost use Rattle.std.specs.Prelude.{None};
 
 use crate::{LineCounts, LineIn, LineOut};
 use msi_table::SlotMap;
-use otn_base::Slots;
 use otn_base::limits::LINE_FRAME_BYTES;
+use otn_base::{LineKind, Slots};
 use otn_ports::{Failed, InPlaceOf, MemSink, MemSource, OutPlaceOf, Source};
 use std::alloc::{AllocError, Global};
 use std::test::Fail;
@@ -65,16 +65,21 @@ fn from(alloc: Global, first: u8, count: usize) -> Result<Vec<u8>, AllocError> {
 
 // Does the turns of a line until it has ended, a hundred at most: for each turn the number of the first frame of its
 // multiframe, or 255 where it has none.
-fn turns<P: Source>(alloc: Global, source: P) -> Result<(Vec<u8>, LineCounts, bool), AllocError> {
+fn turns<P: Source>(
+    alloc: Global,
+    source: P,
+    kind: LineKind,
+    scrambled: bool,
+) -> Result<(Vec<u8>, LineCounts, bool), AllocError> {
     let mut place = InPlaceOf::Live(source, 0);
-    let mut line = LineIn::new(alloc).map_err(|_memory| AllocError)?;
+    let mut line = LineIn::new(alloc, kind, scrambled).map_err(|_memory| AllocError)?;
     let mut firsts = Vec::new(alloc);
     for _ in 0..100_u8 {
         if line.ended() {
             break;
         }
         let mut first = 255;
-        for n in 0..8_u8 {
+        for n in 0..kind.slots() {
             if line.piece(&mut place) && n == 0 {
                 first = line.frame().get(1, 21);
             }
@@ -88,7 +93,12 @@ fn turns<P: Source>(alloc: Global, source: P) -> Result<(Vec<u8>, LineCounts, bo
 fn lead_in_and_rest(rt: HostRuntime) -> Result<(), Fail> {
     let alloc = rt.alloc();
     let mfas = from(alloc, 3, 69)?;
-    let (firsts, counts, end_seen) = turns(alloc, MemSource::new(line(alloc, &mfas, 100)?))?;
+    let (firsts, counts, end_seen) = turns(
+        alloc,
+        MemSource::new(line(alloc, &mfas, 100)?),
+        LineKind::Otu2,
+        false,
+    )?;
     assert_eq!(rt;
         firsts.as_slice(),
         [5, 13, 21, 29, 37, 45, 53, 61, 255].as_slice()
@@ -114,7 +124,12 @@ fn short_lines(rt: HostRuntime) -> Result<(), Fail> {
     let alloc = rt.alloc();
     for (count, wrong) in [(0, 0), (7, 4)] {
         let mfas = from(alloc, 0, count)?;
-        let (firsts, counts, end_seen) = turns(alloc, MemSource::new(line(alloc, &mfas, 0)?))?;
+        let (firsts, counts, end_seen) = turns(
+            alloc,
+            MemSource::new(line(alloc, &mfas, 0)?),
+            LineKind::Otu2,
+            false,
+        )?;
         assert_eq!(rt; firsts.as_slice(), [255].as_slice());
         assert_eq!(rt;
             counts,
@@ -140,7 +155,12 @@ fn lost_and_found(rt: HostRuntime) -> Result<(), Fail> {
         0, 1, 2, 3, 4, 5, 6, 7, 8, 9, 10, 0, 0, 0, 0, 0, 16, 17, 18, 19, 0, 0, 0, 0, 24, 25, 26,
         27, 28, 29, 30, 31,
     ];
-    let (firsts, counts, _) = turns(alloc, MemSource::new(line(alloc, &mfas, 0)?))?;
+    let (firsts, counts, _) = turns(
+        alloc,
+        MemSource::new(line(alloc, &mfas, 0)?),
+        LineKind::Otu2,
+        false,
+    )?;
     assert_eq!(rt; firsts.as_slice(), [0, 255, 16, 24, 255].as_slice());
     assert_eq!(rt;
         counts,
@@ -158,6 +178,21 @@ fn lost_and_found(rt: HostRuntime) -> Result<(), Fail> {
 }
 
 #[test]
+fn a_line_of_32(rt: HostRuntime) -> Result<(), Fail> {
+    let alloc = rt.alloc();
+    let mfas = from(alloc, 62, 70)?;
+    let (firsts, counts, _) = turns(
+        alloc,
+        MemSource::new(line(alloc, &mfas, 0)?),
+        LineKind::Otu3,
+        false,
+    )?;
+    assert_eq!(rt; firsts.as_slice(), [2, 34, 255].as_slice());
+    assert_eq!(rt; (counts.frames, counts.lead_in, counts.lost), (70, 2, 0));
+    Ok(())
+}
+
+#[test]
 fn dies_in_a_turn(rt: HostRuntime) -> Result<(), Fail> {
     let alloc = rt.alloc();
     let mfas = from(alloc, 0, 20)?;
@@ -166,7 +201,7 @@ fn dies_in_a_turn(rt: HostRuntime) -> Result<(), Fail> {
         reads: 12,
         failed: 0,
     };
-    let (firsts, counts, end_seen) = turns(alloc, source)?;
+    let (firsts, counts, end_seen) = turns(alloc, source, LineKind::Otu2, false)?;
     assert_eq!(rt; firsts.as_slice(), [0, 255].as_slice());
     assert_eq!(rt;
         counts,
@@ -192,15 +227,17 @@ fn at(bytes: &[u8], place: usize) -> u8 {
     }
 }
 
-// Writes so many frames of line 2, each with one payload byte, to a sink with this room. Says what the sink got, and how
-// many frames count.
+// Writes so many frames of line 2, each with one byte in its FEC columns, to a sink with this room. Says what the sink got,
+// and how many frames count.
 fn written(
     alloc: Global,
     frames: u8,
     room: usize,
     map: &SlotMap,
+    kind: LineKind,
+    scrambled: bool,
 ) -> Result<(Vec<u8>, u64), AllocError> {
-    let mut out = LineOut::new(alloc, 2).map_err(|_memory| AllocError)?;
+    let mut out = LineOut::new(alloc, 2, kind, scrambled).map_err(|_memory| AllocError)?;
     let mut place = OutPlaceOf::Live(
         MemSink::with_room(alloc, room).map_err(|_memory| AllocError)?,
         0,
@@ -209,53 +246,71 @@ fn written(
         out.begin().set(4, 3825, 9);
         out.finish(mfas, map, &mut place);
     }
-    let bytes = match place {
-        OutPlaceOf::Empty => Vec::new(alloc),
-        OutPlaceOf::Live(sink, _) => sink.into_bytes(),
-        OutPlaceOf::Dead(sink, _) => sink.into_bytes(),
-    };
+    let mut bytes = Vec::new(alloc);
+    bytes.extend_from_slice(place.kept().unwrap_or(&[]))?;
     Ok((bytes, out.frames()))
 }
 
 #[test]
 fn frames_of_a_free_line(rt: HostRuntime) -> Result<(), Fail> {
     let alloc = rt.alloc();
-    let (bytes, frames) = written(alloc, 9, 200_000, &SlotMap::new())?;
-    assert_eq!(rt; frames, 9);
-    assert_eq!(rt; bytes.len(), 9 * LINE_FRAME_BYTES);
-    for (frame, tti, bip) in [
-        (0_usize, 0_u8, 0_u8),
-        (1, b'L', 0),
-        (2, b'I', 0x21),
-        (3, b'N', 0),
-        (4, b'E', 0xC0),
-        (5, b'-', 0xC0),
-        (6, b'2', 0xC0),
-        (7, 0, 0xC0),
-    ] {
-        let start = LINE_FRAME_BYTES * frame;
-        assert_eq!(rt; at(&bytes, start), 0xF6);
-        assert_eq!(rt; at(&bytes, start + 6), frame as u8);
-        assert_eq!(rt; at(&bytes, start + 7), tti, "SM TTI of frame {frame}");
-        assert_eq!(rt; at(&bytes, start + 8), bip, "SM BIP-8 of frame {frame}");
-        assert_eq!(rt; at(&bytes, start + 8169), tti, "PM TTI of frame {frame}");
-        assert_eq!(rt; at(&bytes, start + 8170), bip, "PM BIP-8 of frame {frame}");
-        assert_eq!(rt; at(&bytes, start + 8171), 1, "STAT of frame {frame}");
-        assert_eq!(rt; at(&bytes, start + 16064), 0, "FEC of frame {frame}");
+    for kind in [LineKind::Otu2, LineKind::Otu3] {
+        let (bytes, frames) = written(alloc, 9, 200_000, &SlotMap::new(kind), kind, false)?;
+        assert_eq!(rt; frames, 9);
+        assert_eq!(rt; bytes.len(), 9 * LINE_FRAME_BYTES);
+        for (frame, tti, bip) in [
+            (0_usize, 0_u8, 0_u8),
+            (1, b'L', 0),
+            (2, b'I', 0x21),
+            (3, b'N', 0),
+            (4, b'E', 0xC0),
+            (5, b'-', 0xC0),
+            (6, b'2', 0xC0),
+            (7, 0, 0xC0),
+        ] {
+            let start = LINE_FRAME_BYTES * frame;
+            assert_eq!(rt; at(&bytes, start), 0xF6);
+            assert_eq!(rt; at(&bytes, start + 6), frame as u8);
+            assert_eq!(rt; at(&bytes, start + 7), tti, "SM TTI of frame {frame}");
+            assert_eq!(rt; at(&bytes, start + 8), bip, "SM BIP-8 of frame {frame}");
+            assert_eq!(rt; at(&bytes, start + 8169), tti, "PM TTI of frame {frame}");
+            assert_eq!(rt; at(&bytes, start + 8170), bip, "PM BIP-8 of frame {frame}");
+            assert_eq!(rt; at(&bytes, start + 8171), 1, "STAT of frame {frame}");
+            assert_eq!(rt; at(&bytes, start + 16064), 0, "FEC of frame {frame}");
+        }
     }
-    let (_, counts, _) = turns(alloc, MemSource::new(bytes))?;
-    assert_eq!(rt; counts.frames, 9);
-    assert_eq!(rt; (counts.fas, counts.sm, counts.pm), (0, 0, 0));
+    Ok(())
+}
+
+#[test]
+fn a_scrambled_line(rt: HostRuntime) -> Result<(), Fail> {
+    let alloc = rt.alloc();
+    let kind = LineKind::Otu2;
+    let (bytes, _) = written(alloc, 16, 300_000, &SlotMap::new(kind), kind, true)?;
+    let (read, counts, _) = turns(alloc, MemSource::new(bytes), kind, true)?;
+    assert_eq!(rt; read.as_slice(), [0, 0, 255].as_slice());
+    assert_eq!(rt; (counts.frames, counts.lead_in, counts.fas), (16, 0, 0));
+    assert_eq!(rt; (counts.sm, counts.pm), (0, 0));
+
+    let (bytes, _) = written(alloc, 16, 300_000, &SlotMap::new(kind), kind, true)?;
+    assert_eq!(rt;
+        bytes.get(..10),
+        Some([0xF6, 0xF6, 0xF6, 0x28, 0x28, 0x28, 0xFF, 0xFF, 0x4E, 0x91].as_slice())
+    );
+    let (plain, counts, _) = turns(alloc, MemSource::new(bytes), kind, false)?;
+    assert_eq!(rt; plain.as_slice(), [255, 255, 255].as_slice());
+    assert_eq!(rt; (counts.frames, counts.lead_in, counts.fas), (16, 16, 0));
     Ok(())
 }
 
 #[test]
 fn a_line_that_dies(rt: HostRuntime) -> Result<(), Fail> {
     let alloc = rt.alloc();
-    let mut map = SlotMap::new();
-    let slots = Slots::new(&[1, 2, 8]).ok_or("three slots that rise")?;
+    let kind = LineKind::Otu2;
+    let mut map = SlotMap::new(kind);
+    let slots = Slots::new(&[1, 2, 8], kind).ok_or("three slots that rise")?;
     map.allot(&slots, 2);
-    let (bytes, frames) = written(alloc, 4, 2 * LINE_FRAME_BYTES + 7, &map)?;
+    let (bytes, frames) = written(alloc, 4, 2 * LINE_FRAME_BYTES + 7, &map, kind, false)?;
     assert_eq!(rt; frames, 2);
     assert_eq!(rt; bytes.len(), 2 * LINE_FRAME_BYTES + 7);
     assert_eq!(rt; at(&bytes, 12254), 0x21, "PSI[0]");

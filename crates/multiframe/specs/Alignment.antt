@@ -1,5 +1,6 @@
 -- How a line stands within a turn, by the MFAS bytes that were taken in it.
 use Rattle.std.specs.Prelude.{◌≡◌, ◌≤◌, ℕ, ◌+◌, ◌/◌, ◌%◌, ◌==◌, nat_le, if◌then◌else◌, List, [], ◌∷◌, ◌++◌, length, take, drop, Option, Some, None, ⊤, Bool, IsTrue, ◌↔◌}
+use Rattle.otn_base.specs.LineSlots.{slots_of}
 use Rattle.otn_base.specs.declared.line_kind.LineKind.{LineKind}
 use Rattle.multiframe.specs.LineTurns.{Lock, Standing, Hunting, Locked, Ended, Whole, outcome_of, after_outcome, wrong_count}
 
@@ -33,6 +34,11 @@ after_end size None = None
 after_end size (Some a) =
     if length a.taken == size then (if nat_le (wrong_count a.expected a.taken) (size / 2) then Some (aligned_at ((a.expected + size) % 256)) else None)
     else Some (aligned_at a.expected)
+
+-- a turn of a line has ended: whether it has a multiframe, and how the line is aligned after it
+pub record PhaseEnds (old : LinePhase) (result : Bool) (new : LinePhase) : Type 0 where
+  pub multiframe : IsTrue result ↔ HasMultiframe (slots_of old.kind) old.alignment
+  pub after : new ≡ record { kind = old.kind; alignment = after_end (slots_of old.kind) old.alignment }
 
 -- the frames of a locked turn that there are, all taken
 abbrev pub taken_of : ℕ → List ℕ → Lock → Alignment

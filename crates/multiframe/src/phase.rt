@@ -46,7 +46,7 @@ pub fn starts(first: u8, second: u8, kind: LineKind) -> bool
 }
 
 impl Phase {
-    ghost use Rattle.multiframe.specs.Alignment.{Alignment, aligned_at, with_frame, HasMultiframe, after_end, taken_of, EndsTurn};
+    ghost use Rattle.multiframe.specs.Alignment.{aligned_at, with_frame, taken_of, PhaseEnds, EndsTurn};
     ghost use Rattle.multiframe.specs.LineTurns.{Lock};
 
     /// A line of this kind, which hunts.
@@ -54,6 +54,13 @@ impl Phase {
         ensures { result ≡ record { kind = kind; alignment = None } }
     {
         Phase { kind, locked: None }
+    }
+
+    /// The kind of the line.
+    pub fn kind(&self) -> LineKind
+        ensures { result ≡ self.now.kind }
+    {
+        self.kind
     }
 
     /// Whether the line hunts.
@@ -104,8 +111,7 @@ impl Phase {
     /// another MFAS than the expected one. Where more had, the line hunts. Where not all were taken, it stays as it
     /// stood before the turn.
     pub fn end_turn(&mut self) -> bool
-        ensures multiframe { IsTrue result ↔ HasMultiframe (slots_of self.old.kind) self.old.alignment }
-        ensures after { self.new ≡ record { kind = self.old.kind; alignment = after_end (slots_of self.old.kind) self.old.alignment } }
+        ensures turn { PhaseEnds self.old result self.new }
 
         // where the frames of a locked turn of a line were taken, this ends that turn
         ensures line { (ms : List ℕ) (lock : Lock) → self.old.alignment ≡ Some (taken_of (slots_of self.old.kind) ms lock)
@@ -115,8 +121,7 @@ impl Phase {
     }
 
     fn close(&mut self) -> bool
-        ensures multiframe { IsTrue result ↔ HasMultiframe (slots_of self.old.kind) self.old.alignment }
-        ensures after { self.new ≡ record { kind = self.old.kind; alignment = after_end (slots_of self.old.kind) self.old.alignment } }
+        ensures { PhaseEnds self.old result self.new }
     {
         let frames = self.frames();
         let Some(locked) = self.locked else {

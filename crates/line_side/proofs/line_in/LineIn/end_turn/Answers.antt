@@ -6,16 +6,16 @@ use Rattle.line_side.proofs.Ended.{ended_is}
 use Rattle.line_side.proofs.line_in.LineIn.end_turn.Goals as goal
 
 pub returns-clause-stands : goal.returns-clause-stands
-returns-clause-stands c = λ first now taken t h. end_stands first now taken t _ _ _ c.requires c.close.ensures.moves h
+returns-clause-stands c = λ form first now taken t h. end_stands form first now taken t _ _ _ c.requires c.close.ensures h
 
 pub returns-clause-ending : goal.returns-clause-ending
-returns-clause-ending c = same_ending _ _ _ c.close.ensures.moves
+returns-clause-ending c = same_ending _ _ _ _ c.close.ensures
 
-pub returns-clause-multiframe : goal.returns-clause-multiframe
-returns-clause-multiframe c = λ first now taken given t h may. end_multiframe first now taken given t _ _ _ c.requires c.close.ensures.moves h may
-
-pub returns-clause-ended : goal.returns-clause-ended
-returns-clause-ended c = λ first now taken given t h may.
-    let P : Ending → Type 0 = λ e. MayBe e taken given in
-    let m = c.close.ensures.moves in
-    ended_is first now taken given _ _ m.pieces (end_stands first now taken t _ _ _ c.requires m h) (subst P (sym (same_ending _ _ _ m)) may)
+pub returns-clause-turn : goal.returns-clause-turn
+returns-clause-turn c = λ form first now taken given t h may.
+    let P : Ending → Type 0 = λ e. MayBe form.scrambled e taken given in
+    let m = c.close.ensures in
+    record {
+      has_multiframe = end_multiframe form first now taken given t _ _ _ c.requires m h may;
+      has_ended = ended_is form first now taken given _ _ m.pieces (end_stands form first now taken t _ _ _ c.requires m h) (subst P (sym (same_ending _ _ _ _ m)) may);
+    }

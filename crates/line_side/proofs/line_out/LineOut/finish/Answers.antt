@@ -6,7 +6,7 @@ use Rattle.line_side.proofs.Made.{made_more}
 use Rattle.line_side.proofs.line_out.LineOut.finish.Goals as goal
 
 pub returns : goal.returns
-returns g c = rw (← c.self.view_is) (λ n first made went h.
+returns g c = rw (← c.self.view_is) (λ n form first puts h.
     let inside = c.self.inside in
     let put = c.set.ensures ∙ ap (λ byte. slice_set inside.frame (place_of 4080 4 15) byte) c.psi_byte.ensures in
     let sized = ap length (sym c.as_bytes.ensures.bytes) ∙ c.as_bytes.ensures.size in
@@ -14,5 +14,5 @@ returns g c = rw (← c.self.view_is) (λ n first made went h.
     let frames = c.saturating_add-self-inside.ensures ∙ ap (λ k. stopped (inside.frames + k)) c.one_if.ensures in
     let path = c.write_with.ensures in
     let section = c.write_with-2.ensures in
-    made_more n c.args.map.now c.args.mfas first _ _ made went _ _ c.set.new.self c.write_with.new.frame c.send-counts.result put (path.frame made) (path.sent made)
-    (section.frame made) (section.sent made) (path.parity ∙ sym section.parity) sized writes frames refl h)
+    made_more n form _ first _ _ puts _ _ c.set.new.self c.write_with.new.frame c.write_with-2.new.frame c.apply.new.frame c.send-counts.result refl put path.frame path.sent section.frame section.sent
+    (path.parity ∙ sym section.parity) c.apply.ensures sized writes frames refl refl h)

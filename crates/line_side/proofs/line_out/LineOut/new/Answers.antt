@@ -1,16 +1,6 @@
-use Rattle.std.proofs.Common.{[], refl}
-use Rattle.otn_ports.proofs.GivenLaws.{gained_none}
-use Rattle.line_side.proofs.Made.{none_count}
+use Rattle.std.proofs.Common.{refl}
+use Rattle.line_side.proofs.Made.{new_made}
 use Rattle.line_side.proofs.line_out.LineOut.new.Goals as goal
 
 pub returns : goal.returns
-returns c = λ first. record {
-  sapi = c.trace_of.ensures;
-  section = c.new-2.ensures;
-  path = c.new-3.ensures 4080;
-  size = refl;
-  gained = gained_none first;
-  whole = λ _. refl;
-  part = ([], refl);
-  frames = none_count first.state;
-}
+returns c = λ first. new_made _ _ _ _ first _ refl c.in_ok-new.ensures c.trace_of.ensures c.new-3.ensures (c.new-4.ensures 4080) refl

@@ -5,7 +5,7 @@ use Rattle.otn_ports.specs.declared.in_place.Reading.TheVariants.{End}
 use Rattle.otn_ports.specs.Reads.{idle_reading}
 use Rattle.frame_geometry.specs.Loans.{after_loan-whole}
 use Rattle.line_side.proofs.Reading.{frame_came, frame_alive, frame_dead, lost_dead, not_dead}
-use Rattle.line_side.proofs.reader.read_frame.Goals as goal
+use Rattle.line_side.proofs.reader.read_bytes.Goals as goal
 
 pub returns-in_default : goal.returns-in_default
 returns-in_default g c =
