@@ -119,7 +119,7 @@ frames_more n before [] (f ∷ made) put frame h here = absurd h
 
 still_live : (was is : OutView) (more : List ℕ) → Gained was more is → is.state ≡ Live → was.state ≡ Live
 still_live was is more gained live = elim gained.state [
-  | inl same ↦ sym same ∙ live
+  | inl same ↦ sym same.0 ∙ live
   | inr died ↦ absurd (dead_not_live (sym died.1 ∙ live))
 ]
 
@@ -189,13 +189,13 @@ counts_more counts first was is made due went frame one_more w gained size one w
 
     by_state : (s t u : State) → first.state ≡ s → was.state ≡ t → is.state ≡ u → Counts
     by_state Empty Empty u e d f = rw (e, w.empty d) (length-append made (one_more ∷ []))
-    by_state Live Empty u e d f = absurd (elim gained.state [ inl same ↦ empty_not_live (sym d ∙ same ∙ e) | inr died ↦ dead_not_empty (sym died.1 ∙ d) ])
-    by_state Dead Empty u e d f = absurd (elim gained.state [ inl same ↦ dead_not_empty (sym e ∙ sym same ∙ d) | inr died ↦ dead_not_empty (sym died.1 ∙ d) ])
-    by_state Empty Dead u e d f = absurd (elim gained.state [ inl same ↦ dead_not_empty (sym d ∙ same ∙ e) | inr died ↦ empty_not_live (sym e ∙ died.0) ])
+    by_state Live Empty u e d f = absurd (elim gained.state [ inl same ↦ empty_not_live (sym d ∙ same.0 ∙ e) | inr died ↦ dead_not_empty (sym died.1 ∙ d) ])
+    by_state Dead Empty u e d f = absurd (elim gained.state [ inl same ↦ dead_not_empty (sym e ∙ sym same.0 ∙ d) | inr died ↦ dead_not_empty (sym died.1 ∙ d) ])
+    by_state Empty Dead u e d f = absurd (elim gained.state [ inl same ↦ dead_not_empty (sym d ∙ same.0 ∙ e) | inr died ↦ empty_not_live (sym e ∙ died.0) ])
     by_state Live Dead u e d f = idle Live e (λ x. empty_not_live (sym x)) d
     by_state Dead Dead u e d f = idle Dead e dead_not_empty d
-    by_state Empty Live u e d f = absurd (elim gained.state [ inl same ↦ empty_not_live (sym e ∙ sym same ∙ d) | inr died ↦ dead_not_live (sym died.1 ∙ d) ])
-    by_state Dead Live u e d f = absurd (elim gained.state [ inl same ↦ dead_not_live (sym e ∙ sym same ∙ d) | inr died ↦ dead_not_live (sym died.1 ∙ d) ])
+    by_state Empty Live u e d f = absurd (elim gained.state [ inl same ↦ empty_not_live (sym e ∙ sym same.0 ∙ d) | inr died ↦ dead_not_live (sym died.1 ∙ d) ])
+    by_state Dead Live u e d f = absurd (elim gained.state [ inl same ↦ dead_not_live (sym e ∙ sym same.0 ∙ d) | inr died ↦ dead_not_live (sym died.1 ∙ d) ])
     by_state Live Live Empty e d f = cut e d (λ l. empty_not_live (sym f ∙ l))
     by_state Live Live Dead e d f = cut e d (λ l. dead_not_live (sym f ∙ l))
     by_state Live Live Live e d f =
