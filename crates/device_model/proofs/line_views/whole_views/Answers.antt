@@ -1,0 +1,5 @@
+use Rattle.device_model.proofs.LineViews.{whole_at}
+use Rattle.device_model.proofs.line_views.whole_views.Goals as goal
+
+pub returns : goal.returns
+returns c = whole_at
