@@ -2,14 +2,13 @@
 use Rattle.std.proofs.Common.{◌≡◌, ◌≢◌, ◌⊎◌, inl, inr, ℕ, zero, suc, ◌+◌, ◌*◌, ◌/◌, ◌%◌, ◌-◌, ◌<◌, ◌≤◌, Bool, true, false, cond, List, [], ◌∷◌, length, take, drop, replicate, get_or, Option, Some, None, refl, ap, ◌∙◌, sym, subst, arith, rules}
 use Rattle.std.specs.Prelude.{IsSome, slice_get}
 use Rattle.std.specs.List.{concat, Contains}
-use Rattle.std.proofs.lemmas.Bool.{ltb-true}
 use Rattle.std.proofs.lemmas.List.{get_or_default, length-drop, drop-drop, get_or-take, get_or-drop, get_or-replicate}
 use Rattle.std.proofs.lemmas.Option.{slice_get_within, get_or_from_slice_get}
 use Rattle.std.proofs.Math.Nat.{div-add-mod, mul-le-mul_left}
-use Rattle.otn_base.specs.LineSlots.{LineSlots, slots_of}
+use Rattle.otn_base.specs.LineSlots.{slots_of}
 use Rattle.otn_base.specs.SlotList.{IsSlotList}
 use Rattle.frame_geometry.specs.Places.{place_of, same_place}
-use Rattle.gmp_rule.specs.DataRule.{Progress, IsData, is_data_at, data_count}
+use Rattle.gmp_rule.specs.DataRule.{Progress, is_data_at, data_count}
 use Rattle.odtu_columns.specs.Columns.{slot_of}
 use Rattle.odtu_columns.specs.Message.{message_of}
 use Rattle.odtu_columns.specs.Put.{slot_place}

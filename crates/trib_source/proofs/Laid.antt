@@ -1,5 +1,5 @@
 -- Groups laid out, one by one or by runs of data groups.
-use Rattle.std.proofs.Common.{◌≡◌, ◌⊎◌, inl, inr, ℕ, zero, suc, ◌+◌, ◌*◌, ◌-◌, ◌%◌, ◌<◌, ◌≤◌, Bool, List, length, cond, ap, ◌∙◌, sym, subst, arith, get_or}
+use Rattle.std.proofs.Common.{◌≡◌, ◌⊎◌, inl, inr, ℕ, ◌+◌, ◌*◌, ◌-◌, ◌%◌, ◌<◌, ◌≤◌, List, cond, ap, ◌∙◌, sym, subst, arith, get_or}
 use Rattle.std.proofs.lemmas.Bool.{lt-ltb}
 use Rattle.std.proofs.Math.Nat.{mul-le-mul_left}
 use Rattle.gmp_rule.specs.DataRule.{IsData, is_data_at, data_count}

@@ -1,13 +1,13 @@
 -- The groups of a frame, row by row.
-use Rattle.std.proofs.Common.{◌≡◌, ◌⊎◌, inl, inr, ℕ, ◌+◌, ◌*◌, ◌/◌, ◌%◌, ◌-◌, ◌<◌, ◌≤◌, Bool, true, false, cond, List, length, take, drop, refl, ap, ◌∙◌, sym, subst, arith, get_or}
+use Rattle.std.proofs.Common.{◌≡◌, ◌⊎◌, inl, inr, ℕ, ◌+◌, ◌*◌, ◌/◌, ◌%◌, ◌-◌, ◌<◌, ◌≤◌, Bool, true, false, cond, List, length, drop, refl, ap, ◌∙◌, sym, subst, arith, get_or}
 use Rattle.std.proofs.lemmas.Bool.{ltb-true}
-use Rattle.std.proofs.lemmas.List.{length-drop, length-take, drop-drop, get_or-take, get_or-drop}
-use Rattle.std.proofs.Math.Nat.{mul-le-mul_left, mul_comm}
+use Rattle.std.proofs.lemmas.List.{length-drop, drop-drop, get_or-drop}
+use Rattle.std.proofs.Math.Nat.{mul-le-mul_left}
 use Rattle.otn_base.specs.SlotList.{IsSlotList}
 use Rattle.gmp_rule.specs.DataRule.{IsData, is_data_at, data_count}
 use Rattle.odtu_columns.specs.Put.{slot_place, RowWasPut}
-use Rattle.trib_source.specs.Rows.{row_groups, data_bytes, byte_laid, AreEnough, RowsWerePut}
-use Rattle.trib_source.proofs.Counts.{count_low, data_next, counts_grow}
+use Rattle.trib_source.specs.Rows.{data_bytes, byte_laid, AreEnough, RowsWerePut}
+use Rattle.trib_source.proofs.Counts.{count_low, data_next}
 use Rattle.trib_source.proofs.Laid.{bytes_grow}
 
 -- ---- the rows of a frame

@@ -1,4 +1,4 @@
-use Rattle.std.proofs.Common.{◌≡◌, ◌+◌, ◌≤◌}
+use Rattle.std.proofs.Common.{◌≡◌, ◌+◌}
 use Rattle.trib_source.proofs.Laid.{LaidTo}
 use Rattle.trib_source.proofs.lay.lay_each.Given as goal
 

@@ -1,4 +1,4 @@
-use Rattle.std.proofs.Common.{refl, ap, arith, ◌≡◌, ◌+◌, ◌*◌, ◌∙◌}
+use Rattle.std.proofs.Common.{ap, arith, ◌≡◌, ◌+◌, ◌*◌, ◌∙◌}
 use Rattle.gmp_rule.specs.DataRule.{IsData, data_count}
 use Rattle.trib_source.proofs.Counts.{data_next}
 use Rattle.trib_source.proofs.lay.lay_next.Goals as goal

@@ -1,4 +1,4 @@
-use Rattle.std.proofs.Common.{◌≡◌, ℕ, ◌<◌, ◌≤◌, ◌+◌, ◌*◌, ◌/◌, ◌∙◌, List, length, take, drop, get_or, ap, sym, subst, arith, refl}
+use Rattle.std.proofs.Common.{◌≡◌, ℕ, ◌<◌, ◌≤◌, ◌+◌, ◌*◌, ◌∙◌, length, take, drop, get_or, ap, sym, subst, arith}
 use Rattle.std.proofs.lemmas.List.{get_or-take}
 use Rattle.std.proofs.Math.Nat.{mul-le-mul_left}
 use Rattle.circular_buffer.specs.Buffer.{Buffer}
@@ -70,15 +70,15 @@ loop-done-preserved c =
       laid = laid;
       put = c.put_row_groups.ensures.put;
     } in
+    let number = c.args.runner.now.number in
+    let cycles_now = c.cycles_in_row-cycles.result in
+    let stepped : c.lay_groups.new.runner ≡ record { number = number; asked = a + w * done + cycles_now } = c.lay_groups.ensures.runner ∙ ap (λ (p : Progress). record p { asked = p.asked + cycles_now }) inv.runner in
+    let rest = drop (data_bytes m n a (w * (done + 1))) items in
+    let drained : next ≡ rest = row_left line slots n a done items left next row c.args.frame.now c.loop-done.frame c.put_row_groups.new.frame h in
+    let capacity : c.take_fresh-count.new.ring.capacity ≡ c.args.ring.now.capacity = ap (λ (b : Buffer _). b.capacity) c.take_fresh-count.ensures.ring ∙ ap (λ (b : Buffer _). b.capacity) inv.ring in
     record {
-      runner = c.lay_groups.ensures.runner
-          ∙ ap (λ (p : Progress). record p { asked = p.asked + c.cycles_in_row-cycles.result }) inv.runner
-          ∙ ap (λ k. record { number = c.args.runner.now.number; asked = a + w * done + k }) cycles
-          ∙ ap (λ k. record { number = c.args.runner.now.number; asked = k }) (let f : a + w * done + w ≡ a + w * (done + 1) = omega arith in f);
-      ring = c.take_fresh-count.ensures.ring
-          ∙ ap (λ (b : Buffer _). record { items = drop count left; capacity = b.capacity }) inv.ring
-          ∙ ap (λ xs. record { items = xs; capacity = c.args.ring.now.capacity })
-          (ap (λ k. drop k left) count_is ∙ sym h.taken ∙ row_left line slots n a done items left next row c.args.frame.now c.loop-done.frame c.put_row_groups.new.frame h);
+      runner = subst (λ k. c.lay_groups.new.runner ≡ record { number = number; asked = k }) (let f : a + w * done + cycles_now ≡ a + w * (done + 1) = omega arith in f) stepped;
+      ring = subst (λ xs. c.take_fresh-count.new.ring ≡ record { items = xs; capacity = c.args.ring.now.capacity }) drained (ap (λ k. record { items = next; capacity = k }) capacity);
       rows = row_more line slots n a done items left next row c.args.frame.now c.loop-done.frame c.put_row_groups.new.frame h;
     }
 
