@@ -19,7 +19,7 @@ use Rattle.tributary_model.specs.Puts.{lengths_of, group_from, group_put, place_
 use Rattle.tributary_model.proofs.OnLine.{evenly}
 use Rattle.tributary_model.proofs.Views.{own_column}
 use Rattle.tributary_model.proofs.PutPlaces.{place_of_slot}
-use Rattle.trib_source.specs.Rows.{row_groups, data_bytes, byte_laid, RowsWerePut}
+use Rattle.trib_source.specs.Rows.{groups_in_row, data_bytes, byte_laid, RowsWerePut}
 use Rattle.trib_source.specs.Source.{Source, IsSource, AreLeft, StandsAfter, said_number}
 use Rattle.trib_source.proofs.Counts.{count_low}
 use Rattle.trib_source.proofs.Laid.{bytes_grow}
@@ -236,7 +236,7 @@ stands_filled own turns n more s r left e is stands =
 
 -- and what holds of every source
 pub is_filled : (s : Source) (capacity scratch stored more : ℕ) (r : Progress) (left : List ℕ) → IsSource s capacity scratch stored
-    → s.filled < slots_of s.slots.kind → more ≡ 4 * row_groups (slots_of s.slots.kind) → r ≡ record { number = s.number; asked = s.asked + more }
+    → s.filled < slots_of s.slots.kind → more ≡ 4 * groups_in_row (slots_of s.slots.kind) → r ≡ record { number = s.number; asked = s.asked + more }
     → left ≡ drop (data_bytes (length s.slots.list) s.number s.asked more) s.left
     → IsSource (filled_to s r left) capacity scratch stored
 is_filled s capacity scratch stored more r left h low rows e is =

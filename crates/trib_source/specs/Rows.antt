@@ -5,8 +5,8 @@ use Rattle.gmp_rule.specs.DataRule.{is_data_at, data_count}
 use Rattle.odtu_columns.specs.Put.{slot_place}
 
 -- G.709 clause 19.1: how many groups a row has on a line of so many slots
-abbrev pub row_groups : (line_slots : ℕ) → ℕ
-row_groups line_slots = PAYLOAD_COLUMNS / line_slots
+abbrev pub groups_in_row : (line_slots : ℕ) → ℕ
+groups_in_row line_slots = PAYLOAD_COLUMNS / line_slots
 
 -- How many bytes the data groups have, of m bytes each, among so many more groups behind the first `asked` of a turn in which c groups
 -- are data (G.709 Annex D).
@@ -25,7 +25,7 @@ AreEnough m c asked left = m * c ≤ length left + m * data_count c asked
 -- The first rows of a frame have these bytes, by group, from 0, and slot, in the columns of the slots, and every other byte is as before
 -- (G.709 clause 19.1).
 pub record RowsWerePut (line_slots : ℕ) (slots : List ℕ) (byte : (x i : ℕ) → ℕ) (rows : ℕ) (before now : List ℕ) : Type 0 where
-  pub put : (row cycle i : ℕ) → 1 ≤ row → row ≤ rows → cycle < row_groups line_slots → i < length slots
-      → slice_index now (slot_place line_slots slots row cycle i) ≡ byte (row_groups line_slots * (row - 1) + cycle) i
-  pub kept : (place : ℕ) → ((row cycle i : ℕ) → 1 ≤ row → row ≤ rows → cycle < row_groups line_slots → i < length slots → place ≡ slot_place line_slots slots row cycle i → ⊥)
+  pub put : (row cycle i : ℕ) → 1 ≤ row → row ≤ rows → cycle < groups_in_row line_slots → i < length slots
+      → slice_index now (slot_place line_slots slots row cycle i) ≡ byte (groups_in_row line_slots * (row - 1) + cycle) i
+  pub kept : (place : ℕ) → ((row cycle i : ℕ) → 1 ≤ row → row ≤ rows → cycle < groups_in_row line_slots → i < length slots → place ≡ slot_place line_slots slots row cycle i → ⊥)
       → slice_index now place ≡ slice_index before place

@@ -9,7 +9,7 @@ use Rattle.gmp_rule.specs.DataRule.{data_count}
 use Rattle.tributary_model.specs.Places.{Tributary, tributary_of}
 use Rattle.tributary_model.specs.Carries.{sent, number_before, former_of}
 use Rattle.tributary_model.specs.Puts.{lengths_of, message_put}
-use Rattle.trib_source.specs.Rows.{row_groups}
+use Rattle.trib_source.specs.Rows.{groups_in_row}
 
 -- what is seen of a source: its slots; the number that the message of the last turn says, where there was a turn; by which number the
 -- groups of that turn are data, and how many of them were put; the bytes that are left; the bytes over of the last turn, and its message;
@@ -39,19 +39,19 @@ abbrev pub AreLeft : (m c q : ℕ) → (bytes : List ℕ) → (asked : ℕ) → 
 AreLeft m c q bytes asked left = left ≡ drop (m * (q + data_count c asked)) bytes
 
 -- the groups of so many frames, each of four rows, on a line of so many slots (G.709 clause 19.1)
-abbrev pub groups_in : (line_slots frames : ℕ) → ℕ
-groups_in line_slots frames = ROWS * row_groups line_slots * frames
+abbrev pub groups_in_frames : (line_slots frames : ℕ) → ℕ
+groups_in_frames line_slots frames = ROWS * groups_in_row line_slots * frames
 
 -- what holds of every source, with a ring for so many bytes, room for so many in which rows are laid out, and the number of its groups kept
 pub record IsSource (s : Source) (capacity scratch kept : ℕ) : Type 0 where
   pub said_low : ForSome s.said (λ n. n ≤ GROUPS)
   pub number_low : s.number ≤ GROUPS
   pub filled_low : s.filled ≤ slots_of s.slots.kind
-  pub asked_is : s.asked ≡ groups_in (slots_of s.slots.kind) s.filled
+  pub asked_is : s.asked ≡ groups_in_frames (slots_of s.slots.kind) s.filled
   pub rest_low : s.rest < slots_in s
   pub left_is : length s.left + slots_in s * data_count s.number s.asked ≡ slots_in s * s.number + (slots_in s * said_number s.said + s.rest)
   pub capacity_is : capacity ≡ slots_in s * (2 * GROUPS + 1)
-  pub scratch_is : scratch ≡ 2 * (slots_in s * row_groups (slots_of s.slots.kind))
+  pub scratch_is : scratch ≡ 2 * (slots_in s * groups_in_row (slots_of s.slots.kind))
   pub kept_is : kept ≡ s.number
 
 -- The source is one of this tributary, whatever its port is. These are the bytes of its turns since it was new or restarted, and so many

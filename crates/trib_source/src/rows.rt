@@ -3,8 +3,8 @@ ghost use Rattle.std.specs.Prelude.{◌≡◌, ℕ, ◌+◌, ◌*◌, ◌<◌, �
 ghost use Rattle.otn_base.specs.declared.limits.TheConstants.{GROUPS, ROWS};
 ghost use Rattle.otn_base.specs.LineSlots.{slots_of};
 ghost use Rattle.gmp_rule.specs.DataRule.{data_count};
-ghost use Rattle.trib_source.specs.Rows.{row_groups, data_bytes, byte_laid, AreEnough, RowsWerePut};
-ghost use Rattle.trib_source.specs.Source.{groups_in};
+ghost use Rattle.trib_source.specs.Rows.{groups_in_row, data_bytes, byte_laid, AreEnough, RowsWerePut};
+ghost use Rattle.trib_source.specs.Source.{groups_in_frames};
 
 use crate::lay::lay_groups;
 use circular_buffer::HeapCircularBuffer;
@@ -38,12 +38,12 @@ pub(crate) fn put_rows(
     requires number { number ≡ runner.old.number }
     requires low { number ≤ GROUPS }
     requires asked { asked ≡ runner.old.asked }
-    requires high { asked + ROWS * row_groups (slots_of slots.now.kind) ≤ GROUPS }
-    requires scratch { length scratch.old ≡ 2 * (length slots.now.list * row_groups (slots_of slots.now.kind)) }
+    requires high { asked + ROWS * groups_in_row (slots_of slots.now.kind) ≤ GROUPS }
+    requires scratch { length scratch.old ≡ 2 * (length slots.now.list * groups_in_row (slots_of slots.now.kind)) }
     requires enough { AreEnough (length slots.now.list) number runner.old.asked ring.old.items }
     ensures rows { RowsWerePut (slots_of slots.now.kind) slots.now.list (byte_laid (length slots.now.list) number runner.old.asked ring.old.items) ROWS frame.old frame.new }
-    ensures ring { ring.new ≡ record ring.old { items = drop (data_bytes (length slots.now.list) number runner.old.asked (ROWS * row_groups (slots_of slots.now.kind))) ring.old.items } }
-    ensures runner { runner.new ≡ record runner.old { asked = runner.old.asked + ROWS * row_groups (slots_of slots.now.kind) } }
+    ensures ring { ring.new ≡ record ring.old { items = drop (data_bytes (length slots.now.list) number runner.old.asked (ROWS * groups_in_row (slots_of slots.now.kind))) ring.old.items } }
+    ensures runner { runner.new ≡ record runner.old { asked = runner.old.asked + ROWS * groups_in_row (slots_of slots.now.kind) } }
 {
     let m = slots.count() as usize;
     let cycles = cycles_in_row(slots.kind());
@@ -69,7 +69,7 @@ fn goes_by_runs(number: u32, m: usize) -> bool {
 
 /// How many groups a row has: 476, or 119.
 pub(crate) fn cycles_in_row(kind: LineKind) -> u32
-    ensures { result ≡ row_groups (slots_of kind) }
+    ensures { result ≡ groups_in_row (slots_of kind) }
 {
     match kind {
         LineKind::Otu2 => (PAYLOAD_COLUMNS / OTU2_SLOTS) as u32,
@@ -80,8 +80,8 @@ pub(crate) fn cycles_in_row(kind: LineKind) -> u32
 /// How many groups stand before frame `n`, from 0, of a multiframe.
 pub(crate) fn groups_before(kind: LineKind, n: u8) -> u32
     requires { n < slots_of kind }
-    ensures groups { result ≡ groups_in (slots_of kind) n }
-    ensures high { result + ROWS * row_groups (slots_of kind) ≤ GROUPS }
+    ensures groups { result ≡ groups_in_frames (slots_of kind) n }
+    ensures high { result + ROWS * groups_in_row (slots_of kind) ≤ GROUPS }
 {
     ALL * cycles_in_row(kind) * n as u32
 }

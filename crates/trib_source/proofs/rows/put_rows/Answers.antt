@@ -5,19 +5,19 @@ use Rattle.circular_buffer.specs.Buffer.{Buffer}
 use Rattle.gmp_rule.specs.DataRule.{Progress}
 use Rattle.otn_base.specs.LineSlots.{slots_of}
 use Rattle.tributary_model.proofs.OnLine.{evenly}
-use Rattle.trib_source.specs.Rows.{row_groups, data_bytes, byte_laid, AreEnough, RowsWerePut}
+use Rattle.trib_source.specs.Rows.{groups_in_row, data_bytes, byte_laid, AreEnough, RowsWerePut}
 use Rattle.trib_source.proofs.RowsPut.{RowLaid, enough_left, row_more, row_left}
 use Rattle.trib_source.proofs.rows.put_rows.Goals as goal
 
 pub take_fresh-count-requires-clause-enough : goal.take_fresh-count-requires-clause-enough
 take_fresh-count-requires-clause-enough c =
     let m = length c.args.slots.now.list in
-    let w = row_groups (slots_of c.args.slots.now.kind) in
+    let w = groups_in_row (slots_of c.args.slots.now.kind) in
     let n = c.args.number in
     let a = c.args.runner.now.asked in
     let done = c.loop-done.done in
     let left = c.loop-done.ring.items in
-    let cycles : c.cycles_in_row-cycles.result ≡ w = c.cycles_in_row-cycles.ensures ∙ ap (λ k. row_groups (slots_of k)) c.kind.ensures.kind in
+    let cycles : c.cycles_in_row-cycles.result ≡ w = c.cycles_in_row-cycles.ensures ∙ ap (λ k. groups_in_row (slots_of k)) c.kind.ensures.kind in
     let at : c.args.asked + c.cycles_in_row-cycles.result * done ≡ a + w * done = ap (λ k. k + c.cycles_in_row-cycles.result * done) c.requires.asked ∙ ap (λ k. a + k * done) cycles in
     let high = c.requires.high in
     let same = c.requires.asked in
@@ -32,7 +32,7 @@ loop-done-preserved c =
     let line = slots_of c.args.slots.now.kind in
     let slots = c.args.slots.now.list in
     let m = length slots in
-    let w = row_groups line in
+    let w = groups_in_row line in
     let n = c.args.number in
     let a = c.args.runner.now.asked in
     let done = c.loop-done.done in
@@ -43,7 +43,7 @@ loop-done-preserved c =
     let count = c.take_fresh-count.result in
     let new = c.take_fresh-count.new.into in
     let inv = c.loop-done.invariant in
-    let cycles : c.cycles_in_row-cycles.result ≡ w = c.cycles_in_row-cycles.ensures ∙ ap (λ k. row_groups (slots_of k)) c.kind.ensures.kind in
+    let cycles : c.cycles_in_row-cycles.result ≡ w = c.cycles_in_row-cycles.ensures ∙ ap (λ k. groups_in_row (slots_of k)) c.kind.ensures.kind in
     let at : c.args.asked + c.cycles_in_row-cycles.result * done ≡ a + w * done = ap (λ k. k + c.cycles_in_row-cycles.result * done) c.requires.asked ∙ ap (λ k. a + k * done) cycles in
     let many : c.count-m.result ≡ m = c.count-m.ensures.count in
     let count_is : count ≡ data_bytes m n (a + w * done) w =

@@ -4,7 +4,7 @@ use Rattle.circular_buffer.specs.Buffer.{Buffer}
 use Rattle.otn_base.specs.LineSlots.{slots_of}
 use Rattle.tributary_model.specs.Places.{tributary_of}
 use Rattle.tributary_model.specs.Puts.{IsSourcePlace}
-use Rattle.trib_source.specs.Rows.{row_groups, data_bytes, byte_laid, RowsWerePut}
+use Rattle.trib_source.specs.Rows.{groups_in_row, data_bytes, byte_laid, RowsWerePut}
 use Rattle.trib_source.specs.Source.{Source, IsSource, StandsAfter}
 use Rattle.trib_source.proofs.Filled.{FramePut, own_frame, frame_kept, stands_filled, is_filled}
 use Rattle.trib_source.proofs.source.TribSource.fill.Goals as goal
@@ -14,7 +14,7 @@ invariant_of-self c =
     let i = c.self.inside in
     let s : Source = record { slots = i.slots; said = i.said; number = i.runner.number; asked = i.runner.asked; left = i.ring.items; rest = i.rest; message = i.message; filled = i.filled } in
     let h : IsSource s i.ring.capacity (vec_len i.scratch) i.number = c.self.invariant in
-    let more = 4 * row_groups (slots_of i.slots.kind) in
+    let more = 4 * groups_in_row (slots_of i.slots.kind) in
     let low : i.filled < slots_of i.slots.kind =
     subst (λ (x : Source). x.filled < slots_of x.slots.kind) (sym c.self.view_is) (subst (λ k. k < slots_of c.args.self.now.slots.kind) c.requires.filled c.requires.number) in
     let left : c.put_rows.new.ring.items ≡ drop (data_bytes (length i.slots.list) i.runner.number i.runner.asked more) i.ring.items =
@@ -55,7 +55,7 @@ returns-clause-stands c = λ own turns stands.
     let i = c.self.inside in
     let s : Source = record { slots = i.slots; said = i.said; number = i.runner.number; asked = i.runner.asked; left = i.ring.items; rest = i.rest; message = i.message; filled = i.filled } in
     let h : IsSource s i.ring.capacity (vec_len i.scratch) i.number = c.self.invariant in
-    let more = 4 * row_groups (slots_of i.slots.kind) in
+    let more = 4 * groups_in_row (slots_of i.slots.kind) in
     let left : c.put_rows.new.ring.items ≡ drop (data_bytes (length i.slots.list) i.runner.number i.runner.asked more) i.ring.items =
     ap (λ (b : Buffer _). b.items) c.put_rows.ensures.ring ∙ ap (λ k. drop (data_bytes (length i.slots.list) k i.runner.asked more) i.ring.items) h.kept_is in
     stands_filled own turns c.args.n more s c.put_rows.new.runner c.put_rows.new.ring.items c.put_rows.ensures.runner left
