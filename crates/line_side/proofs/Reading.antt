@@ -1,5 +1,5 @@
 -- What a read of a frame says.
-use Rattle.std.proofs.Common.{◌≡◌, ◌≢◌, ◌<◌, ℕ, Bool, false, List, [], length, take, arith, refl, sym, ap, ◌∙◌}
+use Rattle.std.proofs.Common.{◌≡◌, ◌≢◌, ◌<◌, ℕ, false, List, [], length, take, arith, refl, sym, ap, ◌∙◌}
 use Rattle.std.proofs.lemmas.List.{length-take-le}
 use Rattle.otn_ports.specs.Views.{State, Empty, Live, Dead, InView}
 use Rattle.otn_ports.specs.Reads.{Reads, HasEnded, state_after}
@@ -12,7 +12,6 @@ use Rattle.otn_ports.specs.InPlace.{in_view}
 use Rattle.otn_ports.specs.declared.source.Source.{Ghosts}
 use Rattle.otn_ports.specs.declared.in_place.InPlaceOf.{InPlaceOf}
 use Rattle.otn_ports.specs.declared.in_place.InPlaceOf.TheVariants as place
-use Rattle.line_side.specs.LineForm.{through_mask}
 use Rattle.line_side.specs.Reader.{FrameRead}
 use Rattle.line_side.proofs.Giving.{dead_not_live, empty_not_live}
 
@@ -95,28 +94,6 @@ frame_dead reading was is into dead h = record {
   short = λ _. h.short (λ full. (h.whole full).2 dead);
   end = λ k e. absurd (cc);
   lost = λ _. dead;
-}
-
--- a whole frame that was read as it stands in the file, through the mask
-pub frame_masked : (s : Bool) (was is : InView) (raw frame : List ℕ) → frame ≡ through_mask s raw → FrameRead false Full was raw is → FrameRead s Full was frame is
-frame_masked s was is raw frame e h = record {
-  came = h.came;
-  gave = h.gave;
-  whole = λ f. let w = h.whole f in (e ∙ ap (through_mask s) w.0, w.1);
-  short = λ other. absurd (other refl);
-  end = λ k e. absurd (cc);
-  lost = h.lost;
-}
-
--- no whole frame came, so none goes through the mask
-pub frame_short : (s : Bool) (reading : Reading) (was is : InView) (raw : List ℕ) → reading ≢ Full → FrameRead false reading was raw is → FrameRead s reading was raw is
-frame_short s reading was is raw other h = record {
-  came = h.came;
-  gave = h.gave;
-  whole = λ f. absurd (other f);
-  short = h.short;
-  end = h.end;
-  lost = h.lost;
 }
 
 -- a read is lost only where the place dies
