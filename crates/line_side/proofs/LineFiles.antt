@@ -1,18 +1,22 @@
 -- The file of a line: it is the only one for what is put into its frames, and it is read as it was written.
 use Rattle.std.proofs.Common.{◌≡◌, ◌<◌, ◌+◌, ◌*◌, ◌/◌, ◌%◌, ℕ, true, false, List, [], ◌∷◌, ◌++◌, length, drop, get_or, arith, refl, sym, ap, ◌∙◌, subst}
-use Rattle.std.specs.Prelude.{bit_xor, if◌then◌else◌}
+use Rattle.std.proofs.Common.{◌≤◌, Some, suc, zero, take, append-nil, append_assoc}
+use Rattle.std.specs.Prelude.{bit_xor, if◌then◌else◌, slice_get, reverse, option_map}
+use Rattle.std.proofs.lemmas.List.{reverse-append}
+use Rattle.std.proofs.Math.Seq.{take-suc}
+use Rattle.frame_overhead.specs.Parity.{parity_of}
 use Rattle.std.specs.Int.Bits.{xor_assoc, xor_self, xor_zero_r}
 use Rattle.std.proofs.lemmas.List.{ext_get_or, get_or-drop, get_or-take, length-take}
 use Rattle.std.proofs.Common.{length-drop}
 use Rattle.std.proofs.lemmas.List.FromFn.{get_or-map-range_with_len}
 use Rattle.frame_geometry.specs.Places.{place_of}
 use Rattle.frame_overhead.specs.Runs.{IsPlace}
-use Rattle.frame_overhead.specs.TwoBefore.{parity_due, or_zero}
+use Rattle.frame_overhead.specs.TwoBefore.{second, parity_due, or_zero}
 use Rattle.otu_overhead.specs.Mask.{mask, mask_byte}
 use Rattle.line_side.specs.LineForm.{masked_from}
 use Rattle.line_side.specs.LineFile.{frame_at}
 use Rattle.line_side.specs.LineOutput.{FramePut, IsLineFrame, AreLineFrames}
-use Rattle.line_side.specs.Laws.{OneLineFile, MaskedTwice, FramesThroughMask}
+use Rattle.line_side.specs.Laws.{OneLineFile, FrameByFrame, ParityTwoOn, MaskedTwice, FramesThroughMask}
 use Rattle.line_side.proofs.Masks.{frame_through, index_masked, index_mask}
 
 -- a frame is fixed by what is put into it
@@ -69,3 +73,41 @@ through true file f place h k =
     ∙ ap (λ q. bit_xor (get_or (frame_at file f) place 0) (mask_byte q)) p
     ∙ ap (λ b. bit_xor b (mask_byte place)) (file_byte file f place h)
     ∙ ap (bit_xor (get_or file (16320 * f + place) 0)) (sym (index_mask place h))
+
+-- frame i of a line
+frame_from : (n : ℕ) (before : List (List ℕ)) (puts : List FramePut) (frames : List (List ℕ)) (i : ℕ) (put : FramePut) (frame : List ℕ) → AreLineFrames n before puts frames
+    → slice_get puts i ≡ Some put → slice_get frames i ≡ Some frame → IsLineFrame n (or_zero (parity_due 4080 (before ++ take i frames))) put frame
+frame_from n before [] frames i put frame h e f = absurd (cc)
+frame_from n before (p ∷ puts) [] i put frame h e f = absurd h
+frame_from n before (p ∷ puts) (x ∷ frames) zero put frame h e f =
+    let P : FramePut → Type 0 = λ p. IsLineFrame n (or_zero (parity_due 4080 before)) p x in
+    let Q : List ℕ → Type 0 = λ x. IsLineFrame n (or_zero (parity_due 4080 before)) put x in
+    let R : List (List ℕ) → Type 0 = λ b. IsLineFrame n (or_zero (parity_due 4080 b)) put frame in
+    subst R (sym (append-nil before)) (subst Q (let s : x ≡ frame = cc in s) (subst P (let s : p ≡ put = cc in s) h.0))
+frame_from n before (p ∷ puts) (x ∷ frames) (suc i) put frame h e f =
+    let R : List (List ℕ) → Type 0 = λ b. IsLineFrame n (or_zero (parity_due 4080 b)) put frame in
+    subst R (append_assoc before (x ∷ []) (take i frames)) (frame_from n (before ++ x ∷ []) puts frames i put frame h.1 e f)
+
+pub frame_of : FrameByFrame
+frame_of n puts frames i put frame h e f = frame_from n [] puts frames i put frame h e f
+
+get_or_of : (frames : List (List ℕ)) (i : ℕ) (frame : List ℕ) → slice_get frames i ≡ Some frame → get_or frames i [] ≡ frame
+get_or_of [] i frame e = absurd (cc)
+get_or_of (x ∷ frames) zero frame e = cc
+get_or_of (x ∷ frames) (suc i) frame e = get_or_of frames i frame e
+
+-- the last but one of frames
+last_but_one : (frames : List (List ℕ)) (i : ℕ) (frame : List ℕ) → slice_get frames i ≡ Some frame → i + 2 ≤ length frames → second (reverse (take (i + 2) frames)) ≡ Some frame
+last_but_one frames i frame e h =
+    let next = get_or frames (suc i) [] in
+    let here : get_or frames i [] ≡ frame = get_or_of frames i frame e in
+    let parts : take (i + 2) frames ≡ (take i frames ++ frame ∷ []) ++ next ∷ []
+    = ap (λ k. take k frames) (let z : i + 2 ≡ suc (suc i) = omega arith in z)
+    ∙ take-suc frames (suc i) [] (omega arith)
+    ∙ ap (λ l. l ++ next ∷ []) (take-suc frames i [] (omega arith) ∙ ap (λ f. take i frames ++ f ∷ []) here) in
+    ap (λ l. second (reverse l)) parts
+    ∙ ap second (reverse-append (take i frames ++ frame ∷ []) (next ∷ []))
+    ∙ ap (λ l. second (next ∷ l)) (reverse-append (take i frames) (frame ∷ []))
+
+pub two_on : ParityTwoOn
+two_on frames i frame e h = ap (option_map (parity_of 4080)) (last_but_one frames i frame e h)

@@ -1,14 +1,16 @@
 -- What is proved of a line's bytes.
-use Rattle.std.specs.Prelude.{◌≡◌, ◌<◌, ◌+◌, ◌*◌, ℕ, Bool, List, length, slice_index, bit_xor}
+use Rattle.std.specs.Prelude.{◌≡◌, ◌<◌, ◌≤◌, ◌+◌, ◌*◌, ℕ, Bool, List, [], length, take, slice_get, slice_index, bit_xor, Some}
 use Rattle.otn_ports.specs.Given.{IsGiven}
 use Rattle.otn_ports.specs.Views.{InView}
 use Rattle.multiframe.specs.LineTurns.{wanted_so_far, took}
-use Rattle.otn_base.specs.declared.limits.TheConstants.{LINE_FRAME_BYTES}
+use Rattle.otn_base.specs.declared.limits.TheConstants.{LINE_COLUMNS, LINE_FRAME_BYTES}
 use Rattle.line_side.specs.LineForm.{LineForm, size_of, through_mask}
 use Rattle.otu_overhead.specs.Mask.{mask}
 use Rattle.line_side.specs.LineFile.{frame_at, mfas_of}
 use Rattle.line_side.specs.LineStands.{LineView, LineStands}
-use Rattle.line_side.specs.LineOutput.{FramePut, AreLineFrames}
+use Rattle.frame_overhead.specs.Parity.{parity_of}
+use Rattle.frame_overhead.specs.TwoBefore.{parity_due, or_zero}
+use Rattle.line_side.specs.LineOutput.{FramePut, IsLineFrame, AreLineFrames}
 use Rattle.line_side.specs.MayBe.{MayBe}
 
 -- What a place that tells its bytes gave in the whole run is, through the mask, among what the line may have.
@@ -25,6 +27,16 @@ TakesTheWanted = (form : LineForm) (first now : InView) (taken given : List ℕ)
 -- The frames of a line in which these were put are the only ones.
 abbrev pub OneLineFile : Type 0
 OneLineFile = (n : ℕ) (before : List (List ℕ)) (puts : List FramePut) (some others : List (List ℕ)) → AreLineFrames n before puts some → AreLineFrames n before puts others → some ≡ others
+
+-- Frame i of a line, from 0: the i-th put was put into it, and it carries the parity of the frame two before it.
+abbrev pub FrameByFrame : Type 0
+FrameByFrame = (n : ℕ) (puts : List FramePut) (frames : List (List ℕ)) (i : ℕ) (put : FramePut) (frame : List ℕ) → AreLineFrames n [] puts frames
+    → slice_get puts i ≡ Some put → slice_get frames i ≡ Some frame → IsLineFrame n (or_zero (parity_due LINE_COLUMNS (take i frames))) put frame
+
+-- G.709 clauses 15.7.2.1 and 15.8.2.1: the parity of frame i is due in frame i + 2.
+abbrev pub ParityTwoOn : Type 0
+ParityTwoOn = (frames : List (List ℕ)) (i : ℕ) (frame : List ℕ) → slice_get frames i ≡ Some frame → i + 2 ≤ length frames
+    → parity_due LINE_COLUMNS (take (i + 2) frames) ≡ Some (parity_of LINE_COLUMNS frame)
 
 -- What went through the mask comes back through it.
 abbrev pub MaskedTwice : Type 0

@@ -1,5 +1,5 @@
 // The laws about a line's bytes, each the contract of a function.
-ghost use Rattle.line_side.specs.Laws.{FramesThroughMask, GivenIsAmong, MaskedTwice, OneLineFile, TakesTheWanted};
+ghost use Rattle.line_side.specs.Laws.{FrameByFrame, FramesThroughMask, GivenIsAmong, MaskedTwice, OneLineFile, ParityTwoOn, TakesTheWanted};
 
 /// What a place that tells its bytes gave in the whole run is among what the line may have.
 pub fn given_is_among()
@@ -14,6 +14,16 @@ pub fn takes_the_wanted()
 /// A line output has one file for what is put into its frames.
 pub fn one_line_file()
     ensures { OneLineFile }
+{}
+
+/// Each frame of a line output's file is fixed by what was put into it and by the frame two before it.
+pub fn frame_by_frame()
+    ensures { FrameByFrame }
+{}
+
+/// The parity of a frame stands two frames later.
+pub fn parity_two_on()
+    ensures { ParityTwoOn }
 {}
 
 /// A frame of a scrambled line is the file's frame through the mask of G.709 clause 11.2, and one of a plain line as it stands.

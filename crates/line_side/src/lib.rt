@@ -1,5 +1,5 @@
-//! The sides of a line. `LineIn` reads one: it finds the multiframes of its frames, one turn each. `LineOut` writes one,
-//! frame by frame.
+//! The sides of a line of either kind, plain or scrambled. `LineIn` reads one: it finds the multiframes of its frames, one turn
+//! each. `LineOut` writes one, frame by frame.
 #![tactic(auto)]
 
 mod checks;
@@ -14,7 +14,8 @@ mod tried;
 
 pub use counts::LineCounts;
 pub use laws::{
-    frames_through_mask, given_is_among, masked_twice, one_line_file, takes_the_wanted,
+    frame_by_frame, frames_through_mask, given_is_among, masked_twice, one_line_file,
+    parity_two_on, takes_the_wanted,
 };
 pub use line_in::LineIn;
 pub use line_out::LineOut;

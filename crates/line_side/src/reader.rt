@@ -1,5 +1,5 @@
 // The frames of a line, one after the other, with one frame looked ahead at.
-ghost use Rattle.std.specs.Prelude.{◌≡◌, ◌≢◌, ◌%◌, [], true, false, IfOk, IfSome, IsTrue, ◌↔◌, None};
+ghost use Rattle.std.specs.Prelude.{◌≡◌, ◌%◌, [], true, false, IfOk, IfSome, IsTrue, ◌↔◌, None};
 ghost use Rattle.otn_base.specs.LineSlots.{slots_of};
 ghost use Rattle.otn_ports.specs.InPlace.{in_view};
 
