@@ -6,6 +6,8 @@ use Rattle.toml.specs.Data.{Data, Items, no_items, item, get, get_member, Member
 use Rattle.plan_file.specs.declared.ends.Form.{Form}
 use Rattle.plan_file.specs.declared.ends.Form.TheVariants.{Client, Signal, Line}
 use Rattle.plan_file.specs.declared.ends.Side.TheVariants.{From, To}
+use Rattle.plan_file.specs.declared.kinds.value.Wanted.{Wanted}
+use Rattle.plan_file.specs.declared.kinds.value.Wanted.TheVariants as wanted
 use Rattle.plan_file.specs.Ends.{is_table, TableEnd, end_at}
 use Rattle.plan_file.specs.Keys.{is_this_number}
 
@@ -45,6 +47,17 @@ is_kind = is_either (codes "odu0") (codes "flex")
 
 abbrev pub is_signal : Data → Bool
 is_signal = is_either (codes "oci") (codes "lck")
+
+-- what a key asks for
+abbrev pub is_wanted : Wanted → Data → Bool
+is_wanted wanted.Number = is_number
+is_wanted wanted.Numbers = is_number_list
+is_wanted wanted.Truth = is_truth
+is_wanted wanted.Text = is_text
+is_wanted wanted.Tables = is_table_list
+is_wanted wanted.Version = is_version
+is_wanted wanted.Kind = is_kind
+is_wanted wanted.Signal = is_signal
 
 -- what the value has at the key, if anything, passes the test
 abbrev pub each_at : List ℕ → (Data → Bool) → Data → Bool

@@ -5,7 +5,7 @@ ghost use Rattle.plan_file.specs.Kinds.{has_kinds, has_plain_kinds, has_other_ki
 
 use crate::ends::Side;
 use crate::kinds::end::has_end;
-use crate::kinds::value::{has_either, has_number, has_number_list, has_text, has_truth};
+use crate::kinds::value::{Wanted, has};
 use toml::Value;
 
 /// Whether each value of the connection is of its key's kind.
@@ -18,8 +18,8 @@ pub(crate) fn has_kinds(connection: &Value) -> bool
 fn has_plain_kinds(connection: &Value) -> bool
     ensures { result ≡ has_plain_kinds (view connection.now) }
 {
-    has_text(connection, "name")
-        && has_either(connection, "kind", "odu0", "flex")
+    has(connection, "name", Wanted::Text)
+        && has(connection, "kind", Wanted::Kind)
         && has_end(connection, Side::From)
         && has_end(connection, Side::To)
 }
@@ -27,10 +27,10 @@ fn has_plain_kinds(connection: &Value) -> bool
 fn has_other_kinds(connection: &Value) -> bool
     ensures { result ≡ has_other_kinds (view connection.now) }
 {
-    has_number_list(connection, "pace")
-        && has_truth(connection, "fcs")
-        && has_text(connection, "trace")
-        && has_number(connection, "start")
-        && has_number(connection, "stop")
-        && has_truth(connection, "retire")
+    has(connection, "pace", Wanted::Numbers)
+        && has(connection, "fcs", Wanted::Truth)
+        && has(connection, "trace", Wanted::Text)
+        && has(connection, "start", Wanted::Number)
+        && has(connection, "stop", Wanted::Number)
+        && has(connection, "retire", Wanted::Truth)
 }

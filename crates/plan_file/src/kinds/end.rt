@@ -7,7 +7,7 @@ ghost use Rattle.plan_file.specs.Kinds.{has_form, is_end, is_line_end};
 ghost use Rattle.plan_file.specs.Seen.{table_end_in};
 
 use crate::ends::{Form, Side, TableEnd, end_at, is_table};
-use crate::kinds::value::{has_either, has_number, has_number_list};
+use crate::kinds::value::{Wanted, has};
 use toml::Value;
 
 /// Whether the connection's end at the side, if it has one, is of one of the forms.
@@ -30,8 +30,8 @@ fn has_form(form: Form, end: &Value) -> bool
     ensures { result ≡ has_form form (view end.now) }
 {
     match form {
-        Form::Client => has_number(end, "client"),
-        Form::Signal => has_either(end, "signal", "oci", "lck"),
+        Form::Client => has(end, "client", Wanted::Number),
+        Form::Signal => has(end, "signal", Wanted::Signal),
         Form::Line => is_line_end(end),
     }
 }
@@ -39,5 +39,7 @@ fn has_form(form: Form, end: &Value) -> bool
 fn is_line_end(end: &Value) -> bool
     ensures { result ≡ is_line_end (view end.now) }
 {
-    has_number(end, "line") && has_number(end, "port") && has_number_list(end, "slots")
+    has(end, "line", Wanted::Number)
+        && has(end, "port", Wanted::Number)
+        && has(end, "slots", Wanted::Numbers)
 }

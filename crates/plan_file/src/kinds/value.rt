@@ -1,11 +1,72 @@
-// Whether a value is of a kind.
+// Whether a value is what its key asks for.
 ghost use Rattle.std.specs.Prelude.{◌≡◌};
-ghost use Rattle.toml.specs.View.{array_view, items_view, view};
+ghost use Rattle.toml.specs.View.{items_view, table_view, view};
 ghost use Rattle.plan_file.specs.Ends.{is_table};
-ghost use Rattle.plan_file.specs.Kinds.{is_number, is_number_list, is_table_list, is_either, is_version, each_item, each_at, is_text, is_truth};
+ghost use Rattle.plan_file.specs.Kinds.{is_number, is_number_list, is_table_list, is_either, is_version, is_wanted, each_item, each_at, top_each_at};
 
-use crate::keys::is_this_number;
-use toml::Value;
+use crate::keys::{is_this_number, top_value};
+use toml::{Table, Value};
+
+/// What a key asks for.
+#[derive(Clone, Copy)]
+pub(crate) enum Wanted {
+    Number,
+    Numbers,
+    Truth,
+    Text,
+    /// A list of tables.
+    Tables,
+    /// The number of a version.
+    Version,
+    /// `odu0` or `flex`.
+    Kind,
+    /// `oci` or `lck`.
+    Signal,
+}
+
+/// Whether what the value has at the key, if anything, is what is wanted.
+pub(crate) fn has(value: &Value, key: &str, wanted: Wanted) -> bool
+    ensures { result ≡ each_at key.now (is_wanted wanted) (view value.now) }
+{
+    match value.get(key) {
+        Some(found) => is_wanted(found, wanted),
+        None => true,
+    }
+}
+
+/// Whether what the top has at the key, if anything, is what is wanted.
+pub(crate) fn top_has(top: &Table, key: &str, wanted: Wanted) -> bool
+    ensures { result ≡ top_each_at key.now (is_wanted wanted) (table_view top.now) }
+{
+    match top_value(top, key) {
+        Some(found) => is_wanted(found, wanted),
+        None => true,
+    }
+}
+
+fn is_wanted(value: &Value, wanted: Wanted) -> bool
+    ensures { result ≡ is_wanted wanted (view value.now) }
+{
+    match wanted {
+        Wanted::Number => value.is_integer(),
+        Wanted::Numbers => is_number_list(value),
+        Wanted::Truth => value.is_bool(),
+        Wanted::Text => value.is_str(),
+        Wanted::Tables => is_table_list(value),
+        Wanted::Version => is_version(value),
+        Wanted::Kind => is_either(value, "odu0", "flex"),
+        Wanted::Signal => is_either(value, "oci", "lck"),
+    }
+}
+
+fn is_number_list(value: &Value) -> bool
+    ensures { result ≡ is_number_list (view value.now) }
+{
+    match value.as_array() {
+        Some(values) => all_numbers(values.as_slice()),
+        None => false,
+    }
+}
 
 fn all_numbers(values: &[Value]) -> bool
     ensures { result ≡ each_item is_number (items_view values.now) }
@@ -16,6 +77,15 @@ fn all_numbers(values: &[Value]) -> bool
         }
     }
     true
+}
+
+fn is_table_list(value: &Value) -> bool
+    ensures { result ≡ is_table_list (view value.now) }
+{
+    match value.as_array() {
+        Some(values) => all_tables(values.as_slice()),
+        None => false,
+    }
 }
 
 fn all_tables(values: &[Value]) -> bool
@@ -29,89 +99,18 @@ fn all_tables(values: &[Value]) -> bool
     true
 }
 
-/// Whether the value is a list of numbers.
-pub(crate) fn is_number_list(value: &Value) -> bool
-    ensures { result ≡ is_number_list (view value.now) }
-{
-    match value.as_array() {
-        Some(values) => all_numbers(values.as_slice()),
-        None => false,
-    }
-}
-
-/// Whether the value is a list of tables.
-pub(crate) fn is_table_list(value: &Value) -> bool
-    ensures { result ≡ is_table_list (view value.now) }
-{
-    match value.as_array() {
-        Some(values) => all_tables(values.as_slice()),
-        None => false,
-    }
-}
-
-/// Whether the value is one of two texts.
-pub(crate) fn is_either(value: &Value, one: &str, other: &str) -> bool
-    ensures { result ≡ is_either one.now other.now (view value.now) }
-{
-    match value.as_str() {
-        Some(text) => text == one || text == other,
-        None => false,
-    }
-}
-
-/// Whether the value is the number of a version.
-pub(crate) fn is_version(value: &Value) -> bool
+fn is_version(value: &Value) -> bool
     ensures { result ≡ is_version (view value.now) }
 {
     is_this_number(value, 1) || is_this_number(value, 2)
 }
 
-/// Whether what the value has at the key, if anything, is a number.
-pub(crate) fn has_number(value: &Value, key: &str) -> bool
-    ensures { result ≡ each_at key.now is_number (view value.now) }
+// Whether the value is one of two texts.
+fn is_either(value: &Value, one: &str, other: &str) -> bool
+    ensures { result ≡ is_either one.now other.now (view value.now) }
 {
-    match value.get(key) {
-        Some(found) => found.is_integer(),
-        None => true,
-    }
-}
-
-/// Whether what the value has at the key, if anything, is a list of numbers.
-pub(crate) fn has_number_list(value: &Value, key: &str) -> bool
-    ensures { result ≡ each_at key.now is_number_list (view value.now) }
-{
-    match value.get(key) {
-        Some(found) => is_number_list(found),
-        None => true,
-    }
-}
-
-/// Whether what the value has at the key, if anything, is a text.
-pub(crate) fn has_text(value: &Value, key: &str) -> bool
-    ensures { result ≡ each_at key.now is_text (view value.now) }
-{
-    match value.get(key) {
-        Some(found) => found.is_str(),
-        None => true,
-    }
-}
-
-/// Whether what the value has at the key, if anything, is a truth value.
-pub(crate) fn has_truth(value: &Value, key: &str) -> bool
-    ensures { result ≡ each_at key.now is_truth (view value.now) }
-{
-    match value.get(key) {
-        Some(found) => found.is_bool(),
-        None => true,
-    }
-}
-
-/// Whether what the value has at the key, if anything, is one of two texts.
-pub(crate) fn has_either(value: &Value, key: &str, one: &str, other: &str) -> bool
-    ensures { result ≡ each_at key.now (is_either one.now other.now) (view value.now) }
-{
-    match value.get(key) {
-        Some(found) => is_either(found, one, other),
-        None => true,
+    match value.as_str() {
+        Some(text) => text == one || text == other,
+        None => false,
     }
 }
