@@ -1,5 +1,5 @@
 -- Places where nothing is broken, and the first place of two lists.
-use Rattle.std.proofs.Common.{◌≡◌, ℕ, ◌+◌, Bool, true, false, cond, List, [], ◌∷◌, ◌++◌, length, Some, None, refl}
+use Rattle.std.proofs.Common.{◌≡◌, ℕ, ◌+◌, Bool, true, false, List, [], ◌∷◌, ◌++◌, Some, None, refl}
 use Rattle.std.specs.List.{list_any}
 use Rattle.plan_file.specs.Places.{first, top_place, places_from, places_after}
 

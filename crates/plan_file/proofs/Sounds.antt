@@ -1,5 +1,5 @@
 -- An outline without a fault is one that a plan can have, and comes back from its plan.
-use Rattle.std.proofs.Common.{◌≡◌, ℕ, ◌+◌, ◌≤◌, ℤ, pos, negsuc, Bool, true, false, not, ◌&&◌, ◌||◌, cond, List, [], ◌∷◌, ◌++◌, length, map, Option, Some, None, option_map, slice_get, refl, ap, sym, ◌∙◌, arith, zero, suc}
+use Rattle.std.proofs.Common.{◌≡◌, ℕ, ◌+◌, ◌≤◌, ℤ, pos, negsuc, Bool, true, false, ◌&&◌, ◌||◌, cond, List, [], ◌∷◌, ◌++◌, length, map, Option, Some, None, option_map, slice_get, refl, ap, sym, ◌∙◌, arith, zero, suc}
 use Rattle.std.proofs.lemmas.Bool.{and_parts, not-false}
 use Rattle.std.proofs.lemmas.Bool.Decides.{nat_tests}
 use Rattle.std.proofs.lemmas.Int.{ints}
@@ -29,7 +29,7 @@ use Rattle.plan_file.specs.declared.ends.Form.TheVariants.{Client, Line}
 use Rattle.plan_file.specs.declared.ends.Side.TheVariants.{To}
 use Rattle.plan_file.specs.Ends.{has, form_of}
 use Rattle.plan_file.specs.Places.{broken_or, first_broken, places, places_from, later_places, top_place}
-use Rattle.plan_file.specs.Rules.{is_within, is_name, is_sapi, rises, is_line_list, breaks_lines, is_placed, is_slot_list, is_same_kind, has_slots, has_equal_counts, suits, least_pace, most_pace, is_span, can_retire, breaks_name, breaks_place, breaks_slots, breaks_pace, breaks_span}
+use Rattle.plan_file.specs.Rules.{is_within, is_name, is_sapi, rises, is_line_list, is_placed, is_slot_list, is_same_kind, has_slots, has_equal_counts, suits, least_pace, most_pace, is_span, can_retire, breaks_name, breaks_place, breaks_slots, breaks_pace, breaks_span}
 use Rattle.plan_file.specs.Sound.{is_sound, is_no_signal, IsSoundTop, IsSound, AreSound, IsSoundOutline}
 use Rattle.plan_file.specs.Table.{entry_at, end_of, form_at, top_at, connections_at, outline_at}
 use Rattle.plan_file.specs.Lines.{line_kind, line_slots}

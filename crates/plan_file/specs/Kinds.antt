@@ -1,5 +1,5 @@
 -- The kinds of a plan's values: what each key's value has to be.
-use Rattle.std.specs.Prelude.{ℕ, pos, List, Bool, true, false, ◌&&◌, ◌||◌, if◌then◌else◌, is_some, codes}
+use Rattle.std.specs.Prelude.{ℕ, pos, List, Bool, true, false, ◌&&◌, ◌||◌, is_some, codes}
 use Rattle.std.specs.Option.{option_map_or}
 use Rattle.std.specs.Str.{bytes_eq}
 use Rattle.toml.specs.Data.{Data, Items, no_items, item, get, get_member, Members, as_str, as_integer, as_bool, as_array}

@@ -1,4 +1,4 @@
-use Rattle.std.proofs.Common.{◌≡◌, ◌∙◌, sym, ap, None, Some, Ok}
+use Rattle.std.proofs.Common.{◌≡◌, ◌∙◌, sym, ap, None, Ok}
 use Rattle.toml.specs.View.{table_view}
 use Rattle.plan_file.specs.Answer.{accepted_or, fault_of}
 use Rattle.plan_file.specs.Entry.{Outline, plan_of}

@@ -1,6 +1,4 @@
 use Rattle.std.proofs.Common.{◌≡◌, drop}
-use Rattle.std.specs.List.{list_any}
-use Rattle.std.specs.Ordering.{int_eq}
 use Rattle.plan_file.specs.Rules.{have_common}
 use Rattle.plan_file.specs.Seen.{numbers_in}
 use Rattle.plan_file.proofs.rules.pairs.have_common.Given as goal
