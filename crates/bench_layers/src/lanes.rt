@@ -1,13 +1,17 @@
 // Rows taken apart into slots and put together, over a row of 3,808 bytes that changes a little each time.
 ghost use Rattle.std.specs.Prelude.{◌≡◌, ◌⊎◌, IfOk, length, vec_len};
+ghost use Rattle.otn_base.specs.SlotList.{IsSlotList};
 ghost use Rattle.lane_kernels.specs.SlotPlaces.{IsSlotCount};
 
 use lane_kernels::{
     SlotRows, join, parity, put_slot, put_slots, split, take_slot, take_slots, xor_mask,
 };
-use otn_base::limits::{PAYLOAD_COLUMNS, SLOT_COLUMNS, SLOTS};
-use otn_base::{Memory, Slots};
+use otn_base::limits::{OTU2_SLOTS, PAYLOAD_COLUMNS};
+use otn_base::{LineKind, Memory, Slots};
 use std::alloc::Global;
+
+// Cycles of a row of an OTU2, and every eighth slot of an OTU3.
+const CYCLES: usize = PAYLOAD_COLUMNS / OTU2_SLOTS;
 
 const EVERY_EIGHTH: [u8; 4] = [8, 16, 24, 32];
 
@@ -64,26 +68,42 @@ pub(crate) fn put_rows<const SLOTS: usize>(alloc: Global, times: u32) -> Result<
     Ok(sum(&row))
 }
 
-/// Takes these slots of eight out of a row so many times.
+/// Takes these slots of an OTU2 out of a row so many times.
 pub(crate) fn take_several(alloc: Global, slots: &Slots, times: u32) -> Result<u32, Memory> {
-    let count = slots.count() as usize;
+    match slots.kind() {
+        LineKind::Otu2 => take_list(alloc, slots.as_slice(), times),
+        LineKind::Otu3 => Ok(0),
+    }
+}
+
+fn take_list(alloc: Global, slots: &[u8], times: u32) -> Result<u32, Memory>
+    requires { IsSlotList 8 slots.now }
+{
     let mut row = row_of(alloc, PAYLOAD_COLUMNS)?;
-    let mut bytes = row_of(alloc, count * SLOT_COLUMNS)?;
+    let mut bytes = row_of(alloc, slots.len() * CYCLES)?;
     for turn in 0..times {
         touch(&mut row, turn);
-        take_slots::<SLOTS>(&row, SLOT_COLUMNS, slots.as_slice(), &mut bytes);
+        take_slots::<OTU2_SLOTS>(&row, CYCLES, slots, &mut bytes);
     }
     Ok(sum(&bytes))
 }
 
-/// Puts these slots of eight into a row so many times.
+/// Puts these slots of an OTU2 into a row so many times.
 pub(crate) fn put_several(alloc: Global, slots: &Slots, times: u32) -> Result<u32, Memory> {
-    let count = slots.count() as usize;
+    match slots.kind() {
+        LineKind::Otu2 => put_list(alloc, slots.as_slice(), times),
+        LineKind::Otu3 => Ok(0),
+    }
+}
+
+fn put_list(alloc: Global, slots: &[u8], times: u32) -> Result<u32, Memory>
+    requires { IsSlotList 8 slots.now }
+{
     let mut row = row_of(alloc, PAYLOAD_COLUMNS)?;
-    let mut bytes = row_of(alloc, count * SLOT_COLUMNS)?;
+    let mut bytes = row_of(alloc, slots.len() * CYCLES)?;
     for turn in 0..times {
         touch(&mut bytes, turn);
-        put_slots::<SLOTS>(&bytes, SLOT_COLUMNS, slots.as_slice(), &mut row);
+        put_slots::<OTU2_SLOTS>(&bytes, CYCLES, slots, &mut row);
     }
     Ok(sum(&row))
 }

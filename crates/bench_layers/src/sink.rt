@@ -1,9 +1,9 @@
 // The tributary sink, over a steady line.
-ghost use Rattle.std.specs.Prelude.{◌≡◌, ◌*◌, ◌≤◌, IfOk, length, vec_len};
+ghost use Rattle.std.specs.Prelude.{◌≡◌, ◌*◌, ◌≤◌, IfOk, IfSome, length, vec_len};
 
 use frame_geometry::Frame;
 use otn_base::limits::GROUPS;
-use otn_base::{Memory, Slots};
+use otn_base::{LineKind, Memory, Slots};
 use std::alloc::Global;
 use trib_sink::TribSink;
 
@@ -25,13 +25,15 @@ pub(crate) fn take(alloc: Global, count: usize, turns: u32) -> Result<u32, Memor
 }
 
 /// The first slots of a line, None where there are not so many.
-pub(crate) fn first_slots(count: usize) -> Option<Slots> {
-    Slots::new(SLOT_NUMBERS.get(..count)?)
+pub(crate) fn first_slots(count: usize) -> Option<Slots>
+    ensures { IfSome result (λ slots. slots.kind ≡ LineKind.Otu2) }
+{
+    Slots::new(SLOT_NUMBERS.get(..count)?, LineKind::Otu2)
 }
 
 // Room for what a turn may emit.
 fn room_for(alloc: Global, slots: &Slots) -> Result<Vec<u8>, Memory>
-    ensures { IfOk result (λ into. vec_len into ≡ length slots.now * 15233) }
+    ensures { IfOk result (λ into. vec_len into ≡ length slots.now.list * 15233) }
 {
     Ok(vec![in alloc; 0; slots.count() as usize * (GROUPS + 1)]?)
 }
@@ -55,7 +57,8 @@ fn steady_frame(alloc: Global) -> Result<Frame<4080>, Memory> {
 // One turn of eight such frames: a sum over how many bytes it emits, and the first of them.
 fn take_turn(sink: &mut TribSink, frame: &Frame<4080>, turn: u32, into: &mut [u8]) -> u32
     requires fresh { sink.old.taken ≡ 0 }
-    requires room { length sink.old.slots * 15233 ≤ length into.old }
+    requires kind { sink.old.slots.kind ≡ LineKind.Otu2 }
+    requires room { length sink.old.slots.list * 15233 ≤ length into.old }
     ensures fresh { sink.new.taken ≡ 0 }
     ensures slots { sink.new.slots ≡ sink.old.slots }
 {

@@ -4,7 +4,7 @@ ghost use Rattle.std.specs.Prelude.{◌≡◌, ◌*◌, IfOk, length, vec_len};
 use crate::sink::first_slots;
 use frame_geometry::Frame;
 use otn_base::limits::NOMINAL;
-use otn_base::{Memory, Slots};
+use otn_base::{LineKind, Memory, Slots};
 use std::alloc::Global;
 use trib_source::TribSource;
 
@@ -26,7 +26,7 @@ pub(crate) fn put(alloc: Global, count: usize, turns: u32) -> Result<u32, Memory
 
 // What an ODU0 for each of the slots has in a multiframe.
 fn nominal_bytes(alloc: Global, slots: &Slots) -> Result<Vec<u8>, Memory>
-    ensures { IfOk result (λ bytes. vec_len bytes ≡ length slots.now * 15168) }
+    ensures { IfOk result (λ bytes. vec_len bytes ≡ length slots.now.list * 15168) }
 {
     let mut bytes = vec![in alloc; 0; slots.count() as usize * NOMINAL]?;
     for (i, byte) in bytes.iter_mut().enumerate() {
@@ -38,7 +38,8 @@ fn nominal_bytes(alloc: Global, slots: &Slots) -> Result<Vec<u8>, Memory>
 // One turn of eight frames: a sum over a byte of each.
 fn put_turn(source: &mut TribSource, bytes: &[u8], frame: &mut Frame<4080>) -> u32
     requires rest { source.old.rest ≡ 0 }
-    requires size { length bytes.now ≡ length source.old.slots * 15168 }
+    requires kind { source.old.slots.kind ≡ LineKind.Otu2 }
+    requires size { length bytes.now ≡ length source.old.slots.list * 15168 }
     ensures rest { source.new.rest ≡ 0 }
     ensures slots { source.new.slots ≡ source.old.slots }
 {

@@ -1,6 +1,8 @@
+pub mod Answered
+pub mod Forms
 pub mod LineFrames
+pub mod Lives
 pub mod PlanChecks
-pub mod PullBays
 pub mod PullCarried
 pub mod PullDamaged
 pub mod PullEnds
@@ -9,8 +11,8 @@ pub mod PullLoop
 pub mod PullTable
 pub mod PullTurns
 pub mod PullWorlds
+pub mod Reports
 pub mod Rows
-pub mod SlotBays
 pub mod SlotLoop
 pub mod SlotSteps
 pub mod SlotTable

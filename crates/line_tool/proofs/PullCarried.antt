@@ -2,26 +2,26 @@
 use Rattle.std.proofs.Common.{◌≡◌, ◌≤◌, ◌<◌, ◌+◌, ◌-◌, ◌*◌, ◌/◌, ◌∙◌, inl, ℕ, zero, suc, Bool, true, false, List, ◌∷◌, ◌++◌, Option, Some, None, length, take, refl, sym, ap, subst, arith, append-nil, append_assoc}
 use Rattle.std.specs.Prelude.{option_map, slice_range}
 use Rattle.std.specs.List.{flat_map, range_with_len}
-use Rattle.std.proofs.lemmas.List.FromFn.{length-map-range_with_len}
 use Rattle.otn_base.specs.SlotList.{IsSlotList}
 use Rattle.line_side.specs.LineFile.{mfas_of}
 use Rattle.maintenance_signals.specs.Stream.{signal_byte}
 use Rattle.maintenance_signals.specs.declared.signal.Signal.TheVariants.{Ais}
 use Rattle.multiframe.specs.LineTurns.{Standing, Hunting, Locked, Ended, Lock, Outcome, CutShort, Lost, Whole, standing, multiframe, multiframe_at, lock_of, lock_from, least_start, outcome_of, after_outcome, after_hunt, kept_if, after_turn, has_ended}
 use Rattle.tributary_model.specs.declared.turns.SinkState.TheVariants.{Down}
-use Rattle.tributary_model.specs.Places.{Tributary, View, IsWholeTurn, turn_view}
+use Rattle.tributary_model.specs.Places.{Tributary, View, turn_view}
 use Rattle.tributary_model.specs.Stretches.{state_after}
 use Rattle.tributary_model.specs.Emission.{emission}
 use Rattle.tributary_model.specs.Carries.{sent, past_of}
 use Rattle.tributary_model.specs.Damage.{emissions}
 use Rattle.tributary_model.specs.Carriage.{Arrives, EmitsTwoLater}
 use Rattle.tributary_model.specs.Passing.{joined_back}
-use Rattle.tributary_model.proofs.Views.{whole_view}
+use Rattle.device_model.proofs.LineViews.{whole_at}
 use Rattle.tributary_model.proofs.Intact.{up_while_carried, emits_after_damage, down_without}
 use Rattle.tributary_model.proofs.Ranges.{joined, none_between}
 use Rattle.tributary_model.proofs.Totals.{sent_up}
 use Rattle.tributary_model.proofs.Passing.{joins, joins_to_whole_groups}
-use Rattle.line_tool.specs.PullReport.{tributary, member_at, frames_of, view_at, views_until, emitted_at}
+use Rattle.device_model.specs.LineViews.{frames_of, view_at, views_until, emitted_at}
+use Rattle.line_tool.specs.PullReport.{tributary}
 use Rattle.line_tool.specs.PullCarried.{LineCarries, BeginsWithWhatIsCarried, IsTheWholeGroups, HasWhatIsCarriedAfterDamage}
 use Rattle.line_tool.proofs.PullTurns.{stays_ended, written_first, written_all}
 use Rattle.line_tool.proofs.PullWorlds.{is_tributary}
@@ -53,15 +53,16 @@ unfolding standing
 standing_next ms t = refl
 
 -- a turn that shows something goes on, and so does the line after it
-goes_on : (own : Tributary) (given : List ℕ) (t : ℕ) (view : View) → view_at own given t ≡ Some view
+goes_on : (own : Tributary) (given : List ℕ) (t : ℕ) (view : View) → own.line_slots ≡ 8 → view_at own given t ≡ Some view
     → (has_ended (standing 8 (mfas_of given) t) ≡ false) × (has_ended (standing 8 (mfas_of given) (suc t)) ≡ false)
 unfolding view_at
-goes_on own given t view e = go (multiframe 8 (mfas_of given) t) refl e
+goes_on own given t view size e =
+    go (multiframe 8 (mfas_of given) t) refl (subst (λ n. turn_view own (option_map (frames_of own.line_slots given) (multiframe n (mfas_of given) t)) ≡ Some view) size e)
   where
     ms : List ℕ
     ms = mfas_of given
 
-    go : (o : Option Lock) → multiframe 8 ms t ≡ o → turn_view own (option_map (frames_of given) o) ≡ Some view
+    go : (o : Option Lock) → multiframe 8 ms t ≡ o → turn_view own (option_map (frames_of own.line_slots given) o) ≡ Some view
         → (has_ended (standing 8 ms t) ≡ false) × (has_ended (standing 8 ms (suc t)) ≡ false)
     go None f g = absurd (let bad : ⊥ = cc in bad)
     go (Some lock) f g =
@@ -77,35 +78,22 @@ went_on ms s n h going = go (has_ended (standing 8 ms s)) refl
     go true e = absurd (let late : has_ended (standing 8 ms n) ≡ true = stays_ended ms s (n - s) n (omega arith) e in let bad : ⊥ = cc in bad)
 
 -- a turn after which the line has ended shows nothing
-shows_none : (own : Tributary) (given : List ℕ) (t : ℕ) → has_ended (standing 8 (mfas_of given) (suc t)) ≡ true → view_at own given t ≡ None
-shows_none own given t ended = go (view_at own given t) refl
+shows_none : (own : Tributary) (given : List ℕ) (t : ℕ) → own.line_slots ≡ 8 → has_ended (standing 8 (mfas_of given) (suc t)) ≡ true → view_at own given t ≡ None
+shows_none own given t size ended = go (view_at own given t) refl
   where
     go : (o : Option View) → view_at own given t ≡ o → o ≡ None
     go None e = refl
-    go (Some view) e = absurd (let going = (goes_on own given t view e).1 in let bad : ⊥ = cc in bad)
+    go (Some view) e = absurd (let going = (goes_on own given t view size e).1 in let bad : ⊥ = cc in bad)
 
 -- ---- their views
-
-frames_many : (given : List ℕ) (lock : Lock) → length (frames_of given lock) ≡ 8
-unfolding frames_of
-frames_many given lock = length-map-range_with_len (member_at given lock) 0 8
-
-whole_at : (port : ℕ) (slots given : List ℕ) (t : ℕ) → IsSlotList 8 slots → IsWholeTurn (length slots) (view_at (tributary port slots) given t)
-unfolding view_at
-whole_at port slots given t list = go (multiframe 8 (mfas_of given) t)
-  where
-    go : (o : Option Lock) → IsWholeTurn (length slots) (turn_view (tributary port slots) (option_map (frames_of given) o))
-    go None = tt
-    go (Some lock) = whole_view (tributary port slots) (frames_of given lock) (is_tributary port slots list) (frames_many given lock)
 
 arrives : (port : ℕ) (slots given bytes p : List ℕ) (s b u : ℕ) → IsSlotList 8 slots → LineCarries (tributary port slots) given bytes p s b u
     → Arrives (tributary port slots) bytes p (view_at (tributary port slots) given) 0 s b u
 arrives port slots given bytes p s b u list h = record {
   slots = list.taken;
   order = omega arith;
-  whole = λ t low high. whole_at port slots given t list;
+  whole = λ t low high. whole_at (tributary port slots) given t (is_tributary port slots list);
   carries = h.carries;
-  fits = h.fits;
   steady = h.steady;
 }
 
@@ -165,7 +153,7 @@ flat_slices f xs g a (suc n) up each =
 going_to : (port : ℕ) (slots given bytes p : List ℕ) (s b u : ℕ) → LineCarries (tributary port slots) given bytes p s b u → b ≤ u → (t : ℕ) → t ≤ suc u → has_ended (standing 8 (mfas_of given) t) ≡ false
 going_to port slots given bytes p s b u h low t high =
     let seen = h.carries.each u low (omega arith) in
-    went_on (mfas_of given) t (suc u) high (goes_on (tributary port slots) given u seen.0 seen.1.0).1
+    went_on (mfas_of given) t (suc u) high (goes_on (tributary port slots) given u seen.0 refl seen.1.0).1
 
 pub begins_with : BeginsWithWhatIsCarried
 begins_with port slots given bytes p u list h few =
@@ -186,7 +174,7 @@ whole_groups port slots given bytes p u list h few ended =
     let r = arrives port slots given bytes p 0 0 u list h in
     let two : u + 2 ≡ suc (suc u) = omega arith in
     let last : has_ended (standing 8 (mfas_of given) (suc (suc u))) ≡ true = subst (λ n. has_ended (standing 8 (mfas_of given) n) ≡ true) two ended in
-    let none : views (0 + suc u) ≡ None = ap views (let e : 0 + suc u ≡ suc u = omega arith in e) ∙ shows_none own given (suc u) last in
+    let none : views (0 + suc u) ≡ None = ap views (let e : 0 + suc u ≡ suc u = omega arith in e) ∙ shows_none own given (suc u) refl last in
     let up = up_while_carried own bytes p views 0 u r u (omega arith) (omega arith) in
     let down : state_after own (None ∷ past_of views 0 (u + 1 - 0)) ≡ Down = down_without own (past_of views 0 (u + 1 - 0)) up in
     let law = joins_to_whole_groups own (signal_byte Ais) bytes p views 0 u None r (omega arith) tt down in

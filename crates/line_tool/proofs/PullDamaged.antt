@@ -9,7 +9,8 @@ use Rattle.tributary_model.specs.Places.{Tributary, View}
 use Rattle.tributary_model.specs.Emission.{emission}
 use Rattle.tributary_model.specs.Damage.{NeverThree, emissions}
 use Rattle.tributary_model.proofs.OneDamaged.{as_if_repeated}
-use Rattle.line_tool.specs.PullReport.{tributary, view_at, views_until, emitted_at, turns_of, pull_report}
+use Rattle.device_model.specs.LineViews.{view_at, views_until, emitted_at}
+use Rattle.line_tool.specs.PullReport.{tributary, turns_of, pull_report}
 use Rattle.line_tool.specs.PullDamaged.{DifferInOneMessage, WritesAsIfRepeated}
 use Rattle.line_tool.proofs.PullWorlds.{same_flat}
 

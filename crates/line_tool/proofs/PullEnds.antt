@@ -5,9 +5,10 @@ use Rattle.line_side.proofs.Mfas.{length_mfas}
 use Rattle.line_side.specs.LineFile.{mfas_of}
 use Rattle.line_side.specs.LineStands.{LineView, IsLine}
 use Rattle.line_side.specs.Reader.{HasRead, ReaderView, count_of, rest_of}
-use Rattle.line_side.specs.declared.ending.Ending.TheVariants.{Open, Seen}
+use Rattle.line_side.specs.declared.ending.Ending.{Ending}
+use Rattle.line_side.specs.declared.ending.Ending.TheVariants.{Open, Seen, Died}
 use Rattle.multiframe.specs.LineTurns.{Lock, Standing, Hunting, Locked, Ended, Outcome, CutShort, Lost, Whole, lock_from, least_start, outcome_of, after_outcome, after_hunt, after_turn, standing, wanted, wanted_in, wanted_from, wanted_so_far, used_in}
-use Rattle.line_tool.specs.PullReport.{turns_of, frames_wanted}
+use Rattle.line_tool.specs.PullReport.{turns_of, frames_wanted, bytes_wanted}
 
 -- ---- between turns nothing more is wanted than by the turns before
 
@@ -82,9 +83,27 @@ took_read given taken u r h = record {
   rest = λ seen. h.rest ∙ ap (λ e. rest_of e given) seen;
 }
 
-pub took_wanted : (given taken : List ℕ) (t : ℕ) (line : LineView) → IsLine given (length taken) t line → line.pieces ≡ 0 → length (turns_of (mfas_of given)) ≡ t → TookWanted given taken line.reader
+pub took_wanted : (given taken : List ℕ) (t : ℕ) (line : LineView) → IsLine 8 given (length taken) t line → line.pieces ≡ 0 → length (turns_of (mfas_of given)) ≡ t → TookWanted given taken line.reader
 took_wanted given taken t line is none count =
     let read = subst (λ k. HasRead given (length taken) (used_in 8 (mfas_of given) (standing 8 (mfas_of given) t) k) (wanted_so_far 8 (mfas_of given) t k) line.reader) none is.read in
     let turns = between (mfas_of given) t ∙ ap (wanted 8 (mfas_of given)) (sym count) in
     took_read given taken (used_in 8 (mfas_of given) (standing 8 (mfas_of given) t) 0) line.reader
     (subst (λ w. HasRead given (length taken) (used_in 8 (mfas_of given) (standing 8 (mfas_of given) t) 0) w line.reader) turns read)
+
+-- so many bytes were taken in the turns so far
+took_of : (given taken : List ℕ) (u w : ℕ) (r : ReaderView) → HasRead given (length taken) u w r → (e : Ending) → r.ending ≡ e → length taken ≡ min (length given) (16320 * w)
+took_of given taken u w r h Open e =
+    let s = h.still e in
+    let size = length_mfas given in
+    let within = h.within in
+    omega (arith, s.0, s.1, within, size)
+took_of given taken u w r h Seen e = let o = h.over (λ f. cc) in omega (arith, o.1, o.2)
+took_of given taken u w r h Died e = let o = h.over (λ f. cc) in omega (arith, o.1, o.2)
+
+pub took_so_far : (given taken : List ℕ) (t : ℕ) (line : LineView) → IsLine 8 given (length taken) t line → line.pieces ≡ 0 → length taken ≡ bytes_wanted given t
+took_so_far given taken t line is none =
+    let read = subst (λ k. HasRead given (length taken) (used_in 8 (mfas_of given) (standing 8 (mfas_of given) t) k) (wanted_so_far 8 (mfas_of given) t k) line.reader) none is.read in
+    let turns = between (mfas_of given) t in
+    took_of given taken (used_in 8 (mfas_of given) (standing 8 (mfas_of given) t) 0) (wanted 8 (mfas_of given) t) line.reader
+    (subst (λ w. HasRead given (length taken) (used_in 8 (mfas_of given) (standing 8 (mfas_of given) t) 0) w line.reader) turns read)
+    line.reader.ending refl

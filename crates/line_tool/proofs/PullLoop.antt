@@ -1,5 +1,5 @@
 -- The turns of `pull`, and how it ends.
-use Rattle.std.proofs.Common.{◌≡◌, ◌≢◌, ◌<◌, ◌≤◌, ◌+◌, ◌*◌, ◌/◌, ◌%◌, ◌∙◌, ◌⊎◌, ℕ, Bool, true, false, List, [], ◌++◌, Option, length, ltb, min, refl, sym, ap, subst, inl, inr, arith, append-nil, append_assoc, length-append}
+use Rattle.std.proofs.Common.{◌≡◌, ◌≢◌, ◌<◌, ◌≤◌, ◌+◌, ◌*◌, ◌/◌, ◌%◌, ◌∙◌, ◌⊎◌, ℕ, Bool, true, false, List, [], ◌++◌, Option, None, length, ltb, min, refl, sym, ap, subst, inl, inr, arith, append-nil, append_assoc, length-append}
 use Rattle.std.specs.List.{flat_map, range_with_len}
 use Rattle.std.proofs.lemmas.Bool.{ltb-true, ltb-false}
 use Rattle.std.proofs.lemmas.List.{take-append-le}
@@ -16,17 +16,21 @@ use Rattle.line_side.specs.declared.ending.Ending.{Ending}
 use Rattle.line_side.specs.declared.ending.Ending.TheVariants.{Open, Seen, Died}
 use Rattle.multiframe.specs.LineTurns.{standing, has_ended}
 use Rattle.tributary_model.specs.Places.{Tributary}
+use Rattle.otn_ports.specs.PortViews.{SinkView}
+use Rattle.line_tool.specs.Ends.{ReportAfter, StepAfter}
 use Rattle.line_tool.specs.Gains.{GainsPart}
-use Rattle.line_tool.specs.PullReport.{pull_report, emitted_at, frames_wanted, bytes_taken, LeavesBytes}
-use Rattle.line_tool.specs.PullRuns.{MayFollow, PullRun, TurnRun, AnswerRun}
+use Rattle.device_model.specs.LineViews.{emitted_at}
+use Rattle.line_tool.specs.PullReport.{pull_report, frames_wanted, bytes_taken, LeavesBytes}
+use Rattle.line_tool.specs.PullRuns.{MayFollow, PullRun, TurnRun, TurnAfter, AnswerRun}
 use Rattle.line_tool.specs.PullTurn.{TapStands}
 use Rattle.line_tool.specs.declared.pull.After.{After}
 use Rattle.line_tool.specs.declared.pull.After.TheVariants as next
-use Rattle.line_tool.specs.declared.status.Status.{Status}
-use Rattle.line_tool.specs.declared.status.Status.TheVariants.{Done, Unfinished, Words, Plan, PlanFault, ReportFault, Cut, Memory}
+use Rattle.line_tool.specs.declared.ended.Ended.{Ended}
+use Rattle.line_tool.specs.declared.ended.Ended.TheVariants.{Done, Unfinished, ReportFault, Cut}
 use Rattle.line_tool.specs.declared.tap.Tap.{Tap}
-use Rattle.line_tool.proofs.PullEnds.{TookWanted, took_wanted, frames_there}
+use Rattle.line_tool.proofs.PullEnds.{took_so_far, TookWanted, took_wanted, frames_there}
 use Rattle.line_tool.proofs.PullTurns.{turn_count, written_first, written_all}
+use Rattle.line_tool.proofs.Reports.{step_ends}
 use Rattle.line_tool.proofs.Rows.{flat_map-range_more}
 use Rattle.line_tool.proofs.SlotLoop.{after-none, part_after}
 
@@ -34,13 +38,13 @@ use Rattle.line_tool.proofs.SlotLoop.{after-none, part_after}
 pub record TurnsSoFar (own : Tributary) (first now : InView) (t : ℕ) (tap : Tap) (old new : Option (List ℕ)) : Type 0 where
   pub taken : List ℕ
   pub stands : TapStands own first now taken t tap
-  pub report : (given : List ℕ) → MayBe tap.line.reader.ending taken given → new ≡ after old (flat_map (emitted_at own given) (range_with_len 0 t))
-  pub unended : (given : List ℕ) → MayBe tap.line.reader.ending taken given → (s : ℕ) → s < t → has_ended (standing 8 (mfas_of given) s) ≡ false
+  pub report : (given : List ℕ) → MayBe false tap.line.reader.ending taken given → new ≡ after old (flat_map (emitted_at own given) (range_with_len 0 t))
+  pub unended : (given : List ℕ) → MayBe false tap.line.reader.ending taken given → (s : ℕ) → s < t → has_ended (standing 8 (mfas_of given) s) ≡ false
 
 -- whether the line has ended after these turns
 abbrev pub HasLast : (own : Tributary) (first now : InView) (t : ℕ) (tap : Tap) (old new : Option (List ℕ)) → TurnsSoFar own first now t tap old new → Bool → Type 0
 HasLast own first now t tap old new h ended =
-    (given : List ℕ) → MayBe tap.line.reader.ending h.taken given → has_ended (standing 8 (mfas_of given) t) ≡ ended
+    (given : List ℕ) → MayBe false tap.line.reader.ending h.taken given → has_ended (standing 8 (mfas_of given) t) ≡ ended
 
 -- what the sink emits in the turns 1 to t
 abbrev pub emitted_until : Tributary → List ℕ → ℕ → List ℕ
@@ -123,7 +127,7 @@ may_come Open = true
 may_come Seen = false
 may_come Died = false
 
-follows : (ending : Ending) (taken rest : List ℕ) → MayFollow (may_come ending) rest → MayBe ending taken (taken ++ rest)
+follows : (ending : Ending) (taken rest : List ℕ) → MayFollow (may_come ending) rest → MayBe false ending taken (taken ++ rest)
 follows Open taken rest follow = record { rest = rest; over = λ closed. absurd (closed refl); parts = refl }
 follows Seen taken rest follow = record { rest = rest; over = λ closed. follow; parts = refl }
 follows Died taken rest follow = record { rest = rest; over = λ closed. follow; parts = refl }
@@ -136,8 +140,8 @@ closed_is Died e = λ f. cc
 -- with a write that failed
 pub turns_lost : (own : Tributary) (first was now : InView) (t : ℕ) (before later : Tap) (old gained new : Option (List ℕ))
     → (h : TurnsSoFar own first was t before old gained) → HasLast own first was t before old gained h false → t < 16384
-    → TurnRun own first now h.taken t before later gained new next.ReportFailed → PullRun own first now old new ReportFault
-turns_lost own first was now t before later old gained new h last few run = record {
+    → TurnRun own first now h.taken t before later gained new next.ReportFailed → later.line.pieces ≡ 0 → PullRun own first now old new ReportFault
+turns_lost own first was now t before later old gained new h last few run none = record {
   taken = h.taken ++ run.moves.came;
   gave = run.moves.stands.line.gave;
   more = may_come later.line.reader.ending;
@@ -152,6 +156,18 @@ turns_lost own first was now t before later old gained new h last few run = reco
       subst (GainsPart old new) (sym all.1) (part_before old new (emitted_until own given (t + 1)) all.0 (subst (GainsPart old new) turn part));
   ends = tt;
   took = λ other. absurd (other refl);
+  stopped = λ _. record {
+    turns = t + 1;
+    few = omega (arith, few);
+    wanted = λ rest follow.
+        let given = (h.taken ++ run.moves.came) ++ rest in
+        took_so_far given (h.taken ++ run.moves.came) (t + 1) later.line
+        (run.moves.stands.line.is_line given (follows later.line.reader.ending (h.taken ++ run.moves.came) rest follow)) none;
+    unended = λ rest follow.
+        let given = (h.taken ++ run.moves.came) ++ rest in
+        let earlier = run.moves.earlier given (follows later.line.reader.ending (h.taken ++ run.moves.came) rest follow) in
+        still_unended (mfas_of given) t (h.unended given earlier) (last given earlier);
+  };
 }
 
 open_is : (ending : Ending) → ending ≢ Seen → ending ≢ Died → ending ≡ Open
@@ -166,24 +182,24 @@ was_alive was now came gave alive dead =
     alive (ap (λ (v : InView). v.state) (gave.idle idle).0 ∙ dead)
 
 -- all that was taken is what a line may have
-itself : (ending : Ending) (taken : List ℕ) → MayBe ending taken taken
+itself : (ending : Ending) (taken : List ℕ) → MayBe false ending taken taken
 itself ending taken = record { rest = []; over = λ _. refl; parts = sym (append-nil taken) }
 
-alone : (ending : Ending) (taken rest : List ℕ) → rest ≡ [] → MayBe ending taken (taken ++ rest)
+alone : (ending : Ending) (taken rest : List ℕ) → rest ≡ [] → MayBe false ending taken (taken ++ rest)
 alone ending taken rest none = record { rest = rest; over = λ _. none; parts = refl }
 
 -- after the last turn: of all that the line may have, its report is written, and what the turns wanted was taken
 record AllTurns (own : Tributary) (taken : List ℕ) (line : LineView) (old new : Option (List ℕ)) : Type 0 where
-  pub report : (given : List ℕ) → MayBe line.reader.ending taken given → new ≡ after old (pull_report own given)
-  pub took : (given : List ℕ) → MayBe line.reader.ending taken given → TookWanted given taken line.reader
+  pub report : (given : List ℕ) → MayBe false line.reader.ending taken given → new ≡ after old (pull_report own given)
+  pub took : (given : List ℕ) → MayBe false line.reader.ending taken given → TookWanted given taken line.reader
 
 all_turns : (own : Tributary) (first was : InView) (t : ℕ) (tap : Tap) (old new : Option (List ℕ)) → (h : TurnsSoFar own first was t tap old new) → t ≤ 16384
-    → ((given : List ℕ) → MayBe tap.line.reader.ending h.taken given → (has_ended (standing 8 (mfas_of given) t) ≡ true) ⊎ (t ≡ 16384))
+    → ((given : List ℕ) → MayBe false tap.line.reader.ending h.taken given → (has_ended (standing 8 (mfas_of given) t) ≡ true) ⊎ (t ≡ 16384))
     → tap.line.pieces ≡ 0 → AllTurns own h.taken tap.line old new
 all_turns own first was t tap old new h few last none = record {
   report = λ given may. h.report given may ∙ ap (after old) (sym (written_all own given t few (h.unended given may) (last given may)));
   took = λ given may.
-      took_wanted given h.taken t tap.line (h.stands.line.told given may) none (turn_count (mfas_of given) t few (h.unended given may) (last given may));
+      took_wanted given h.taken t tap.line (h.stands.line.is_line given may) none (turn_count (mfas_of given) t few (h.unended given may) (last given may));
 }
 
 -- nothing is left after the whole frames, where the end was seen
@@ -247,6 +263,7 @@ seen_ends own first now taken line old new all gave alive over seen =
             report = λ rest follow. all.report (taken ++ rest) (alone line.reader.ending taken rest follow);
             ends = (alive, refl, n.0, n.1);
             took = λ other rest follow. alone_took own taken line old new all rest follow;
+            stopped = λ e. absurd (cc);
           },
       λ some.
           let n = some_rest (length taken) (frames_there taken) line.reader.rest (took.over closed).1 (took.rest seen) some in
@@ -258,13 +275,14 @@ seen_ends own first now taken line old new all gave alive over seen =
             report = λ rest follow. all.report (taken ++ rest) (alone line.reader.ending taken rest follow);
             ends = (alive, λ rest follow. subst LeavesBytes (sym (ap (λ xs. taken ++ xs) follow ∙ append-nil taken)) n.0, n.1);
             took = λ other rest follow. alone_took own taken line old new all rest follow;
+            stopped = λ e. absurd (cc);
           },
     )
 
 -- how the command ends with an answer
-pub turns_end : (status : Status) (own : Tributary) (first was now : InView) (t : ℕ) (tap : Tap) (old new : Option (List ℕ)) → (h : TurnsSoFar own first was t tap old new)
-    → t ≤ 16384 → ((given : List ℕ) → MayBe tap.line.reader.ending h.taken given → (has_ended (standing 8 (mfas_of given) t) ≡ true) ⊎ (t ≡ 16384))
-    → tap.line.pieces ≡ 0 → AnswerRun tap.line was now status → PullRun own first now old new status
+pub turns_end : (ended : Ended) (own : Tributary) (first was now : InView) (t : ℕ) (tap : Tap) (old new : Option (List ℕ)) → (h : TurnsSoFar own first was t tap old new)
+    → t ≤ 16384 → ((given : List ℕ) → MayBe false tap.line.reader.ending h.taken given → (has_ended (standing 8 (mfas_of given) t) ≡ true) ⊎ (t ≡ 16384))
+    → tap.line.pieces ≡ 0 → AnswerRun tap.line was now ended → PullRun own first now old new ended
 turns_end Done own first was now t tap old new h few last none a = by_end a.ends.2
   where
     all : AllTurns own h.taken tap.line old new
@@ -289,6 +307,7 @@ turns_end Done own first was now t tap old new h few last none a = by_end a.ends
           report = λ rest follow. all.report (h.taken ++ rest) (alone tap.line.reader.ending h.taken rest follow);
           ends = (a.ends.0, refl, n.0, n.1);
           took = λ other rest follow. alone_took own h.taken tap.line old new all rest follow;
+          stopped = λ e. absurd (cc);
         }
 turns_end Unfinished own first was now t tap old new h few last none a = by_end a.ends.1
   where
@@ -303,7 +322,7 @@ turns_end Unfinished own first was now t tap old new h few last none a = by_end 
     by_end (inr u) =
         let alive = was_alive was now a.came a.gave a.ends.0 in
         let open_now = open_is tap.line.reader.ending u.0 (λ died. alive (h.stands.line.ending.died died)) in
-        let may : (rest : List ℕ) → MayBe tap.line.reader.ending h.taken ((h.taken ++ a.came) ++ rest)
+        let may : (rest : List ℕ) → MayBe false tap.line.reader.ending h.taken ((h.taken ++ a.came) ++ rest)
         = λ rest. record { rest = a.came ++ rest; over = λ closed. absurd (closed open_now); parts = append_assoc h.taken a.came rest } in
         let wanted : (rest : List ℕ) → (length h.taken ≡ 16320 * frames_there ((h.taken ++ a.came) ++ rest))
         × (frames_there ((h.taken ++ a.came) ++ rest) ≡ frames_wanted ((h.taken ++ a.came) ++ rest))
@@ -324,6 +343,7 @@ turns_end Unfinished own first was now t tap old new h few last none a = by_end 
               let all : length (h.taken ++ a.came) ≤ length ((h.taken ++ a.came) ++ rest) = omega (arith, length-append (h.taken ++ a.came) rest) in
               more_least (length h.taken) (length (h.taken ++ a.came)) (length ((h.taken ++ a.came) ++ rest)) (frames_wanted ((h.taken ++ a.came) ++ rest))
               ((wanted rest).0 ∙ ap (λ n. 16320 * n) (wanted rest).1) size all;
+          stopped = λ e. absurd (cc);
         }
 turns_end Cut own first was now t tap old new h few last none a =
     let all = all_turns own first was t tap old new h few last none in
@@ -335,9 +355,26 @@ turns_end Cut own first was now t tap old new h few last none a =
       report = λ rest follow. all.report (h.taken ++ rest) (alone tap.line.reader.ending h.taken rest follow);
       ends = a.ends.0;
       took = λ other rest follow. alone_took own h.taken tap.line old new all rest follow;
+      stopped = λ e. absurd (cc);
     }
 turns_end ReportFault own first was now t tap old new h few last none a = absurd a.ends
-turns_end Words own first was now t tap old new h few last none a = absurd a.ends
-turns_end Memory own first was now t tap old new h few last none a = absurd a.ends
-turns_end PlanFault own first was now t tap old new h few last none a = absurd a.ends
-turns_end (Plan error place) own first was now t tap old new h few last none a = absurd a.ends
+
+-- ---- the report
+
+-- after a turn that was written
+pub turn_reported : (old new : SinkView) → TurnAfter next.NextTurn old new → StepAfter None old new
+turn_reported old new h = record { later = h.later; faults = h.faults }
+
+pub line_ended : (old new : SinkView) → TurnAfter next.LineEnded old new → StepAfter None old new
+line_ended old new h = record { later = h.later; faults = h.faults }
+
+-- and after one whose write failed
+pub turn_failed : (first old new : SinkView) → StepAfter None first old → TurnAfter next.ReportFailed old new → ReportAfter ReportFault first new
+turn_failed first old new h turn = step_ends ReportFault first old new h (record { later = turn.later; faults = turn.faults })
+
+-- the last answer is no write
+pub never_written : (answer : Ended) (line : LineView) (was now : InView) (old new : SinkView) → AnswerRun line was now answer → StepAfter None old new → ReportAfter answer old new
+never_written Done line was now old new a h = record { later = h.later; faults = h.faults }
+never_written Unfinished line was now old new a h = record { later = h.later; faults = h.faults }
+never_written Cut line was now old new a h = record { later = h.later; faults = h.faults }
+never_written ReportFault line was now old new a h = absurd a.ends

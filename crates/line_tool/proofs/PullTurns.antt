@@ -6,7 +6,8 @@ use Rattle.std.proofs.lemmas.List.FromFn.{length-range_with_len}
 use Rattle.line_side.specs.LineFile.{mfas_of}
 use Rattle.multiframe.specs.LineTurns.{Standing, Hunting, Locked, Ended, standing, after_turn, has_ended}
 use Rattle.tributary_model.specs.Places.{Tributary}
-use Rattle.line_tool.specs.PullReport.{emitted_at, turns_of, pull_report}
+use Rattle.device_model.specs.LineViews.{emitted_at}
+use Rattle.line_tool.specs.PullReport.{turns_of, pull_report}
 
 -- ---- numbers that pass a test
 

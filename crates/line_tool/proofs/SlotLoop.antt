@@ -6,12 +6,14 @@ use Rattle.otn_ports.proofs.TakenTwice.{after-after}
 use Rattle.otn_ports.specs.Bytes.{after}
 use Rattle.otn_ports.specs.Given.{Gave}
 use Rattle.otn_ports.specs.Views.{Dead, InView}
+use Rattle.otn_ports.specs.PortViews.{SinkView}
+use Rattle.line_tool.specs.Ends.{ReportAfter, StepAfter}
 use Rattle.line_tool.specs.SlotReport.{slot_bytes, slot_report, used_frames}
 use Rattle.line_tool.specs.SlotRuns.{SlotRun, SlotStep}
 use Rattle.line_tool.specs.Gains.{GainsPart}
 use Rattle.line_tool.specs.Beyond.{ByteRun}
-use Rattle.line_tool.specs.declared.status.Status.{Status}
-use Rattle.line_tool.specs.declared.status.Status.TheVariants.{Done, Unfinished, Words, Plan, PlanFault, ReportFault, Cut, Memory}
+use Rattle.line_tool.specs.declared.ended.Ended.{Ended}
+use Rattle.line_tool.specs.declared.ended.Ended.TheVariants.{Done, Unfinished, ReportFault, Cut}
 use Rattle.line_tool.proofs.LineFrames.{slots_of, slots_of-none, slots_of-more, used_frames-at, slot_report-at, slot_report-whole}
 
 -- after i whole frames
@@ -55,7 +57,7 @@ part_after old gained new before bytes e h = record {
 }
 
 -- the taken bytes end with a part of a frame
-record Ended (slot i : ℕ) (first mid now : InView) (old new : Option (List ℕ)) (more : List ℕ) : Type 0 where
+record EndsIn (slot i : ℕ) (first mid now : InView) (old new : Option (List ℕ)) (more : List ℕ) : Type 0 where
   pub taken : List ℕ
   pub gave : Gave first (taken ++ more) now
   pub size : length (taken ++ more) ≡ i * 16320 + length more
@@ -63,7 +65,7 @@ record Ended (slot i : ℕ) (first mid now : InView) (old new : Option (List ℕ
   pub used : used_frames (length (taken ++ more)) ≡ i
 
 ended : (slot i : ℕ) (first mid now : InView) (old gained new : Option (List ℕ)) (more : List ℕ) → i ≤ 131072 → SoFar slot i first mid old gained
-    → Gave mid more now → length more < 16320 → new ≡ gained → Ended slot i first mid now old new more
+    → Gave mid more now → length more < 16320 → new ≡ gained → EndsIn slot i first mid now old new more
 ended slot i first mid now old gained new more few h gave part same =
     let size : length (h.taken ++ more) ≡ i * 16320 + length more = length-append h.taken more ∙ ap (λ n. n + length more) h.size in
     record {
@@ -75,8 +77,8 @@ ended slot i first mid now old gained new more few h gave part same =
     }
 
 -- how the command ends with a step
-pub ends_with : (status : Status) (slot i : ℕ) (first mid now : InView) (old gained new : Option (List ℕ)) → first.state ≢ Dead → i < 131072
-    → SoFar slot i first mid old gained → SlotStep slot mid now gained new (Some status) → SlotRun slot first now old new status
+pub ends_with : (ended : Ended) (slot i : ℕ) (first mid now : InView) (old gained new : Option (List ℕ)) → first.state ≢ Dead → i < 131072
+    → SoFar slot i first mid old gained → SlotStep slot mid now gained new (Some ended) → SlotRun slot first now old new ended
 ends_with Done slot i first mid now old gained new alive few h step =
     let none : length step.taken ≡ 0 = ap length step.ends.0 in
     let e = ended slot i first mid now old gained new step.taken (omega arith) h step.gave (omega arith) step.ends.3 in
@@ -102,16 +104,12 @@ ends_with ReportFault slot i first mid now old gained new alive few h step =
     record {
       taken = h.taken ++ step.taken;
       gave = gave_twice first mid now h.taken step.taken h.gave step.gave;
-      ends = (subst (GainsPart old new) (sym whole) (part_after old gained new (slots_of slot h.taken i) (slot_bytes slot step.taken) h.report step.ends.2), step.ends.1 ∙ h.state);
+      ends = (subst (GainsPart old new) (sym whole) (part_after old gained new (slots_of slot h.taken i) (slot_bytes slot step.taken) h.report step.ends.2), step.ends.1 ∙ h.state, omega (arith, size, few));
     }
-ends_with Words slot i first mid now old gained new alive few h step = absurd step.ends
-ends_with Memory slot i first mid now old gained new alive few h step = absurd step.ends
-ends_with PlanFault slot i first mid now old gained new alive few h step = absurd step.ends
-ends_with (Plan error place) slot i first mid now old gained new alive few h step = absurd step.ends
 
 -- how it ends once the most frames are written and a further byte was asked for
-pub ends_after : (status : Status) (slot : ℕ) (first mid now : InView) (old new : Option (List ℕ)) → first.state ≢ Dead
-    → SoFar slot 131072 first mid old new → ByteRun mid now status → SlotRun slot first now old new status
+pub ends_after : (ended : Ended) (slot : ℕ) (first mid now : InView) (old new : Option (List ℕ)) → first.state ≢ Dead
+    → SoFar slot 131072 first mid old new → ByteRun mid now ended → SlotRun slot first now old new ended
 ends_after Done slot first mid now old new alive h byte =
     let none : length byte.taken ≡ 0 = ap length byte.ends.0 in
     let e = ended slot 131072 first mid now old new new byte.taken (lit≤ tt) h byte.gave (omega arith) refl in
@@ -134,10 +132,6 @@ ends_after Cut slot first mid now old new alive h byte =
     let e = ended slot 131072 first mid now old new new byte.taken (lit≤ tt) h byte.gave (omega arith) refl in
     record { taken = e.taken ++ byte.taken; gave = e.gave; ends = (e.report, byte.ends.1, omega (arith, e.size, none)) }
 ends_after ReportFault slot first mid now old new alive h byte = absurd byte.ends
-ends_after Words slot first mid now old new alive h byte = absurd byte.ends
-ends_after Memory slot first mid now old new alive h byte = absurd byte.ends
-ends_after PlanFault slot first mid now old new alive h byte = absurd byte.ends
-ends_after (Plan error place) slot first mid now old new alive h byte = absurd byte.ends
 
 -- a line that is dead gives nothing
 pub dead_run : (slot : ℕ) (line : InView) (report : Option (List ℕ)) → line.state ≡ Dead → SlotRun slot line line report report Cut
@@ -146,3 +140,10 @@ dead_run slot line report dead = record {
   gave = gave_none line;
   ends = (after-none report ∙ ap (after report) (sym (slot_report-whole slot [] 0 refl (lit≤ tt) ∙ slots_of-none slot)), dead, lit≤ tt);
 }
+
+-- asking for one byte more is no write
+pub never_fault : (answer : Ended) (was now : InView) (old new : SinkView) → ByteRun was now answer → StepAfter None old new → ReportAfter answer old new
+never_fault Done was now old new byte h = record { later = h.later; faults = h.faults }
+never_fault Unfinished was now old new byte h = record { later = h.later; faults = h.faults }
+never_fault Cut was now old new byte h = record { later = h.later; faults = h.faults }
+never_fault ReportFault was now old new byte h = absurd byte.ends

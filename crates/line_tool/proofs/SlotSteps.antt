@@ -1,12 +1,14 @@
 -- How the steps of `slot` add up.
-use Rattle.std.proofs.Common.{◌≡◌, ◌≢◌, ℕ, suc, List, Option, Some, None, length, refl}
+use Rattle.std.proofs.Common.{◌≡◌, ◌≢◌, ℕ, suc, List, Option, length, refl}
 use Rattle.otn_ports.specs.Given.{Gave}
 use Rattle.otn_ports.specs.Reads.{idle_reading}
 use Rattle.otn_ports.specs.Views.{State, Empty, Live, Dead, InView}
 use Rattle.otn_ports.specs.declared.in_place.Reading.TheVariants.{Full, End}
-use Rattle.line_tool.specs.SlotRuns.{SlotStep, SlotWritten}
-use Rattle.line_tool.specs.declared.status.Status.{Status}
-use Rattle.line_tool.specs.declared.status.Status.TheVariants.{Done, Unfinished, Words, Plan, PlanFault, ReportFault, Cut, Memory}
+use Rattle.otn_ports.specs.declared.drain.Written.{Written}
+use Rattle.otn_ports.specs.declared.drain.Written.TheVariants.{Whole, Lost}
+use Rattle.otn_ports.specs.PortViews.{SinkView}
+use Rattle.line_tool.specs.Ends.{StepAfter, WriteAfter}
+use Rattle.line_tool.specs.SlotRuns.{SlotStep, SlotWritten, step_of}
 
 -- a place that filled a slice with room is live
 pub live_of : (s : State) (n : ℕ) → s ≢ Dead → (s ≢ Live → Full ≡ idle_reading (suc n)) → s ≡ Live
@@ -18,14 +20,12 @@ live_of Empty n alive idle =
     absurd (cc)
 
 -- a step that got a whole frame, and wrote its slot or a part of it
-pub step_written : (answer : Option Status) (slot : ℕ) (frame : List ℕ) (first now : InView) (old new : Option (List ℕ)) → Gave first frame now
-    → length frame ≡ 16320 → now.state ≡ first.state → SlotWritten slot frame old new answer → SlotStep slot first now old new answer
-step_written None slot frame first now old new gave size state written = record { taken = frame; gave = gave; ends = (size, state, written) }
-step_written (Some ReportFault) slot frame first now old new gave size state written = record { taken = frame; gave = gave; ends = (size, state, written) }
-step_written (Some Done) slot frame first now old new gave size state written = absurd written
-step_written (Some Unfinished) slot frame first now old new gave size state written = absurd written
-step_written (Some Cut) slot frame first now old new gave size state written = absurd written
-step_written (Some Words) slot frame first now old new gave size state written = absurd written
-step_written (Some Memory) slot frame first now old new gave size state written = absurd written
-step_written (Some PlanFault) slot frame first now old new gave size state written = absurd written
-step_written (Some (Plan error place)) slot frame first now old new gave size state written = absurd written
+pub step_written : (answer : Written) (slot : ℕ) (frame : List ℕ) (first now : InView) (old new : Option (List ℕ)) → Gave first frame now
+    → length frame ≡ 16320 → now.state ≡ first.state → SlotWritten answer slot frame old new → SlotStep slot first now old new (step_of answer)
+step_written Whole slot frame first now old new gave size state written = record { taken = frame; gave = gave; ends = (size, state, written) }
+step_written Lost slot frame first now old new gave size state written = record { taken = frame; gave = gave; ends = (size, state, written) }
+
+-- the report after such a step
+pub step_reported : (answer : Written) (old new : SinkView) → WriteAfter answer old new → StepAfter (step_of answer) old new
+step_reported Whole old new h = record { later = h.later; faults = h.faults }
+step_reported Lost old new h = record { later = h.later; faults = h.faults }

@@ -1,20 +1,26 @@
 -- The answers of `slot`, and what it wrote, by what its line gave.
-use Rattle.std.proofs.Common.{◌≡◌, ◌≢◌, ◌<◌, ◌≤◌, ◌+◌, ◌-◌, ◌*◌, ◌^◌, ◌∙◌, ◌⊎◌, ℕ, zero, suc, List, [], ◌∷◌, ◌++◌, Option, Some, IfSome, length, min, take, refl, sym, ap, subst, inl, inr, arith, append-nil, append_assoc, length-append, lit≤}
+use Rattle.std.proofs.Common.{◌≡◌, ◌≢◌, ◌<◌, ◌≤◌, ◌+◌, ◌-◌, ◌*◌, ◌^◌, ◌∙◌, ◌⊎◌, ◌↔◌, ℕ, zero, suc, List, [], ◌∷◌, ◌++◌, Option, Some, IfSome, Ok, length, min, take, refl, sym, ap, subst, inl, inr, arith, append-nil, append_assoc, length-append, lit≤}
 use Rattle.std.specs.List.{flat_map}
 use Rattle.std.proofs.lemmas.Grind.{flat_map-append}
 use Rattle.std.proofs.lemmas.List.{take-append-le}
 use Rattle.otn_ports.proofs.GivenLaws.{Beyond, given_of_gave}
 use Rattle.otn_ports.specs.Bytes.{after, raised}
-use Rattle.otn_ports.specs.Given.{IsGiven, Lives}
+use Rattle.otn_ports.specs.Given.{IsGiven}
 use Rattle.otn_ports.specs.Reads.{HasEnded}
 use Rattle.otn_ports.specs.Views.{State, Empty, Live, Dead, InView}
+use Rattle.line_tool.specs.Answers.{SlotAnswers, SlotRan}
+use Rattle.line_tool.specs.Device.{Device, line_zero}
+use Rattle.line_tool.specs.Ends.{ReportAfter, line_status}
 use Rattle.line_tool.specs.Runs.{Reports, HasRest, IsWell}
 use Rattle.line_side.specs.LineFile.{frame_at}
 use Rattle.line_tool.specs.SlotReport.{first_frames, slot_bytes, slot_report, used_frames}
-use Rattle.line_tool.specs.SlotRuns.{SlotRun, SlotEnds}
+use Rattle.line_tool.specs.SlotRuns.{SlotRun}
 use Rattle.line_tool.specs.Gains.{GainsPart}
+use Rattle.line_tool.specs.declared.ended.Ended.{Ended}
+use Rattle.line_tool.specs.declared.ended.Ended.TheVariants.{Done, Unfinished, ReportFault, Cut}
 use Rattle.line_tool.specs.declared.status.Status.{Status}
-use Rattle.line_tool.specs.declared.status.Status.TheVariants.{Done, Unfinished, Words, Plan, PlanFault, ReportFault, Cut, Memory}
+use Rattle.line_tool.specs.declared.status.Status.TheVariants as status
+use Rattle.line_tool.proofs.Lives.{is_dead, is_report_fault, still_alive}
 use Rattle.line_tool.proofs.LineFrames.{slots_of-none, slot_report-whole, first_frames-more, first_frames-append}
 
 -- the first frames and then some more
@@ -91,30 +97,6 @@ dead_given first now taken given h dead =
     let no : now.state ≢ Live = λ live. let e : Dead ≡ Live = sym dead ∙ live in absurd (cc) in
     h.parts ∙ ap (λ xs. taken ++ xs) (h.other no) ∙ append-nil taken
 
--- what is written, by Given
-pub reports_given : (status : Status) (slot : ℕ) (first now : InView) (old new : Option (List ℕ)) (given : List ℕ) → SlotRun slot first now old new status
-    → IsGiven first now given → Reports status old new (slot_report slot given)
-reports_given Done slot first now old new given h is =
-    let b = given_of_gave first now h.taken given h.gave is in
-    h.ends.0 ∙ ap (λ xs. after old (slot_report slot xs)) (sym (all_given first now h.taken given b h.ends.2))
-reports_given Cut slot first now old new given h is =
-    let b = given_of_gave first now h.taken given h.gave is in
-    h.ends.0 ∙ ap (λ xs. after old (slot_report slot xs)) (sym (dead_given first now h.taken given b h.ends.1))
-reports_given Unfinished slot first now old new given h is =
-    let b = given_of_gave first now h.taken given h.gave is in
-    by_end b h.ends.3
-  where
-    by_end : Beyond h.taken given now.state now.left → HasEnded now.left ⊎ (length h.taken ≡ 131072 * 16320 + 1) → new ≡ after old (slot_report slot given)
-    by_end b (inl ended) = h.ends.0 ∙ ap (λ xs. after old (slot_report slot xs)) (sym (all_given first now h.taken given b ended))
-    by_end b (inr many) = h.ends.0 ∙ ap (after old) (sym (ap (slot_report slot) b.parts ∙ report_most slot h.taken b.rest (omega (arith, many))))
-reports_given ReportFault slot first now old new given h is =
-    let b = given_of_gave first now h.taken given h.gave is in
-    subst (λ xs. GainsPart old new (slot_report slot xs)) (sym b.parts) (part_of_more slot h.taken b.rest old new h.ends.0)
-reports_given Words slot first now old new given h is = absurd h.ends
-reports_given Memory slot first now old new given h is = absurd h.ends
-reports_given PlanFault slot first now old new given h is = absurd h.ends
-reports_given (Plan error place) slot first now old new given h is = absurd h.ends
-
 -- nothing is written of no bytes
 report_none : (slot : ℕ) → length (slot_report slot []) ≡ 0
 report_none slot = ap length (slot_report-whole slot [] 0 refl (lit≤ tt) ∙ slots_of-none slot)
@@ -127,107 +109,143 @@ fault_alive slot first now old new h dead =
     let none : length (slot_report slot h.taken) ≡ 0 = ap (λ xs. length (slot_report slot xs)) (h.gave.idle no).1 ∙ report_none slot in
     omega (arith, none, h.ends.0.part)
 
--- Cut comes just where the line is dead
-pub cut_is : (status : Status) (slot : ℕ) (first now : InView) (old new : Option (List ℕ)) → SlotRun slot first now old new status
-    → (status ≡ Cut → now.state ≡ Dead) × (now.state ≡ Dead → status ≡ Cut)
-cut_is Done slot first now old new h = (λ e. absurd (cc), λ dead. absurd (h.ends.1 dead))
-cut_is Unfinished slot first now old new h = (λ e. absurd (cc), λ dead. absurd (h.ends.1 dead))
-cut_is Cut slot first now old new h = (λ _. h.ends.1, λ _. refl)
-cut_is ReportFault slot first now old new h = (λ e. absurd (cc), λ dead. absurd (fault_alive slot first now old new h dead))
-cut_is Words slot first now old new h = absurd h.ends
-cut_is Memory slot first now old new h = absurd h.ends
-cut_is PlanFault slot first now old new h = absurd h.ends
-cut_is (Plan error place) slot first now old new h = absurd h.ends
+-- ---- what `slot` answers for
 
--- Unfinished comes just where the line is not dead and bytes stand after the frames that are used
-pub unfinished_is : (status : Status) (slot : ℕ) (first now : InView) (old new : Option (List ℕ)) (given : List ℕ) → SlotRun slot first now old new status
-    → status ≢ ReportFault → IsGiven first now given
-    → (status ≡ Unfinished → (now.state ≢ Dead) × HasRest (length given)) × ((now.state ≢ Dead) × HasRest (length given) → status ≡ Unfinished)
-unfinished_is Done slot first now old new given h other is =
-    let b = given_of_gave first now h.taken given h.gave is in
-    let all : length given ≡ used_frames (length given) * 16320 = subst (λ xs. length xs ≡ used_frames (length xs) * 16320) (sym (all_given first now h.taken given b h.ends.2)) h.ends.3 in
-    (λ e. absurd (cc), λ r. let more : used_frames (length given) * 16320 < length given = r.1 in absurd (omega (arith, all, more)))
-unfinished_is Unfinished slot first now old new given h other is =
-    let b = given_of_gave first now h.taken given h.gave is in
-    (λ _. (h.ends.1, by_end b h.ends.3), λ _. refl)
+pub slot_ran : (ended : Ended) (slot : ℕ) (old new : Device) → SlotRun slot (line_zero old) (line_zero new) old.report.got new.report.got ended
+    → ReportAfter ended old.report new.report → SlotRan slot old new (line_status (Ok ended))
+slot_ran Done slot old new h r = record {
+  taken = h.taken;
+  gave = h.gave;
+  wrote = h.ends.0;
+  counts = record { fault = λ e. absurd (cc); calm = λ _. r.faults };
+  cut = (λ e. absurd (cc), λ dead. absurd (h.ends.1 dead));
+  unfinished = λ _. (λ e. absurd (cc), λ x. let more : used_frames (length h.taken) * 16320 < length h.taken = x.1 in absurd (omega (arith, h.ends.3, more)));
+  most = h.ends.4;
+  all = λ _ _. inl h.ends.2;
+}
+slot_ran Unfinished slot old new h r = record {
+  taken = h.taken;
+  gave = h.gave;
+  wrote = h.ends.0;
+  counts = record { fault = λ e. absurd (cc); calm = λ _. r.faults };
+  cut = (λ e. absurd (cc), λ dead. absurd (h.ends.1 dead));
+  unfinished = λ _. (λ _. (h.ends.1, h.ends.2), λ _. refl);
+  most = h.ends.4;
+  all = λ _ _. h.ends.3;
+}
+slot_ran Cut slot old new h r = record {
+  taken = h.taken;
+  gave = h.gave;
+  wrote = h.ends.0;
+  counts = record { fault = λ e. absurd (cc); calm = λ _. r.faults };
+  cut = (λ _. h.ends.1, λ _. refl);
+  unfinished = λ _. (λ e. absurd (cc), λ x. absurd (x.0 h.ends.1));
+  most = h.ends.2;
+  all = λ _ alive. absurd (alive h.ends.1);
+}
+slot_ran ReportFault slot old new h r = record {
+  taken = h.taken;
+  gave = h.gave;
+  wrote = h.ends.0;
+  counts = record { fault = λ _. r.faults; calm = λ no. absurd (no refl) };
+  cut = (λ e. absurd (cc), λ dead. absurd (fault_alive slot (line_zero old) (line_zero new) old.report.got new.report.got h dead));
+  unfinished = λ no. absurd (no refl);
+  most = h.ends.2;
+  all = λ no. absurd (no refl);
+}
+
+-- ---- by Given
+
+-- what Given has beyond the bytes taken: nothing, or the most were taken
+abbrev pub IsAllOrMost : (taken given : List ℕ) → Type 0
+IsAllOrMost taken given = (given ≡ taken) ⊎ (length taken ≡ 131072 * 16320 + 1)
+
+pub all_or_most : (slot : ℕ) (old new : Device) (answer : Status) (given : List ℕ) (h : SlotRan slot old new answer) → answer ≢ status.ReportFault
+    → Beyond h.taken given (line_zero new).state (line_zero new).left → IsAllOrMost h.taken given
+all_or_most slot old new answer given h other b = by_life (is_dead (line_zero new).state)
   where
-    by_end : Beyond h.taken given now.state now.left → HasEnded now.left ⊎ (length h.taken ≡ 131072 * 16320 + 1) → HasRest (length given)
-    by_end b (inl ended) = subst (λ xs. HasRest (length xs)) (sym (all_given first now h.taken given b ended)) h.ends.2
-    by_end b (inr many) =
-        let size : length given ≡ length h.taken + length b.rest = ap length b.parts ∙ length-append h.taken b.rest in
-        let most : used_frames (length given) ≡ 131072 = used-most (length given) (omega (arith, size, many)) in
-        omega (arith, size, many, most)
-unfinished_is Cut slot first now old new given h other is = (λ e. absurd (cc), λ r. absurd (r.0 h.ends.1))
-unfinished_is ReportFault slot first now old new given h other is = absurd (other refl)
-unfinished_is Words slot first now old new given h other is = absurd h.ends
-unfinished_is Memory slot first now old new given h other is = absurd h.ends
-unfinished_is PlanFault slot first now old new given h other is = absurd h.ends
-unfinished_is (Plan error place) slot first now old new given h other is = absurd h.ends
+    by_end : HasEnded (line_zero new).left ⊎ (length h.taken ≡ 131072 * 16320 + 1) → IsAllOrMost h.taken given
+    by_end (inl ended) = inl (all_given (line_zero old) (line_zero new) h.taken given b ended)
+    by_end (inr many) = inr many
+
+    by_life : ((line_zero new).state ≡ Dead) ⊎ ((line_zero new).state ≢ Dead) → IsAllOrMost h.taken given
+    by_life (inl dead) = inl (dead_given (line_zero old) (line_zero new) h.taken given b dead)
+    by_life (inr alive) = by_end (h.all other alive)
+
+-- what is written
+pub slot_reports : (slot : ℕ) (old new : Device) (answer : Status) (given : List ℕ) → SlotRan slot old new answer
+    → IsGiven (line_zero old) (line_zero new) given → Reports answer old.report.got new.report.got (slot_report slot given)
+slot_reports slot old new answer given h is = by_answer (is_report_fault answer)
+  where
+    b : Beyond h.taken given (line_zero new).state (line_zero new).left
+    b = given_of_gave (line_zero old) (line_zero new) h.taken given h.gave is
+
+    same : IsAllOrMost h.taken given → slot_report slot h.taken ≡ slot_report slot given
+    same (inl all) = ap (slot_report slot) (sym all)
+    same (inr many) = sym (ap (slot_report slot) b.parts ∙ report_most slot h.taken b.rest (omega (arith, many)))
+
+    by_answer : (answer ≡ status.ReportFault) ⊎ (answer ≢ status.ReportFault) → Reports answer old.report.got new.report.got (slot_report slot given)
+    by_answer (inl fault) =
+        let part : GainsPart old.report.got new.report.got (slot_report slot h.taken) = subst (λ s. Reports s old.report.got new.report.got (slot_report slot h.taken)) fault h.wrote in
+        let more = subst (λ xs. GainsPart old.report.got new.report.got (slot_report slot xs)) (sym b.parts) (part_of_more slot h.taken b.rest old.report.got new.report.got part) in
+        subst (λ s. Reports s old.report.got new.report.got (slot_report slot given)) (sym fault) more
+    by_answer (inr other) =
+        subst (Reports answer old.report.got new.report.got) (same (all_or_most slot old new answer given h other b)) h.wrote
+
+-- bytes stand behind the whole frames that are used, of what was taken just where of what was given
+same_rest : (taken given : List ℕ) (rest : List ℕ) → given ≡ taken ++ rest → IsAllOrMost taken given → HasRest (length taken) ↔ HasRest (length given)
+same_rest taken given rest parts (inl all) = (subst (λ xs. HasRest (length xs)) (sym all), subst (λ xs. HasRest (length xs)) all)
+same_rest taken given rest parts (inr many) =
+    let size : length given ≡ length taken + length rest = ap length parts ∙ length-append taken rest in
+    let most : used_frames (length given) ≡ 131072 = used-most (length given) (omega (arith, size, many)) in
+    let here : used_frames (length taken) ≡ 131072 = used-most (length taken) (omega (arith, many)) in
+    (λ _. omega (arith, size, many, most), λ _. omega (arith, many, here))
+
+pub slot_unfinished : (slot : ℕ) (old new : Device) (answer : Status) (given : List ℕ) → SlotRan slot old new answer → answer ≢ status.ReportFault
+    → IsGiven (line_zero old) (line_zero new) given → (answer ≡ status.Unfinished) ↔ (((line_zero new).state ≢ Dead) × HasRest (length given))
+slot_unfinished slot old new answer given h other is =
+    let b = given_of_gave (line_zero old) (line_zero new) h.taken given h.gave is in
+    let same = same_rest h.taken given b.rest b.parts (all_or_most slot old new answer given h other b) in
+    let u = h.unfinished other in
+    (λ e. let x = u.0 e in (x.0, same.0 x.1), λ x. u.1 (x.0, same.1 x.1))
 
 -- how many bytes were taken, by the place's number
 counted : (old new n : ℕ) → new ≡ raised old n → new < 2 ^ 64 - 1 → new - old ≡ n
 counted old new n e below = omega arith
 
--- where all that was given is taken, and where a byte after the most came
-took_all : (taken given : List ℕ) → given ≡ taken → length taken ≤ 131072 * 16320 + 1 → length taken ≡ min (length given) (131072 * 16320 + 1)
-took_all taken given same few = omega (arith, ap length same, few)
+pub slot_counted : (slot : ℕ) (old new : Device) (answer : Status) → SlotRan slot old new answer → answer ≢ status.ReportFault
+    → (line_zero new).number < 2 ^ 64 - 1
+    → (answer ≡ status.Unfinished) ↔ (((line_zero new).state ≢ Dead) × HasRest ((line_zero new).number - (line_zero old).number))
+slot_counted slot old new answer h other below =
+    let n = counted (line_zero old).number (line_zero new).number (length h.taken) h.gave.takes.number below in
+    subst (λ k. (answer ≡ status.Unfinished) ↔ (((line_zero new).state ≢ Dead) × HasRest k)) (sym n) (h.unfinished other)
 
-took_most : (taken given rest : List ℕ) → given ≡ taken ++ rest → length taken ≡ 131072 * 16320 + 1 → length taken ≡ min (length given) (131072 * 16320 + 1)
-took_most taken given rest parts many = omega (arith, ap length parts ∙ length-append taken rest, many)
+-- as many as there are, but of the most frames and one byte more at most
+least_of : (taken given rest : List ℕ) → given ≡ taken ++ rest → length taken ≤ 131072 * 16320 + 1 → IsAllOrMost taken given
+    → length taken ≡ min (length given) (131072 * 16320 + 1)
+least_of taken given rest parts few (inl all) = omega (arith, ap length all, few)
+least_of taken given rest parts few (inr many) = omega (arith, ap length parts ∙ length-append taken rest, many)
 
--- of what the line gave as many bytes are taken as there are, but of the most frames and one byte more at most
-pub slot_took_is : (status : Status) (slot : ℕ) (first now : InView) (old new : Option (List ℕ)) (given : List ℕ) → SlotRun slot first now old new status
-    → status ≢ ReportFault → IsGiven first now given → now.number < 2 ^ 64 - 1 → now.number - first.number ≡ min (length given) (131072 * 16320 + 1)
-slot_took_is status slot first now old new given h other is below =
-    counted first.number now.number (length h.taken) h.gave.takes.number below ∙ by_taken status h.ends other (given_of_gave first now h.taken given h.gave is)
-  where
-    by_taken : (status : Status) → SlotEnds status slot h.taken first now old new → status ≢ ReportFault → Beyond h.taken given now.state now.left
-        → length h.taken ≡ min (length given) (131072 * 16320 + 1)
-    by_taken Done ends other b = took_all h.taken given (all_given first now h.taken given b ends.2) ends.4
-    by_taken Cut ends other b = took_all h.taken given (dead_given first now h.taken given b ends.1) ends.2
-    by_taken Unfinished ends other b = by_end ends.3
-      where
-        by_end : HasEnded now.left ⊎ (length h.taken ≡ 131072 * 16320 + 1) → length h.taken ≡ min (length given) (131072 * 16320 + 1)
-        by_end (inl ended) = took_all h.taken given (all_given first now h.taken given b ended) ends.4
-        by_end (inr many) = took_most h.taken given b.rest b.parts many
-    by_taken ReportFault ends other b = absurd (other refl)
-    by_taken Words ends other b = absurd ends
-    by_taken Memory ends other b = absurd ends
-    by_taken PlanFault ends other b = absurd ends
-    by_taken (Plan error place) ends other b = absurd ends
+pub slot_took : (slot : ℕ) (old new : Device) (answer : Status) (given : List ℕ) → SlotRan slot old new answer → answer ≢ status.ReportFault
+    → IsGiven (line_zero old) (line_zero new) given → (line_zero new).number < 2 ^ 64 - 1
+    → (line_zero new).number - (line_zero old).number ≡ min (length given) (131072 * 16320 + 1)
+slot_took slot old new answer given h other is below =
+    let b = given_of_gave (line_zero old) (line_zero new) h.taken given h.gave is in
+    counted (line_zero old).number (line_zero new).number (length h.taken) h.gave.takes.number below
+    ∙ least_of h.taken given b.rest b.parts h.most (all_or_most slot old new answer given h other b)
 
--- Unfinished by the place's number of bytes
-pub unfinished_counted : (status : Status) (slot : ℕ) (first now : InView) (old new : Option (List ℕ)) → SlotRun slot first now old new status
-    → status ≢ ReportFault → now.number < 2 ^ 64 - 1
-    → (status ≡ Unfinished → (now.state ≢ Dead) × HasRest (now.number - first.number)) × ((now.state ≢ Dead) × HasRest (now.number - first.number) → status ≡ Unfinished)
-unfinished_counted status slot first now old new h other below =
-    let n = counted first.number now.number (length h.taken) h.gave.takes.number below in
-    subst (λ k. (status ≡ Unfinished → (now.state ≢ Dead) × HasRest k) × ((now.state ≢ Dead) × HasRest k → status ≡ Unfinished)) (sym n)
-    (by_taken status slot first now old new h other)
-  where
-    by_taken : (status : Status) (slot : ℕ) (first now : InView) (old new : Option (List ℕ)) (h : SlotRun slot first now old new status) → status ≢ ReportFault
-        → (status ≡ Unfinished → (now.state ≢ Dead) × HasRest (length h.taken)) × ((now.state ≢ Dead) × HasRest (length h.taken) → status ≡ Unfinished)
-    by_taken Done slot first now old new h other = (λ e. absurd (cc), λ r. let more : used_frames (length h.taken) * 16320 < length h.taken = r.1 in absurd (omega (arith, h.ends.3, more)))
-    by_taken Unfinished slot first now old new h other = (λ _. (h.ends.1, h.ends.2), λ _. refl)
-    by_taken Cut slot first now old new h other = (λ e. absurd (cc), λ r. absurd (r.0 h.ends.1))
-    by_taken ReportFault slot first now old new h other = absurd (other refl)
-    by_taken Words slot first now old new h other = absurd h.ends
-    by_taken Memory slot first now old new h other = absurd h.ends
-    by_taken PlanFault slot first now old new h other = absurd h.ends
-    by_taken (Plan error place) slot first now old new h other = absurd h.ends
+-- ---- without faults
 
--- with no fault, and a line that was not dead, the command is Done or Unfinished
-pub complete_is : (status : Status) (slot : ℕ) (first now : InView) (old new : Option (List ℕ)) → SlotRun slot first now old new status
-    → status ≢ ReportFault → IsWell first.faults now.faults → first.state ≢ Dead → (status ≡ Done) ⊎ (status ≡ Unfinished) ⊎ (status ≡ Memory)
-complete_is Done slot first now old new h other well alive = inl refl
-complete_is Unfinished slot first now old new h other well alive = inr (inl refl)
-complete_is Memory slot first now old new h other well alive = absurd h.ends
-complete_is PlanFault slot first now old new h other well alive = absurd h.ends
-complete_is (Plan error place) slot first now old new h other well alive = absurd h.ends
-complete_is Words slot first now old new h other well alive = absurd h.ends
-complete_is ReportFault slot first now old new h other well alive = absurd (other refl)
-complete_is Cut slot first now old new h other well alive = absurd (by_life h.gave.state)
-  where
-    by_life : Lives first.state now.state first.faults now.faults → ⊥
-    by_life (inl same) = alive (sym same ∙ h.ends.1)
-    by_life (inr died) = well died.2
+pub slot_complete : (answer : Status) (slot : ℕ) (old new : Device) → SlotAnswers slot old new answer → IsWell old.report.faults new.report.faults
+    → IsWell (line_zero old).faults (line_zero new).faults → (line_zero old).state ≢ Dead
+    → (answer ≡ status.Done) ⊎ (answer ≡ status.Unfinished) ⊎ (answer ≡ status.Memory)
+slot_complete status.Done slot old new h report line alive = inl refl
+slot_complete status.Unfinished slot old new h report line alive = inr (inl refl)
+slot_complete status.Memory slot old new h report line alive = inr (inr refl)
+slot_complete status.ReportFault slot old new h report line alive = absurd (report ((h.ran (λ e. cc)).counts.fault refl))
+slot_complete status.Cut slot old new h report line alive =
+    let ran = h.ran (λ e. cc) in
+    absurd (still_alive (line_zero old) (line_zero new) ran.gave.state line alive (ran.cut.0 refl))
+slot_complete status.Words slot old new h report line alive = absurd h.answer
+slot_complete status.PlanFault slot old new h report line alive = absurd h.answer
+slot_complete (status.Plan error place) slot old new h report line alive = absurd h.answer

@@ -2,6 +2,7 @@
 use Rattle.std.proofs.Common.{◌≡◌, ◌+◌, ◌∙◌, ℕ, true, false, List, [], ◌∷◌, ◌++◌, Option, Some, None, refl, sym, ap, subst, add-one, append-nil}
 use Rattle.std.specs.Prelude.{is_some, IfSome}
 use Rattle.otn_ports.specs.Views.{InView}
+use Rattle.line_side.specs.LineForm.{plain_otu2}
 use Rattle.line_side.specs.LineFile.{frame_at, mfas_of}
 use Rattle.line_side.specs.LineStands.{LineView, PieceStands}
 use Rattle.line_side.specs.MayBe.{MayBe}
@@ -9,7 +10,7 @@ use Rattle.multiframe.specs.LineTurns.{Lock, standing}
 use Rattle.multiframe.specs.TurnPieces.{in_hand}
 use Rattle.tributary_model.specs.Places.{Tributary, Taken, View}
 use Rattle.trib_sink.specs.Sink.{Sink, StandsAfter}
-use Rattle.line_tool.specs.PullReport.{views_until}
+use Rattle.device_model.specs.LineViews.{views_until}
 use Rattle.line_tool.specs.PullTurn.{member_of, frames_in, TapStands, TapMoves}
 use Rattle.line_tool.specs.declared.tap.Tap.{Tap}
 
@@ -47,14 +48,15 @@ one_frame given frame t k expected some hand number =
 
 -- after a piece that has no frame in hand the sink has taken no more
 pub piece_none : (own : Tributary) (first was now : InView) (taken : List ℕ) (t : ℕ) (tap : Tap) (line : LineView)
-    → line.pieces ≡ tap.line.pieces + 1 → line.member ≡ false → TapStands own first was taken t tap → PieceStands first now taken t tap.line line
+    → line.pieces ≡ tap.line.pieces + 1 → line.member ≡ false → TapStands own first was taken t tap → PieceStands plain_otu2 first now taken t tap.line line
     → TapMoves own first now taken t tap (record { line = line; sink = tap.sink })
 piece_none own first was now taken t tap line pieces none h p = record {
   came = p.came;
   stands = record {
+    size = h.size;
     line = p.stands;
     sink = λ given may.
-        let is = p.stands.told given may in
+        let is = p.stands.is_line given may in
         let hand = subst (λ k. is_some (in_hand 8 (mfas_of given) (standing 8 (mfas_of given) t) k) ≡ false) pieces (sym is.member ∙ none) in
         let frames = no_frame given t tap.line.pieces hand in
         subst (λ xs. StandsAfter own (views_until own given t) xs tap.sink) (sym (ap (frames_in given t) pieces ∙ frames)) (h.sink given (p.earlier given may));
@@ -65,8 +67,8 @@ piece_none own first was now taken t tap line pieces none h p = record {
 -- after a piece that has a frame in hand the sink has taken this one
 pub piece_frame : (own : Tributary) (first was now : InView) (taken : List ℕ) (t expected : ℕ) (tap : Tap) (line : LineView) (sink : Sink)
     → line.pieces ≡ tap.line.pieces + 1 → line.member ≡ true
-    → TapStands own first was taken t tap → (p : PieceStands first now taken t tap.line line)
-    → ((given : List ℕ) → MayBe line.reader.ending (taken ++ p.came) given
+    → TapStands own first was taken t tap → (p : PieceStands plain_otu2 first now taken t tap.line line)
+    → ((given : List ℕ) → MayBe false line.reader.ending (taken ++ p.came) given
     → IfSome (in_hand 8 (mfas_of given) (standing 8 (mfas_of given) t) line.pieces) (λ member. expected ≡ member.expected))
     → ((past : List (Option View)) (frames : List Taken) → StandsAfter own past frames tap.sink
     → StandsAfter own past (frames ++ record { frame = line.reader.hand; expected = expected } ∷ []) sink)
@@ -74,9 +76,10 @@ pub piece_frame : (own : Tributary) (first was now : InView) (taken : List ℕ) 
 piece_frame own first was now taken t expected tap line sink pieces some h p number takes = record {
   came = p.came;
   stands = record {
+    size = h.size;
     line = p.stands;
     sink = λ given may.
-        let is = p.stands.told given may in
+        let is = p.stands.is_line given may in
         let there = subst (λ k. is_some (in_hand 8 (mfas_of given) (standing 8 (mfas_of given) t) k) ≡ true) pieces (sym is.member ∙ some) in
         let hand = subst (λ k. IfSome (in_hand 8 (mfas_of given) (standing 8 (mfas_of given) t) k) (λ member. line.reader.hand ≡ frame_at given member.frame)) pieces is.hand in
         let mfas = subst (λ k. IfSome (in_hand 8 (mfas_of given) (standing 8 (mfas_of given) t) k) (λ member. expected ≡ member.expected)) pieces (number given may) in

@@ -2,6 +2,7 @@
 use Rattle.std.proofs.Common.{◌≡◌, ◌≤◌, ◌+◌, ◌∙◌, ℕ, Bool, true, false, List, [], ◌∷◌, ◌++◌, Option, length, take, drop, refl, sym, ap, subst, arith, add-one, append-nil, append_assoc, length-append}
 use Rattle.std.specs.Prelude.{is_some}
 use Rattle.otn_ports.specs.Views.{InView}
+use Rattle.line_side.specs.LineForm.{plain_otu2}
 use Rattle.line_side.specs.LineFile.{mfas_of}
 use Rattle.line_side.specs.LineStands.{LineView, LineStands}
 use Rattle.line_side.specs.MayBe.{MayBe}
@@ -12,7 +13,7 @@ use Rattle.maintenance_signals.specs.Stream.{signal_byte}
 use Rattle.maintenance_signals.specs.declared.signal.Signal.TheVariants.{Ais}
 use Rattle.tributary_model.specs.Emission.{emission}
 use Rattle.line_tool.proofs.TurnFrames.{turn_frames}
-use Rattle.line_tool.specs.PullReport.{view_at, views_until, emitted_at}
+use Rattle.device_model.specs.LineViews.{view_at, views_until, emitted_at}
 use Rattle.line_tool.specs.PullTurn.{frames_in, TapStands, TapMoves, TurnMoves}
 use Rattle.line_tool.specs.declared.tap.Tap.{Tap}
 
@@ -23,7 +24,7 @@ moves_none own first now taken t tap h =
     record {
       came = [];
       stands = subst (λ xs. TapStands own first now xs t tap) (sym all) h;
-      earlier = λ given may. subst (λ xs. MayBe tap.line.reader.ending xs given) all may;
+      earlier = λ given may. subst (λ xs. MayBe false tap.line.reader.ending xs given) all may;
     }
 
 -- some pieces and then some more
@@ -35,14 +36,15 @@ moves_twice own first was now taken t old mid new m next =
     record {
       came = m.came ++ n.came;
       stands = subst (λ xs. TapStands own first now xs t new) all n.stands;
-      earlier = λ given may. m.earlier given (n.earlier given (subst (λ xs. MayBe new.line.reader.ending xs given) (sym all) may));
+      earlier = λ given may. m.earlier given (n.earlier given (subst (λ xs. MayBe false new.line.reader.ending xs given) (sym all) may));
     }
 
 -- before the first turn
-pub tap_begins : (own : Tributary) (tap : Tap) → tap.line.pieces ≡ 0 → ((first : InView) → LineStands first first [] 0 tap.line) → StandsAfter own [] [] tap.sink
+pub tap_begins : (own : Tributary) (tap : Tap) → own.line_slots ≡ 8 → tap.line.pieces ≡ 0 → ((first : InView) → LineStands plain_otu2 first first [] 0 tap.line) → StandsAfter own [] [] tap.sink
     → (first : InView) → TapStands own first first [] 0 tap
 unfolding views_until frames_in
-tap_begins own tap between line sink first = record {
+tap_begins own tap size between line sink first = record {
+  size = size;
   line = line first;
   sink = λ given may. subst (λ k. StandsAfter own [] (frames_in given 0 k) tap.sink) (sym between) sink;
 }
@@ -81,9 +83,9 @@ unfolding views_until
 views_more own given t = rw (add-one t) refl
 
 -- what a turn shows, by the frames that its pieces took
-shown : (own : Tributary) (given : List ℕ) (t : ℕ) (whole : Bool) → whole ≡ is_some (multiframe 8 (mfas_of given) t)
+shown : (own : Tributary) (given : List ℕ) (t : ℕ) (whole : Bool) → own.line_slots ≡ 8 → whole ≡ is_some (multiframe 8 (mfas_of given) t)
     → ended_view own whole (frames_in given t 8) ≡ view_at own given t
-shown own given t whole e = ap (λ b. ended_view own b (frames_in given t 8)) e ∙ turn_frames own given t
+shown own given t whole size e = ap (λ b. ended_view own b (frames_in given t 8)) e ∙ turn_frames own given t size
 
 -- what it emits
 emission_at : (own : Tributary) (given : List ℕ) (t : ℕ) → emission own (signal_byte Ais) (views_until own given t) (view_at own given t) ≡ emitted_at own given t
@@ -93,9 +95,9 @@ emission_at own given t = refl
 -- the end of a turn whose pieces are done
 pub turn_ends : (own : Tributary) (first now : InView) (taken : List ℕ) (t count : ℕ) (old mid : Tap) (whole : Bool) (line : LineView) (sink : Sink) (into room : List ℕ)
     → (m : TapMoves own first now taken t old mid) → mid.line.pieces ≡ 8 → line.pieces ≡ 0 → line.reader.ending ≡ mid.line.reader.ending
-    → LineStands first now (taken ++ m.came) (t + 1) line
-    → ((given : List ℕ) → MayBe mid.line.reader.ending (taken ++ m.came) given → whole ≡ is_some (multiframe 8 (mfas_of given) t))
-    → ((given : List ℕ) → MayBe mid.line.reader.ending (taken ++ m.came) given
+    → LineStands plain_otu2 first now (taken ++ m.came) (t + 1) line
+    → ((given : List ℕ) → MayBe false mid.line.reader.ending (taken ++ m.came) given → whole ≡ is_some (multiframe 8 (mfas_of given) t))
+    → ((given : List ℕ) → MayBe false mid.line.reader.ending (taken ++ m.came) given
     → (line.ended ≡ true → standing 8 (mfas_of given) (t + 1) ≡ Ended) × (standing 8 (mfas_of given) (t + 1) ≡ Ended → line.ended ≡ true))
     → ((past : List (Option View)) (frames : List Taken) → StandsAfter own past frames mid.sink → StandsAfter own (ended_view own whole frames ∷ past) [] sink)
     → ((past : List (Option View)) (frames : List Taken) → StandsAfter own past frames mid.sink
@@ -103,16 +105,17 @@ pub turn_ends : (own : Tributary) (first now : InView) (taken : List ℕ) (t cou
     → ((past : List (Option View)) (frames : List Taken) → StandsAfter own past frames mid.sink → count ≡ length (emission own (signal_byte Ais) past (ended_view own whole frames)))
     → TurnMoves own first now taken t old (record { line = line; sink = sink }) (take count into)
 turn_ends own first now taken t count old mid whole line sink into room m eight none ending stands multi ends sinks bytes counts =
-    let earlier : (given : List ℕ) → MayBe line.reader.ending (taken ++ m.came) given → MayBe mid.line.reader.ending (taken ++ m.came) given
-    = λ given may. subst (λ e. MayBe e (taken ++ m.came) given) ending may in
-    let took : (given : List ℕ) → MayBe mid.line.reader.ending (taken ++ m.came) given → StandsAfter own (views_until own given t) (frames_in given t 8) mid.sink
+    let earlier : (given : List ℕ) → MayBe false line.reader.ending (taken ++ m.came) given → MayBe false mid.line.reader.ending (taken ++ m.came) given
+    = λ given may. subst (λ e. MayBe false e (taken ++ m.came) given) ending may in
+    let took : (given : List ℕ) → MayBe false mid.line.reader.ending (taken ++ m.came) given → StandsAfter own (views_until own given t) (frames_in given t 8) mid.sink
     = λ given may. subst (λ k. StandsAfter own (views_until own given t) (frames_in given t k) mid.sink) eight (m.stands.sink given may) in
     record {
       came = m.came;
       stands = record {
+        size = m.stands.size;
         line = stands;
         sink = λ given may.
-            let view = shown own given t whole (multi given (earlier given may)) in
+            let view = shown own given t whole m.stands.size (multi given (earlier given may)) in
             let views = ap (λ v. v ∷ views_until own given t) view ∙ sym (views_more own given t) in
             let frames = sym (ap (frames_in given (t + 1)) none ∙ no_frames given (t + 1)) in
             subst (λ fs. StandsAfter own (views_until own given (t + 1)) fs sink) frames
@@ -121,7 +124,7 @@ turn_ends own first now taken t count old mid whole line sink into room m eight 
       earlier = λ given may. m.earlier given (earlier given may);
       emits = λ given may.
           let st = took given (earlier given may) in
-          let view = shown own given t whole (multi given (earlier given may)) in
+          let view = shown own given t whole m.stands.size (multi given (earlier given may)) in
           front into (emission own (signal_byte Ais) (views_until own given t) (ended_view own whole (frames_in given t 8))) room count
           (bytes (views_until own given t) (frames_in given t 8) st) (counts (views_until own given t) (frames_in given t 8) st)
           ∙ ap (emission own (signal_byte Ais) (views_until own given t)) view ∙ emission_at own given t;
@@ -137,7 +140,7 @@ pub turn_within : (own : Tributary) (first now : InView) (taken : List ℕ) (t c
     → length into ≡ length room → count ≤ length room
 turn_within own first now taken t count old mid whole into room m bytes counts same =
     let given = taken ++ m.came in
-    let may : MayBe mid.line.reader.ending (taken ++ m.came) given = record { rest = []; over = λ _. refl; parts = sym (append-nil (taken ++ m.came)) } in
+    let may : MayBe false mid.line.reader.ending (taken ++ m.came) given = record { rest = []; over = λ _. refl; parts = sym (append-nil (taken ++ m.came)) } in
     let st = m.stands.sink given may in
     front_within into (emission own (signal_byte Ais) (views_until own given t) (ended_view own whole (frames_in given t mid.line.pieces))) room count
     (bytes (views_until own given t) (frames_in given t mid.line.pieces) st) (counts (views_until own given t) (frames_in given t mid.line.pieces) st) same

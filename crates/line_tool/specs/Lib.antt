@@ -1,6 +1,9 @@
 pub mod Agreements
+pub mod Answers
 pub mod Beyond
 pub mod Codes
+pub mod Device
+pub mod Ends
 pub mod Gains
 pub mod PlanCheck
 pub mod PullCarried

@@ -1,11 +1,12 @@
 -- What `check` reads, and what it answers.
-use Rattle.std.specs.Prelude.{◌≡◌, ◌⊎◌, ℕ, List, [], ◌∷◌, ◌++◌, Option, Ok, Err, length, codes}
+use Rattle.std.specs.Prelude.{◌≡◌, ◌≢◌, ◌<◌, ◌≤◌, ◌⊎◌, ℕ, List, [], ◌∷◌, ◌++◌, Option, Ok, Err, length, codes}
 use Rattle.std.specs.Fmt.{decimal}
-use Rattle.otn_ports.specs.Bytes.{before, after}
+use Rattle.otn_ports.specs.Bytes.{before, after, HasFailed}
 use Rattle.otn_ports.specs.Reads.{HasEnded}
 use Rattle.plan_file.specs.Answer.{plan_of_text}
 use Rattle.plan_file.specs.declared.error.NoPlan.TheVariants.{Refused}
 use Rattle.plan_file.specs.declared.plan.Plan.{Plan}
+use Rattle.otn_ports.specs.PortViews.{SourceView, SinkView, SourceLater, SinkLater}
 use Rattle.line_tool.specs.Gains.{GainsPart}
 use Rattle.line_tool.specs.declared.status.Status.{Status}
 use Rattle.line_tool.specs.declared.status.Status.TheVariants as status
@@ -15,39 +16,46 @@ abbrev pub plan_text : Plan → List ℕ
 plan_text plan = codes "plan connections " ++ (decimal (length plan.connections) ++ (codes " turns " ++ (decimal plan.turns ++ 10 ∷ [])))
 
 -- the answer once a plan is accepted
-abbrev pub PlanTold : Plan → (old new : Option (List ℕ)) → Status → Type 0
-PlanTold plan old new status.Done = new ≡ after old (plan_text plan)
-PlanTold plan old new status.ReportFault = GainsPart old new (plan_text plan)
-PlanTold plan old new status.Memory = new ≡ old
-PlanTold plan old new (status.Plan error place) = ⊥
-PlanTold plan old new status.PlanFault = ⊥
-PlanTold plan old new status.Words = ⊥
-PlanTold plan old new status.Cut = ⊥
-PlanTold plan old new status.Unfinished = ⊥
+abbrev pub PlanTold : Status → Plan → (old new : Option (List ℕ)) → Type 0
+PlanTold status.Done plan old new = new ≡ after old (plan_text plan)
+PlanTold status.ReportFault plan old new = GainsPart old new (plan_text plan)
+PlanTold status.Memory plan old new = new ≡ old
+PlanTold other plan old new = ⊥
 
--- the answer to a text
+-- the answer to a text, and what was written of it
 abbrev pub CheckEnds : Status → List ℕ → (old new : Option (List ℕ)) → Type 0
 CheckEnds status.Done text old new = (plan : Plan) × ((plan_of_text text ≡ Ok plan) × (new ≡ after old (plan_text plan)))
 CheckEnds status.ReportFault text old new = (plan : Plan) × ((plan_of_text text ≡ Ok plan) × GainsPart old new (plan_text plan))
 CheckEnds (status.Plan error place) text old new = (plan_of_text text ≡ Err (Refused error place)) × (new ≡ old)
 CheckEnds status.Memory text old new = new ≡ old
 CheckEnds status.PlanFault text old new = new ≡ old
-CheckEnds status.Words text old new = ⊥
-CheckEnds status.Cut text old new = ⊥
-CheckEnds status.Unfinished text old new = ⊥
+CheckEnds other text old new = ⊥
 
 -- all of a source came, or a byte more than the longest plan has
 abbrev pub IsAll : List ℕ → Option (List ℕ) → Type 0
 IsAll text left = HasEnded left ⊎ (length text ≡ 1048577)
 
+-- what was read before an answer: all; a part of what would be all, where a read failed; all or nothing, where there was no memory
 abbrev pub WasRead : Status → List ℕ → Option (List ℕ) → Type 0
-WasRead status.PlanFault text left = Unit {0}
-WasRead status.Memory text left = Unit {0}
+WasRead status.PlanFault text left = length text < 1048577
+WasRead status.Memory text left = (text ≡ []) ⊎ IsAll text left
 WasRead other text left = IsAll text left
 
+-- a port's count of faults rose or stands at its end where this is the answer, and else it is as it was
+pub record CountsBy (failure answer : Status) (old new : ℕ) : Type 0 where
+  pub fault : answer ≡ failure → HasFailed old new
+  pub calm : answer ≢ failure → new ≡ old
+
 -- `check` from a plan's source and a report as they were to how they are
-pub record CheckRun (had has : Option (List ℕ)) (old new : Option (List ℕ)) (status : Status) : Type 0 where
+pub record CheckRun (plan_old plan_new : SourceView) (old new : SinkView) (answer : Status) : Type 0 where
+  -- this text was read, of a byte more than the longest plan has at most
   pub text : List ℕ
-  pub read : had ≡ before text has
-  pub all : WasRead status text has
-  pub ends : CheckEnds status text old new
+  pub read : plan_old.left ≡ before text plan_new.left
+  pub most : length text ≤ 1048577
+  pub all : WasRead answer text plan_new.left
+  -- and answered for
+  pub ends : CheckEnds answer text old.got new.got
+  pub plan : SourceLater plan_old plan_new
+  pub plan_counts : CountsBy status.PlanFault answer plan_old.faults plan_new.faults
+  pub report : SinkLater old new
+  pub report_counts : CountsBy status.ReportFault answer old.faults new.faults

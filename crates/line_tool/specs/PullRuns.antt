@@ -1,20 +1,24 @@
 -- How `pull` goes: what it took of its line, what its report gained, and why it ended.
-use Rattle.std.specs.Prelude.{◌≡◌, ◌≢◌, ◌<◌, ◌⊎◌, ◌%◌, ℕ, Bool, true, false, List, [], ◌++◌, Option, length}
-use Rattle.otn_ports.specs.Bytes.{after}
+use Rattle.std.specs.Prelude.{◌≡◌, ◌≢◌, ◌<◌, ◌≤◌, ◌⊎◌, ◌%◌, ℕ, Bool, true, false, List, [], ◌++◌, Option, length}
+use Rattle.otn_base.specs.declared.limits.TheConstants.{LINE_FRAME_BYTES, MOST_TURNS, OTU2_SLOTS}
+use Rattle.otn_ports.specs.Bytes.{after, HasFailed}
 use Rattle.otn_ports.specs.Given.{Gave}
 use Rattle.otn_ports.specs.Reads.{HasEnded}
 use Rattle.otn_ports.specs.Views.{InView, Live, Dead}
+use Rattle.line_side.specs.LineFile.{mfas_of}
 use Rattle.line_side.specs.LineStands.{LineView}
 use Rattle.line_side.specs.declared.ending.Ending.TheVariants.{Seen}
+use Rattle.multiframe.specs.LineTurns.{standing, has_ended}
 use Rattle.tributary_model.specs.Places.{Tributary}
+use Rattle.otn_ports.specs.PortViews.{SinkView, SinkLater}
 use Rattle.line_tool.specs.Gains.{GainsPart}
-use Rattle.line_tool.specs.PullReport.{pull_report, LeavesBytes, bytes_taken}
+use Rattle.line_tool.specs.PullReport.{pull_report, LeavesBytes, bytes_taken, bytes_wanted}
 use Rattle.line_tool.specs.PullTurn.{TurnMoves}
-use Rattle.line_tool.specs.Runs.{Reports}
+use Rattle.line_tool.specs.Runs.{Reported}
 use Rattle.line_tool.specs.declared.pull.After.{After}
 use Rattle.line_tool.specs.declared.pull.After.TheVariants as next
-use Rattle.line_tool.specs.declared.status.Status.{Status}
-use Rattle.line_tool.specs.declared.status.Status.TheVariants.{Done, Unfinished, Words, Plan, PlanFault, ReportFault, Cut, Memory}
+use Rattle.line_tool.specs.declared.ended.Ended.{Ended}
+use Rattle.line_tool.specs.declared.ended.Ended.TheVariants.{Done, Unfinished, ReportFault, Cut}
 use Rattle.line_tool.specs.declared.tap.Tap.{Tap}
 
 -- what may still stand behind the bytes taken: anything where there may be more, else nothing
@@ -23,26 +27,30 @@ MayFollow true rest = Unit {0}
 MayFollow false rest = rest ≡ []
 
 -- what an answer says of the bytes taken, and of all that may stand behind them
-abbrev pub PullEnds : Status → (more : Bool) → (taken : List ℕ) → (now : InView) → Type 0
-PullEnds Done more taken now = (now.state ≢ Dead) × (more ≡ false) × (LeavesBytes taken → ⊥) × (length taken % 16320 ≡ 0)
-PullEnds Unfinished more taken now = (now.state ≢ Dead) × ((rest : List ℕ) → MayFollow more rest → LeavesBytes (taken ++ rest)) × (0 < length taken % 16320)
+abbrev pub PullEnds : Ended → (more : Bool) → (taken : List ℕ) → (now : InView) → Type 0
+PullEnds Done more taken now = (now.state ≢ Dead) × (more ≡ false) × (LeavesBytes taken → ⊥) × (length taken % LINE_FRAME_BYTES ≡ 0)
+PullEnds Unfinished more taken now = (now.state ≢ Dead) × ((rest : List ℕ) → MayFollow more rest → LeavesBytes (taken ++ rest)) × (0 < length taken % LINE_FRAME_BYTES)
 PullEnds Cut more taken now = now.state ≡ Dead
 PullEnds ReportFault more taken now = Unit {0}
-PullEnds Words more taken now = ⊥
-PullEnds Memory more taken now = ⊥
-PullEnds PlanFault more taken now = ⊥
-PullEnds (Plan error place) more taken now = ⊥
+
+-- What was taken is what some first turns of `pull` want, whatever may stand behind it.
+pub record WantedByTurns (more : Bool) (taken : List ℕ) : Type 0 where
+  pub turns : ℕ
+  pub few : turns ≤ MOST_TURNS
+  pub wanted : (rest : List ℕ) → MayFollow more rest → length taken ≡ bytes_wanted (taken ++ rest) turns
+  pub unended : (rest : List ℕ) → MayFollow more rest → (s : ℕ) → s < turns → has_ended (standing OTU2_SLOTS (mfas_of (taken ++ rest)) s) ≡ false
 
 -- A command from the line and the report as they were to how they are. Where no more bytes may follow, a live line that tells
 -- its bytes has ended.
-pub record PullRun (own : Tributary) (first now : InView) (old new : Option (List ℕ)) (status : Status) : Type 0 where
+pub record PullRun (own : Tributary) (first now : InView) (old new : Option (List ℕ)) (ended : Ended) : Type 0 where
   pub taken : List ℕ
   pub gave : Gave first taken now
   pub more : Bool
   pub over : more ≡ false → now.state ≡ Live → HasEnded now.left
-  pub report : (rest : List ℕ) → MayFollow more rest → Reports status old new (pull_report own (taken ++ rest))
-  pub ends : PullEnds status more taken now
-  pub took : status ≢ ReportFault → (rest : List ℕ) → MayFollow more rest → length taken ≡ bytes_taken (taken ++ rest)
+  pub report : (rest : List ℕ) → MayFollow more rest → Reported ended old new (pull_report own (taken ++ rest))
+  pub ends : PullEnds ended more taken now
+  pub took : ended ≢ ReportFault → (rest : List ℕ) → MayFollow more rest → length taken ≡ bytes_taken (taken ++ rest)
+  pub stopped : ended ≡ ReportFault → WantedByTurns more taken
 
 -- what a turn wrote of the bytes that it emitted
 abbrev pub TurnWrote : After → (ended : Bool) → (old new : Option (List ℕ)) → (emitted : List ℕ) → Type 0
@@ -57,20 +65,25 @@ pub record TurnRun (own : Tributary) (first now : InView) (taken : List ℕ) (t 
   pub wrote : TurnWrote answer later.line.ended old new emitted
 
 -- how the command ends after the last turn: by the rest where the end was seen, else by one byte more
-abbrev pub AnswerEnds : Status → (line : LineView) → (came : List ℕ) → (was now : InView) → Type 0
+abbrev pub AnswerEnds : Ended → (line : LineView) → (came : List ℕ) → (was now : InView) → Type 0
 AnswerEnds Done line came was now =
     (now.state ≢ Dead) × (came ≡ []) × (((line.reader.ending ≡ Seen) × (line.reader.rest ≡ 0) × (now ≡ was)) ⊎ ((line.reader.ending ≢ Seen) × HasEnded now.left))
 AnswerEnds Unfinished line came was now =
     (now.state ≢ Dead) × (((line.reader.ending ≡ Seen) × (0 < line.reader.rest) × (came ≡ []) × (now ≡ was)) ⊎ ((line.reader.ending ≢ Seen) × (length came ≡ 1)))
 AnswerEnds Cut line came was now = (now.state ≡ Dead) × (came ≡ [])
 AnswerEnds ReportFault line came was now = ⊥
-AnswerEnds Words line came was now = ⊥
-AnswerEnds Memory line came was now = ⊥
-AnswerEnds PlanFault line came was now = ⊥
-AnswerEnds (Plan error place) line came was now = ⊥
 
 -- how the command ends: the bytes that came after the last turn, one at most, and the answer
-pub record AnswerRun (line : LineView) (was now : InView) (status : Status) : Type 0 where
+pub record AnswerRun (line : LineView) (was now : InView) (ended : Ended) : Type 0 where
   pub came : List ℕ
   pub gave : Gave was came now
-  pub ends : AnswerEnds status line came was now
+  pub ends : AnswerEnds ended line came was now
+
+-- a report after a turn: the same sink, whose count of faults rose or stands at its end where a write failed, and else is as it was
+abbrev pub TurnFaults : After → (old new : SinkView) → Type 0
+TurnFaults next.ReportFailed old new = HasFailed old.faults new.faults
+TurnFaults other old new = new.faults ≡ old.faults
+
+pub record TurnAfter (answer : After) (old new : SinkView) : Type 0 where
+  pub later : SinkLater old new
+  pub faults : TurnFaults answer old new

@@ -1,14 +1,17 @@
 -- How `pull` stands within a turn and between turns: a sink on a line.
-use Rattle.std.specs.Prelude.{◌≡◌, ℕ, zero, suc, ◌+◌, List, [], ◌∷◌, ◌++◌, Option, Some, None}
+use Rattle.std.specs.Prelude.{◌≡◌, ℕ, zero, suc, ◌+◌, false, List, [], ◌∷◌, ◌++◌, Option, Some, None}
+use Rattle.otn_base.specs.declared.limits.TheConstants.{OTU2_SLOTS}
+use Rattle.otn_base.specs.declared.line_kind.LineKind.TheVariants.{Otu2}
 use Rattle.otn_ports.specs.Views.{InView}
 use Rattle.line_side.specs.LineFile.{frame_at, mfas_of}
+use Rattle.line_side.specs.LineForm.{plain_otu2}
 use Rattle.line_side.specs.LineStands.{LineStands, members}
 use Rattle.line_side.specs.MayBe.{MayBe}
 use Rattle.multiframe.specs.LineTurns.{Lock, standing, has_ended}
 use Rattle.multiframe.specs.TurnPieces.{in_hand}
 use Rattle.tributary_model.specs.Places.{Tributary, Taken}
 use Rattle.trib_sink.specs.Sink.{StandsAfter}
-use Rattle.line_tool.specs.PullReport.{views_until, emitted_at}
+use Rattle.device_model.specs.LineViews.{views_until, emitted_at}
 use Rattle.line_tool.specs.declared.tap.Tap.{Tap}
 
 -- a frame that is in hand
@@ -19,13 +22,14 @@ member_of given (Some member) = record { frame = frame_at given member.frame; ex
 -- the frames of turn t + 1's multiframe that the first k pieces of the turn took
 unfoldable pub frames_in : List ℕ → (t k : ℕ) → List Taken
 frames_in given t zero = []
-frames_in given t (suc k) = frames_in given t k ++ member_of given (in_hand 8 (mfas_of given) (standing 8 (mfas_of given) t) (suc k))
+frames_in given t (suc k) = frames_in given t k ++ member_of given (in_hand OTU2_SLOTS (mfas_of given) (standing OTU2_SLOTS (mfas_of given) t) (suc k))
 
 -- The sink stands in turn t + 1 of its line, of whose place these bytes were taken: whatever else may come, it has seen the turns
 -- before, and of this one the frames that its pieces took.
 pub record TapStands (own : Tributary) (first now : InView) (taken : List ℕ) (t : ℕ) (tap : Tap) : Type 0 where
-  pub line : LineStands first now taken t tap.line
-  pub sink : (given : List ℕ) → MayBe tap.line.reader.ending taken given → StandsAfter own (views_until own given t) (frames_in given t tap.line.pieces) tap.sink
+  pub size : own.line_slots ≡ OTU2_SLOTS
+  pub line : LineStands plain_otu2 first now taken t tap.line
+  pub sink : (given : List ℕ) → MayBe false tap.line.reader.ending taken given → StandsAfter own (views_until own given t) (frames_in given t tap.line.pieces) tap.sink
 
 -- it stands so in some turn of some tributary
 pub record StandsSomewhere (now : InView) (tap : Tap) : Type 0 where
@@ -39,10 +43,12 @@ pub record StandsSomewhere (now : InView) (tap : Tap) : Type 0 where
 pub record TapMoves (own : Tributary) (first now : InView) (taken : List ℕ) (t : ℕ) (old new : Tap) : Type 0 where
   pub came : List ℕ
   pub stands : TapStands own first now (taken ++ came) t new
-  pub earlier : (given : List ℕ) → MayBe new.line.reader.ending (taken ++ came) given → MayBe old.line.reader.ending taken given
+  pub earlier : (given : List ℕ) → MayBe false new.line.reader.ending (taken ++ came) given → MayBe false old.line.reader.ending taken given
 
--- as many frames were taken by the sink as the line's turn has come to
+-- the line is an OTU2 line, the sink one of such a line, and as many frames were taken by it as the line's turn has come to
 pub record IsInStep (n : ℕ) (tap : Tap) : Type 0 where
+  pub line : tap.line.kind ≡ Otu2
+  pub sink : tap.sink.slots.kind ≡ Otu2
   pub taken : n ≡ tap.sink.taken
   pub members : members tap.line ≡ n
 
@@ -55,6 +61,6 @@ pub record IsBetweenTurns (tap : Tap) : Type 0 where
 pub record TurnMoves (own : Tributary) (first now : InView) (taken : List ℕ) (t : ℕ) (old new : Tap) (emitted : List ℕ) : Type 0 where
   pub came : List ℕ
   pub stands : TapStands own first now (taken ++ came) (t + 1) new
-  pub earlier : (given : List ℕ) → MayBe new.line.reader.ending (taken ++ came) given → MayBe old.line.reader.ending taken given
-  pub emits : (given : List ℕ) → MayBe new.line.reader.ending (taken ++ came) given → emitted ≡ emitted_at own given t
-  pub ended : (given : List ℕ) → MayBe new.line.reader.ending (taken ++ came) given → new.line.ended ≡ has_ended (standing 8 (mfas_of given) (t + 1))
+  pub earlier : (given : List ℕ) → MayBe false new.line.reader.ending (taken ++ came) given → MayBe false old.line.reader.ending taken given
+  pub emits : (given : List ℕ) → MayBe false new.line.reader.ending (taken ++ came) given → emitted ≡ emitted_at own given t
+  pub ended : (given : List ℕ) → MayBe false new.line.reader.ending (taken ++ came) given → new.line.ended ≡ has_ended (standing OTU2_SLOTS (mfas_of given) (t + 1))

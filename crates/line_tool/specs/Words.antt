@@ -2,6 +2,8 @@
 use Rattle.std.specs.Prelude.{◌≡◌, ◌+◌, ◌≤◌, ℕ, List, [], ◌∷◌, map, codes, string_bytes, String}
 use Rattle.std.specs.declared.alloc.Global.{Global}
 use Rattle.otn_base.specs.SlotList.{IsSlotList}
+use Rattle.otn_base.specs.declared.limits.TheConstants.{OTU2_SLOTS}
+use Rattle.otn_base.specs.declared.line_kind.LineKind.TheVariants.{Otu2}
 use Rattle.line_tool.specs.declared.words.Command.{Command}
 use Rattle.line_tool.specs.declared.words.Command.TheVariants.{Slot, Pull, Check}
 
@@ -19,10 +21,11 @@ slots_text [] = []
 slots_text (slot ∷ []) = digit slot
 slots_text (slot ∷ next ∷ slots) = (48 + slot) ∷ 44 ∷ slots_text (next ∷ slots)
 
--- the form of the words of each command
+-- the form of the words of each command; lines are OTU2 lines
 abbrev pub IsForm : List (List ℕ) → Command → Type 0
-IsForm words (Slot slot) = (words ≡ codes "slot" ∷ digit slot ∷ []) × (1 ≤ slot) × (slot ≤ 8)
-IsForm words (Pull port slots) = (words ≡ codes "pull" ∷ digit port ∷ slots_text slots ∷ []) × (1 ≤ port) × (port ≤ 8) × IsSlotList 8 slots
+IsForm words (Slot slot) = (words ≡ codes "slot" ∷ digit slot ∷ []) × (1 ≤ slot) × (slot ≤ OTU2_SLOTS)
+IsForm words (Pull port slots) =
+    (words ≡ codes "pull" ∷ digit port ∷ slots_text slots.list ∷ []) × (1 ≤ port) × (port ≤ OTU2_SLOTS) × (slots.kind ≡ Otu2) × IsSlotList OTU2_SLOTS slots.list
 IsForm words Check = words ≡ codes "check" ∷ []
 
 -- words that are the form of no command

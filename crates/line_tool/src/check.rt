@@ -1,35 +1,60 @@
 // The command `check`: whether the plan is one, and how large.
-ghost use Rattle.std.specs.Prelude.{◌≡◌, ◌≤◌, IfOk, vec_len, string_bytes};
-ghost use Rattle.otn_ports.specs.Bytes.{HasFailed};
-ghost use Rattle.line_tool.specs.PlanCheck.{CheckRun, PlanTold, plan_text};
+ghost use Rattle.std.specs.Prelude.{◌≡◌, IfOk, vec_len, string_bytes};
+ghost use Rattle.otn_ports.specs.PortViews.{source_view, sink_view, SinkLater};
+ghost use Rattle.line_tool.specs.Ends.{check_status};
+ghost use Rattle.line_tool.specs.PlanCheck.{CheckRun, CountsBy, PlanTold, plan_text};
 
 use crate::Status;
+use otn_base::Memory;
 use otn_base::limits::MOST_PLAN_BYTES;
 use otn_ports::{Reading, Sink, Source, Written, read_whole, write_whole};
-use plan_file::{NoPlan, Plan};
+use plan_file::{NoPlan, Plan, PlanError};
 use std::alloc::{AllocError, Global};
+
+/// How `check` ended, once it had its memory.
+#[derive(Clone, Copy, Debug, PartialEq, Eq)]
+pub(crate) enum Checked {
+    /// The plan is accepted, and its line is written.
+    Told,
+    /// The plan breaks this rule first, at this place.
+    Refused(PlanError, u64),
+    /// A read of the plan failed.
+    PlanFault,
+    /// A write of the report failed.
+    ReportFault,
+}
+
+/// The answer of the top call to a `check` that ended so, or for which there was no memory.
+pub(crate) fn status_of_check(answer: Result<Checked, Memory>) -> Status
+    ensures { result ≡ check_status answer }
+{
+    match answer {
+        Ok(Checked::Told) => Status::Done,
+        Ok(Checked::Refused(error, place)) => Status::Plan(error, place),
+        Ok(Checked::PlanFault) => Status::PlanFault,
+        Ok(Checked::ReportFault) => Status::ReportFault,
+        Err(Memory) => Status::Memory,
+    }
+}
 
 /// Reads the plan, of 1,048,576 bytes at most and one more that shows that it is longer, and writes
 /// `plan connections N turns T` where it is accepted.
-pub(crate) fn check_plan<P: Source, K: Sink>(alloc: Global, plan: &mut P, report: &mut K) -> Status
-    ensures run { CheckRun (P.left plan.old) (P.left plan.new) (K.got report.old) (K.got report.new) result }
-    ensures plan_fault { result ≡ Status.PlanFault → HasFailed (P.faults plan.old) (P.faults plan.new) }
-    ensures report_fault { result ≡ Status.ReportFault → HasFailed (K.faults report.old) (K.faults report.new) }
-    ensures faults { K.faults report.old ≤ K.faults report.new }
-    ensures keeps { K.keeps report.new ≡ K.keeps report.old }
-    ensures same { K.boxed report.new ≡ K.boxed report.old }
+pub(crate) fn check_plan<P: Source, K: Sink>(
+    alloc: Global,
+    plan: &mut P,
+    report: &mut K,
+) -> Result<Checked, Memory>
+    ensures { CheckRun (source_view P.Source plan.old) (source_view P.Source plan.new) (sink_view K.Sink report.old) (sink_view K.Sink report.new) (check_status result) }
 {
-    let Ok(mut text) = plan_buffer(alloc) else {
-        return Status::Memory;
-    };
+    let mut text = plan_buffer(alloc)?;
     let (reading, came) = read_whole(plan, &mut text);
     if reading == Reading::Lost {
-        return Status::PlanFault;
+        return Ok(Checked::PlanFault);
     }
     match Plan::read(alloc, &text[..came]) {
         Ok(plan) => tell_plan(alloc, &plan, report),
-        Err(NoPlan::Refused(error, place)) => Status::Plan(error, place),
-        Err(NoPlan::Memory) => Status::Memory,
+        Err(NoPlan::Refused(error, place)) => Ok(Checked::Refused(error, place)),
+        Err(NoPlan::Memory) => Err(Memory),
     }
 }
 
@@ -41,19 +66,15 @@ fn plan_buffer(alloc: Global) -> Result<Vec<u8>, AllocError>
 }
 
 // Writes how large an accepted plan is.
-fn tell_plan<K: Sink>(alloc: Global, plan: &Plan, report: &mut K) -> Status
-    ensures told { PlanTold plan.now (K.got report.old) (K.got report.new) result }
-    ensures report_fault { result ≡ Status.ReportFault → HasFailed (K.faults report.old) (K.faults report.new) }
-    ensures faults { K.faults report.old ≤ K.faults report.new }
-    ensures keeps { K.keeps report.new ≡ K.keeps report.old }
-    ensures same { K.boxed report.new ≡ K.boxed report.old }
+fn tell_plan<K: Sink>(alloc: Global, plan: &Plan, report: &mut K) -> Result<Checked, Memory>
+    ensures told { PlanTold (check_status result) plan.now (K.got report.old) (K.got report.new) }
+    ensures later { SinkLater (sink_view K.Sink report.old) (sink_view K.Sink report.new) }
+    ensures counts { CountsBy Status.ReportFault (check_status result) (K.faults report.old) (K.faults report.new) }
 {
-    let Ok(line) = plan_line(alloc, plan) else {
-        return Status::Memory;
-    };
+    let line = plan_line(alloc, plan)?;
     match write_whole(report, line.as_bytes()) {
-        Written::Whole => Status::Done,
-        Written::Lost => Status::ReportFault,
+        Written::Whole => Ok(Checked::Told),
+        Written::Lost => Ok(Checked::ReportFault),
     }
 }
 

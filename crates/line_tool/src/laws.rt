@@ -1,11 +1,80 @@
-// Laws over what the commands write.
-ghost use Rattle.std.specs.Prelude.{◌≡◌, ℕ, List};
-ghost use Rattle.line_tool.specs.Agreements.{AgreeOnSlot, AgreeOnTributary};
+// Laws over what the commands answer for, and over what they write.
+ghost use Rattle.std.specs.Prelude.{◌≡◌, ◌≢◌, ◌<◌, ◌-◌, ◌%◌, ◌^◌, ◌↔◌, ◌⊎◌, ℕ, List, Some, length, min};
+ghost use Rattle.otn_ports.specs.Given.{IsGiven};
+ghost use Rattle.otn_ports.specs.Views.{Dead};
+ghost use Rattle.plan_file.specs.declared.error.PlanError.{PlanError};
+ghost use Rattle.tributary_model.specs.Places.{Tributary};
+ghost use Rattle.device_model.specs.Agreements.{AgreeOnTributary};
+ghost use Rattle.line_tool.specs.Agreements.{AgreeOnSlot};
+ghost use Rattle.line_tool.specs.Answers.{CheckAnswers, PullAnswers, PullRan, SlotAnswers, SlotRan};
+ghost use Rattle.line_tool.specs.Device.{Device, line_zero};
+ghost use Rattle.line_tool.specs.PlanCheck.{CheckEnds};
 ghost use Rattle.line_tool.specs.PullCarried.{BeginsWithWhatIsCarried, IsTheWholeGroups, HasWhatIsCarriedAfterDamage};
 ghost use Rattle.line_tool.specs.PullDamaged.{WritesAsIfRepeated};
-ghost use Rattle.line_tool.specs.PullReport.{pull_report, tributary};
-ghost use Rattle.line_tool.specs.SlotReport.{slot_report};
+ghost use Rattle.line_tool.specs.PullReport.{LeavesBytes, bytes_taken, pull_report, tributary};
+ghost use Rattle.line_tool.specs.Runs.{HasRest, IsWell, Reports};
+ghost use Rattle.line_tool.specs.SlotReport.{most_bytes, slot_report};
+ghost use Rattle.line_tool.specs.Words.{IsForm};
+ghost use Rattle.line_tool.specs.declared.status.Status.{Status};
+ghost use Rattle.line_tool.specs.declared.words.Command.{Command};
 ghost use Rattle.otn_base.specs.SlotList.{IsSlotList};
+ghost use Rattle.otn_base.specs.declared.limits.TheConstants.{LINE_FRAME_BYTES, OTU2_SLOTS};
+
+/// Words are the form of one command at most.
+pub fn forms_are_apart()
+    ensures { (words : List (List ℕ)) (one other : Command) → IsForm words one → IsForm words other → one ≡ other }
+{}
+
+/// `slot`, by the bytes that line input 0 gave, where it tells them: they are what is written of (`report`), and Unfinished is the
+/// answer exactly where bytes stand behind the whole frames that are used (`unfinished`); by the place's number of bytes the same holds
+/// of any line (`counted`), and as many bytes are taken as there are, of the most frames and one byte more at most (`took`).
+pub fn slot_of_given()
+    ensures report { (slot : ℕ) (old new : Device) (answer : Status) (given : List ℕ) → SlotRan slot old new answer
+        → IsGiven (line_zero old) (line_zero new) given → Reports answer old.report.got new.report.got (slot_report slot given) }
+    ensures unfinished { (slot : ℕ) (old new : Device) (answer : Status) (given : List ℕ) → SlotRan slot old new answer → answer ≢ Status.ReportFault
+        → IsGiven (line_zero old) (line_zero new) given → (answer ≡ Status.Unfinished) ↔ (((line_zero new).state ≢ Dead) × HasRest (length given)) }
+    ensures counted { (slot : ℕ) (old new : Device) (answer : Status) → SlotRan slot old new answer → answer ≢ Status.ReportFault
+        → (line_zero new).number < 2 ^ 64 - 1
+        → (answer ≡ Status.Unfinished) ↔ (((line_zero new).state ≢ Dead) × HasRest ((line_zero new).number - (line_zero old).number)) }
+    ensures took { (slot : ℕ) (old new : Device) (answer : Status) (given : List ℕ) → SlotRan slot old new answer → answer ≢ Status.ReportFault
+        → IsGiven (line_zero old) (line_zero new) given → (line_zero new).number < 2 ^ 64 - 1
+        → (line_zero new).number - (line_zero old).number ≡ min (length given) most_bytes }
+{}
+
+/// `pull`, likewise: Unfinished is the answer exactly where bytes stand behind the frames that its turns wanted (`unfinished`), or where a
+/// part of a frame was taken (`counted`).
+pub fn pull_of_given()
+    ensures report { (own : Tributary) (old new : Device) (answer : Status) (given : List ℕ) → PullRan own old new answer
+        → IsGiven (line_zero old) (line_zero new) given → Reports answer old.report.got new.report.got (pull_report own given) }
+    ensures unfinished { (own : Tributary) (old new : Device) (answer : Status) (given : List ℕ) → PullRan own old new answer → answer ≢ Status.ReportFault
+        → IsGiven (line_zero old) (line_zero new) given → (answer ≡ Status.Unfinished) ↔ (((line_zero new).state ≢ Dead) × LeavesBytes given) }
+    ensures counted { (own : Tributary) (old new : Device) (answer : Status) → PullRan own old new answer → answer ≢ Status.ReportFault
+        → (line_zero new).number < 2 ^ 64 - 1
+        → (answer ≡ Status.Unfinished) ↔ (((line_zero new).state ≢ Dead) × (0 < ((line_zero new).number - (line_zero old).number) % LINE_FRAME_BYTES)) }
+    ensures took { (own : Tributary) (old new : Device) (answer : Status) (given : List ℕ) → PullRan own old new answer → answer ≢ Status.ReportFault
+        → IsGiven (line_zero old) (line_zero new) given → (line_zero new).number < 2 ^ 64 - 1
+        → (line_zero new).number - (line_zero old).number ≡ bytes_taken given }
+{}
+
+/// `check`, by the whole text of a source that tells it.
+pub fn check_of_text()
+    ensures { (text : List ℕ) (old new : Device) (answer : Status) → CheckAnswers old new answer → old.plan.left ≡ Some text
+        → answer ≢ Status.Memory → answer ≢ Status.PlanFault → CheckEnds answer text old.report.got new.report.got }
+{}
+
+/// Where no count of faults rose or stands at its end, and the line was not dead, a command is Done or Unfinished, `check` Done or
+/// Plan; or there was no memory.
+pub fn without_faults()
+    ensures slot { (slot : ℕ) (old new : Device) (answer : Status) → SlotAnswers slot old new answer
+        → IsWell old.report.faults new.report.faults → IsWell (line_zero old).faults (line_zero new).faults → (line_zero old).state ≢ Dead
+        → (answer ≡ Status.Done) ⊎ (answer ≡ Status.Unfinished) ⊎ (answer ≡ Status.Memory) }
+    ensures pull { (own : Tributary) (old new : Device) (answer : Status) → PullAnswers own old new answer
+        → IsWell old.report.faults new.report.faults → IsWell (line_zero old).faults (line_zero new).faults → (line_zero old).state ≢ Dead
+        → (answer ≡ Status.Done) ⊎ (answer ≡ Status.Unfinished) ⊎ (answer ≡ Status.Memory) }
+    ensures check { (old new : Device) (answer : Status) → CheckAnswers old new answer
+        → IsWell old.report.faults new.report.faults → IsWell old.plan.faults new.plan.faults
+        → (answer ≡ Status.Done) ⊎ ((error : PlanError) × (place : ℕ) × (answer ≡ Status.Plan error place)) ⊎ (answer ≡ Status.Memory) }
+{}
 
 /// Two worlds: lines that have as many whole frames, and the same bytes in a slot's payload columns, give
 /// `slot` the same report, whatever their other bytes are.
@@ -17,7 +86,7 @@ pub fn slot_two_worlds()
 /// tributary's own places, give `pull` the same report, whatever their other bytes are: other slots and what their messages
 /// and MSI bytes say, overhead, lead-in, FEC.
 pub fn pull_two_worlds()
-    ensures { (port : ℕ) (slots one other : List ℕ) → IsSlotList 8 slots → AgreeOnTributary (tributary port slots) one other
+    ensures { (port : ℕ) (slots one other : List ℕ) → IsSlotList OTU2_SLOTS slots → AgreeOnTributary (tributary port slots) one other
         → pull_report (tributary port slots) one ≡ pull_report (tributary port slots) other }
 {}
 

@@ -2,6 +2,7 @@
 //!
 //! - `top`: the one call that does all that the program does.
 //! - `status`: how it ended.
+//! - `ended`: how a command over a line ended.
 //! - `words`: the words of the commands.
 //! - `check`: whether a plan is one.
 //! - `slot`: the payload bytes of one tributary slot of a line.
@@ -12,6 +13,7 @@
 
 mod beyond;
 mod check;
+mod ended;
 mod laws;
 mod pull;
 mod slot;
@@ -20,7 +22,10 @@ mod tap;
 mod top;
 mod words;
 
-pub use laws::{pull_of_carried, pull_of_one_damaged, pull_two_worlds, slot_two_worlds};
+pub use laws::{
+    check_of_text, forms_are_apart, pull_of_carried, pull_of_given, pull_of_one_damaged,
+    pull_two_worlds, slot_of_given, slot_two_worlds, without_faults,
+};
 pub use status::Status;
 pub use top::run;
 pub use words::{Command, command_of};

@@ -1,18 +1,20 @@
 // The command `pull`: what the sink of a tributary on a line emits, turn by turn.
-ghost use Rattle.std.specs.Prelude.{◌≡◌, ◌≢◌, ◌*◌, ◌≤◌, ℕ, List, [], IfOk, length, vec_len};
-ghost use Rattle.otn_ports.specs.Bytes.{HasFailed};
+ghost use Rattle.std.specs.Prelude.{◌≡◌, ◌+◌, ◌*◌, ◌≤◌, ℕ, List, [], IfErr, IfOk, length, vec_len};
 ghost use Rattle.otn_ports.specs.InPlace.{in_view};
 ghost use Rattle.otn_ports.specs.Views.{InView};
 ghost use Rattle.tributary_model.specs.Places.{Tributary};
+ghost use Rattle.otn_base.specs.declared.limits.TheConstants.{GROUPS, OTU2_SLOTS};
+ghost use Rattle.otn_ports.specs.PortViews.{sink_view};
+ghost use Rattle.line_tool.specs.Ends.{ReportAfter};
 ghost use Rattle.line_tool.specs.PullReport.{tributary};
 ghost use Rattle.line_tool.specs.PullTurn.{TapStands, StandsSomewhere, IsBetweenTurns};
 
-use crate::Status;
 use crate::beyond::ask_for_more;
+use crate::ended::Ended;
 use crate::tap::Tap;
 use line_side::LineIn;
-use otn_base::Slots;
 use otn_base::limits::{GROUPS, MOST_TURNS};
+use otn_base::{LineKind, Memory, Slots};
 use otn_ports::{InPlaceOf, Sink, Source, Written, write_whole};
 use std::alloc::{AllocError, Global};
 
@@ -23,7 +25,7 @@ enum After {
     ReportFailed,
 }
 
-ghost use Rattle.line_tool.specs.PullRuns.{PullRun, TurnRun, AnswerRun};
+ghost use Rattle.line_tool.specs.PullRuns.{PullRun, TurnRun, AnswerRun, TurnAfter};
 
 /// Writes what a sink of these slots and this tributary port, 1 to 8, emits in each turn of the line, up to and with
 /// the turn in which the line ended, of 16,384 turns at most. Where its end was not seen and it is not dead, it is then asked
@@ -34,29 +36,22 @@ pub(crate) fn write_pull<I: Source, K: Sink>(
     slots: &Slots,
     line: &mut InPlaceOf<I>,
     report: &mut K,
-) -> Status
+) -> Result<Ended, Memory>
     requires low { 1 ≤ port }
-    requires high { port ≤ 8 }
-    ensures memory { result ≡ Status.Memory → (line.new ≡ line.old) × (report.new ≡ report.old) }
-    ensures run { result ≢ Status.Memory
-        → PullRun (tributary port slots.now) (in_view I.Source line.old) (in_view I.Source line.new) (K.got report.old) (K.got report.new) result }
-    ensures report_fault { result ≡ Status.ReportFault → HasFailed (K.faults report.old) (K.faults report.new) }
-    ensures faults { K.faults report.old ≤ K.faults report.new }
-    ensures keeps { K.keeps report.new ≡ K.keeps report.old }
-    ensures same { K.boxed report.new ≡ K.boxed report.old }
+    requires high { port ≤ OTU2_SLOTS }
+    requires plain { slots.now.kind ≡ LineKind.Otu2 }
+    ensures memory { IfErr result (λ _. (line.new ≡ line.old) × (report.new ≡ report.old)) }
+    ensures run { IfOk result (λ ended. PullRun (tributary port slots.now.list) (in_view I.Source line.old) (in_view I.Source line.new) (K.got report.old) (K.got report.new) ended) }
+    ensures report { IfOk result (λ ended. ReportAfter ended (sink_view K.Sink report.old) (sink_view K.Sink report.new)) }
 {
-    let Ok(mut tap) = Tap::new(alloc, port, slots) else {
-        return Status::Memory;
-    };
-    let Ok(mut room) = turn_room(alloc, slots) else {
-        return Status::Memory;
-    };
-    write_turns(&mut tap, line, report, &mut room)
+    let mut tap = Tap::new(alloc, port, slots)?;
+    let mut room = turn_room(alloc, slots)?;
+    Ok(write_turns(&mut tap, line, report, &mut room))
 }
 
 // Takes room for what a turn emits: 15,233 bytes a slot, which is one more than the most in all.
 fn turn_room(alloc: Global, slots: &Slots) -> Result<Vec<u8>, AllocError>
-    ensures { IfOk result (λ room. vec_len room ≡ length slots.now * 15233) }
+    ensures { IfOk result (λ room. vec_len room ≡ length slots.now.list * (GROUPS + 1)) }
 {
     vec![in alloc; 0; slots.count() as usize * (GROUPS + 1)]
 }
@@ -67,23 +62,19 @@ fn write_turns<I: Source, K: Sink>(
     line: &mut InPlaceOf<I>,
     report: &mut K,
     room: &mut [u8],
-) -> Status
+) -> Ended
     requires between { IsBetweenTurns tap.old }
     requires stands { StandsSomewhere (in_view I.Source line.old) tap.old }
-    requires room { length tap.old.sink.slots * 15233 ≤ length room.old }
+    requires room { length tap.old.sink.slots.list * (GROUPS + 1) ≤ length room.old }
     ensures run { (own : Tributary) → ((first : InView) → TapStands own first first [] 0 tap.old)
         → PullRun own (in_view I.Source line.old) (in_view I.Source line.new) (K.got report.old) (K.got report.new) result }
-    ensures report_fault { result ≡ Status.ReportFault → HasFailed (K.faults report.old) (K.faults report.new) }
-    ensures memory { result ≢ Status.Memory }
-    ensures faults { K.faults report.old ≤ K.faults report.new }
-    ensures keeps { K.keeps report.new ≡ K.keeps report.old }
-    ensures same { K.boxed report.new ≡ K.boxed report.old }
+    ensures report { ReportAfter result (sink_view K.Sink report.old) (sink_view K.Sink report.new) }
 {
     for _ in 0..MOST_TURNS {
         match write_turn(tap, line, report, room) {
             After::NextTurn => {}
             After::LineEnded => return answer(tap.line(), line),
-            After::ReportFailed => return Status::ReportFault,
+            After::ReportFailed => return Ended::ReportFault,
         }
     }
     answer(tap.line(), line)
@@ -97,16 +88,13 @@ fn write_turn<I: Source, K: Sink>(
     room: &mut [u8],
 ) -> After
     requires between { IsBetweenTurns tap.old }
-    requires room { length tap.old.sink.slots * 15233 ≤ length room.old }
+    requires room { length tap.old.sink.slots.list * (GROUPS + 1) ≤ length room.old }
     requires stands { StandsSomewhere (in_view I.Source line.old) tap.old }
     ensures run { (own : Tributary) (first : InView) (taken : List ℕ) (t : ℕ) → TapStands own first (in_view I.Source line.old) taken t tap.old
         → TurnRun own first (in_view I.Source line.new) taken t tap.old tap.new (K.got report.old) (K.got report.new) result }
     ensures between { IsBetweenTurns tap.new }
     ensures slots { tap.new.sink.slots ≡ tap.old.sink.slots }
-    ensures report_fault { result ≡ After.ReportFailed → HasFailed (K.faults report.old) (K.faults report.new) }
-    ensures faults { K.faults report.old ≤ K.faults report.new }
-    ensures keeps { K.keeps report.new ≡ K.keeps report.old }
-    ensures same { K.boxed report.new ≡ K.boxed report.old }
+    ensures report { TurnAfter result (sink_view K.Sink report.old) (sink_view K.Sink report.new) }
 {
     let count = tap.turn(line, room);
     if write_whole(report, &room[..count]) == Written::Lost {
@@ -120,18 +108,18 @@ fn write_turn<I: Source, K: Sink>(
 }
 
 // How the command ends after its last turn.
-fn answer<I: Source>(line: &LineIn, place: &mut InPlaceOf<I>) -> Status
+fn answer<I: Source>(line: &LineIn, place: &mut InPlaceOf<I>) -> Ended
     ensures { AnswerRun line.now (in_view I.Source place.old) (in_view I.Source place.new) result }
 {
     if let InPlaceOf::Dead(..) = place {
-        return Status::Cut;
+        return Ended::Cut;
     }
     if !line.end_seen() {
         return ask_for_more(place);
     }
     if line.counts().rest == 0 {
-        Status::Done
+        Ended::Done
     } else {
-        Status::Unfinished
+        Ended::Unfinished
     }
 }

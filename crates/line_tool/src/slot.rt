@@ -1,18 +1,26 @@
 // The command `slot`: the payload bytes of one tributary slot of each whole frame of a line.
-ghost use Rattle.std.specs.Prelude.{◌≡◌, ◌≢◌, ◌≤◌, Some, length};
+ghost use Rattle.std.specs.Prelude.{◌≡◌, ◌≢◌, ◌/◌, ◌≤◌, IfErr, IfOk, length};
+ghost use Rattle.otn_base.specs.declared.limits.TheConstants.{GROUPS, OTU2_SLOTS};
 ghost use Rattle.otn_ports.specs.InPlace.{in_view};
-ghost use Rattle.otn_ports.specs.Bytes.{HasFailed};
 ghost use Rattle.otn_ports.specs.Views.{Dead};
+ghost use Rattle.otn_ports.specs.PortViews.{sink_view};
+ghost use Rattle.line_tool.specs.Ends.{ReportAfter, StepAfter, WriteAfter};
 ghost use Rattle.line_tool.specs.SlotReport.{slot_bytes};
-ghost use Rattle.line_tool.specs.SlotRuns.{SlotRun, SlotStep, SlotWritten};
+ghost use Rattle.line_tool.specs.SlotRuns.{SlotRun, SlotStep, SlotWritten, step_of};
 
-use crate::Status;
 use crate::beyond::ask_for_more;
+use crate::ended::Ended;
 use frame_geometry::Frame;
 use odtu_columns::slot_row;
-use otn_base::limits::{MOST_FRAMES, SLOT_COLUMNS, SLOT_FRAME_BYTES};
+use otn_base::limits::{GROUPS, MOST_FRAMES, OTU2_SLOTS, PAYLOAD_COLUMNS};
+use otn_base::{LineKind, Memory};
 use otn_ports::{InPlaceOf, Reading, Sink, Source, Written, write_whole};
 use std::alloc::Global;
+
+// Bytes of a slot in a row of an OTU2 frame, and in the frame.
+const ROW_BYTES: usize = PAYLOAD_COLUMNS / OTU2_SLOTS;
+
+const FRAME_BYTES: usize = GROUPS / OTU2_SLOTS;
 
 /// Writes the 1,904 payload bytes of the slot, 1 to 8, row by row, of each whole frame that the
 /// line gives, of 131,072 frames at most, and then asks the line for one byte more.
@@ -21,24 +29,18 @@ pub(crate) fn write_slot<I: Source, K: Sink>(
     slot: u8,
     line: &mut InPlaceOf<I>,
     report: &mut K,
-) -> Status
+) -> Result<Ended, Memory>
     requires low { 1 ≤ slot }
-    requires high { slot ≤ 8 }
-    ensures memory { result ≡ Status.Memory → (line.new ≡ line.old) × (report.new ≡ report.old) }
-    ensures run { result ≢ Status.Memory
-        → SlotRun slot (in_view I.Source line.old) (in_view I.Source line.new) (K.got report.old) (K.got report.new) result }
-    ensures report_fault { result ≡ Status.ReportFault → HasFailed (K.faults report.old) (K.faults report.new) }
-    ensures faults { K.faults report.old ≤ K.faults report.new }
-    ensures keeps { K.keeps report.new ≡ K.keeps report.old }
-    ensures same { K.boxed report.new ≡ K.boxed report.old }
+    requires high { slot ≤ OTU2_SLOTS }
+    ensures memory { IfErr result (λ _. (line.new ≡ line.old) × (report.new ≡ report.old)) }
+    ensures run { IfOk result (λ ended. SlotRun slot (in_view I.Source line.old) (in_view I.Source line.new) (K.got report.old) (K.got report.new) ended) }
+    ensures report { IfOk result (λ ended. ReportAfter ended (sink_view K.Sink report.old) (sink_view K.Sink report.new)) }
 {
-    let Ok(mut frame) = Frame::new(alloc) else {
-        return Status::Memory;
-    };
+    let mut frame = Frame::new(alloc)?;
     if let InPlaceOf::Dead(..) = line {
-        return Status::Cut;
+        return Ok(Ended::Cut);
     }
-    write_frames(&mut frame, slot, line, report)
+    Ok(write_frames(&mut frame, slot, line, report))
 }
 
 // The same, with a frame to read into and a line that is not dead.
@@ -47,19 +49,16 @@ fn write_frames<I: Source, K: Sink>(
     slot: u8,
     line: &mut InPlaceOf<I>,
     report: &mut K,
-) -> Status
+) -> Ended
     requires low { 1 ≤ slot }
-    requires high { slot ≤ 8 }
+    requires high { slot ≤ OTU2_SLOTS }
     requires alive { (in_view I.Source line.old).state ≢ Dead }
     ensures run { SlotRun slot (in_view I.Source line.old) (in_view I.Source line.new) (K.got report.old) (K.got report.new) result }
-    ensures report_fault { result ≡ Status.ReportFault → HasFailed (K.faults report.old) (K.faults report.new) }
-    ensures faults { K.faults report.old ≤ K.faults report.new }
-    ensures keeps { K.keeps report.new ≡ K.keeps report.old }
-    ensures same { K.boxed report.new ≡ K.boxed report.old }
+    ensures report { ReportAfter result (sink_view K.Sink report.old) (sink_view K.Sink report.new) }
 {
     for _ in 0..MOST_FRAMES {
-        if let Some(status) = write_frame(frame, slot, line, report) {
-            return status;
+        if let Some(ended) = write_frame(frame, slot, line, report) {
+            return ended;
         }
     }
     ask_for_more(line)
@@ -71,51 +70,58 @@ fn write_frame<I: Source, K: Sink>(
     slot: u8,
     line: &mut InPlaceOf<I>,
     report: &mut K,
-) -> Option<Status>
+) -> Option<Ended>
     requires low { 1 ≤ slot }
-    requires high { slot ≤ 8 }
+    requires high { slot ≤ OTU2_SLOTS }
     requires alive { (in_view I.Source line.old).state ≢ Dead }
     ensures step { SlotStep slot (in_view I.Source line.old) (in_view I.Source line.new) (K.got report.old) (K.got report.new) result }
-    ensures report_fault { result ≡ Some Status.ReportFault → HasFailed (K.faults report.old) (K.faults report.new) }
-    ensures faults { K.faults report.old ≤ K.faults report.new }
-    ensures keeps { K.keeps report.new ≡ K.keeps report.old }
-    ensures same { K.boxed report.new ≡ K.boxed report.old }
+    ensures report { StepAfter result (sink_view K.Sink report.old) (sink_view K.Sink report.new) }
 {
     match line.read_full(frame.as_bytes_mut()) {
-        Reading::Full => write_slot_of(frame, slot, report),
-        Reading::End(0) => Some(Status::Done),
-        Reading::End(_) => Some(Status::Unfinished),
-        Reading::Lost => Some(Status::Cut),
+        Reading::Full => step_after(write_slot_of(frame, slot, report)),
+        Reading::End(0) => Some(Ended::Done),
+        Reading::End(_) => Some(Ended::Unfinished),
+        Reading::Lost => Some(Ended::Cut),
+    }
+}
+
+// What comes after a write.
+fn step_after(written: Written) -> Option<Ended>
+    ensures { result ≡ step_of written }
+{
+    match written {
+        Written::Whole => None,
+        Written::Lost => Some(Ended::ReportFault),
     }
 }
 
 // Writes the slot's bytes of a frame.
-fn write_slot_of<K: Sink>(frame: &Frame<4080>, slot: u8, report: &mut K) -> Option<Status>
+fn write_slot_of<K: Sink>(frame: &Frame<4080>, slot: u8, report: &mut K) -> Written
     requires low { 1 ≤ slot }
-    requires high { slot ≤ 8 }
-    ensures written { SlotWritten slot frame.now (K.got report.old) (K.got report.new) result }
-    ensures report_fault { result ≡ Some Status.ReportFault → HasFailed (K.faults report.old) (K.faults report.new) }
-    ensures faults { K.faults report.old ≤ K.faults report.new }
-    ensures keeps { K.keeps report.new ≡ K.keeps report.old }
-    ensures same { K.boxed report.new ≡ K.boxed report.old }
+    requires high { slot ≤ OTU2_SLOTS }
+    ensures written { SlotWritten result slot frame.now (K.got report.old) (K.got report.new) }
+    ensures report { WriteAfter result (sink_view K.Sink report.old) (sink_view K.Sink report.new) }
 {
-    let mut bytes = [0; SLOT_FRAME_BYTES];
+    let mut bytes = [0; FRAME_BYTES];
     gather_slot(frame, slot, &mut bytes);
-    match write_whole(report, &bytes) {
-        Written::Whole => None,
-        Written::Lost => Some(Status::ReportFault),
-    }
+    write_whole(report, &bytes)
 }
 
 // Puts the slot's bytes of the four rows of a frame one after another.
 fn gather_slot(frame: &Frame<4080>, slot: u8, into: &mut [u8])
     requires low { 1 ≤ slot }
-    requires high { slot ≤ 8 }
-    requires room { length into.old ≡ 1904 }
+    requires high { slot ≤ OTU2_SLOTS }
+    requires room { length into.old ≡ GROUPS / OTU2_SLOTS }
     ensures { into.new ≡ slot_bytes slot frame.now }
 {
     for row in 0..4_u32 {
-        let start = row as usize * SLOT_COLUMNS;
-        slot_row(frame, slot, row + 1, &mut into[start..start + SLOT_COLUMNS]);
+        let start = row as usize * ROW_BYTES;
+        slot_row(
+            frame,
+            LineKind::Otu2,
+            slot,
+            row + 1,
+            &mut into[start..start + ROW_BYTES],
+        );
     }
 }

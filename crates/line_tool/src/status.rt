@@ -16,7 +16,7 @@ pub enum Status {
     Words,
     /// The plan is refused: the first rule that it breaks, and where: 0 for the top, from 1 on for
     /// its connections.
-    Plan(PlanError, u32),
+    Plan(PlanError, u64),
     /// A read of the plan failed.
     PlanFault,
     /// A write of the report failed, and ended the command.

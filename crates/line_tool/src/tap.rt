@@ -3,11 +3,12 @@ ghost use Rattle.std.specs.Prelude.{◌≡◌, ◌+◌, ◌*◌, ◌<◌, ◌≤
 ghost use Rattle.otn_ports.specs.InPlace.{in_view};
 ghost use Rattle.otn_ports.specs.Views.{InView};
 ghost use Rattle.tributary_model.specs.Places.{Tributary};
+ghost use Rattle.otn_base.specs.declared.limits.TheConstants.{GROUPS, OTU2_SLOTS};
 ghost use Rattle.line_tool.specs.PullReport.{tributary};
 
 use line_side::LineIn;
-use otn_base::limits::MULTIFRAME;
-use otn_base::{Memory, Slots};
+use otn_base::limits::OTU2_SLOTS;
+use otn_base::{LineKind, Memory, Slots};
 use otn_ports::{InPlaceOf, Source};
 use std::alloc::Global;
 use trib_sink::TribSink;
@@ -26,12 +27,13 @@ impl Tap {
     /// ever need; answers `Memory` where there is none.
     pub(crate) fn new(alloc: Global, port: u8, slots: &Slots) -> Result<Tap, Memory>
         requires low { 1 ≤ port }
-        requires high { port ≤ 8 }
-        ensures stands { IfOk result (λ tap. (first : InView) → TapStands (tributary port slots.now) first first [] 0 tap) }
+        requires high { port ≤ OTU2_SLOTS }
+        requires plain { slots.now.kind ≡ LineKind.Otu2 }
+        ensures stands { IfOk result (λ tap. (first : InView) → TapStands (tributary port slots.now.list) first first [] 0 tap) }
         ensures between { IfOk result IsBetweenTurns }
         ensures slots { IfOk result (λ tap. tap.sink.slots ≡ slots.now) }
     {
-        let line = LineIn::new(alloc)?;
+        let line = LineIn::new(alloc, LineKind::Otu2, false)?;
         let sink = TribSink::new(alloc, slots, port)?;
         Ok(Tap { line, sink })
     }
@@ -41,7 +43,7 @@ impl Tap {
     pub(crate) fn turn<I: Source>(&mut self, place: &mut InPlaceOf<I>, into: &mut [u8]) -> usize
         requires between { IsBetweenTurns self.old }
         requires stands { StandsSomewhere (in_view I.Source place.old) self.old }
-        requires room { length self.old.sink.slots * 15233 ≤ length into.old }
+        requires room { length self.old.sink.slots.list * (GROUPS + 1) ≤ length into.old }
         ensures moves { (own : Tributary) (first : InView) (taken : List ℕ) (t : ℕ) → TapStands own first (in_view I.Source place.old) taken t self.old
             → TurnMoves own first (in_view I.Source place.new) taken t self.old self.new (take result into.new) }
         ensures within { result ≤ length into.old }
@@ -58,19 +60,19 @@ impl Tap {
         requires between { IsBetweenTurns self.old }
         ensures moves { (own : Tributary) (first : InView) (taken : List ℕ) (t : ℕ) → TapStands own first (in_view I.Source place.old) taken t self.old
             → TapMoves own first (in_view I.Source place.new) taken t self.old self.new }
-        ensures pieces { self.new.line.pieces ≡ 8 }
+        ensures pieces { self.new.line.pieces ≡ OTU2_SLOTS }
         ensures step { IsInStep self.new.sink.taken self.new }
         ensures slots { self.new.sink.slots ≡ self.old.sink.slots }
     {
         let mut frames = 0;
-        for _ in 0..MULTIFRAME {
+        for _ in 0..OTU2_SLOTS {
             frames = self.take_piece(place, frames);
         }
     }
 
     // A piece of a turn in which so many frames were taken, and how many then are.
     fn take_piece<I: Source>(&mut self, place: &mut InPlaceOf<I>, frames: u8) -> u8
-        requires pieces { self.old.line.pieces < 8 }
+        requires pieces { self.old.line.pieces < OTU2_SLOTS }
         requires step { IsInStep frames self.old }
         ensures moves { (own : Tributary) (first : InView) (taken : List ℕ) (t : ℕ) → TapStands own first (in_view I.Source place.old) taken t self.old
             → TapMoves own first (in_view I.Source place.new) taken t self.old self.new }

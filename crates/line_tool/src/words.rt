@@ -1,10 +1,11 @@
 // The words of a command.
 ghost use Rattle.std.specs.Prelude.{◌≡◌, ℕ, List, ◌+◌, ◌≤◌, ◌∷◌, [], ◌++◌, IfSome, IfNone, codes, length};
 ghost use Rattle.otn_base.specs.SlotList.{IsSlotList};
+ghost use Rattle.otn_base.specs.declared.limits.TheConstants.{OTU2_SLOTS};
 ghost use Rattle.line_tool.specs.Words.{IsForm, IsNoForm, texts, digit, slots_text};
 
 use arrayvec::ArrayVec;
-use otn_base::Slots;
+use otn_base::{LineKind, Slots};
 
 /// A command of the program.
 #[derive(Clone, Debug, PartialEq, Eq, Drop)]
@@ -63,8 +64,8 @@ fn one_digit(text: &[u8]) -> Option<u8>
 
 // The slots, 1 to 8 and rising, whose digits this text has, with commas between them.
 fn slot_digits(text: &[u8]) -> Option<Slots>
-    ensures slots { IfSome result (λ slots. (text.now ≡ slots_text slots) × IsSlotList 8 slots) }
-    ensures none { IfNone result ((slots : List ℕ) → text.now ≡ slots_text slots → IsSlotList 8 slots → ⊥) }
+    ensures slots { IfSome result (λ slots. (text.now ≡ slots_text slots.list) × (slots.kind ≡ LineKind.Otu2) × IsSlotList OTU2_SLOTS slots.list) }
+    ensures none { IfNone result ((slots : List ℕ) → text.now ≡ slots_text slots → IsSlotList OTU2_SLOTS slots → ⊥) }
 {
     let mut slots: ArrayVec<u8, 8> = ArrayVec::new();
     let mut rest = text;
@@ -76,7 +77,7 @@ fn slot_digits(text: &[u8]) -> Option<Slots>
         rest = &rest[2..];
     }
     push_digit(&mut slots, rest)?;
-    Slots::new(slots.as_slice())
+    Slots::new(slots.as_slice(), LineKind::Otu2)
 }
 
 // Appends the number, 1 to 8, that this text is the digit of. None where it is none, or there are eight already.

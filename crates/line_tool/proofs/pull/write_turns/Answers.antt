@@ -1,9 +1,11 @@
 use Rattle.std.proofs.Common.{◌≡◌, ◌+◌, ◌++◌, ◌∙◌, refl, subst, inl, inr, arith, true, false}
 use Rattle.otn_ports.specs.InPlace.{in_view}
 use Rattle.line_side.specs.LineStands.{LineView}
+use Rattle.otn_ports.specs.PortViews.{sink_view}
 use Rattle.line_tool.specs.PullRuns.{AnswerRun}
 use Rattle.line_tool.specs.declared.pull.After.TheVariants as next
-use Rattle.line_tool.proofs.PullLoop.{turns_none, turns_more, turns_lost, turns_end}
+use Rattle.line_tool.proofs.PullLoop.{turns_none, turns_more, turns_lost, turns_end, turn_reported, turn_failed, line_ended, never_written}
+use Rattle.line_tool.proofs.Reports.{step_same, step_more}
 use Rattle.line_tool.proofs.pull.write_turns.Goals as goal
 
 pub loop-init : goal.loop-init
@@ -12,16 +14,13 @@ loop-init g c = record {
   somewhere = c.requires.stands;
   slots = refl;
   so_far = λ own stands. turns_none own (in_view g.I.Source c.args.line.now) c.args.tap.now (g.K.Sink.got c.args.report.now) stands;
-  faults = omega arith;
-  keeps = refl;
-  same = refl;
+  report = step_same (sink_view g.K.Sink c.args.report.now);
 }
 
 pub loop-preserved : goal.loop-preserved
 loop-preserved g c =
     let step = c.in-NextTurn.ensures in
     let some = c.loop.invariant.somewhere in
-    let later = c.loop.invariant.faults in
     record {
       between = step.between;
       somewhere = record {
@@ -38,9 +37,8 @@ loop-preserved g c =
           let run = step.run own first h.0.taken c.loop.counter h.0.stands in
           turns_more own first (in_view g.I.Source c.loop.line) (in_view g.I.Source c.write_turn.new.line) c.loop.counter c.loop.tap c.write_turn.new.tap
           (g.K.Sink.got c.args.report.now) (g.K.Sink.got c.loop.report) (g.K.Sink.got c.write_turn.new.report) false next.NextTurn h.0 h.1 run run.wrote;
-      faults = omega (arith, later, step.faults);
-      keeps = step.keeps ∙ c.loop.invariant.keeps;
-      same = step.same ∙ c.loop.invariant.same;
+      report = step_more (sink_view g.K.Sink c.args.report.now) (sink_view g.K.Sink c.loop.report) (sink_view g.K.Sink c.write_turn.new.report) c.loop.invariant.report
+          (turn_reported (sink_view g.K.Sink c.loop.report) (sink_view g.K.Sink c.write_turn.new.report) step.report);
     }
 
 pub returns-in-ReportFailed-clause-run : goal.returns-in-ReportFailed-clause-run
@@ -49,7 +47,7 @@ returns-in-ReportFailed-clause-run g c = λ own stands.
     let h = c.loop.invariant.so_far own stands in
     turns_lost own first (in_view g.I.Source c.loop.line) (in_view g.I.Source c.write_turn.new.line) c.loop.counter c.loop.tap c.write_turn.new.tap
     (g.K.Sink.got c.args.report.now) (g.K.Sink.got c.loop.report) (g.K.Sink.got c.write_turn.new.report) h.0 h.1 c.loop-test.true
-    (c.in-ReportFailed.ensures.run own first h.0.taken c.loop.counter h.0.stands)
+    (c.in-ReportFailed.ensures.run own first h.0.taken c.loop.counter h.0.stands) c.in-ReportFailed.ensures.between.pieces
 
 pub returns-in-LineEnded-clause-run : goal.returns-in-LineEnded-clause-run
 returns-in-LineEnded-clause-run g c = λ own stands.
@@ -72,3 +70,18 @@ returns-clause-run g c = λ own stands.
     turns_end c.answer-2.result own first now (in_view g.I.Source c.answer-2.new.place) c.loop.counter c.loop.tap
     (g.K.Sink.got c.args.report.now) (g.K.Sink.got c.loop.report) h.0 c.loop.auto.counter-end (λ given may. inr last) c.loop.invariant.between.pieces
     (subst (λ (line : LineView). AnswerRun line now (in_view g.I.Source c.answer-2.new.place) c.answer-2.result) c.line-2.ensures c.answer-2.ensures)
+
+pub returns-in-ReportFailed-clause-report : goal.returns-in-ReportFailed-clause-report
+returns-in-ReportFailed-clause-report g c =
+    turn_failed (sink_view g.K.Sink c.args.report.now) (sink_view g.K.Sink c.loop.report) (sink_view g.K.Sink c.write_turn.new.report) c.loop.invariant.report c.in-ReportFailed.ensures.report
+
+pub returns-in-LineEnded-clause-report : goal.returns-in-LineEnded-clause-report
+returns-in-LineEnded-clause-report g c =
+    never_written c.answer.result c.line.result.now (in_view g.I.Source c.write_turn.new.line) (in_view g.I.Source c.answer.new.place) (sink_view g.K.Sink c.args.report.now) (sink_view g.K.Sink c.write_turn.new.report)
+    c.answer.ensures (step_more (sink_view g.K.Sink c.args.report.now) (sink_view g.K.Sink c.loop.report) (sink_view g.K.Sink c.write_turn.new.report) c.loop.invariant.report
+    (line_ended (sink_view g.K.Sink c.loop.report) (sink_view g.K.Sink c.write_turn.new.report) c.in-LineEnded.ensures.report))
+
+pub returns-clause-report : goal.returns-clause-report
+returns-clause-report g c =
+    never_written c.answer-2.result c.line-2.result.now (in_view g.I.Source c.loop.line) (in_view g.I.Source c.answer-2.new.place) (sink_view g.K.Sink c.args.report.now) (sink_view g.K.Sink c.loop.report)
+    c.answer-2.ensures c.loop.invariant.report

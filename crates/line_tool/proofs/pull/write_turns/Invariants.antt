@@ -1,8 +1,10 @@
-use Rattle.std.proofs.Common.{◌≡◌, ◌≤◌, [], false}
+use Rattle.std.proofs.Common.{◌≡◌, [], None, false}
 use Rattle.otn_ports.specs.InPlace.{in_view}
 use Rattle.otn_ports.specs.Views.{InView}
 use Rattle.tributary_model.specs.Places.{Tributary}
 use Rattle.line_tool.specs.PullTurn.{TapStands, StandsSomewhere, IsBetweenTurns}
+use Rattle.otn_ports.specs.PortViews.{sink_view}
+use Rattle.line_tool.specs.Ends.{StepAfter}
 use Rattle.line_tool.proofs.PullLoop.{TurnsSoFar, HasLast}
 use Rattle.line_tool.proofs.pull.write_turns.Given as goal
 
@@ -15,7 +17,5 @@ invariant-loop g l = record {
   so_far : (own : Tributary) → ((first : InView) → TapStands own first first [] 0 l.fn.tap)
       → (h : TurnsSoFar own (in_view g.I.Source l.fn.line) (in_view g.I.Source l.line) l.counter l.tap (g.K.Sink.got l.fn.report) (g.K.Sink.got l.report))
       × HasLast own (in_view g.I.Source l.fn.line) (in_view g.I.Source l.line) l.counter l.tap (g.K.Sink.got l.fn.report) (g.K.Sink.got l.report) h false;
-  faults : g.K.Sink.faults l.fn.report ≤ g.K.Sink.faults l.report;
-  keeps : g.K.Sink.keeps l.report ≡ g.K.Sink.keeps l.fn.report;
-  same : g.K.Sink.boxed l.report ≡ g.K.Sink.boxed l.fn.report;
+  report : StepAfter None (sink_view g.K.Sink l.fn.report) (sink_view g.K.Sink l.report);
 }

@@ -1,4 +1,4 @@
-use Rattle.std.proofs.Common.{◌≡◌, ◌∙◌, suc, length, sym, ap}
+use Rattle.std.proofs.Common.{◌≡◌, ◌∙◌, suc, length, sym, ap, subst}
 use Rattle.otn_ports.proofs.GivenLaws.{read_gave}
 use Rattle.otn_ports.specs.Given.{Gave}
 use Rattle.otn_ports.specs.InPlace.{in_view}
@@ -6,7 +6,10 @@ use Rattle.otn_ports.specs.Reads.{state_after, idle_reading}
 use Rattle.otn_ports.specs.Views.{Live}
 use Rattle.otn_ports.specs.declared.in_place.Reading.TheVariants.{Full}
 use Rattle.frame_geometry.specs.Loans.{after_loan-whole}
-use Rattle.line_tool.proofs.SlotSteps.{live_of, step_written}
+use Rattle.line_tool.proofs.SlotSteps.{live_of, step_written, step_reported}
+use Rattle.otn_ports.specs.PortViews.{sink_view}
+use Rattle.line_tool.specs.Ends.{StepAfter}
+use Rattle.line_tool.specs.SlotRuns.{SlotStep}
 use Rattle.line_tool.proofs.slot.write_frame.Goals as goal
 
 pub returns-in-Full-clause-step : goal.returns-in-Full-clause-step
@@ -21,5 +24,12 @@ returns-in-Full-clause-step g c =
     let gave : Gave old frame new = read_gave Full old new frame 16320 size reads.state reads.live (λ no. absurd (no live)) in
     let goes_on : new.state ≡ old.state = reads.state ∙ ap (λ s. state_after s Full) live ∙ sym live in
     let loan = after_loan-whole 4080 c.args.frame.now frame size in
-    step_written c.write_slot_of.result c.args.slot frame old new (g.K.Sink.got c.args.report.now) (g.K.Sink.got c.write_slot_of.new.report)
-    gave size goes_on (rw loan at c.write_slot_of.ensures.written)
+    let after = c.step_after.ensures in
+    subst (λ answer. SlotStep c.args.slot old new (g.K.Sink.got c.args.report.now) (g.K.Sink.got c.write_slot_of.new.report) answer) (sym after)
+    (step_written c.write_slot_of.result c.args.slot frame old new (g.K.Sink.got c.args.report.now) (g.K.Sink.got c.write_slot_of.new.report)
+    gave size goes_on (rw loan at c.write_slot_of.ensures.written))
+
+pub returns-in-Full-clause-report : goal.returns-in-Full-clause-report
+returns-in-Full-clause-report g c =
+    subst (λ answer. StepAfter answer (sink_view g.K.Sink c.args.report.now) (sink_view g.K.Sink c.write_slot_of.new.report)) (sym c.step_after.ensures)
+    (step_reported c.write_slot_of.result (sink_view g.K.Sink c.args.report.now) (sink_view g.K.Sink c.write_slot_of.new.report) c.write_slot_of.ensures.report)

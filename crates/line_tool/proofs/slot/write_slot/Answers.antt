@@ -8,4 +8,4 @@ pub returns-in-Dead-clause-run : goal.returns-in-Dead-clause-run
 returns-in-Dead-clause-run g c =
     let line = in_view g.I.Source c.args.line.now in
     let dead : line.state ≡ Dead = ap (λ place. (in_view g.I.Source place).state) c.in-Dead.is in
-    λ _. dead_run c.args.slot line (g.K.Sink.got c.args.report.now) dead
+    dead_run c.args.slot line (g.K.Sink.got c.args.report.now) dead

@@ -1,5 +1,6 @@
 use Rattle.std.proofs.Common.{◌++◌}
 use Rattle.otn_ports.specs.InPlace.{in_view}
+use Rattle.line_side.specs.LineForm.{plain_otu2}
 use Rattle.line_tool.proofs.TapTurns.{turn_ends, turn_within}
 use Rattle.line_tool.proofs.tap.Tap.turn.Goals as goal
 
@@ -10,8 +11,8 @@ returns-clause-moves g c = λ own first taken t h.
     let line = c.end_turn-whole.ensures in
     let sink = c.end_turn.ensures in
     turn_ends own first now taken t c.end_turn.result c.args.self.now c.take_frames.new.self c.end_turn-whole.result c.end_turn-whole.new.self c.end_turn.new.self c.end_turn.new.into c.args.into.now
-    m c.take_frames.ensures.pieces line.pieces line.ending (line.stands first now (taken ++ m.came) t m.stands.line)
-    (λ given may. line.multiframe first now (taken ++ m.came) given t m.stands.line may) (λ given may. line.ended first now (taken ++ m.came) given t m.stands.line may)
+    m c.take_frames.ensures.pieces line.pieces line.ending (line.stands plain_otu2 first now (taken ++ m.came) t m.stands.line)
+    (λ given may. (line.turn plain_otu2 first now (taken ++ m.came) given t m.stands.line may).has_multiframe) (λ given may. (line.turn plain_otu2 first now (taken ++ m.came) given t m.stands.line may).has_ended)
     (λ past frames st. sink.stands own past frames st) (λ past frames st. sink.bytes own past frames st) (λ past frames st. sink.count own past frames st)
 
 pub returns-clause-within : goal.returns-clause-within

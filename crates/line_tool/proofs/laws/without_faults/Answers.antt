@@ -1,0 +1,13 @@
+use Rattle.line_tool.proofs.PlanChecks.{check_complete}
+use Rattle.line_tool.proofs.PullTable.{pull_complete}
+use Rattle.line_tool.proofs.SlotTable.{slot_complete}
+use Rattle.line_tool.proofs.laws.without_faults.Goals as goal
+
+pub returns-clause-slot : goal.returns-clause-slot
+returns-clause-slot c = λ slot old new answer. slot_complete answer slot old new
+
+pub returns-clause-pull : goal.returns-clause-pull
+returns-clause-pull c = λ own old new answer. pull_complete answer own old new
+
+pub returns-clause-check : goal.returns-clause-check
+returns-clause-check c = λ old new answer. check_complete answer old new

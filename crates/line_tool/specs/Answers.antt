@@ -1,0 +1,96 @@
+-- What each command answers for, over all that the top call is handed: as it was, and as it is.
+use Rattle.std.specs.Prelude.{◌≡◌, ◌≢◌, ◌<◌, ◌≤◌, ◌%◌, ◌⊎◌, ◌↔◌, ℕ, Bool, false, List, ◌++◌, length}
+use Rattle.otn_base.specs.declared.limits.TheConstants.{LINE_FRAME_BYTES}
+use Rattle.otn_ports.specs.Given.{Gave}
+use Rattle.otn_ports.specs.Reads.{HasEnded}
+use Rattle.otn_ports.specs.Views.{Live, Dead}
+use Rattle.tributary_model.specs.Places.{Tributary}
+use Rattle.line_tool.specs.Device.{Device, line_zero}
+use Rattle.line_tool.specs.PlanCheck.{CheckRun, CountsBy}
+use Rattle.line_tool.specs.PullReport.{LeavesBytes, bytes_taken, pull_report, tributary}
+use Rattle.line_tool.specs.PullRuns.{MayFollow, WantedByTurns}
+use Rattle.line_tool.specs.Runs.{Reports, HasRest, IsLineAnswer}
+use Rattle.line_tool.specs.SlotReport.{slot_report, most_bytes}
+use Rattle.line_tool.specs.declared.status.Status.{Status}
+use Rattle.line_tool.specs.declared.status.Status.TheVariants.{Unfinished, ReportFault, Cut, Memory}
+use Rattle.line_tool.specs.declared.words.Command.{Command}
+use Rattle.line_tool.specs.declared.words.Command.TheVariants.{Slot, Pull, Check}
+
+-- The report's count of faults rose or stands at its end where the answer is ReportFault, and else it is as it was: no write that
+-- failed was tried again.
+abbrev pub ReportCounts : (old new : Device) → Status → Type 0
+ReportCounts old new status = CountsBy ReportFault status old.report.faults new.report.faults
+
+-- ---- `slot K`: the slot's payload bytes of each whole frame of line input 0
+
+-- once there was memory
+pub record SlotRan (slot : ℕ) (old new : Device) (status : Status) : Type 0 where
+  -- these bytes were taken of the line
+  pub taken : List ℕ
+  pub gave : Gave (line_zero old) taken (line_zero new)
+  -- what they give was written, whole, or a part of it from the front where a write failed
+  pub wrote : Reports status old.report.got new.report.got (slot_report slot taken)
+  pub counts : ReportCounts old new status
+  -- Cut is the answer exactly where the line is dead
+  pub cut : (status ≡ Cut) ↔ ((line_zero new).state ≡ Dead)
+  -- and Unfinished where it is not, and bytes were taken behind the whole frames that are used
+  pub unfinished : status ≢ ReportFault → (status ≡ Unfinished) ↔ (((line_zero new).state ≢ Dead) × HasRest (length taken))
+  -- all that there is was taken, but of 131,072 frames and one byte more at most
+  pub most : length taken ≤ most_bytes
+  pub all : status ≢ ReportFault → (line_zero new).state ≢ Dead → HasEnded (line_zero new).left ⊎ (length taken ≡ most_bytes)
+
+pub record SlotAnswers (slot : ℕ) (old new : Device) (status : Status) : Type 0 where
+  pub answer : IsLineAnswer status
+  pub memory : status ≡ Memory → new ≡ old
+  pub ran : status ≢ Memory → SlotRan slot old new status
+
+-- ---- `pull PORT K,K`: what the sink of a tributary on line input 0 emits, turn by turn
+
+-- Once there was memory. Behind the bytes taken there may be more, `rest`: whatever they are, all this holds.
+pub record PullRan (own : Tributary) (old new : Device) (status : Status) : Type 0 where
+  -- these bytes were taken of the line, and whether more may stand behind them
+  pub taken : List ℕ
+  pub gave : Gave (line_zero old) taken (line_zero new)
+  pub more : Bool
+  pub over : more ≡ false → (line_zero new).state ≡ Live → HasEnded (line_zero new).left
+  -- what they give was written, whole, or a part of it from the front where a write failed
+  pub wrote : (rest : List ℕ) → MayFollow more rest → Reports status old.report.got new.report.got (pull_report own (taken ++ rest))
+  pub counts : ReportCounts old new status
+  -- Cut is the answer where the line is dead, and Unfinished where it is not, and bytes stand behind the frames that the turns
+  -- wanted: exactly so, but that a write may have failed before
+  pub cut : status ≢ ReportFault → (status ≡ Cut) ↔ ((line_zero new).state ≡ Dead)
+  pub unfinished : status ≢ ReportFault → (rest : List ℕ) → MayFollow more rest → (status ≡ Unfinished) ↔ (((line_zero new).state ≢ Dead) × LeavesBytes (taken ++ rest))
+  -- the same by how many bytes were taken
+  pub counted : status ≢ ReportFault → (status ≡ Unfinished) ↔ (((line_zero new).state ≢ Dead) × (0 < length taken % LINE_FRAME_BYTES))
+  -- as many bytes were taken as the turns want and one more, or all that there are
+  pub took : status ≢ ReportFault → (rest : List ℕ) → MayFollow more rest → length taken ≡ bytes_taken (taken ++ rest)
+  -- and where a write failed, as many as the turns up to that one want
+  pub stopped : status ≡ ReportFault → WantedByTurns more taken
+
+pub record PullAnswers (own : Tributary) (old new : Device) (status : Status) : Type 0 where
+  pub answer : IsLineAnswer status
+  pub memory : status ≡ Memory → new ≡ old
+  pub ran : status ≢ Memory → PullRan own old new status
+
+-- ---- `check`: whether the plan is one
+
+abbrev pub CheckAnswers : (old new : Device) → Status → Type 0
+CheckAnswers old new status = CheckRun old.plan new.plan old.report new.report status
+
+-- ---- each command
+
+abbrev pub Answers : Command → (old new : Device) → Status → Type 0
+Answers (Slot slot) old new status = SlotAnswers slot old new status
+Answers (Pull port slots) old new status = PullAnswers (tributary port slots.list) old new status
+Answers Check old new status = CheckAnswers old new status
+
+-- the commands that leave the plan's source alone, and those that leave the places alone
+abbrev pub LeavesPlan : Command → Type 0
+LeavesPlan (Slot slot) = Unit {0}
+LeavesPlan (Pull port slots) = Unit {0}
+LeavesPlan Check = ⊥
+
+abbrev pub LeavesBays : Command → Type 0
+LeavesBays (Slot slot) = ⊥
+LeavesBays (Pull port slots) = ⊥
+LeavesBays Check = Unit {0}

@@ -1,0 +1,31 @@
+-- What is seen of all that a command is handed: the plan's source, the places and the report.
+use Rattle.std.specs.Prelude.{ℕ, List}
+use Rattle.otn_ports.specs.Given.{Gave}
+use Rattle.otn_ports.specs.OnePlace.{OnlyLineIn}
+use Rattle.otn_ports.specs.PortViews.{SourceView, SinkView, SourceLater, SinkLater, source_view, sink_view}
+use Rattle.otn_ports.specs.Racks.{bays_view}
+use Rattle.otn_ports.specs.Views.{BaysView, InView, line_in_at}
+use Rattle.otn_ports.specs.declared.bays.Rack.{Rack}
+use Rattle.otn_ports.specs.declared.sink.Sink as sink
+use Rattle.otn_ports.specs.declared.source.Source as source
+
+-- all that the top call is handed but its words and the chooser
+pub record Device : Type 0 where
+  pub plan : SourceView
+  pub bays : BaysView
+  pub report : SinkView
+
+abbrev pub device : {P K I O : Type 0} → source.Ghosts P → sink.Ghosts K → source.Ghosts I → sink.Ghosts O → P → Rack I O → K → Device
+device p k i o plan bays report = record { plan = source_view p plan; bays = bays_view i o bays; report = sink_view k report }
+
+-- line input 0
+abbrev pub line_zero : Device → InView
+line_zero d = line_in_at d.bays 0
+
+-- What stays, whatever the command and its answer: the ports are the same ones. Of the places line input 0 alone is asked; it dies
+-- only where its port's count of faults rose or stands at its end.
+pub record Stays (old new : Device) : Type 0 where
+  pub plan : SourceLater old.plan new.plan
+  pub report : SinkLater old.report new.report
+  pub line : (taken : List ℕ) × Gave (line_zero old) taken (line_zero new)
+  pub only : OnlyLineIn 0 old.bays new.bays
