@@ -1,17 +1,14 @@
 -- What the steps of a cutter meet.
-use Rattle.std.proofs.Common.{◌≡◌, ◌≢◌, ◌<◌, ◌≤◌, ◌+◌, ◌-◌, ◌%◌, ℕ, Bool, true, false, List, [], ◌∷◌, ◌++◌, length, take, drop, arith, refl, sym, ap, ◌∙◌, append_assoc, append-nil, length-append, add-one}
-use Rattle.std.proofs.lemmas.List.{drop-drop, drop_at, take_at, length-take-le, take-append-drop, drop-take}
-use Rattle.std.proofs.Math.Seq.{take-length, drop-length}
-use Rattle.otn_ports.specs.Views.{InView, Live, Dead}
-use Rattle.otn_ports.specs.Given.{Gave}
-use Rattle.otn_ports.specs.Reads.{HasEnded}
-use Rattle.otn_ports.proofs.GivenLaws.{gave_none, gave_twice, dead_not_live}
+use Rattle.std.proofs.Common.{◌≡◌, ◌≢◌, ◌<◌, ◌≤◌, ◌+◌, ◌-◌, ℕ, Bool, true, false, List, [], ◌∷◌, ◌++◌, length, take, drop, arith, refl, sym, ap, ◌∙◌, append_assoc, append-nil}
+use Rattle.std.proofs.lemmas.List.{drop-drop, drop-take}
+use Rattle.std.proofs.Math.Seq.{take-length}
+use Rattle.otn_ports.specs.Views.{InView}
+use Rattle.otn_ports.proofs.GivenLaws.{gave_none}
 use Rattle.otn_ports.specs.declared.in_place.Reading.{Reading}
 use Rattle.otn_ports.specs.declared.in_place.Reading.TheVariants as reading
-use Rattle.packet_text.specs.TextLines.{has_lf}
 use Rattle.packet_text.specs.Blocks.{BlockRead}
 use Rattle.packet_text.specs.Carrying.{Carried, NoneCarried}
-use Rattle.packet_text.specs.Cutting.{CutView, all_of, at_line, GoesOnBy, LostIn, Cuts, CutsSome}
+use Rattle.packet_text.specs.Cutting.{CutView, GoesOnBy, CutsSome}
 use Rattle.packet_text.specs.declared.cutter.Cut.{Cut}
 use Rattle.packet_text.specs.declared.cutter.Cut.TheVariants.{More, Line, Last, Long, End, Lost}
 use Rattle.packet_text.proofs.Lists.{clean_both}

@@ -1,20 +1,10 @@
 -- Steps of a cutter one after another.
-use Rattle.std.proofs.Common.{◌≡◌, ◌≢◌, ◌<◌, ◌≤◌, ◌+◌, ◌-◌, ◌%◌, ℕ, Bool, true, false, List, [], ◌∷◌, ◌++◌, length, take, drop, arith, refl, sym, ap, ◌∙◌, append_assoc, append-nil, length-append, add-one}
-use Rattle.std.proofs.lemmas.List.{drop-drop, drop_at, take_at, length-take-le, take-append-drop, drop-take}
-use Rattle.std.proofs.Math.Seq.{take-length, drop-length}
-use Rattle.otn_ports.specs.Views.{InView, Live, Dead}
-use Rattle.otn_ports.specs.Given.{Gave}
-use Rattle.otn_ports.specs.Reads.{HasEnded}
+use Rattle.std.proofs.Common.{◌≡◌, ◌%◌, ℕ, Bool, true, false, List, [], ◌++◌, length, arith, refl, sym, ap, ◌∙◌, append_assoc, append-nil, length-append}
+use Rattle.otn_ports.specs.Views.{InView}
 use Rattle.otn_ports.proofs.GivenLaws.{gave_none, gave_twice, dead_not_live}
-use Rattle.otn_ports.specs.declared.in_place.Reading.{Reading}
-use Rattle.otn_ports.specs.declared.in_place.Reading.TheVariants as reading
-use Rattle.packet_text.specs.TextLines.{has_lf}
-use Rattle.packet_text.specs.Blocks.{BlockRead}
-use Rattle.packet_text.specs.Carrying.{Carried, NoneCarried}
-use Rattle.packet_text.specs.Cutting.{CutView, all_of, at_line, GoesOnBy, LostIn, Cuts, CutsSome}
+use Rattle.packet_text.specs.Cutting.{CutView, all_of, LostIn, Cuts, CutsSome}
 use Rattle.packet_text.specs.declared.cutter.Cut.{Cut}
-use Rattle.packet_text.specs.declared.cutter.Cut.TheVariants.{More, Line, Last, Long, End, Lost}
-use Rattle.packet_text.proofs.Lists.{clean_both}
+use Rattle.packet_text.specs.declared.cutter.Cut.TheVariants.{More}
 
 all_twice : (a b : CutView) (x y : List ℕ) → all_of a x ≡ b.line ++ b.hand → all_of a (x ++ y) ≡ all_of b y
 all_twice a b x y e =

@@ -1,18 +1,17 @@
 -- What the search for the next line that counts finds.
-use Rattle.std.proofs.Common.{◌≡◌, ◌≢◌, ◌<◌, ◌≤◌, ◌+◌, ◌%◌, ℕ, Bool, true, false, List, [], ◌∷◌, ◌++◌, length, Option, Some, None, arith, refl, sym, ap, ◌∙◌, length-append, append_assoc, append-nil}
-use Rattle.otn_ports.specs.Views.{InView, Live, Dead}
+use Rattle.std.proofs.Common.{◌≡◌, ◌+◌, ◌%◌, ℕ, Bool, true, false, List, [], ◌∷◌, ◌++◌, length, arith, refl, sym, ap, ◌∙◌, length-append, append_assoc, append-nil}
+use Rattle.otn_ports.specs.Views.{InView}
 use Rattle.otn_ports.proofs.GivenLaws.{dead_not_live, gave_none, gave_twice}
 use Rattle.packet_text.specs.TextLines.{has_lf, lines_of, full_lines, whole_blocks, text_of_dead}
-use Rattle.packet_text.specs.PacketText.{line_gives, Packets, TextEnding, Ended, BadAt, packets_of}
-use Rattle.packet_text.specs.LinesStand.{LinesView, stopped, Begins, HasBad, GoesOn}
+use Rattle.packet_text.specs.LinesStand.{LinesView, stopped, GoesOn}
 use Rattle.packet_text.specs.Finding.{Counts, Judges, Finds}
-use Rattle.packet_text.specs.Cutting.{CutView, all_of, LostIn, Cuts, CutsSome}
+use Rattle.packet_text.specs.Cutting.{CutView, CutsSome}
 use Rattle.packet_text.specs.declared.cutter.Cut.TheVariants as cut
 use Rattle.packet_text.specs.declared.found.Found.{Found}
 use Rattle.packet_text.specs.declared.found.Found.TheVariants as found
-use Rattle.packet_text.proofs.Texts.{lines_of-line, lines_of-long, lines_of-last, LongLine, full_lines-line, full_lines-none, whole_blocks-part}
+use Rattle.packet_text.proofs.Texts.{lines_of-line, lines_of-long, lines_of-last, LongLine, full_lines-none, whole_blocks-part}
 use Rattle.packet_text.proofs.Judging.{bad_gives, long_gives}
-use Rattle.packet_text.proofs.GoingOn.{start, was_open, all_lines, TextLines, text_lines, sound_empty, sound_packet, has_bad, has_ended, line_goes, last_goes}
+use Rattle.packet_text.proofs.GoingOn.{start, all_lines, text_lines, sound_empty, sound_packet, has_bad, has_ended, line_goes, last_goes}
 
 pub find_line : (taken : List ℕ) (packets : List (List ℕ)) (r : Found) (old new : LinesView) (cnew : CutView) (was is : InView) → (h : GoesOn taken packets old) → CutsSome cut.Line (start old) was cnew is
     → ((lines : List (List ℕ)) → Counts lines old → Judges r lines cnew.line new) → new.hand ≡ cnew.hand → new.ended ≡ cnew.ended → Finds r taken packets old was new is

@@ -1,15 +1,14 @@
 -- What a place gave is among the texts that its lines may have.
-use Rattle.std.proofs.Common.{◌≡◌, ◌≢◌, ℕ, Bool, true, false, List, [], ◌∷◌, ◌++◌, Option, Some, None, refl, sym, ap, ◌∙◌, append_assoc, append-nil}
+use Rattle.std.proofs.Common.{◌≡◌, ◌≢◌, ℕ, Bool, true, false, List, [], ◌++◌, Option, Some, refl, sym, ap, ◌∙◌, append_assoc, append-nil}
 use Rattle.otn_ports.specs.Views.{State, Empty, Live, Dead, InView}
-use Rattle.otn_ports.specs.Given.{IsGiven}
 use Rattle.otn_ports.specs.Reads.{HasEnded}
 use Rattle.otn_ports.proofs.GivenLaws.{Beyond, given_of_gave, dead_not_live}
 use Rattle.packet_text.specs.TextLines.{full_lines, text_of_dead}
-use Rattle.packet_text.specs.LinesStand.{LinesView, Begins, may_be, MayBe, LinesStand}
+use Rattle.packet_text.specs.LinesStand.{may_be}
 use Rattle.packet_text.specs.Laws.{GivenIsAmong}
 use Rattle.packet_text.specs.declared.line.Line.{Line}
 use Rattle.packet_text.specs.declared.line.Line.TheVariants.{Packet, End, Bad, Lost}
-use Rattle.packet_text.proofs.Texts.{Front, full_lines-front}
+use Rattle.packet_text.proofs.Texts.{full_lines-front}
 
 ended_none : (left : Option (List ℕ)) (rest : List ℕ) → left ≡ Some rest → HasEnded left → rest ≡ []
 ended_none left rest e h = rw e at h

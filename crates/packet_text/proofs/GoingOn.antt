@@ -1,18 +1,14 @@
 -- How the lines of a place go on.
-use Rattle.std.proofs.Common.{◌≡◌, ◌≢◌, ◌<◌, ◌≤◌, ◌+◌, ◌%◌, ℕ, Bool, true, false, List, [], ◌∷◌, ◌++◌, length, Option, Some, None, arith, refl, sym, ap, ◌∙◌, length-append, append_assoc, append-nil}
-use Rattle.otn_ports.specs.Views.{InView, Live, Dead}
-use Rattle.otn_ports.proofs.GivenLaws.{dead_not_live}
-use Rattle.packet_text.specs.TextLines.{has_lf, lines_of, full_lines, whole_blocks, text_of_dead}
-use Rattle.packet_text.specs.PacketText.{line_gives, bytes_of_line, Packets, TextEnding, Ended, BadAt, behind, with_line, packets_behind, packets_of, empty_lines}
+use Rattle.std.proofs.Common.{◌≡◌, ◌≢◌, ◌+◌, ℕ, Bool, true, false, List, [], ◌∷◌, ◌++◌, length, Some, None, arith, refl, sym, ap, ◌∙◌, length-append, append_assoc, append-nil}
+use Rattle.otn_ports.specs.Views.{InView}
+use Rattle.packet_text.specs.TextLines.{has_lf, lines_of, full_lines}
+use Rattle.packet_text.specs.PacketText.{line_gives, Packets, Ended, BadAt, behind, with_line, packets_behind, packets_of}
 use Rattle.packet_text.specs.LinesStand.{LinesView, stopped, Begins, HasBad, GoesOn}
-use Rattle.packet_text.specs.Finding.{Counts, Judges, Finds}
-use Rattle.packet_text.specs.Cutting.{CutView, all_of, LostIn, Cuts, CutsSome}
+use Rattle.packet_text.specs.Finding.{Counts}
+use Rattle.packet_text.specs.Cutting.{CutView, Cuts}
 use Rattle.packet_text.specs.declared.cutter.Cut.{Cut}
 use Rattle.packet_text.specs.declared.cutter.Cut.TheVariants as cut
-use Rattle.packet_text.specs.declared.found.Found.{Found}
-use Rattle.packet_text.specs.declared.found.Found.TheVariants as found
-use Rattle.packet_text.proofs.Texts.{lines_of-line, lines_of-long, lines_of-last, LongLine, full_lines-line, full_lines-none, whole_blocks-part}
-use Rattle.packet_text.proofs.Judging.{bad_gives, long_gives}
+use Rattle.packet_text.proofs.Texts.{lines_of-line, lines_of-last, full_lines-line}
 
 -- a cutter at the end of the lines so far
 abbrev pub start : LinesView → CutView

@@ -1,14 +1,13 @@
 -- What a line gives behind others.
-use Rattle.std.proofs.Common.{◌≡◌, ◌≢◌, ◌<◌, ◌≤◌, ◌+◌, ◌-◌, ◌*◌, ◌^◌, ◌%◌, ℕ, zero, suc, min, Bool, true, false, cond, nat_le, ◌&&◌, if◌then◌else◌, List, [], ◌∷◌, ◌++◌, length, take, drop, Option, Some, None, Result, Ok, Err, arith, refl, sym, ap, ◌∙◌, length-append, append_assoc, append-nil}
+use Rattle.std.proofs.Common.{◌≡◌, ◌≢◌, ◌<◌, ◌≤◌, ◌+◌, ◌-◌, ◌^◌, ℕ, min, Bool, true, false, nat_le, ◌&&◌, if◌then◌else◌, List, [], ◌∷◌, ◌++◌, length, take, Some, None, Result, Ok, Err, arith, refl, sym, ap, ◌∙◌, length-append}
 use Rattle.std.specs.Prelude.{reverse}
-use Rattle.std.specs.List.{take_while}
 use Rattle.std.proofs.lemmas.List.{reverse-append, length-take-le}
 use Rattle.std.proofs.lemmas.List.Sums.{take_while-cons}
 use Rattle.std.proofs.lemmas.Bool.Decides.{nat_tests}
 use Rattle.hex.specs.Hex.{decode_of, decode_pairs}
 use Rattle.hex.specs.declared.error.FromHexError.{FromHexError}
 use Rattle.hex.proofs.HexLemmas.{decode_of-ok}
-use Rattle.packet_text.specs.PacketText.{without_cr, decoded, bytes_of_line, is_nothing, is_empty_line, empty_lines, line_gives, Packets, BadAt, behind, with_line, packets_behind}
+use Rattle.packet_text.specs.PacketText.{without_cr, decoded, bytes_of_line, is_nothing, is_empty_line, empty_lines, line_gives}
 use Rattle.packet_text.proofs.LineEnds.{cr_length}
 use Rattle.packet_text.specs.LinesStand.{LinesView, stopped}
 use Rattle.packet_text.specs.Finding.{Counts, Judges}

@@ -1,5 +1,5 @@
 -- A line without its CR.
-use Rattle.std.proofs.Common.{◌≡◌, ◌≤◌, ◌+◌, ◌-◌, ◌<◌, ℕ, Bool, true, false, nat_lt, ◌&&◌, ◌==◌, if◌then◌else◌, List, length, take, slice_index, arith, refl}
+use Rattle.std.proofs.Common.{◌≡◌, ◌≤◌, ◌+◌, ◌-◌, ℕ, Bool, true, false, nat_lt, ◌&&◌, ◌==◌, if◌then◌else◌, List, length, take, slice_index, arith}
 use Rattle.std.proofs.lemmas.List.{length-take-le}
 use Rattle.packet_text.specs.PacketText.{without_cr}
 

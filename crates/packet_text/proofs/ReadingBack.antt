@@ -1,12 +1,12 @@
 -- What is written reads back.
-use Rattle.std.proofs.Common.{◌≡◌, ◌≢◌, ◌<◌, ◌≤◌, ◌+◌, ◌-◌, ◌*◌, ℕ, zero, suc, Bool, true, false, nat_lt, nat_le, ◌&&◌, ◌==◌, if◌then◌else◌, List, [], ◌∷◌, ◌++◌, length, take, slice_index, map, Option, Some, None, Result, Ok, Err, arith, refl, sym, ap, subst, ◌∙◌, append_assoc, append-nil}
+use Rattle.std.proofs.Common.{◌≡◌, ◌≢◌, ◌≤◌, ◌+◌, ◌-◌, ℕ, zero, suc, Bool, true, false, nat_lt, nat_le, ◌&&◌, ◌==◌, if◌then◌else◌, List, [], ◌∷◌, ◌++◌, length, take, slice_index, map, Some, None, arith, refl, ap, subst, ◌∙◌, append_assoc}
 use Rattle.std.specs.List.{All, AllPass}
 use Rattle.std.proofs.lemmas.List.Elements.{All-head, All-tail}
 use Rattle.std.proofs.lemmas.Bool.Decides.{nat_tests}
-use Rattle.hex.specs.Hex.{IsBytes, decode_of, encode_lower, lower_digits, is_hex_digit}
+use Rattle.hex.specs.Hex.{IsBytes, encode_lower, lower_digits, is_hex_digit}
 use Rattle.hex.proofs.HexLemmas.{length-encode_with, decode_of-encode_lower, decode_of-ok}
 use Rattle.packet_text.specs.TextLines.{has_lf, lines_of}
-use Rattle.packet_text.specs.PacketText.{without_cr, decoded, bytes_of_line, is_nothing, is_empty_line, empty_lines, line_gives, Packets, TextEnding, Ended, behind, with_line, packets_behind, packets_of, packet_line, hex_text}
+use Rattle.packet_text.specs.PacketText.{without_cr, bytes_of_line, is_nothing, is_empty_line, empty_lines, line_gives, Ended, behind, with_line, packets_behind, packets_of, hex_text}
 use Rattle.packet_text.specs.Laws.{IsPacket, ReadsBack}
 use Rattle.packet_text.proofs.Texts.{lines_of-line}
 use Rattle.packet_text.proofs.GoingOn.{with_packet}

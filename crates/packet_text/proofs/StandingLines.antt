@@ -1,17 +1,16 @@
 -- Where the lines of a place stand, from one answer to the next.
-use Rattle.std.proofs.Common.{◌≡◌, ◌≢◌, ◌<◌, ◌≤◌, ◌+◌, ◌%◌, ℕ, Bool, true, false, if◌then◌else◌, List, [], ◌∷◌, ◌++◌, length, arith, refl, sym, ap, subst, ◌∙◌, append_assoc, append-nil}
-use Rattle.otn_ports.specs.Views.{InView, Live, Dead}
-use Rattle.otn_ports.specs.Reads.{HasEnded}
+use Rattle.std.proofs.Common.{◌≡◌, ◌≢◌, ◌%◌, ℕ, Bool, true, false, if◌then◌else◌, List, [], ◌∷◌, ◌++◌, length, refl, sym, ap, subst, ◌∙◌, append_assoc, append-nil}
+use Rattle.otn_ports.specs.Views.{InView}
 use Rattle.otn_ports.proofs.GivenLaws.{gave_none, gave_twice}
-use Rattle.packet_text.specs.TextLines.{lines_of, full_lines, whole_blocks, text_of_dead}
-use Rattle.packet_text.specs.PacketText.{Packets, packets_of, packets_behind, behind, empty_lines}
-use Rattle.packet_text.specs.LinesStand.{LinesView, Begins, GoesOnWith, HasBad, Told, MayBe, may_be, GoesOn, LinesStand, TakeStands, fresh_lines, given_by, is_packet}
+use Rattle.packet_text.specs.TextLines.{lines_of, full_lines, text_of_dead}
+use Rattle.packet_text.specs.PacketText.{packets_of, packets_behind, empty_lines}
+use Rattle.packet_text.specs.LinesStand.{LinesView, Begins, GoesOnWith, may_be, GoesOn, LinesStand, TakeStands, fresh_lines, given_by, is_packet}
 use Rattle.packet_text.specs.Finding.{Finds, answer_of, with_answer}
 use Rattle.packet_text.specs.declared.line.Line.{Line}
 use Rattle.packet_text.specs.declared.line.Line.TheVariants as line
 use Rattle.packet_text.specs.declared.found.Found.{Found}
 use Rattle.packet_text.specs.declared.found.Found.TheVariants as found
-use Rattle.packet_text.proofs.Texts.{Front, full_lines-front, full_lines-more, whole_blocks-more}
+use Rattle.packet_text.proofs.Texts.{full_lines-front, full_lines-more, whole_blocks-more}
 
 -- nothing was read yet
 fresh_goes : GoesOn [] [] fresh_lines

@@ -1,6 +1,12 @@
 -- Bytes that go on with a line.
-use Rattle.std.specs.Prelude.{◌≡◌, ◌<◌, ◌+◌, ℕ, false, List, ◌∷◌, ◌++◌, length, take, drop}
+use Rattle.std.specs.Prelude.{◌≡◌, ◌<◌, ◌+◌, ℕ, false, List, ◌∷◌, ◌++◌, length, take, drop, slice_index}
 use Rattle.packet_text.specs.TextLines.{has_lf}
+
+-- the first LF is byte n
+pub record IsFirstLf (bytes : List ℕ) (n : ℕ) : Type 0 where
+  pub within : n < length bytes
+  pub clean : has_lf (take n bytes) ≡ false
+  pub here : slice_index bytes n ≡ 10
 
 -- all of them: there is no LF
 pub record NoneCarried (old bytes new : List ℕ) : Type 0 where

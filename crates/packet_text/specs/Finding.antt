@@ -1,10 +1,10 @@
 -- What a search for the next line that counts finds.
-use Rattle.std.specs.Prelude.{◌≡◌, ◌≢◌, ◌+◌, ℕ, Bool, true, false, List, [], ◌∷◌, ◌++◌, length, Option, Some, None}
+use Rattle.std.specs.Prelude.{◌≡◌, ◌≢◌, ◌+◌, ℕ, true, false, List, [], ◌∷◌, ◌++◌, length, Some, None}
 use Rattle.otn_ports.specs.Views.{InView, Live, Dead}
 use Rattle.otn_ports.specs.Given.{Gave}
 use Rattle.otn_ports.specs.Reads.{HasEnded}
 use Rattle.packet_text.specs.TextLines.{text_of_dead}
-use Rattle.packet_text.specs.PacketText.{Ended, BadAt, line_gives, packets_of, empty_lines}
+use Rattle.packet_text.specs.PacketText.{Ended, line_gives, packets_of, empty_lines}
 use Rattle.packet_text.specs.LinesStand.{LinesView, stopped, Begins, HasBad, GoesOn}
 use Rattle.packet_text.specs.declared.line.Line.{Line}
 use Rattle.packet_text.specs.declared.line.Line.TheVariants as line

@@ -5,7 +5,7 @@ use Rattle.hex.specs.Hex.{IsBytes}
 use Rattle.otn_ports.specs.Given.{IsGiven}
 use Rattle.otn_ports.specs.Views.{InView}
 use Rattle.packet_text.specs.TextLines.{text_of_dead}
-use Rattle.packet_text.specs.PacketText.{Packets, Ended, packets_of, hex_text}
+use Rattle.packet_text.specs.PacketText.{Ended, packets_of, hex_text}
 use Rattle.packet_text.specs.LinesStand.{LinesView, LinesStand, MayBe}
 use Rattle.packet_text.specs.declared.line.Line.TheVariants.{Lost}
 

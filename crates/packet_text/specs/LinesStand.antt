@@ -4,8 +4,8 @@ use Rattle.otn_ports.specs.Views.{InView, Live, Dead}
 use Rattle.otn_ports.specs.Given.{Gave}
 use Rattle.otn_ports.specs.Reads.{HasEnded}
 use Rattle.packet_text.specs.TextLines.{lines_of, full_lines, text_of_dead}
-use Rattle.packet_text.specs.PacketText.{Packets, TextEnding, Ended, BadAt, behind, packets_behind, packets_of, empty_lines}
-use Rattle.packet_text.specs.Cutting.{CutView, cut_view}
+use Rattle.packet_text.specs.PacketText.{Packets, Ended, BadAt, behind, packets_behind, packets_of, empty_lines}
+use Rattle.packet_text.specs.Cutting.{cut_view}
 use Rattle.packet_text.specs.declared.line.Line.{Line}
 use Rattle.packet_text.specs.declared.line.Line.TheVariants.{Packet, End, Bad, Lost}
 use Rattle.packet_text.specs.declared.packet_lines.PacketLines.{PacketLines}

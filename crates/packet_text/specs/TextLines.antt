@@ -1,5 +1,5 @@
 -- The lines of a text, each ended by LF; the last may have none.
-use Rattle.std.specs.Prelude.{ℕ, zero, ◌+◌, ◌-◌, ◌*◌, ◌/◌, ◌==◌, ◌||◌, Bool, false, if◌then◌else◌, List, [], ◌∷◌, length, take}
+use Rattle.std.specs.Prelude.{ℕ, ◌*◌, ◌/◌, ◌==◌, ◌||◌, Bool, false, if◌then◌else◌, List, [], ◌∷◌, length, take}
 
 -- whether there is an LF among these bytes
 unfoldable pub has_lf : List ℕ → Bool

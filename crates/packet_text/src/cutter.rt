@@ -6,7 +6,7 @@ ghost use Rattle.packet_text.specs.Blocks.{BlockRead};
 ghost use Rattle.packet_text.specs.Carrying.{NoneCarried, Carried};
 
 use crate::buffer::append;
-use memchr::memchr;
+use crate::line_feed::first_lf;
 use otn_base::Memory;
 use otn_ports::{InPlaceOf, Reading, Source};
 use std::alloc::Global;
@@ -16,8 +16,6 @@ const BLOCK: usize = 4096;
 
 // Bytes of a line at most, without its LF: the most digits, and CR.
 const MOST_LINE: usize = 131_055;
-
-const LF: u8 = b'\n';
 
 // What was met behind a line's beginning: a block that goes on with it, its LF, the end of the text behind a last line
 // without LF, too many bytes without LF, the end of the text where a line would begin, or the place's death.
@@ -51,7 +49,7 @@ fn carry(line: &mut Vec<u8>, bytes: &[u8]) -> Option<usize>
     ensures line { MatchOption result (NoneCarried line.old.items bytes.now line.new.items) (λ n. Carried line.old.items bytes.now n line.new.items) }
     ensures capacity { vec_capacity line.old ≤ vec_capacity line.new }
 {
-    match memchr(LF, bytes) {
+    match first_lf(bytes) {
         Some(n) => {
             append(line, &bytes[..n]);
             Some(n)

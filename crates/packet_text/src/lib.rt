@@ -7,6 +7,7 @@ mod digits;
 mod found;
 mod laws;
 mod line;
+mod line_feed;
 mod packet_lines;
 #[cfg(test)]
 mod tests;

@@ -72,6 +72,9 @@ impl PacketLines {
         // Lost comes only where the place died in this call
         ensures lost { result ≡ Line.Lost → (lines_view self.old).answer ≡ Line.Packet → ((in_view P.Source place.old).state ≡ Live) × ((in_view P.Source place.new).state ≡ Dead) }
 
+        // a packet has 1 to 65,527 bytes
+        ensures packet { result ≡ Line.Packet → (1 ≤ length (lines_view self.new).packet) × (length (lines_view self.new).packet ≤ 65527) }
+
         // a block is read only where the last is used up: fewer bytes than a block are in hand
         ensures near { (lines_view self.old).answer ≡ Line.Packet → length (lines_view self.new).hand < 4096 }
 
@@ -98,6 +101,7 @@ impl PacketLines {
         ensures stands { (first : InView) (taken : List ℕ) (packets : List (List ℕ)) → LinesStand first (in_view P.Source place.old) taken packets (lines_view self.old)
             → TakeStands first taken packets (lines_view self.old) (lines_view self.new) (in_view P.Source place.new) }
         ensures lost { result ≡ Line.Lost → ((in_view P.Source place.old).state ≡ Live) × ((in_view P.Source place.new).state ≡ Dead) }
+        ensures some { result ≡ Line.Packet → 1 ≤ self.new.len }
         ensures near { self.new.cutter.end < self.new.cutter.at + 4096 }
         ensures quiet { (lines_view self.old).ended ≡ true → place.new ≡ place.old }
     {
@@ -111,6 +115,7 @@ impl PacketLines {
         ensures finds { (taken : List ℕ) (packets : List (List ℕ)) → GoesOn taken packets (lines_view self.old)
             → Finds result taken packets (lines_view self.old) (in_view P.Source place.old) (lines_view self.new) (in_view P.Source place.new) }
         ensures counts { result ≢ Found.Empty }
+        ensures some { result ≡ Found.Packet → 1 ≤ self.new.len }
         ensures alive { result ≢ Found.Lost → (in_view P.Source place.new).state ≡ (in_view P.Source place.old).state }
         ensures lost { result ≡ Found.Lost → ((in_view P.Source place.old).state ≡ Live) × ((in_view P.Source place.new).state ≡ Dead) }
         ensures near { self.new.cutter.end < self.new.cutter.at + 4096 }
@@ -129,6 +134,7 @@ impl PacketLines {
         ensures finds { (taken : List ℕ) (packets : List (List ℕ)) → GoesOn taken packets (lines_view self.old)
             → Finds result taken packets (lines_view self.old) (in_view P.Source place.old) (lines_view self.new) (in_view P.Source place.new) }
         ensures rises { result ≡ Found.Empty → self.new.empty ≡ self.old.empty + 1 }
+        ensures some { result ≡ Found.Packet → 1 ≤ self.new.len }
         ensures alive { result ≢ Found.Lost → (in_view P.Source place.new).state ≡ (in_view P.Source place.old).state }
         ensures lost { result ≡ Found.Lost → ((in_view P.Source place.old).state ≡ Live) × ((in_view P.Source place.new).state ≡ Dead) }
         ensures near { self.new.cutter.end < self.new.cutter.at + 4096 }
@@ -148,6 +154,7 @@ impl PacketLines {
     fn judge(&mut self) -> Found
         ensures judges { (lines : List (List ℕ)) → Counts lines (lines_view self.old) → Judges result lines (cut_view self.old.cutter).line (lines_view self.new) }
         ensures rises { result ≡ Found.Empty → self.new.empty ≡ self.old.empty + 1 }
+        ensures some { result ≡ Found.Packet → 1 ≤ self.new.len }
         ensures cutter { self.new.cutter ≡ self.old.cutter }
         ensures line { (result ≢ Found.End) × (result ≢ Found.Lost) }
     {

@@ -72,11 +72,12 @@ fn short_texts(rt: HostRuntime) -> Result<(), Fail> {
     Ok(())
 }
 
-// Lines of 60 bytes, so many.
-fn lines_of_sixty(alloc: Global, count: usize) -> Result<Vec<u8>, AllocError> {
+// So many lines of packets of so many bytes.
+fn lines_of(alloc: Global, bytes: usize, count: usize) -> Result<Vec<u8>, AllocError> {
     let mut text = Vec::new(alloc);
     for _ in 0..count {
-        for _ in 0..120_u8 {
+        for _ in 0..bytes {
+            text.push(b'7')?;
             text.push(b'7')?;
         }
         text.push(b'\n')?;
@@ -85,10 +86,28 @@ fn lines_of_sixty(alloc: Global, count: usize) -> Result<Vec<u8>, AllocError> {
 }
 
 #[test]
+fn the_shortest_and_the_longest(rt: HostRuntime) -> Result<(), Fail> {
+    let alloc = rt.alloc();
+    for (bytes, count, line) in [
+        (1_usize, 2_usize, Line::End),
+        (65_527, 2, Line::End),
+        (65_528, 0, Line::Bad(1)),
+    ] {
+        let (lengths, _, last) = packets(alloc, MemSource::new(lines_of(alloc, bytes, 2)?))?;
+        assert_eq!(rt; lengths.len(), count);
+        for length in lengths.as_slice() {
+            assert_eq!(rt; *length, bytes);
+        }
+        assert_eq!(rt; last, line);
+    }
+    Ok(())
+}
+
+#[test]
 fn fails_at_the_third_read(rt: HostRuntime) -> Result<(), Fail> {
     let alloc = rt.alloc();
     let source = FailsAfter {
-        source: MemSource::new(lines_of_sixty(alloc, 200)?),
+        source: MemSource::new(lines_of(alloc, 60, 200)?),
         reads: 2,
         failed: 0,
     };

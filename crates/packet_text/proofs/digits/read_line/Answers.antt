@@ -1,4 +1,4 @@
-use Rattle.std.proofs.Common.{◌≡◌, ◌≤◌, ◌/◌, ℕ, length, take, arith, Some}
+use Rattle.std.proofs.Common.{◌≡◌, ◌≤◌, ◌/◌, length, take, arith}
 use Rattle.std.proofs.lemmas.List.{length-take-le}
 use Rattle.packet_text.proofs.LineBytes.{read_ok, read_err, read_long, take_front}
 use Rattle.packet_text.proofs.digits.read_line.Goals as goal

@@ -1,4 +1,4 @@
-use Rattle.std.proofs.Common.{◌≡◌, ◌≤◌, ◌+◌, ◌-◌, ◌<◌, List, [], ℕ, take, drop, length, arith, refl, sym, ◌∙◌, length-drop}
+use Rattle.std.proofs.Common.{◌≡◌, ◌≤◌, ◌+◌, ◌-◌, take, drop, length, arith, length-drop}
 use Rattle.std.proofs.lemmas.List.{length-take-le}
 use Rattle.packet_text.specs.Carrying.{Carried, NoneCarried}
 use Rattle.packet_text.proofs.Cuts.{by_some, by_none, hand_after, hand_none}

@@ -1,4 +1,4 @@
-use Rattle.std.proofs.Common.{rules, ◌≡◌, refl, ◌∙◌}
+use Rattle.std.proofs.Common.{rules, ◌≡◌, ◌∙◌}
 use Rattle.packet_text.specs.declared.cutter.Cut.TheVariants.{More}
 use Rattle.packet_text.proofs.CutsThen.{some_then, more_then}
 use Rattle.packet_text.proofs.cutter.Cutter.next.Goals as goal

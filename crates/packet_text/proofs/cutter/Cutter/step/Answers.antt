@@ -1,4 +1,4 @@
-use Rattle.std.proofs.Common.{◌≡◌, true, false, refl, sym, ◌∙◌, arith}
+use Rattle.std.proofs.Common.{arith}
 use Rattle.packet_text.proofs.Cuts.{cuts_line, cuts_long, cuts_close, goes_more}
 use Rattle.packet_text.proofs.CutsThen.{some_then}
 use Rattle.packet_text.proofs.cutter.Cutter.step.Goals as goal

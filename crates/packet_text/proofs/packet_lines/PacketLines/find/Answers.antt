@@ -1,5 +1,5 @@
-use Rattle.std.proofs.Common.{◌≡◌, refl, sym, ap, ◌∙◌}
-use Rattle.packet_text.specs.Cutting.{cut_view, CutView}
+use Rattle.std.proofs.Common.{refl, ap}
+use Rattle.packet_text.specs.Cutting.{cut_view}
 use Rattle.packet_text.specs.declared.cutter.Cutter.{Cutter}
 use Rattle.packet_text.proofs.FindingLines.{find_line, find_last, find_long, find_end, find_lost}
 use Rattle.packet_text.proofs.packet_lines.PacketLines.find.Goals as goal

@@ -1,4 +1,4 @@
-use Rattle.std.proofs.Common.{rules, ◌≡◌, ◌≤◌, length, arith, refl, sym, ap, ◌∙◌, take, ℕ}
+use Rattle.std.proofs.Common.{rules, ◌≡◌, ◌≤◌, length, arith, refl, ap, take}
 use Rattle.std.proofs.lemmas.List.{with_items_is}
 use Rattle.packet_text.proofs.Judging.{judge_empty, judge_packet}
 use Rattle.packet_text.proofs.packet_lines.PacketLines.judge.Goals as goal

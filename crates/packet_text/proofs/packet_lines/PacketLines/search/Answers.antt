@@ -1,5 +1,5 @@
 use Rattle.std.proofs.Common.{rules, ◌≡◌, refl, ◌∙◌}
-use Rattle.packet_text.specs.declared.found.Found.TheVariants.{Empty, Lost}
+use Rattle.packet_text.specs.declared.found.Found.TheVariants.{Empty}
 use Rattle.packet_text.proofs.FindingLines.{finds_none, finds_then, empty_then}
 use Rattle.packet_text.proofs.packet_lines.PacketLines.search.Goals as goal
 
