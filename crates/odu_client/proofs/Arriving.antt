@@ -44,7 +44,7 @@ enough (suc f) (suc g) bytes hf hg =
       frame = λ misses. ap (λ later. next_frame misses bytes (whole_frame bytes later) (searching f (drop 6 bytes))) (frame.frame (misses_after misses bytes)) ∙ ap (λ later. next_frame misses bytes (whole_frame bytes (framing g (misses_after misses bytes) (drop 15296 bytes))) later) six.search;
     }
 
-search_enough : (f : ℕ) (bytes : List ℕ) → length bytes ≤ f → searching f bytes ≡ from_search bytes
+pub search_enough : (f : ℕ) (bytes : List ℕ) → length bytes ≤ f → searching f bytes ≡ from_search bytes
 search_enough f bytes h = (enough f (length bytes) bytes h (omega arith)).search
 
 frame_enough : (f misses : ℕ) (bytes : List ℕ) → length bytes ≤ f → framing f misses bytes ≡ from_frame misses bytes

@@ -4,10 +4,10 @@ use Rattle.std.proofs.lemmas.Bool.Decides.{nat_tests}
 use Rattle.odu_client.specs.AlignedRuns.{has_fas, misses_after, Arrival, Broken, arrival_of, whole_frame, next_frame, from_search, from_frame, searching}
 use Rattle.odu_client.proofs.Arriving.{search_step, frame_step}
 
-short_test : (n m : ℕ) → n < m → nat_lt n m ≡ true
+pub short_test : (n m : ℕ) → n < m → nat_lt n m ≡ true
 short_test n m h = grind (arith, nat_tests)
 
-long_test : (n m : ℕ) → m ≤ n → nat_lt n m ≡ false
+pub long_test : (n m : ℕ) → m ≤ n → nat_lt n m ≡ false
 long_test n m h = grind (arith, nat_tests)
 
 size_from : (n m : ℕ) → nat_lt n m ≡ false → m ≤ n
@@ -17,7 +17,7 @@ and_false : (b : Bool) → (b && false) ≡ false
 and_false true = refl
 and_false false = refl
 
-short_has : (bytes : List ℕ) → length bytes < 6 → has_fas bytes ≡ false
+pub short_has : (bytes : List ℕ) → length bytes < 6 → has_fas bytes ≡ false
 unfolding has_fas
 short_has [] h = refl
 short_has (a ∷ []) h = and_false _
@@ -65,7 +65,7 @@ frame_meets misses bytes six few = frame_step misses bytes ∙ next_is misses by
 pub frame_breaks : (misses : ℕ) (bytes : List ℕ) → 6 ≤ length bytes → 5 ≤ misses_after misses bytes → from_frame misses bytes ≡ Broken ∷ from_search (drop 6 bytes)
 frame_breaks misses bytes six many = frame_step misses bytes ∙ next_broken misses bytes (whole_frame bytes (from_frame (misses_after misses bytes) (drop 15296 bytes))) (from_search (drop 6 bytes)) six many
 
-short_frame : (bytes : List ℕ) (later : List Arrival) → length bytes < 15296 → whole_frame bytes later ≡ []
+pub short_frame : (bytes : List ℕ) (later : List Arrival) → length bytes < 15296 → whole_frame bytes later ≡ []
 short_frame bytes later short = ap (λ t. if t then [] else arrival_of (take 15296 bytes) ∷ later) (short_test (length bytes) 15296 short)
 
 pub long_frame : (bytes : List ℕ) (later : List Arrival) → 15296 ≤ length bytes → whole_frame bytes later ≡ arrival_of (take 15296 bytes) ∷ later

@@ -1,3 +1,13 @@
 pub mod Arriving
 pub mod Fronts
 pub mod Aligning
+pub mod GfpTexts
+pub mod Streaming
+pub mod FrameBytes
+pub mod FrameLists
+pub mod Framing
+pub mod Totals
+pub mod Slices
+pub mod Growing
+pub mod ArrivingText
+pub mod WholeFrames

@@ -1,3 +1,11 @@
 pub mod AlignedRuns
 pub mod Aligner
 pub mod View
+pub mod ClientFrames
+pub mod ClientInput
+pub mod ClientOutput
+pub mod Framing
+pub mod PacketStream
+pub mod FramePuts
+pub mod FramerSteps
+pub mod Laws

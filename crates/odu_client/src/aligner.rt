@@ -1,5 +1,5 @@
 // The frames of a client in the bytes that arrive.
-ghost use Rattle.std.specs.Prelude.{◌≡◌, ◌<◌, ◌≤◌, ℕ, List, [], true, false, length, take, vec_len, IfOk};
+ghost use Rattle.std.specs.Prelude.{◌≡◌, ◌<◌, ◌≤◌, ◌++◌, ℕ, List, [], true, false, length, take, vec_len, IfOk};
 ghost use Rattle.std.specs.Vec.{vec_capacity};
 ghost use Rattle.odu_client.specs.AlignedRuns.{misses_after};
 
@@ -28,6 +28,7 @@ pub struct ClientAligner {
 }
 
 impl ClientAligner {
+    ghost use Rattle.odu_client.specs.AlignedRuns.{arrivals};
     ghost use Rattle.odu_client.specs.Aligner.{AlignerState, HasAligned, Aligns, AlignsBy, Goes, GoesBy, searches_anew};
     ghost use Rattle.odu_client.specs.View.{aligner_state, handed, frames_after};
 
@@ -76,6 +77,7 @@ impl ClientAligner {
         ensures within { result.1 ≤ length bytes.now }
         ensures all { result.0 ≡ Aligned.Nothing → result.1 ≡ length bytes.now }
         ensures aligned { (taken : List ℕ) → HasAligned taken (aligner_state self.old) → AlignsBy taken (take result.1 bytes.now) result.0 (handed self.new) (aligner_state self.new) }
+        ensures none_before { (taken : List ℕ) (k : ℕ) → HasAligned taken (aligner_state self.old) → k < result.1 → arrivals (taken ++ take k bytes.now) ≡ arrivals taken }
         ensures frames { self.new.frames ≡ frames_after self.old.frames result.0 }
     {
         let mut done = 0;

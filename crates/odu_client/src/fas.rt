@@ -2,13 +2,14 @@
 ghost use Rattle.std.specs.Prelude.{◌≡◌, true, false, ◌+◌, ◌<◌, ◌≤◌, length};
 ghost use Rattle.odu_client.specs.AlignedRuns.{has_fas, misses_after, is_signal};
 
+use frame_geometry::overhead::{FAS, PM_ROW, STAT_COLUMN};
 use otn_base::limits::CLIENT_COLUMNS;
 
 /// Bytes of the FAS.
 pub(crate) const FAS_BYTES: usize = 6;
 
 // The place of STAT in a frame: row 3, column 12 (G.709 clause 15.8.2.2).
-const STAT: usize = 2 * CLIENT_COLUMNS + 11;
+const STAT: usize = CLIENT_COLUMNS * (PM_ROW as usize - 1) + STAT_COLUMN as usize - 1;
 
 // Frames in a row without the FAS, at which the last is given up.
 const MOST_MISSES: u8 = 5;
@@ -19,12 +20,12 @@ pub(crate) fn begins(bytes: &[u8]) -> bool
     requires { 6 ≤ length bytes.now }
     ensures { result ≡ has_fas bytes.now }
 {
-    bytes[0] == 0xF6
-        && bytes[1] == 0xF6
-        && bytes[2] == 0xF6
-        && bytes[3] == 0x28
-        && bytes[4] == 0x28
-        && bytes[5] == 0x28
+    bytes[0] == FAS[0]
+        && bytes[1] == FAS[1]
+        && bytes[2] == FAS[2]
+        && bytes[3] == FAS[3]
+        && bytes[4] == FAS[4]
+        && bytes[5] == FAS[5]
 }
 
 /// How many frames in a row did not begin with the FAS, with the one that these bytes begin.

@@ -4,9 +4,15 @@
 mod aligned;
 mod aligner;
 mod buffer;
+mod client_frame;
 mod fas;
+mod framer;
+mod laws;
+mod packet_stream;
 #[cfg(test)]
 mod tests;
 
 pub use aligned::Aligned;
 pub use aligner::ClientAligner;
+pub use framer::ClientFramer;
+pub use laws::{delivered_stays, packets_arrive};

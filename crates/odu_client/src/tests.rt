@@ -1,5 +1,8 @@
-// Whole frames, byte by byte and at once.
-use crate::{Aligned, ClientAligner};
+// Whole frames, byte by byte and at once, and frames out of texts.
+use crate::{Aligned, ClientAligner, ClientFramer};
+use otn_base::Trace;
+use otn_ports::{InPlaceOf, MemSource, Source};
+use packet_text::PacketLines;
 use std::alloc::{AllocError, Global};
 use std::test::Fail;
 
@@ -39,5 +42,74 @@ fn an_open_connection_then_a_client(rt: HostRuntime) -> Result<(), Fail> {
     assert_eq!(rt; aligner.take_some(&client), (Aligned::Whole, 15_296));
     assert_eq!(rt; aligner.take_some(&open), (Aligned::Break, 15_296));
     assert_eq!(rt; aligner.frames(), 2);
+    Ok(())
+}
+
+// The first bytes that a framer makes of a place, and the rest of its first frame; whether it is spent after each; how many packets
+// are begun, and the bad line.
+#[derive(Drop)]
+struct FirstFrame {
+    first: [u8; 16],
+    rest: Vec<u8>,
+    spent: (bool, bool),
+    packets: u64,
+    bad: Option<u64>,
+}
+
+fn first_frame<P: Source>(
+    alloc: Global,
+    mut place: InPlaceOf<P>,
+) -> Result<FirstFrame, AllocError> {
+    let mut lines = PacketLines::new(alloc).map_err(|_memory| AllocError)?;
+    let mut framer = ClientFramer::new(alloc).map_err(|_memory| AllocError)?;
+    match Trace::new(b"EAST") {
+        Some(trace) => framer.restart(&trace, false),
+        None => {}
+    }
+    let mut first = [0; 16];
+    framer.fill(&mut lines, &mut place, &mut first);
+    let early = framer.spent();
+    let mut rest = zeros(alloc, 15_280)?;
+    framer.fill(&mut lines, &mut place, &mut rest);
+    Ok(FirstFrame {
+        first,
+        rest,
+        spent: (early, framer.spent()),
+        packets: framer.packets(),
+        bad: framer.bad(),
+    })
+}
+
+fn zeros(alloc: Global, n: usize) -> Result<Vec<u8>, AllocError> {
+    vec![in alloc; 0u8; n]
+}
+
+const FIRST_BYTES: [u8; 16] = [
+    0xF6, 0xF6, 0xF6, 0x28, 0x28, 0x28, 0, 0, 0, 0, 0, 0, 0, 0, 0, 0,
+];
+
+#[test]
+fn an_empty_place(rt: HostRuntime) -> Result<(), Fail> {
+    let made = first_frame(rt.alloc(), InPlaceOf::<MemSource>::Empty)?;
+    assert_eq!(rt; made.first, FIRST_BYTES);
+    assert_eq!(rt; made.spent, (false, true));
+    assert_eq!(rt; made.packets, 0);
+    assert_eq!(rt; made.bad, None);
+    Ok(())
+}
+
+#[test]
+fn a_packet_and_a_bad_line(rt: HostRuntime) -> Result<(), Fail> {
+    let alloc = rt.alloc();
+    let text = Vec::from_slice(alloc, b"1111\n2222\n\nabc\n3333\n")?;
+    let made = first_frame(alloc, InPlaceOf::Live(MemSource::new(text), 0))?;
+    let front = [
+        0xB6_u8, 0xAB, 0x31, 0xE0, 0xB6, 0xAD, 0x51, 0x26, 0x00, 0x01, 0x10, 0x21, 0x11, 0x11,
+        0xB6, 0xAD, 0x51, 0x26, 0x00, 0x23, 0x14, 0x03, 0x00, 0x02,
+    ];
+    assert!(rt; made.rest.as_slice().starts_with(&front));
+    assert_eq!(rt; made.spent, (false, false));
+    assert_eq!(rt; made.packets, 2);
+    assert_eq!(rt; made.bad, Some(4));
     Ok(())
 }

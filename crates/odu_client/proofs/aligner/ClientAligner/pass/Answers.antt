@@ -1,4 +1,4 @@
-use Rattle.std.proofs.Common.{◌≡◌, ◌≤◌, ◌-◌, length, arith, refl, sym, ap, ◌∙◌, take, length-append}
+use Rattle.std.proofs.Common.{◌≡◌, ◌≤◌, length, arith, ap, take, length-append}
 use Rattle.std.proofs.lemmas.List.{length-take-le}
 use Rattle.odu_client.proofs.Aligning.{passes, passes_few, aligns_by}
 use Rattle.odu_client.proofs.aligner.ClientAligner.pass.Goals as goal

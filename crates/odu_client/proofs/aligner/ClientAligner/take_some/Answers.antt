@@ -1,6 +1,7 @@
-use Rattle.std.proofs.Common.{rules, ◌≡◌, ◌≤◌, ◌+◌, List, ℕ, length, take, arith, ap, ◌∙◌}
+use Rattle.std.proofs.Common.{rules, ◌≡◌, arith, ap, ◌∙◌, append-nil}
 use Rattle.odu_client.specs.View.{frames_after}
 use Rattle.odu_client.specs.declared.aligned.Aligned.TheVariants.{Nothing}
+use Rattle.odu_client.proofs.Growing.{none_until}
 use Rattle.odu_client.proofs.Aligning.{passed_on, stepped_on, none_on}
 use Rattle.odu_client.proofs.aligner.ClientAligner.take_some.Goals as goal
 
@@ -29,3 +30,20 @@ pub returns-then-done-bytes-clause-aligned : goal.returns-then-done-bytes-clause
 returns-then-done-bytes-clause-aligned c = λ taken h.
     let a = c.loop-done.invariant.aligned taken h in
     passed_on taken _ _ _ _ _ _ _ a (c.pass-done.ensures.goes _ a.aligned)
+
+pub returns-then-ne-clause-none_before : goal.returns-then-ne-clause-none_before
+returns-then-ne-clause-none_before c = λ taken k h less.
+    let a = c.loop-done.invariant.aligned taken h in
+    let b = passed_on taken _ _ _ _ _ _ _ a (c.pass-done.ensures.goes _ a.aligned) in
+    none_until taken c.args.bytes.now _ k (omega arith) (b.arrived ∙ append-nil _)
+
+pub returns-then-done-bytes-clause-none_before : goal.returns-then-done-bytes-clause-none_before
+returns-then-done-bytes-clause-none_before c = λ taken k h less.
+    let a = c.loop-done.invariant.aligned taken h in
+    let b = passed_on taken _ _ _ _ _ _ _ a (c.pass-done.ensures.goes _ a.aligned) in
+    none_until taken c.args.bytes.now _ k (omega arith) (b.arrived ∙ append-nil _)
+
+pub returns-after-loop-done-clause-none_before : goal.returns-after-loop-done-clause-none_before
+returns-after-loop-done-clause-none_before c = λ taken k h less.
+    let a = c.loop-done.invariant.aligned taken h in
+    none_until taken c.args.bytes.now _ k (omega arith) (a.arrived ∙ append-nil _)

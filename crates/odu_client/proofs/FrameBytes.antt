@@ -1,0 +1,256 @@
+-- The bytes of a client's frame, row by row.
+use Rattle.std.proofs.Common.{◌≡◌, ◌≢◌, ◌<◌, ◌≤◌, ◌+◌, ◌-◌, ◌*◌, ◌/◌, ◌%◌, ◌⊎◌, inl, inr, ℕ, Bool, true, false, ◌==◌, nat_le, ◌&&◌, if◌then◌else◌, List, [], ◌∷◌, length, take, drop, slice_index, get_or, arith, refl, sym, ap, subst, ◌∙◌}
+use Rattle.std.specs.Prelude.{map}
+use Rattle.std.specs.List.{range_with_len}
+use Rattle.std.proofs.lemmas.List.{get_or-drop, get_or-take, ext_get_or}
+use Rattle.std.proofs.lemmas.List.FromFn.{get_or-map-range_with_len, length-map-range_with_len}
+use Rattle.std.proofs.lemmas.Bool.Decides.{nat_tests}
+use Rattle.std.proofs.lemmas.Bool.{cases_lt}
+use Rattle.otn_base.specs.TrailTrace.{trail_trace}
+use Rattle.frame_geometry.specs.Places.{place_of}
+use Rattle.frame_overhead.specs.Runs.{IsPlace, byte_of, IsPut}
+use Rattle.odu_path.specs.Path.{path_row, path_byte, HasPath}
+use Rattle.odu_client.specs.ClientFrames.{alignment_row, client_psi, opu_byte, odu_byte, client_byte, client_frame}
+use Rattle.odu_client.specs.FramePuts.{row_byte, RowWasPut, FrameWasPut}
+
+yes_le : (a b : ℕ) → a ≤ b → nat_le a b ≡ true
+yes_le a b h = grind (arith, nat_tests)
+
+no_le : (a b : ℕ) → b < a → nat_le a b ≡ false
+no_le a b h = grind (arith, nat_tests)
+
+no_eq : (a b : ℕ) → a ≢ b → (a == b) ≡ false
+no_eq a b h = grind (arith, nat_tests)
+
+yes_eq : (a b : ℕ) → a ≡ b → (a == b) ≡ true
+yes_eq a b h = grind (arith, nat_tests)
+
+-- a row of which the overhead and the payload were put
+pub row_put : (row : ℕ) (overhead payload old mid new : List ℕ) → length overhead ≡ 16 → length payload ≡ 3808 → 1 ≤ row → row ≤ 4
+    → IsPut 3824 row 1 overhead old mid → IsPut 3824 row 17 payload mid new → RowWasPut row overhead payload old new
+row_put row overhead payload old mid new o p low high a b = record {
+  put = λ col least most. elim (cases_lt col 17) [
+    | inl front ↦
+        let place : IsPlace 3824 row col = record { row_low = low; row_high = high; col_low = least; col_high = most } in
+        let k : 1 + (col - 1) ≡ col = omega arith in
+        let run : byte_of 3824 row (1 + (col - 1)) mid ≡ slice_index overhead (col - 1) = a.run (col - 1) (omega arith) in
+        b.others row col place (inr (inl front)) ∙ sym (ap (λ c. byte_of 3824 row c mid) k) ∙ run
+        ∙ sym (ap (λ (t : Bool). if t then slice_index payload (col - 17) else slice_index overhead (col - 1)) (no_le 17 col front))
+    | inr back ↦
+        let k : 17 + (col - 17) ≡ col = omega arith in
+        let run : byte_of 3824 row (17 + (col - 17)) new ≡ slice_index payload (col - 17) = b.run (col - 17) (omega arith) in
+        sym (ap (λ c. byte_of 3824 row c new) k) ∙ run
+        ∙ sym (ap (λ (t : Bool). if t then slice_index payload (col - 17) else slice_index overhead (col - 1)) (yes_le 17 col back))
+  ];
+  others = λ r c place other. b.others r c place (inl other) ∙ a.others r c place (inl other);
+  size = b.size ∙ a.size;
+}
+
+-- a row of this overhead and this payload
+record RowIs (row : ℕ) (overhead payload frame : List ℕ) : Type 0 where
+  bytes : (col : ℕ) → 1 ≤ col → col ≤ 3824 → byte_of 3824 row col frame ≡ row_byte overhead payload col
+
+row_is : (row : ℕ) (overhead payload old new : List ℕ) → RowWasPut row overhead payload old new → RowIs row overhead payload new
+row_is row overhead payload old new h = record { bytes = h.put }
+
+row_stays : (row other : ℕ) (overhead payload o p old new : List ℕ) → 1 ≤ row → row ≤ 4 → row ≢ other → RowWasPut other o p old new → RowIs row overhead payload old → RowIs row overhead payload new
+row_stays row other overhead payload o p old new low high differs h is = record {
+  bytes = λ col least most. h.others row col (record { row_low = low; row_high = high; col_low = least; col_high = most }) differs ∙ is.bytes col least most;
+}
+
+-- a piece of the payload
+piece_at : (payload : List ℕ) (at k : ℕ) → k < 3808 → slice_index (take 3808 (drop at payload)) k ≡ slice_index payload (at + k)
+piece_at payload at k less = get_or-take 3808 (drop at payload) k 0 less ∙ get_or-drop at payload k 0
+
+-- what is known of a row of a frame whose payload is in its four rows
+record RowOf (row mfas : ℕ) (overhead payload frame : List ℕ) : Type 0 where
+  payload_at : (col : ℕ) → 17 ≤ col → col ≤ 3824 → byte_of 3824 row col frame ≡ slice_index payload (3808 * (row - 1) + (col - 17))
+  front_at : (col : ℕ) → 1 ≤ col → col ≤ 16 → byte_of 3824 row col frame ≡ slice_index overhead (col - 1)
+
+row_of : (row mfas : ℕ) (overhead payload part frame : List ℕ) → part ≡ take 3808 (drop (3808 * (row - 1)) payload) → RowIs row overhead part frame → RowOf row mfas overhead payload frame
+row_of row mfas overhead payload part frame e is = record {
+  payload_at = λ col back most. is.bytes col (omega arith) most
+      ∙ ap (λ (t : Bool). if t then slice_index part (col - 17) else slice_index overhead (col - 1)) (yes_le 17 col back)
+      ∙ ap (λ p. slice_index p (col - 17)) e ∙ piece_at payload (3808 * (row - 1)) (col - 17) (omega arith);
+  front_at = λ col least front. is.bytes col least (omega arith)
+      ∙ ap (λ (t : Bool). if t then slice_index part (col - 17) else slice_index overhead (col - 1)) (no_le 17 col (omega arith));
+}
+
+unfoldable pub none16 : List ℕ
+none16 = 0 ∷ 0 ∷ 0 ∷ 0 ∷ 0 ∷ 0 ∷ 0 ∷ 0 ∷ 0 ∷ 0 ∷ 0 ∷ 0 ∷ 0 ∷ 0 ∷ 0 ∷ 0 ∷ []
+
+unfoldable pub first16 : ℕ → List ℕ
+first16 mfas = 0xF6 ∷ 0xF6 ∷ 0xF6 ∷ 0x28 ∷ 0x28 ∷ 0x28 ∷ mfas ∷ 0 ∷ 0 ∷ 0 ∷ 0 ∷ 0 ∷ 0 ∷ 0 ∷ 0 ∷ 0 ∷ []
+
+unfoldable pub last16 : ℕ → List ℕ
+last16 psi = 0 ∷ 0 ∷ 0 ∷ 0 ∷ 0 ∷ 0 ∷ 0 ∷ 0 ∷ 0 ∷ 0 ∷ 0 ∷ 0 ∷ 0 ∷ 0 ∷ psi ∷ 0 ∷ []
+
+small_row : (row : ℕ) → 1 ≤ row → row ≤ 4 → (row ≡ 1) ⊎ ((row ≡ 2) ⊎ ((row ≡ 3) ⊎ (row ≡ 4)))
+small_row row low high = elim (cases_lt row 2) [
+  | inl a ↦ inl (omega arith)
+  | inr a ↦ inr (elim (cases_lt row 3) [
+    | inl b ↦ inl (omega arith)
+    | inr b ↦ inr (elim (cases_lt row 4) [
+      | inl c ↦ inl (omega arith)
+      | inr c ↦ inr (omega arith)
+    ])
+  ])
+]
+
+two_columns : (col : ℕ) → 15 ≤ col → col ≤ 16 → (col ≡ 15) ⊎ (col ≡ 16)
+two_columns col low high = elim (cases_lt col 16) [
+  | inl a ↦ inl (omega arith)
+  | inr a ↦ inr (omega arith)
+]
+
+-- columns 15 and 16 of a row whose overhead is 0 there
+opu_none : (row mfas : ℕ) (overhead payload frame : List ℕ) → (row == 4) ≡ false → slice_index overhead 14 ≡ 0 → slice_index overhead 15 ≡ 0 → RowOf row mfas overhead payload frame
+    → (col : ℕ) → 15 ≤ col → col ≤ 16 → byte_of 3824 row col frame ≡ opu_byte mfas row col
+opu_none row mfas overhead payload frame other a b h col low high =
+    let none : opu_byte mfas row col ≡ 0 = ap (λ (t : Bool). if t && (col == 15) then client_psi mfas else 0) other in
+    h.front_at col (omega arith) high ∙ elim (two_columns col low high) [
+      | inl e ↦ ap (λ c. slice_index overhead (c - 1)) e ∙ a
+      | inr e ↦ ap (λ c. slice_index overhead (c - 1)) e ∙ b
+    ] ∙ sym none
+
+opu_last : (mfas psi : ℕ) (payload frame : List ℕ) → psi ≡ client_psi mfas → RowOf 4 mfas (last16 psi) payload frame
+    → (col : ℕ) → 15 ≤ col → col ≤ 16 → byte_of 3824 4 col frame ≡ opu_byte mfas 4 col
+unfolding last16
+opu_last mfas psi payload frame is h col low high =
+    h.front_at col (omega arith) high ∙ elim (two_columns col low high) [
+      | inl e ↦ ap (λ c. slice_index (last16 psi) (c - 1)) e ∙ is ∙ sym (ap (opu_byte mfas 4) e)
+      | inr e ↦ ap (λ c. slice_index (last16 psi) (c - 1)) e ∙ sym (ap (opu_byte mfas 4) e)
+    ]
+
+alignment_front : (mfas col : ℕ) → 1 ≤ col → col ≤ 14 → slice_index (first16 mfas) (col - 1) ≡ slice_index (alignment_row mfas) (col - 1)
+unfolding first16
+alignment_front mfas col low high = sym (get_or-take 14 (first16 mfas) (col - 1) 0 (omega arith))
+
+-- all four rows
+pub frame_put : (mfas psi : ℕ) (payload p1 p2 p3 p4 old a b c new : List ℕ) → length old ≡ 15296 → psi ≡ client_psi mfas
+    → p1 ≡ take 3808 payload → p2 ≡ take 3808 (drop 3808 payload) → p3 ≡ take 3808 (drop 7616 payload) → p4 ≡ take 3808 (drop 11424 payload)
+    → RowWasPut 1 (first16 mfas) p1 old a → RowWasPut 2 none16 p2 a b → RowWasPut 3 none16 p3 b c → RowWasPut 4 (last16 psi) p4 c new → FrameWasPut mfas payload new
+unfolding none16 first16
+frame_put mfas psi payload p1 p2 p3 p4 old a b c new size is e1 e2 e3 e4 h1 h2 h3 h4 = record {
+  size = h4.size ∙ h3.size ∙ h2.size ∙ h1.size ∙ size;
+  payload_at = λ row col place back. elim (small_row row place.row_low place.row_high) [
+    | inl e ↦ at_row row 1 e col (r1.payload_at col back place.col_high)
+    | inr (inl e) ↦ at_row row 2 e col (r2.payload_at col back place.col_high)
+    | inr (inr (inl e)) ↦ at_row row 3 e col (r3.payload_at col back place.col_high)
+    | inr (inr (inr e)) ↦ at_row row 4 e col (r4.payload_at col back place.col_high)
+  ];
+  opu_at = λ row col place low high. elim (small_row row place.row_low place.row_high) [
+    | inl e ↦ opu_row row 1 e col (opu_none 1 mfas (first16 mfas) payload new refl refl refl r1 col low high)
+    | inr (inl e) ↦ opu_row row 2 e col (opu_none 2 mfas none16 payload new refl refl refl r2 col low high)
+    | inr (inr (inl e)) ↦ opu_row row 3 e col (opu_none 3 mfas none16 payload new refl refl refl r3 col low high)
+    | inr (inr (inr e)) ↦ opu_row row 4 e col (opu_last mfas psi payload new is r4 col low high)
+  ];
+  alignment_at = λ col low high. r1.front_at col low (omega arith) ∙ alignment_front mfas col low high;
+}
+  where
+    r1 : RowOf 1 mfas (first16 mfas) payload new
+    r1 = row_of 1 mfas (first16 mfas) payload p1 new e1 (row_stays 1 4 (first16 mfas) p1 (last16 psi) p4 c new (omega arith) (omega arith) (λ x. omega arith) h4
+        (row_stays 1 3 (first16 mfas) p1 none16 p3 b c (omega arith) (omega arith) (λ x. omega arith) h3
+        (row_stays 1 2 (first16 mfas) p1 none16 p2 a b (omega arith) (omega arith) (λ x. omega arith) h2 (row_is 1 (first16 mfas) p1 old a h1))))
+
+    r2 : RowOf 2 mfas none16 payload new
+    r2 = row_of 2 mfas none16 payload p2 new e2 (row_stays 2 4 none16 p2 (last16 psi) p4 c new (omega arith) (omega arith) (λ x. omega arith) h4
+        (row_stays 2 3 none16 p2 none16 p3 b c (omega arith) (omega arith) (λ x. omega arith) h3 (row_is 2 none16 p2 a b h2)))
+
+    r3 : RowOf 3 mfas none16 payload new
+    r3 = row_of 3 mfas none16 payload p3 new e3 (row_stays 3 4 none16 p3 (last16 psi) p4 c new (omega arith) (omega arith) (λ x. omega arith) h4 (row_is 3 none16 p3 b c h3))
+
+    r4 : RowOf 4 mfas (last16 psi) payload new
+    r4 = row_of 4 mfas (last16 psi) payload p4 new e4 (row_is 4 (last16 psi) p4 c new h4)
+
+    at_row : (row r : ℕ) → row ≡ r → (col : ℕ) → byte_of 3824 r col new ≡ slice_index payload (3808 * (r - 1) + (col - 17)) → byte_of 3824 row col new ≡ slice_index payload (3808 * (row - 1) + (col - 17))
+    at_row row r e col h = let P : ℕ → Type 0 = λ x. byte_of 3824 x col new ≡ slice_index payload (3808 * (x - 1) + (col - 17)) in subst P (sym e) h
+
+    opu_row : (row r : ℕ) → row ≡ r → (col : ℕ) → byte_of 3824 r col new ≡ opu_byte mfas r col → byte_of 3824 row col new ≡ opu_byte mfas row col
+    opu_row row r e col h = let P : ℕ → Type 0 = λ x. byte_of 3824 x col new ≡ opu_byte mfas x col in subst P (sym e) h
+
+pub client_payload : (sapi : List ℕ) (mfas bip : ℕ) (payload : List ℕ) (row col : ℕ) → 17 ≤ col → client_byte sapi mfas bip payload row col ≡ slice_index payload (3808 * (row - 1) + (col - 17))
+client_payload sapi mfas bip payload row col back =
+    ap (λ (t : Bool). if t then slice_index payload (3808 * (row - 1) + (col - 17)) else if nat_le 15 col then opu_byte mfas row col else odu_byte mfas (slice_index (trail_trace sapi) (mfas % 64)) bip row col) (yes_le 17 col back)
+
+client_opu : (sapi : List ℕ) (mfas bip : ℕ) (payload : List ℕ) (row col : ℕ) → 15 ≤ col → col < 17 → client_byte sapi mfas bip payload row col ≡ opu_byte mfas row col
+client_opu sapi mfas bip payload row col back front =
+    ap (λ (t : Bool). if t then slice_index payload (3808 * (row - 1) + (col - 17)) else if nat_le 15 col then opu_byte mfas row col else odu_byte mfas (slice_index (trail_trace sapi) (mfas % 64)) bip row col) (no_le 17 col front)
+    ∙ ap (λ (t : Bool). if t then opu_byte mfas row col else odu_byte mfas (slice_index (trail_trace sapi) (mfas % 64)) bip row col) (yes_le 15 col back)
+
+client_odu : (sapi : List ℕ) (mfas bip : ℕ) (payload : List ℕ) (row col : ℕ) → col < 15 → client_byte sapi mfas bip payload row col ≡ odu_byte mfas (slice_index (trail_trace sapi) (mfas % 64)) bip row col
+client_odu sapi mfas bip payload row col front =
+    ap (λ (t : Bool). if t then slice_index payload (3808 * (row - 1) + (col - 17)) else if nat_le 15 col then opu_byte mfas row col else odu_byte mfas (slice_index (trail_trace sapi) (mfas % 64)) bip row col) (no_le 17 col (omega arith))
+    ∙ ap (λ (t : Bool). if t then opu_byte mfas row col else odu_byte mfas (slice_index (trail_trace sapi) (mfas % 64)) bip row col) (no_le 15 col front)
+
+none_and : (b : Bool) → (b && false) ≡ false
+none_and true = refl
+none_and false = refl
+
+path_back : (tti bip row col put : ℕ) → 14 < col → path_byte tti bip row col put ≡ put
+path_back tti bip row col put back =
+    ap (λ (t : Bool). if t then (if row == 3 then slice_index (path_row tti bip) (col - 1) else 0) else put) (ap (λ (t : Bool). nat_le 2 row && t) (no_le col 14 back) ∙ none_and (nat_le 2 row))
+
+path_first : (tti bip col put : ℕ) → path_byte tti bip 1 col put ≡ put
+path_first tti bip col put = refl
+
+path_front : (tti bip row col put : ℕ) → 2 ≤ row → col ≤ 14 → path_byte tti bip row col put ≡ (if row == 3 then slice_index (path_row tti bip) (col - 1) else 0)
+path_front tti bip row col put some front =
+    ap (λ (t : Bool). if t && nat_le col 14 then (if row == 3 then slice_index (path_row tti bip) (col - 1) else 0) else put) (yes_le 2 row some)
+    ∙ ap (λ (t : Bool). if t then (if row == 3 then slice_index (path_row tti bip) (col - 1) else 0) else put) (yes_le col 14 front)
+
+odu_first : (mfas tti bip col : ℕ) → odu_byte mfas tti bip 1 col ≡ slice_index (alignment_row mfas) (col - 1)
+odu_first mfas tti bip col = refl
+
+odu_later : (mfas tti bip row col : ℕ) → 2 ≤ row → odu_byte mfas tti bip row col ≡ (if row == 3 then slice_index (path_row tti bip) (col - 1) else 0)
+odu_later mfas tti bip row col some =
+    ap (λ (t : Bool). if t then slice_index (alignment_row mfas) (col - 1) else if row == 3 then slice_index (path_row tti bip) (col - 1) else 0) (no_eq row 1 (λ e. omega arith))
+
+-- the byte of the frame once the path was written
+odu_bytes : (sapi : List ℕ) (mfas bip : ℕ) (payload put frame : List ℕ) → FrameWasPut mfas payload put → HasPath 3824 (slice_index (trail_trace sapi) (mfas % 64)) bip put frame
+    → (row col : ℕ) → IsPlace 3824 row col → byte_of 3824 row col frame ≡ client_byte sapi mfas bip payload row col
+odu_bytes sapi mfas bip payload put frame h path row col place = path.byte row col place ∙ elim (cases_lt col 17) [
+  | inr back ↦ path_back tti bip row col (byte_of 3824 row col put) (omega arith) ∙ h.payload_at row col place back ∙ sym (client_payload sapi mfas bip payload row col back)
+  | inl front ↦ elim (cases_lt col 15) [
+    | inr opu ↦ path_back tti bip row col (byte_of 3824 row col put) (omega arith) ∙ h.opu_at row col place opu (omega arith) ∙ sym (client_opu sapi mfas bip payload row col opu front)
+    | inl odu ↦ by_row odu ∙ sym (client_odu sapi mfas bip payload row col odu)
+  ]
+]
+  where
+    tti : ℕ
+    tti = slice_index (trail_trace sapi) (mfas % 64)
+
+    first : row ≡ 1 → col < 15 → path_byte tti bip row col (byte_of 3824 row col put) ≡ odu_byte mfas tti bip row col
+    first e odu = let P : ℕ → Type 0 = λ r. path_byte tti bip r col (byte_of 3824 r col put) ≡ odu_byte mfas tti bip r col in
+        subst P (sym e) (path_first tti bip col (byte_of 3824 1 col put) ∙ h.alignment_at col place.col_low (omega arith) ∙ sym (odu_first mfas tti bip col))
+
+    by_row : col < 15 → path_byte tti bip row col (byte_of 3824 row col put) ≡ odu_byte mfas tti bip row col
+    by_row odu = elim (cases_lt row 2) [
+      | inl one ↦ first (let low = place.row_low in omega arith) odu
+      | inr more ↦ path_front tti bip row col (byte_of 3824 row col put) more (omega arith) ∙ sym (odu_later mfas tti bip row col more)
+    ]
+
+-- every byte by its place
+pub by_places : (f : ℕ → ℕ → ℕ) (frame : List ℕ) → length frame ≡ 15296 → ((row col : ℕ) → IsPlace 3824 row col → byte_of 3824 row col frame ≡ f row col)
+    → frame ≡ map (λ place. f (place / 3824 + 1) (place % 3824 + 1)) (range_with_len 0 15296)
+by_places f frame size h = ext_get_or 0 frame (map g (range_with_len 0 15296)) (size ∙ sym (length-map-range_with_len g 0 15296))
+    (λ i less. at i (omega arith) ∙ sym (get_or-map-range_with_len g 0 15296 i i 0 (omega arith) (let e : 0 + i ≡ i = omega arith in e)))
+  where
+    g : ℕ → ℕ
+    g place = f (place / 3824 + 1) (place % 3824 + 1)
+
+    at : (i : ℕ) → i < 15296 → get_or frame i 0 ≡ g i
+    at i less =
+        let row : IsPlace 3824 (i / 3824 + 1) (i % 3824 + 1) = record { row_low = omega arith; row_high = omega arith; col_low = omega arith; col_high = omega arith } in
+        let place : place_of 3824 (i / 3824 + 1) (i % 3824 + 1) ≡ i = omega arith in
+        ap (λ k. get_or frame k 0) (sym place) ∙ h (i / 3824 + 1) (i % 3824 + 1) row
+
+-- so it is the client's frame
+pub is_client_frame : (sapi : List ℕ) (mfas bip : ℕ) (payload put frame : List ℕ) → FrameWasPut mfas payload put → HasPath 3824 (slice_index (trail_trace sapi) (mfas % 64)) bip put frame
+    → frame ≡ client_frame sapi mfas bip payload
+unfolding client_frame
+is_client_frame sapi mfas bip payload put frame h path = by_places (client_byte sapi mfas bip payload) frame (path.size ∙ h.size) (odu_bytes sapi mfas bip payload put frame h path)
+
+pub client_frame-size : (sapi : List ℕ) (mfas bip : ℕ) (payload : List ℕ) → length (client_frame sapi mfas bip payload) ≡ 15296
+unfolding client_frame
+client_frame-size sapi mfas bip payload = length-map-range_with_len (λ place. client_byte sapi mfas bip payload (place / 3824 + 1) (place % 3824 + 1)) 0 15296

@@ -1,0 +1,229 @@
+// The frames of a client out of its text.
+ghost use Rattle.std.specs.Prelude.{◌≡◌, ◌≢◌, ◌<◌, ◌≤◌, ◌+◌, ◌⊎◌, ℕ, Bool, List, [], ◌∷◌, ◌++◌, true, false, length, take, drop, vec_len, IfOk, Option, option_map};
+ghost use Rattle.otn_ports.specs.InPlace.{in_view};
+ghost use Rattle.otn_ports.specs.Views.{InView};
+ghost use Rattle.packet_text.specs.LinesStand.{LinesView, lines_view, fresh_lines, LinesStand, MayBe, stopped};
+ghost use Rattle.packet_text.specs.PacketText.{packets_of};
+ghost use Rattle.odu_client.specs.ClientInput.{input_of, is_spent, bad_line, packets_begun};
+ghost use Rattle.odu_client.specs.Framing.{FramerState, ClientStands, Fills, MayDie, TextStands};
+ghost use Rattle.odu_client.specs.FramerSteps.{fresh_framer, FramedSome, Makes, Gives};
+
+use crate::client_frame::put_frame;
+use crate::packet_stream::PacketStream;
+use frame_geometry::Frame;
+use odu_path::PathWriter;
+use otn_base::limits::{CLIENT_COLUMNS, CLIENT_FRAME_BYTES, CLIENT_PAYLOAD_BYTES};
+use otn_base::{Memory, Trace};
+use otn_ports::{InPlaceOf, Source};
+use packet_text::{Line, PacketLines};
+use std::alloc::Global;
+use std::marker::Model;
+
+/// Makes the frames of a client out of the packets of its text (G.709 clause 17.4). A frame is made when its first byte is
+/// needed, and the payload that it carries then; a packet is read only when the GFP frame before it is used up. Contracts see
+/// what a framer keeps, and which bytes of its stream are gone.
+#[derive(Drop)]
+pub struct ClientFramer {
+    trace: Trace,
+    stream: PacketStream,
+    path: PathWriter,
+    mfas: u8,
+    payload: Vec<u8>,
+    frame: Frame<CLIENT_COLUMNS>,
+    // How many bytes of the frame in hand are gone: all where there is none.
+    at: usize,
+    // Whether the packets' end was not seen before the frame in hand.
+    fresh: bool,
+}
+
+impl Model for ClientFramer {
+    ghost use Rattle.std.specs.Prelude.{◌≡◌, ◌≤◌, drop, vec_len};
+    ghost use Rattle.odu_client.specs.Framing.{FramerState};
+
+    ghost Value = { FramerState };
+
+    ghost view = { λ f. record { sapi = f.trace; stream = f.stream; path = f.path; mfas = f.mfas; left = drop f.at f.frame; fresh = f.fresh } };
+
+    ghost invariant = { λ f. (vec_len f.payload ≡ 15232) × (f.at ≤ 15296) };
+}
+
+impl ClientFramer {
+    /// A framer with an empty trace whose packets have FCS, and of which nothing was taken. All memory is taken here.
+    pub fn new(alloc: Global) -> Result<ClientFramer, Memory>
+        ensures fresh { IfOk result (λ framer. framer ≡ fresh_framer [] true) }
+        ensures stands { IfOk result (λ framer. (first : InView) → ClientStands first first [] [] fresh_lines framer) }
+    {
+        Ok(ClientFramer {
+            trace: no_trace(),
+            stream: PacketStream::new(alloc)?,
+            path: PathWriter::new(),
+            mfas: 0,
+            payload: zeros(alloc, CLIENT_PAYLOAD_BYTES)?,
+            frame: Frame::new(alloc)?,
+            at: CLIENT_FRAME_BYTES,
+            fresh: true,
+        })
+    }
+
+    /// Begins anew, as for another text: with this trace, and with FCS or without.
+    pub fn restart(&mut self, trace: &Trace, fcs: bool)
+        ensures fresh { self.new ≡ fresh_framer trace.now fcs }
+        ensures stands { (first : InView) → ClientStands first first [] [] fresh_lines self.new }
+    {
+        self.trace = same_trace(trace);
+        self.stream.restart(fcs);
+        self.path = PathWriter::new();
+        self.mfas = 0;
+        self.at = CLIENT_FRAME_BYTES;
+        self.fresh = true;
+        let _opened = self.frame.as_bytes();
+    }
+
+    /// The next bytes of the client's stream. The lines were new or restarted when the framer was, and both were used since then
+    /// with each other and with this place alone.
+    pub fn fill<P: Source>(
+        &mut self,
+        lines: &mut PacketLines,
+        place: &mut InPlaceOf<P>,
+        into: &mut [u8],
+    )
+        ensures size { length into.new ≡ length into.old }
+        ensures fills { (first : InView) (taken gone : List ℕ) → ClientStands first (in_view P.Source place.old) taken gone (lines_view lines.old) self.old
+            → Fills first (in_view P.Source place.new) taken gone into.new (lines_view lines.old) (lines_view lines.new) self.old self.new }
+
+        // once no packet is left nothing is read
+        ensures over { self.old.stream.answer ≢ Line.Packet → (place.new ≡ place.old) × (lines.new ≡ lines.old) }
+
+        // nor while the frame in hand has these bytes
+        ensures hand { length into.old ≤ length self.old.left → (place.new ≡ place.old) × (lines.new ≡ lines.old) }
+    {
+        let mut done = 0;
+        while done < into.len() {
+            self.have_frame(lines, place);
+            done += self.give(&mut into[done..]);
+        }
+    }
+
+    /// Whether the text has ended, and the frame in which that was seen is gone whole.
+    pub fn spent(&self) -> bool
+        ensures { (first now : InView) (taken gone : List ℕ) (lines : LinesView) (died : Bool) (text : List ℕ) → ClientStands first now taken gone lines self.now
+            → MayBe lines taken text → MayDie lines.answer died → result ≡ is_spent (input_of died text) self.now.stream.fcs (length gone) }
+    {
+        match self.stream.answer() {
+            Line::End => self.is_gone(),
+            _ => false,
+        }
+    }
+
+    /// How many packets are begun: the first byte of their GFP frame stands in a frame that was made. The count stops at 2^64-1.
+    pub fn packets(&self) -> u64
+        ensures { (first now : InView) (taken gone : List ℕ) (lines : LinesView) (text : List ℕ) → ClientStands first now taken gone lines self.now
+            → MayBe lines taken text → result ≡ stopped (packets_begun (packets_of text).packets self.now.stream.fcs (length gone)) }
+    {
+        self.stream.packets()
+    }
+
+    /// The number of the bad line, from 1, once it is seen.
+    pub fn bad(&self) -> Option<u64>
+        ensures { (first now : InView) (taken gone : List ℕ) (lines : LinesView) (died : Bool) (text : List ℕ) → ClientStands first now taken gone lines self.now
+            → MayBe lines taken text → MayDie lines.answer died → result ≡ option_map stopped (bad_line (input_of died text) self.now.stream.fcs (length gone)) }
+    {
+        match self.stream.answer() {
+            Line::Bad(number) => Some(number),
+            _ => None,
+        }
+    }
+
+    // Whether the frame in which the packets' end was seen is gone.
+    fn is_gone(&self) -> bool
+        ensures yes { result ≡ true → (self.now.fresh ≡ false) ⊎ (self.now.left ≡ []) }
+        ensures not_yet { result ≡ false → (self.now.fresh ≡ true) × (1 ≤ length self.now.left) }
+    {
+        let _opened = self.frame.as_bytes();
+        if !self.fresh {
+            return true;
+        }
+        self.at >= CLIENT_FRAME_BYTES
+    }
+
+    // Makes the next frame where the one in hand is gone.
+    fn have_frame<P: Source>(&mut self, lines: &mut PacketLines, place: &mut InPlaceOf<P>)
+        ensures some { self.new.left ≢ [] }
+        ensures makes { (first : InView) (taken gone : List ℕ) → FramedSome first (in_view P.Source place.old) taken gone (lines_view lines.old) self.old
+            → Makes first (in_view P.Source place.new) taken gone (lines_view lines.old) (lines_view lines.new) self.old self.new }
+        ensures over { self.old.stream.answer ≢ Line.Packet → (place.new ≡ place.old) × (lines.new ≡ lines.old) × (self.new.stream.answer ≡ self.old.stream.answer) }
+        ensures hand { self.old.left ≢ [] → (place.new ≡ place.old) × (lines.new ≡ lines.old) × (self.new ≡ self.old) }
+    {
+        let _opened = self.frame.as_bytes();
+        if self.at < CLIENT_FRAME_BYTES {
+            return;
+        }
+        self.make_frame(lines, place);
+    }
+
+    // Makes the next frame.
+    fn make_frame<P: Source>(&mut self, lines: &mut PacketLines, place: &mut InPlaceOf<P>)
+        requires { self.old.left ≡ [] }
+        ensures some { self.new.left ≢ [] }
+        ensures makes { (first : InView) (taken gone : List ℕ) → FramedSome first (in_view P.Source place.old) taken gone (lines_view lines.old) self.old
+            → Makes first (in_view P.Source place.new) taken gone (lines_view lines.old) (lines_view lines.new) self.old self.new }
+        ensures over { self.old.stream.answer ≢ Line.Packet → (place.new ≡ place.old) × (lines.new ≡ lines.old) × (self.new.stream.answer ≡ self.old.stream.answer) }
+    {
+        self.fresh = self.stream.answer() == Line::Packet;
+        self.stream.fill(lines, place, &mut self.payload);
+        put_frame(&mut self.frame, self.mfas, &self.payload);
+        self.path.write(&mut self.frame, self.mfas, &self.trace);
+        self.mfas = self.mfas.wrapping_add(1);
+        self.at = 0;
+        let _opened = self.frame.as_bytes();
+    }
+
+    // The next bytes of the frame in hand, as many as there is room for: how many.
+    fn give(&mut self, into: &mut [u8]) -> usize
+        requires room { 1 ≤ length into.old }
+        requires some { self.old.left ≢ [] }
+        ensures some { 1 ≤ result }
+        ensures within { result ≤ length into.old }
+        ensures size { length into.new ≡ length into.old }
+        ensures short { length self.new.left < 15296 }
+        ensures gives { Gives (take result into.new) self.old self.new }
+    {
+        let count = into.len().min(CLIENT_FRAME_BYTES - self.at);
+        copy_front(into, &self.frame.as_bytes()[self.at..self.at + count]);
+        self.at += count;
+        count
+    }
+}
+
+// Puts the bytes at the front of a slice.
+fn copy_front(into: &mut [u8], bytes: &[u8])
+    requires { length bytes.now ≤ length into.old }
+    ensures { into.new ≡ bytes.now ++ drop (length bytes.now) into.old }
+{
+    into[..bytes.len()].copy_from_slice(bytes);
+}
+
+// A trace with an empty identifier.
+fn no_trace() -> Trace
+    ensures { result ≡ [] }
+{
+    match Trace::new(&[]) {
+        Some(trace) => trace,
+        None => unreachable!(),
+    }
+}
+
+fn same_trace(trace: &Trace) -> Trace
+    ensures { result ≡ trace.now }
+{
+    match Trace::new(trace.as_slice()) {
+        Some(trace) => trace,
+        None => unreachable!(),
+    }
+}
+
+fn zeros(alloc: Global, n: usize) -> Result<Vec<u8>, Memory>
+    ensures { IfOk result (λ v. vec_len v ≡ n) }
+{
+    Ok(vec![in alloc; 0u8; n]?)
+}

@@ -1,0 +1,159 @@
+// The payload of a client's frames: the packets of a text as a stream of GFP frames.
+ghost use Rattle.std.specs.Prelude.{◌≡◌, ◌≢◌, ◌≤◌, ℕ, List, [], ◌∷◌, ◌++◌, true, length, take, IfOk};
+ghost use Rattle.otn_ports.specs.InPlace.{in_view};
+ghost use Rattle.otn_ports.specs.Views.{InView};
+ghost use Rattle.packet_text.specs.LinesStand.{LinesView, lines_view};
+ghost use Rattle.odu_client.specs.Framing.{StreamState, StreamMade, StreamReady, TextStands, GetsReady, StreamGoes};
+ghost use Rattle.odu_client.specs.PacketStream.{fresh_stream, Asked};
+
+use gfp_frames::GfpMaker;
+use otn_base::Memory;
+use otn_ports::{InPlaceOf, Source};
+use packet_text::{Line, PacketLines};
+use std::alloc::Global;
+use std::marker::Model;
+
+/// Makes one idle frame, then the frames of a text's packets without a gap, then idle frames for ever. A packet is read only
+/// when the frame before it is used up.
+#[derive(Drop)]
+pub(crate) struct PacketStream {
+    maker: GfpMaker,
+    fcs: bool,
+    // The last answer of the text's lines.
+    answer: Line,
+    packets: u64,
+}
+
+impl Model for PacketStream {
+    ghost use Rattle.odu_client.specs.Framing.{StreamState};
+
+    ghost Value = { StreamState };
+
+    ghost view = { λ s. record { maker = s.maker; fcs = s.fcs; answer = s.answer; packets = s.packets } };
+}
+
+impl PacketStream {
+    /// A stream of which nothing was given, with FCS. All memory is taken here.
+    pub(crate) fn new(alloc: Global) -> Result<PacketStream, Memory>
+        ensures { IfOk result (λ stream. stream ≡ fresh_stream true) }
+    {
+        Ok(PacketStream {
+            maker: GfpMaker::new(alloc)?,
+            fcs: true,
+            answer: Line::Packet,
+            packets: 0,
+        })
+    }
+
+    /// Begins anew.
+    pub(crate) fn restart(&mut self, fcs: bool)
+        ensures { self.new ≡ fresh_stream fcs }
+    {
+        self.maker.restart();
+        self.fcs = fcs;
+        self.answer = Line::Packet;
+        self.packets = 0;
+    }
+
+    /// How many packets were begun. The count stops at 2^64-1.
+    pub(crate) fn packets(&self) -> u64
+        ensures { result ≡ self.now.packets }
+    {
+        self.packets
+    }
+
+    /// The last answer of the text's lines.
+    pub(crate) fn answer(&self) -> Line
+        ensures { result ≡ self.now.answer }
+    {
+        self.answer
+    }
+
+    /// The next bytes of the stream.
+    pub(crate) fn fill<P: Source>(
+        &mut self,
+        lines: &mut PacketLines,
+        place: &mut InPlaceOf<P>,
+        into: &mut [u8],
+    )
+        ensures size { length into.new ≡ length into.old }
+        ensures goes { (first : InView) (taken given : List ℕ) (packets : List (List ℕ)) → TextStands first (in_view P.Source place.old) taken packets (lines_view lines.old) self.old
+            → StreamMade packets given self.old
+            → StreamGoes first (in_view P.Source place.new) taken (given ++ into.new) packets (lines_view lines.old) (lines_view lines.new) self.old.fcs self.new }
+        ensures over { self.old.answer ≢ Line.Packet → (place.new ≡ place.old) × (lines.new ≡ lines.old) × (self.new.answer ≡ self.old.answer) }
+    {
+        let mut done = 0;
+        while done < into.len() {
+            done += self.step(lines, place, &mut into[done..]);
+        }
+    }
+
+    // The next bytes of one frame, or of all idle frames behind the packets: how many.
+    fn step<P: Source>(
+        &mut self,
+        lines: &mut PacketLines,
+        place: &mut InPlaceOf<P>,
+        into: &mut [u8],
+    ) -> usize
+        requires { 1 ≤ length into.old }
+        ensures some { 1 ≤ result }
+        ensures within { result ≤ length into.old }
+        ensures size { length into.new ≡ length into.old }
+        ensures goes { (first : InView) (taken given : List ℕ) (packets : List (List ℕ)) → TextStands first (in_view P.Source place.old) taken packets (lines_view lines.old) self.old
+            → StreamMade packets given self.old
+            → StreamGoes first (in_view P.Source place.new) taken (given ++ take result into.new) packets (lines_view lines.old) (lines_view lines.new) self.old.fcs self.new }
+        ensures over { self.old.answer ≢ Line.Packet → (place.new ≡ place.old) × (lines.new ≡ lines.old) × (self.new.answer ≡ self.old.answer) }
+    {
+        self.get_ready(lines, place);
+        self.give(into)
+    }
+
+    // Takes the next packet in hand where no frame is, as long as there is one.
+    fn get_ready<P: Source>(&mut self, lines: &mut PacketLines, place: &mut InPlaceOf<P>)
+        ensures some { self.new.answer ≡ Line.Packet → self.new.maker.hand ≢ [] }
+        ensures ready { (first : InView) (taken given : List ℕ) (packets : List (List ℕ)) → TextStands first (in_view P.Source place.old) taken packets (lines_view lines.old) self.old
+            → StreamMade packets given self.old
+            → GetsReady first (in_view P.Source place.new) taken given packets (lines_view lines.old) (lines_view lines.new) self.old.fcs self.new }
+        ensures over { self.old.answer ≢ Line.Packet → (place.new ≡ place.old) × (lines.new ≡ lines.old) × (self.new.answer ≡ self.old.answer) }
+    {
+        if !self.maker.idle() {
+            return;
+        }
+        if self.answer != Line::Packet {
+            return;
+        }
+        self.ask(lines, place);
+    }
+
+    // Takes the next packet in hand, if there is one.
+    fn ask<P: Source>(&mut self, lines: &mut PacketLines, place: &mut InPlaceOf<P>)
+        requires idle { self.old.maker.hand ≡ [] }
+        requires going { self.old.answer ≡ Line.Packet }
+        ensures some { self.new.answer ≡ Line.Packet → self.new.maker.hand ≢ [] }
+        ensures asked { (first : InView) (taken : List ℕ) (packets : List (List ℕ)) → TextStands first (in_view P.Source place.old) taken packets (lines_view lines.old) self.old
+            → Asked first (in_view P.Source place.new) taken packets (lines_view lines.old) (lines_view lines.new) self.old self.new }
+    {
+        self.answer = lines.take(place);
+        if self.answer == Line::Packet {
+            self.maker.offer(lines.packet(), self.fcs);
+            self.packets = self.packets.saturating_add(1);
+        }
+    }
+
+    // The next bytes of the frame in hand; behind the packets as many as there is room for.
+    fn give(&mut self, into: &mut [u8]) -> usize
+        requires room { 1 ≤ length into.old }
+        requires some { self.old.answer ≡ Line.Packet → self.old.maker.hand ≢ [] }
+        ensures some { 1 ≤ result }
+        ensures within { result ≤ length into.old }
+        ensures size { length into.new ≡ length into.old }
+        ensures made { (packets : List (List ℕ)) (given : List ℕ) → StreamReady packets given self.old → StreamMade packets (given ++ take result into.new) self.new }
+        ensures same { (self.new.fcs ≡ self.old.fcs) × (self.new.answer ≡ self.old.answer) }
+    {
+        if self.answer == Line::Packet {
+            return self.maker.give(into);
+        }
+        self.maker.fill(into);
+        into.len()
+    }
+}
