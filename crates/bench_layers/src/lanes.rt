@@ -6,12 +6,14 @@ ghost use Rattle.lane_kernels.specs.SlotPlaces.{IsSlotCount};
 use lane_kernels::{
     SlotRows, join, parity, put_slot, put_slots, split, take_slot, take_slots, xor_mask,
 };
-use otn_base::limits::{OTU2_SLOTS, PAYLOAD_COLUMNS};
+use otn_base::limits::{OTU2_SLOTS, OTU3_SLOTS, PAYLOAD_COLUMNS};
 use otn_base::{LineKind, Memory, Slots};
 use std::alloc::Global;
 
-// Cycles of a row of an OTU2, and every eighth slot of an OTU3.
+// Cycles of a row of an OTU2 and of an OTU3, and every eighth slot of an OTU3.
 const CYCLES: usize = PAYLOAD_COLUMNS / OTU2_SLOTS;
+
+const OTU3_CYCLES: usize = PAYLOAD_COLUMNS / OTU3_SLOTS;
 
 const EVERY_EIGHTH: [u8; 4] = [8, 16, 24, 32];
 
@@ -111,10 +113,10 @@ fn put_list(alloc: Global, slots: &[u8], times: u32) -> Result<u32, Memory>
 /// Takes every eighth slot of 32 out of a row so many times.
 pub(crate) fn take_of_thirty_two(alloc: Global, times: u32) -> Result<u32, Memory> {
     let mut row = row_of(alloc, PAYLOAD_COLUMNS)?;
-    let mut bytes = row_of(alloc, 476)?;
+    let mut bytes = row_of(alloc, EVERY_EIGHTH.len() * OTU3_CYCLES)?;
     for turn in 0..times {
         touch(&mut row, turn);
-        take_slots::<32>(&row, 119, &EVERY_EIGHTH, &mut bytes);
+        take_slots::<OTU3_SLOTS>(&row, OTU3_CYCLES, &EVERY_EIGHTH, &mut bytes);
     }
     Ok(sum(&bytes))
 }
@@ -122,10 +124,10 @@ pub(crate) fn take_of_thirty_two(alloc: Global, times: u32) -> Result<u32, Memor
 /// Puts every eighth slot of 32 into a row so many times.
 pub(crate) fn put_of_thirty_two(alloc: Global, times: u32) -> Result<u32, Memory> {
     let mut row = row_of(alloc, PAYLOAD_COLUMNS)?;
-    let mut bytes = row_of(alloc, 476)?;
+    let mut bytes = row_of(alloc, EVERY_EIGHTH.len() * OTU3_CYCLES)?;
     for turn in 0..times {
         touch(&mut bytes, turn);
-        put_slots::<32>(&bytes, 119, &EVERY_EIGHTH, &mut row);
+        put_slots::<OTU3_SLOTS>(&bytes, OTU3_CYCLES, &EVERY_EIGHTH, &mut row);
     }
     Ok(sum(&row))
 }

@@ -102,11 +102,7 @@ fn rows_layer(rt: &HostRuntime, slots: u32, times: u32) -> Result<Option<u32>, M
 
 ghost use Rattle.lane_kernels.specs.SlotPlaces.{IsSlotCount};
 
-fn rows_of<const SLOTS: usize>(
-    alloc: Global,
-    word: &str,
-    times: u32,
-) -> Result<Option<u32>, Memory>
+fn rows_of<const SLOTS: usize>(alloc: Global, word: &str, times: u32) -> Result<Option<u32>, Memory>
     requires { IsSlotCount SLOTS }
 {
     match word {
