@@ -8,6 +8,8 @@ mod lanes;
 mod line;
 mod sink;
 mod source;
+#[cfg(test)]
+mod tests;
 mod words;
 
 use otn_base::{LineKind, Memory};

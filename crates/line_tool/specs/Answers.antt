@@ -17,7 +17,7 @@ use Rattle.line_tool.specs.declared.words.Command.{Command}
 use Rattle.line_tool.specs.declared.words.Command.TheVariants.{Slot, Pull, Check}
 
 -- The report's count of faults rose or stands at its end where the answer is ReportFault, and else it is as it was: no write that
--- failed was tried again.
+-- failed was tried again and then went well.
 abbrev pub ReportCounts : (old new : Device) → Status → Type 0
 ReportCounts old new status = CountsBy ReportFault status old.report.faults new.report.faults
 
@@ -33,9 +33,11 @@ pub record SlotRan (slot : ℕ) (old new : Device) (status : Status) : Type 0 wh
   pub counts : ReportCounts old new status
   -- Cut is the answer exactly where the line is dead
   pub cut : (status ≡ Cut) ↔ ((line_zero new).state ≡ Dead)
-  -- and Unfinished where it is not, and bytes were taken behind the whole frames that are used
+  -- and Unfinished where it is not, and bytes were taken behind the whole frames that are used; Done is the answer where none of
+  -- Memory, ReportFault, Cut and Unfinished is
   pub unfinished : status ≢ ReportFault → (status ≡ Unfinished) ↔ (((line_zero new).state ≢ Dead) × HasRest (length taken))
-  -- all that there is was taken, but of 131,072 frames and one byte more at most
+  -- all that there is was taken, but of 131,072 frames and one byte more at most; of a line that tells nothing this says nothing of
+  -- an early end
   pub most : length taken ≤ most_bytes
   pub all : status ≢ ReportFault → (line_zero new).state ≢ Dead → HasEnded (line_zero new).left ⊎ (length taken ≡ most_bytes)
 
@@ -48,7 +50,8 @@ pub record SlotAnswers (slot : ℕ) (old new : Device) (status : Status) : Type 
 
 -- Once there was memory. Behind the bytes taken there may be more, `rest`: whatever they are, all this holds.
 pub record PullRan (own : Tributary) (old new : Device) (status : Status) : Type 0 where
-  -- these bytes were taken of the line, and whether more may stand behind them
+  -- These bytes were taken of the line, and whether more may stand behind them: where it is true, what holds for every rest does
+  -- so for any bytes, else for none. Of a line that tells nothing, `over` says nothing.
   pub taken : List ℕ
   pub gave : Gave (line_zero old) taken (line_zero new)
   pub more : Bool
@@ -57,14 +60,15 @@ pub record PullRan (own : Tributary) (old new : Device) (status : Status) : Type
   pub wrote : (rest : List ℕ) → MayFollow more rest → Reports status old.report.got new.report.got (pull_report own (taken ++ rest))
   pub counts : ReportCounts old new status
   -- Cut is the answer where the line is dead, and Unfinished where it is not, and bytes stand behind the frames that the turns
-  -- wanted: exactly so, but that a write may have failed before
+  -- wanted: exactly so, but that a write may have failed before. Done is the answer where none of Memory, ReportFault, Cut and
+  -- Unfinished is.
   pub cut : status ≢ ReportFault → (status ≡ Cut) ↔ ((line_zero new).state ≡ Dead)
   pub unfinished : status ≢ ReportFault → (rest : List ℕ) → MayFollow more rest → (status ≡ Unfinished) ↔ (((line_zero new).state ≢ Dead) × LeavesBytes (taken ++ rest))
-  -- the same by how many bytes were taken
+  -- the same, seen from the bytes taken alone, with no rest
   pub counted : status ≢ ReportFault → (status ≡ Unfinished) ↔ (((line_zero new).state ≢ Dead) × (0 < length taken % LINE_FRAME_BYTES))
   -- as many bytes were taken as the turns want and one more, or all that there are
   pub took : status ≢ ReportFault → (rest : List ℕ) → MayFollow more rest → length taken ≡ bytes_taken (taken ++ rest)
-  -- and where a write failed, as many as the turns up to that one want
+  -- and where a write failed, as many as some first turns want
   pub stopped : status ≡ ReportFault → WantedByTurns more taken
 
 pub record PullAnswers (own : Tributary) (old new : Device) (status : Status) : Type 0 where

@@ -31,7 +31,7 @@ CheckEnds status.Memory text old new = new ≡ old
 CheckEnds status.PlanFault text old new = new ≡ old
 CheckEnds other text old new = ⊥
 
--- all of a source came, or a byte more than the longest plan has
+-- all of a source came, or 1,048,577 bytes: one more than the longest plan has
 abbrev pub IsAll : List ℕ → Option (List ℕ) → Type 0
 IsAll text left = HasEnded left ⊎ (length text ≡ 1048577)
 

@@ -45,6 +45,6 @@ IsRefusal Done = ⊥
 abbrev pub HasRest : (bytes : ℕ) → Type 0
 HasRest bytes = used_frames bytes * LINE_FRAME_BYTES < bytes
 
--- no count of faults rose, or stands at its end
+-- a count of faults did not rise, and does not stand at its end
 abbrev pub IsWell : (old new : ℕ) → Type 0
 IsWell old new = HasFailed old new → ⊥

@@ -11,11 +11,11 @@ use Rattle.line_tool.specs.declared.words.Command.TheVariants.{Slot, Pull, Check
 abbrev pub texts : List (String Global) → List (List ℕ)
 texts words = map string_bytes words
 
--- the text of a number of one digit
+-- the text of a number of one digit; 48 is the character 0
 abbrev pub digit : ℕ → List ℕ
 digit n = (48 + n) ∷ []
 
--- the text of a list of slots: their digits, with commas between them
+-- the text of a list of slots: their digits, with commas between them; 44 is the comma
 abbrev pub slots_text : List ℕ → List ℕ
 slots_text [] = []
 slots_text (slot ∷ []) = digit slot

@@ -8,7 +8,7 @@ use otn_base::Memory;
 /// How a command over a line ended, once it had its memory.
 #[derive(Clone, Copy, Debug, PartialEq, Eq)]
 pub(crate) enum Ended {
-    /// The line has no byte behind those that the command used.
+    /// All bytes of the line stand in whole frames that the command looked at.
     Done,
     /// The line had bytes after its last whole frame, or more of them than the command reads.
     Unfinished,

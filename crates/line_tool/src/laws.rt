@@ -25,7 +25,7 @@ pub fn forms_are_apart()
     ensures { (words : List (List ℕ)) (one other : Command) → IsForm words one → IsForm words other → one ≡ other }
 {}
 
-/// `slot`, by the bytes that line input 0 gave, where it tells them: they are what is written of (`report`), and Unfinished is the
+/// `slot`, by all bytes that line input 0 had to give, where it tells them: they are what is written of (`report`), and Unfinished is the
 /// answer exactly where bytes stand behind the whole frames that are used (`unfinished`); by the place's number of bytes the same holds
 /// of any line (`counted`), and as many bytes are taken as there are, of the most frames and one byte more at most (`took`).
 pub fn slot_of_given()

@@ -4,11 +4,12 @@ ghost use Rattle.line_tool.specs.Codes.{code_of};
 
 use plan_file::PlanError;
 
-/// How a command ended. The answers are tried in the order of `Words`, `PlanFault`, `Plan`, `Memory`,
-/// `ReportFault`, `Cut`, `Unfinished`, `Done`.
+/// How a command ended. `ReportFault` goes before `Cut`, `Cut` before `Unfinished`, and `Done` is the answer
+/// where no other is. Want of memory is answered where it is met.
 #[derive(Clone, Copy, Debug, PartialEq, Eq)]
 pub enum Status {
-    /// All was done: the line has no byte behind those that the command used, or the plan is accepted.
+    /// All bytes of the line stand in whole frames that the command looked at, or the plan is accepted. For
+    /// `pull` that may be before the line's last turn, where the most turns were done.
     Done,
     /// The line had bytes after its last whole frame, or more of them than the command reads.
     Unfinished,
