@@ -1,5 +1,6 @@
 // The tributary sink, over a steady line.
-ghost use Rattle.std.specs.Prelude.{◌≡◌, ◌*◌, ◌≤◌, IfOk, IfSome, length, vec_len};
+ghost use Rattle.std.specs.Prelude.{◌≡◌, ◌+◌, ◌*◌, ◌≤◌, IfOk, IfSome, length, vec_len};
+ghost use Rattle.otn_base.specs.declared.limits.TheConstants.{GROUPS};
 
 use frame_geometry::Frame;
 use otn_base::limits::GROUPS;
@@ -33,7 +34,7 @@ pub(crate) fn first_slots(count: usize) -> Option<Slots>
 
 // Room for what a turn may emit.
 fn room_for(alloc: Global, slots: &Slots) -> Result<Vec<u8>, Memory>
-    ensures { IfOk result (λ into. vec_len into ≡ length slots.now.list * 15233) }
+    ensures { IfOk result (λ into. vec_len into ≡ length slots.now.list * (GROUPS + 1)) }
 {
     Ok(vec![in alloc; 0; slots.count() as usize * (GROUPS + 1)]?)
 }
@@ -58,7 +59,7 @@ fn steady_frame(alloc: Global) -> Result<Frame<4080>, Memory> {
 fn take_turn(sink: &mut TribSink, frame: &Frame<4080>, turn: u32, into: &mut [u8]) -> u32
     requires fresh { sink.old.taken ≡ 0 }
     requires kind { sink.old.slots.kind ≡ LineKind.Otu2 }
-    requires room { length sink.old.slots.list * 15233 ≤ length into.old }
+    requires room { length sink.old.slots.list * (GROUPS + 1) ≤ length into.old }
     ensures fresh { sink.new.taken ≡ 0 }
     ensures slots { sink.new.slots ≡ sink.old.slots }
 {

@@ -1,5 +1,6 @@
 // The tributary source, at a steady rate.
 ghost use Rattle.std.specs.Prelude.{◌≡◌, ◌*◌, IfOk, length, vec_len};
+ghost use Rattle.otn_base.specs.declared.limits.TheConstants.{NOMINAL};
 
 use crate::sink::first_slots;
 use frame_geometry::Frame;
@@ -26,7 +27,7 @@ pub(crate) fn put(alloc: Global, count: usize, turns: u32) -> Result<u32, Memory
 
 // What an ODU0 for each of the slots has in a multiframe.
 fn nominal_bytes(alloc: Global, slots: &Slots) -> Result<Vec<u8>, Memory>
-    ensures { IfOk result (λ bytes. vec_len bytes ≡ length slots.now.list * 15168) }
+    ensures { IfOk result (λ bytes. vec_len bytes ≡ length slots.now.list * NOMINAL) }
 {
     let mut bytes = vec![in alloc; 0; slots.count() as usize * NOMINAL]?;
     for (i, byte) in bytes.iter_mut().enumerate() {
@@ -39,7 +40,7 @@ fn nominal_bytes(alloc: Global, slots: &Slots) -> Result<Vec<u8>, Memory>
 fn put_turn(source: &mut TribSource, bytes: &[u8], frame: &mut Frame<4080>) -> u32
     requires rest { source.old.rest ≡ 0 }
     requires kind { source.old.slots.kind ≡ LineKind.Otu2 }
-    requires size { length bytes.now ≡ length source.old.slots.list * 15168 }
+    requires size { length bytes.now ≡ length source.old.slots.list * NOMINAL }
     ensures rest { source.new.rest ≡ 0 }
     ensures slots { source.new.slots ≡ source.old.slots }
 {

@@ -1,4 +1,5 @@
-use Rattle.std.proofs.Common.{◌≡◌, ◌*◌, length, vec_len}
+use Rattle.std.proofs.Common.{◌≡◌, ◌+◌, ◌*◌, length, vec_len}
+use Rattle.otn_base.specs.declared.limits.TheConstants.{GROUPS}
 use Rattle.otn_base.specs.declared.line_kind.LineKind.TheVariants.{Otu2}
 use Rattle.bench_layers.proofs.sink.take.Given as goal
 
@@ -7,5 +8,5 @@ invariant-loop-turn l = record {
   taken : l.sink.taken ≡ 0;
   kind : l.sink.slots.kind ≡ Otu2;
   slots : l.sink.slots ≡ l.initial.sink.slots;
-  room : vec_len l.into ≡ length l.sink.slots.list * 15233;
+  room : vec_len l.into ≡ length l.sink.slots.list * (GROUPS + 1);
 }

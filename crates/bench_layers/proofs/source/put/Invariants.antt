@@ -1,4 +1,5 @@
 use Rattle.std.proofs.Common.{◌≡◌, ◌*◌, length, vec_len}
+use Rattle.otn_base.specs.declared.limits.TheConstants.{NOMINAL}
 use Rattle.otn_base.specs.declared.line_kind.LineKind.TheVariants.{Otu2}
 use Rattle.bench_layers.proofs.source.put.Given as goal
 
@@ -7,5 +8,5 @@ invariant-loop-turn l = record {
   rest : l.source.rest ≡ 0;
   kind : l.source.slots.kind ≡ Otu2;
   slots : l.source.slots ≡ l.initial.source.slots;
-  size : vec_len l.bytes ≡ length l.source.slots.list * 15168;
+  size : vec_len l.bytes ≡ length l.source.slots.list * NOMINAL;
 }

@@ -1,6 +1,7 @@
 use Rattle.std.proofs.Common.{◌≡◌, ℕ, ◌+◌, ◌*◌, ◌%◌, ◌∙◌, ap, arith, length}
 use Rattle.std.proofs.Math.Nat.{mul-mod_right}
 use Rattle.otn_base.specs.LineSlots.{LineSlots}
+use Rattle.otn_base.specs.declared.limits.TheConstants.{NOMINAL}
 use Rattle.bench_layers.proofs.source.put_turn.Goals as goal
 
 none_over : (rest n m k : ℕ) → rest ≡ 0 → n ≡ m * k → (rest + n) % m ≡ 0
@@ -13,7 +14,7 @@ loop-n-init c =
     record {
       filled = turn.filled;
       begun = turn.begun;
-      rest = turn.rest ∙ none_over source.rest (length c.args.bytes.now) (length source.slots.list) 15168 c.requires.rest c.requires.size;
+      rest = turn.rest ∙ none_over source.rest (length c.args.bytes.now) (length source.slots.list) NOMINAL c.requires.rest c.requires.size;
       kind = ap (λ (s : LineSlots). s.kind) turn.slots ∙ c.requires.kind;
       slots = turn.slots;
     }
