@@ -5,6 +5,7 @@ use Rattle.std.specs.List.{refill}
 use Rattle.std.proofs.Common.{◌++◌, ◌-◌, take, drop, arith, sym, ◌∙◌, length-append, length-drop}
 use Rattle.std.proofs.lemmas.List.{take_at, length-take-le, length-set}
 use Rattle.frame_geometry.specs.Places.{place_of, with_payload_row}
+use Rattle.otn_base.specs.declared.limits.TheConstants.{LAST_PAYLOAD_COLUMN, PAYLOAD_COLUMNS}
 
 -- All bytes were lent, and these were left behind the loan.
 unfoldable pub after_loan : (cols : ℕ) → (frame bytes : List ℕ) → List ℕ
@@ -31,8 +32,8 @@ unfolding after_loan
 after_loan-whole cols frame bytes e = refill-whole (4 * cols) frame bytes e
 
 -- as many bytes as the row has payload columns: they stand in these columns, and every other byte stays
-pub after_row_loan-whole : (cols row : ℕ) (frame payload : List ℕ) → length payload ≡ 3808 → length frame ≡ 4 * cols
-    → 3824 ≤ cols → 1 ≤ row → row ≤ 4
+pub after_row_loan-whole : (cols row : ℕ) (frame payload : List ℕ) → length payload ≡ PAYLOAD_COLUMNS → length frame ≡ 4 * cols
+    → LAST_PAYLOAD_COLUMN ≤ cols → 1 ≤ row → row ≤ 4
     → after_row_loan cols row frame payload ≡ with_payload_row cols row frame payload
 unfolding after_row_loan
 after_row_loan-whole cols row frame payload e size wide low high =

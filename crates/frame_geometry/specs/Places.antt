@@ -2,10 +2,11 @@
 use Rattle.std.specs.Prelude.{◌≡◌, ℕ, ◌+◌, ◌-◌, ◌*◌, ◌/◌, ◌%◌, ◌<◌, ◌≤◌, ◌⊎◌, List, ◌++◌, length, take, drop}
 use Rattle.std.proofs.Common.{arith, ap, sym, ◌∙◌, add-zero}
 use Rattle.std.proofs.Math.Nat.{mul-add-div, mul-add-mod_self_left, div-eq_of_lt, mod-eq_of_lt}
+use Rattle.otn_base.specs.declared.limits.TheConstants.{CLIENT_COLUMNS, LINE_COLUMNS, PAYLOAD_COLUMNS}
 
--- A frame is as wide as an OTU2 frame, or as an ODU frame, which has no FEC columns.
+-- A frame is as wide as a line's frame, OTU2 or OTU3, or as an ODU frame, which has no FEC columns.
 abbrev pub IsWidth : ℕ → Type 0
-IsWidth cols = (cols ≡ 4080) ⊎ (cols ≡ 3824)
+IsWidth cols = (cols ≡ LINE_COLUMNS) ⊎ (cols ≡ CLIENT_COLUMNS)
 
 -- G.709 clause 11.1: four rows, sent one after the other, each from its first column on. Rows and columns count from 1.
 abbrev pub place_of : (cols row col : ℕ) → ℕ
@@ -13,7 +14,7 @@ place_of cols row col = cols * (row - 1) + (col - 1)
 
 -- G.709 clause 12.1: the payload of a row stands in columns 17 to 3824, whatever follows them.
 abbrev pub payload_row_of : (cols row : ℕ) → List ℕ → List ℕ
-payload_row_of cols row frame = take 3808 (drop (place_of cols row 17) frame)
+payload_row_of cols row frame = take PAYLOAD_COLUMNS (drop (place_of cols row 17) frame)
 
 -- The frame after the payload columns of a row were written.
 abbrev pub with_payload_row : (cols row : ℕ) → (frame payload : List ℕ) → List ℕ

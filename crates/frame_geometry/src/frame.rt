@@ -6,8 +6,8 @@ use otn_base::limits::ROWS;
 use std::alloc::Global;
 use std::marker::Model;
 
-/// A frame of four rows of `COLS` columns (G.709 clause 11.1): 4,080 of them for an OTU2 frame with its
-/// FEC field, 3,824 for an ODU frame. It is seen as the list of its bytes, row by row. Rows and columns
+/// A frame of four rows of `COLS` columns (G.709 clause 11.1): 4,080 of them for a frame of an OTU2
+/// or an OTU3 with its FEC field, 3,824 for an ODU frame. It is seen as the list of its bytes, row by row. Rows and columns
 /// count from 1.
 #[derive(Drop)]
 pub struct Frame<const COLS: usize> {

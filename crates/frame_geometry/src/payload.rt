@@ -4,6 +4,7 @@ ghost use Rattle.std.specs.Borrow.{sem, Lends, Array, u8 as byte};
 ghost use Rattle.frame_geometry.specs.contracts.frame.Frame.{the_row};
 ghost use Rattle.frame_geometry.specs.Places.{IsWidth, payload_row_of, with_payload_row};
 ghost use Rattle.frame_geometry.specs.Loans.{after_row_loan};
+ghost use Rattle.otn_base.specs.declared.limits.TheConstants.{PAYLOAD_COLUMNS};
 
 use crate::Frame;
 use otn_base::limits::{OVERHEAD_COLUMNS, PAYLOAD_COLUMNS};
@@ -14,7 +15,7 @@ impl<const COLS: usize> Frame<COLS> {
         requires row_low { 1 ≤ row }
         requires row_high { row ≤ 4 }
         ensures bytes { result.now ≡ payload_row_of COLS row self.now }
-        ensures size { length result.now ≡ 3808 }
+        ensures size { length result.now ≡ PAYLOAD_COLUMNS }
     {
         let _opened = &self.bytes;
         let start = COLS * (row as usize - 1) + OVERHEAD_COLUMNS;
@@ -27,7 +28,7 @@ impl<const COLS: usize> Frame<COLS> {
         requires row_high { row ≤ 4 }
         ensures* writes_back { sem 𝓛 (Lends (the_row COLS.row) (Array byte 0) self.entry result (after_row_loan COLS row self.entry.now)) }
         ensures bytes { result.now ≡ payload_row_of COLS row self.old }
-        ensures size { length result.now ≡ 3808 }
+        ensures size { length result.now ≡ PAYLOAD_COLUMNS }
         ensures frame { length self.old ≡ 4 * COLS }
         ensures width { IsWidth COLS }
     {

@@ -1,6 +1,7 @@
 // The data rule at one group, and how many data groups the first groups have.
 ghost use Rattle.std.specs.Prelude.{◌≡◌, ◌+◌, ◌*◌, ◌/◌, ◌≤◌, ◌↔◌, IsTrue};
 ghost use Rattle.gmp_rule.specs.DataRule.{IsData, data_count};
+ghost use Rattle.otn_base.specs.declared.limits.TheConstants.{GROUPS};
 
 use crate::ALL;
 
@@ -8,8 +9,8 @@ use crate::ALL;
 /// (G.709 Annex D).
 pub fn is_data(j: u32, c: u32) -> bool
     requires first { 1 ≤ j }
-    requires last { j ≤ 15232 }
-    requires number { c ≤ 15232 }
+    requires last { j ≤ GROUPS }
+    requires number { c ≤ GROUPS }
     ensures { IsTrue result ↔ IsData c j }
 {
     j * c % ALL < c
@@ -19,10 +20,10 @@ pub fn is_data(j: u32, c: u32) -> bool
 /// these are the whole part of `j * c / 15232`.
 #[tactic(auto, using(crate::proofs::CountLaw::count_law))]
 pub fn data_groups(j: u32, c: u32) -> u32
-    requires last { j ≤ 15232 }
-    requires number { c ≤ 15232 }
+    requires last { j ≤ GROUPS }
+    requires number { c ≤ GROUPS }
     ensures count { result ≡ data_count c j }
-    ensures quotient { result ≡ j * c / 15232 }
+    ensures quotient { result ≡ j * c / GROUPS }
 {
     j * c / ALL
 }

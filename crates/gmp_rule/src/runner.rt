@@ -1,6 +1,7 @@
 // The data rule over the groups of a multiframe in order.
 ghost use Rattle.std.specs.Prelude.{◌≡◌, ◌+◌, ◌*◌, ◌%◌, ◌<◌, ◌≤◌, ◌↔◌, ℕ, IsTrue};
 ghost use Rattle.gmp_rule.specs.DataRule.{IsData};
+ghost use Rattle.otn_base.specs.declared.limits.TheConstants.{GROUPS};
 
 use crate::ALL;
 use std::marker::Model;
@@ -17,18 +18,19 @@ pub struct Runner {
 impl Model for Runner {
     ghost use Rattle.std.specs.Prelude.{◌≡◌, ◌*◌, ◌%◌, ◌≤◌};
     ghost use Rattle.gmp_rule.specs.DataRule.{Progress};
+    ghost use Rattle.otn_base.specs.declared.limits.TheConstants.{GROUPS};
 
     ghost Value = { Progress };
 
     ghost view = { λ r. record { number = r.number; asked = r.asked } };
 
-    ghost invariant = { λ r. (r.number ≤ 15232) × (r.asked ≤ 15232) × (r.remainder ≡ (r.asked * r.number) % 15232) };
+    ghost invariant = { λ r. (r.number ≤ GROUPS) × (r.asked ≤ GROUPS) × (r.remainder ≡ (r.asked * r.number) % GROUPS) };
 }
 
 impl Runner {
     /// A runner before group 1 of a multiframe with `c` data groups.
     pub fn start(c: u32) -> Self
-        requires { c ≤ 15232 }
+        requires { c ≤ GROUPS }
         ensures number { result.number ≡ c }
         ensures asked { result.asked ≡ 0 }
     {
@@ -42,7 +44,7 @@ impl Runner {
     /// Whether the next group carries data: the first call answers for group 1. A multiframe has
     /// 15,232 groups, and no more calls than that.
     pub fn next(&mut self) -> bool
-        requires { self.old.asked < 15232 }
+        requires { self.old.asked < GROUPS }
         ensures answer { IsTrue result ↔ IsData self.old.number (self.old.asked + 1) }
         ensures step { self.new ≡ record self.old { asked = self.old.asked + 1 } }
     {
@@ -59,7 +61,7 @@ impl Runner {
     /// How many of the next groups, of `most` at most, carry data before the first one that does not.
     /// They count as asked.
     pub fn data_run(&mut self, most: u32) -> u32
-        requires { self.old.asked + most ≤ 15232 }
+        requires { self.old.asked + most ≤ GROUPS }
         ensures most { result ≤ most }
         ensures data { (i : ℕ) → i < result → IsData self.old.number (self.old.asked + i + 1) }
         ensures longest { result < most → IsData self.old.number (self.old.asked + result + 1) → ⊥ }
@@ -76,7 +78,7 @@ impl Runner {
 // How many groups, of `most` at most, carry data one after the other where the remainder stands so
 // high and each of them lowers it by `stuff`.
 fn run_within(remainder: u32, stuff: u32, most: u32) -> u32
-    requires { most ≤ 15232 }
+    requires { most ≤ GROUPS }
     ensures most { result ≤ most }
     ensures inside { result * stuff ≤ remainder }
     ensures longest { result < most → remainder < result * stuff + stuff }

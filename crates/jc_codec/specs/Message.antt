@@ -4,6 +4,7 @@ use Rattle.std.specs.Prelude.{ℕ, ◌+◌, ◌*◌, ◌/◌, ◌%◌, ◌^◌, 
 use Rattle.crc_small.specs.LongDivision.{crc8_of, low_bits}
 use Rattle.jc_codec.specs.declared.listener.Heard.{Heard}
 use Rattle.jc_codec.specs.declared.listener.Heard.TheVariants.{Accepted, Damaged, BaseLost}
+use Rattle.otn_base.specs.declared.limits.TheConstants.{GROUPS}
 
 -- a row of the table of changes: what the next number is more and less than the former one by, the letters I
 -- (inverted) and U (unchanged) of the former number's bits C1 to C14, and the indicators II and DI
@@ -88,7 +89,7 @@ says former next = let word = word_value (word_said former next) in
 
 -- a number heard: damaged where it is past the groups of a multiframe
 abbrev pub in_range : ℕ → Bool → Heard
-in_range number equal = if nat_le number 15232 then Accepted number equal else Damaged
+in_range number equal = if nat_le number GROUPS then Accepted number equal else Damaged
 
 -- a change heard: damaged where the number would be below 0
 abbrev pub moved : (former more less : ℕ) → Heard

@@ -2,6 +2,7 @@
 
 ghost use Rattle.std.specs.Prelude.{◌≡◌, ◌<◌, ◌≤◌};
 ghost use Rattle.std.specs.Option.{ForSome};
+ghost use Rattle.otn_base.specs.declared.limits.TheConstants.{GROUPS};
 
 use crate::patterns::{MOST, ONE_LESS, ONE_MORE, TWO_LESS, TWO_MORE};
 use crc_small::crc8;
@@ -34,8 +35,9 @@ impl Model for Listener {
 
     ghost use Rattle.std.specs.Prelude.{◌≤◌};
     ghost use Rattle.std.specs.Option.{ForSome};
+    ghost use Rattle.otn_base.specs.declared.limits.TheConstants.{GROUPS};
 
-    ghost invariant = { λ l. ForSome l.former (λ n. n ≤ 15232) };
+    ghost invariant = { λ l. ForSome l.former (λ n. n ≤ GROUPS) };
 }
 
 impl Listener {
@@ -63,7 +65,7 @@ impl Listener {
             → result ≡ Heard.Damaged }
 
         // So it does not matter in which order the table's rows are tried.
-        ensures one_row { (former bits ii di : ℕ) → former ≤ 15232 → count_by (fits former bits ii di) table ≤ 1 }
+        ensures one_row { (former bits ii di : ℕ) → former ≤ GROUPS → count_by (fits former bits ii di) table ≤ 1 }
     {
         let heard = heard_after(self.former, bytes[0], bytes[1], bytes[2]);
         match heard {
@@ -82,7 +84,7 @@ ghost use Rattle.jc_codec.specs.Message.{hears, hears_word, heard_in, table, in_
 
 /// What a listener that keeps this former number hears.
 fn heard_after(former: Option<u16>, jc1: u8, jc2: u8, jc3: u8) -> Heard
-    requires { ForSome former (λ n. n ≤ 15232) }
+    requires { ForSome former (λ n. n ≤ GROUPS) }
     ensures heard { result ≡ hears former jc1 jc2 jc3 }
     ensures one_byte_changed { (a b : ℕ) → a < 256 → b < 256 → ChangesOneByte (a ∷ b ∷ crc8_of (a ∷ b ∷ []) ∷ []) (jc1 ∷ jc2 ∷ jc3 ∷ [])
         → result ≡ Heard.Damaged }
@@ -96,7 +98,7 @@ fn heard_after(former: Option<u16>, jc1: u8, jc2: u8, jc3: u8) -> Heard
 
 /// What the sixteen bits of JC1 and JC2 say.
 fn heard_word(former: Option<u16>, word: u16) -> Heard
-    requires { ForSome former (λ n. n ≤ 15232) }
+    requires { ForSome former (λ n. n ≤ GROUPS) }
     ensures { result ≡ hears_word former word }
 {
     let bits = word / 4;
@@ -119,7 +121,7 @@ fn heard_word(former: Option<u16>, word: u16) -> Heard
 /// What the bits say where II alone is set.
 #[tactic(auto, using(crate::proofs::Turned::patterns))]
 fn heard_more(former: u16, bits: u16) -> Heard
-    requires { former ≤ 15232 }
+    requires { former ≤ GROUPS }
     ensures { result ≡ heard_in table former bits 1 0 }
 {
     if bits == former ^ ONE_MORE {
@@ -134,7 +136,7 @@ fn heard_more(former: u16, bits: u16) -> Heard
 /// What the bits say where DI alone is set.
 #[tactic(auto, using(crate::proofs::Turned::patterns))]
 fn heard_less(former: u16, bits: u16) -> Heard
-    requires { former ≤ 15232 }
+    requires { former ≤ GROUPS }
     ensures { result ≡ heard_in table former bits 0 1 }
 {
     if bits == former ^ ONE_LESS {
@@ -160,7 +162,7 @@ ghost use Rattle.jc_codec.specs.Message.{moved};
 
 /// A number that is less by `k`.
 fn less_by(former: u16, k: u16) -> Heard
-    requires { former ≤ 15232 }
+    requires { former ≤ GROUPS }
     ensures { result ≡ moved former 0 k }
 {
     if k <= former {

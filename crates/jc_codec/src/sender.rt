@@ -4,6 +4,7 @@ ghost use Rattle.std.specs.Prelude.{◌≡◌, ℕ, ◌≤◌, ◌==◌, count_b
 ghost use Rattle.std.specs.Option.{ForSome};
 ghost use Rattle.jc_codec.specs.declared.listener.Heard.{Heard};
 ghost use Rattle.jc_codec.specs.Message.{says, hears, word_said, word_value, is_change, table};
+ghost use Rattle.otn_base.specs.declared.limits.TheConstants.{GROUPS};
 
 use crate::patterns::{ONE_LESS, ONE_MORE, TWO_LESS, TWO_MORE};
 use crc_small::crc8;
@@ -11,8 +12,8 @@ use crc_small::crc8;
 /// The bytes JC1, JC2 and JC3 that carry the number `next` after `former` (G.709 Annex D), or without a
 /// former one. A listener that keeps the former number hears the next one.
 pub fn say(former: Option<u16>, next: u16) -> [u8; 3]
-    requires former { ForSome former (λ n. n ≤ 15232) }
-    requires next { next ≤ 15232 }
+    requires former { ForSome former (λ n. n ≤ GROUPS) }
+    requires next { next ≤ GROUPS }
     ensures said { result ≡ says former next }
 
     // Its indicators are equal unless the change is by one or two.
@@ -30,8 +31,8 @@ pub fn say(former: Option<u16>, next: u16) -> [u8; 3]
 
 /// The sixteen bits of JC1 and JC2.
 fn word_for(former: Option<u16>, next: u16) -> u16
-    requires former { ForSome former (λ n. n ≤ 15232) }
-    requires next { next ≤ 15232 }
+    requires former { ForSome former (λ n. n ≤ GROUPS) }
+    requires next { next ≤ GROUPS }
     ensures { result ≡ word_value (word_said former next) }
 {
     match former {
@@ -43,8 +44,8 @@ fn word_for(former: Option<u16>, next: u16) -> u16
 /// The sixteen bits of JC1 and JC2 after a former number.
 #[tactic(auto, using(crate::proofs::Turned::patterns))]
 fn word_after(former: u16, next: u16) -> u16
-    requires former { former ≤ 15232 }
-    requires next { next ≤ 15232 }
+    requires former { former ≤ GROUPS }
+    requires next { next ≤ GROUPS }
     ensures { result ≡ word_value (word_said (Some former) next) }
 {
     if next == former {

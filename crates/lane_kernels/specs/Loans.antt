@@ -4,6 +4,7 @@ use Rattle.std.specs.Prelude.{◌≡◌, ℕ, ◌+◌, ◌-◌, ◌*◌, ◌/◌
 use Rattle.std.specs.List.{refill}
 use Rattle.std.proofs.Common.{◌++◌, take, drop, arith, length-append, length-drop}
 use Rattle.std.proofs.lemmas.List.{take_at, length-take-le}
+use Rattle.otn_base.specs.declared.limits.TheConstants.{PAYLOAD_COLUMNS}
 
 -- Some bytes written over others from a place on.
 abbrev pub written_at : (place : ℕ) → (rows bytes : List ℕ) → List ℕ
@@ -11,7 +12,7 @@ written_at place rows bytes = take place rows ++ (bytes ++ drop (place + length 
 
 -- The bytes of a slot were lent, and these were left behind the loan.
 unfoldable pub after_slot_loan : (slots slot : ℕ) → (rows bytes : List ℕ) → List ℕ
-after_slot_loan slots slot rows bytes = refill 3808 rows (written_at (3808 / slots * (slot - 1)) rows bytes)
+after_slot_loan slots slot rows bytes = refill PAYLOAD_COLUMNS rows (written_at (PAYLOAD_COLUMNS / slots * (slot - 1)) rows bytes)
 
 length-written_at : (place : ℕ) (rows bytes : List ℕ) → place + length bytes ≤ length rows → length (written_at place rows bytes) ≡ length rows
 length-written_at place rows bytes room =
@@ -20,12 +21,12 @@ length-written_at place rows bytes room =
     omega (arith, front, length-append (take place rows) (bytes ++ rest), length-append bytes rest, length-drop (place + length bytes) rows)
 
 -- As many bytes as a slot has: they stand in its place, and every other byte stays.
-pub after_slot_loan-whole : (slots slot : ℕ) (rows bytes : List ℕ) → length rows ≡ 3808 → 3808 / slots * (slot - 1) + length bytes ≤ 3808
-    → after_slot_loan slots slot rows bytes ≡ written_at (3808 / slots * (slot - 1)) rows bytes
+pub after_slot_loan-whole : (slots slot : ℕ) (rows bytes : List ℕ) → length rows ≡ PAYLOAD_COLUMNS → PAYLOAD_COLUMNS / slots * (slot - 1) + length bytes ≤ PAYLOAD_COLUMNS
+    → after_slot_loan slots slot rows bytes ≡ written_at (PAYLOAD_COLUMNS / slots * (slot - 1)) rows bytes
 unfolding after_slot_loan
 after_slot_loan-whole slots slot rows bytes size room =
-    let place = 3808 / slots * (slot - 1) in
+    let place = PAYLOAD_COLUMNS / slots * (slot - 1) in
     let same : length (written_at place rows bytes) ≡ length rows = length-written_at place rows bytes (omega arith) in
-    take_at (written_at place rows bytes) (drop (length (written_at place rows bytes)) rows) 3808 (omega arith)
+    take_at (written_at place rows bytes) (drop (length (written_at place rows bytes)) rows) PAYLOAD_COLUMNS (omega arith)
 
 pub ruleset loans = (after_slot_loan-whole)

@@ -1,16 +1,20 @@
 // A row out of its slots.
 ghost use Rattle.std.specs.Prelude.{◌≡◌, ℕ, ◌+◌, ◌*◌, ◌/◌, ◌%◌, ◌<◌, length, slice_index};
 ghost use Rattle.lane_kernels.specs.SlotPlaces.{slot_bytes};
+ghost use Rattle.otn_base.specs.declared.limits.TheConstants.{OTU2_SLOTS, OTU3_SLOTS, PAYLOAD_COLUMNS};
+ghost use Rattle.lane_kernels.specs.declared.slot_rows.TheConstants.{OTU2_SLOT_ROW, OTU3_SLOT_ROW};
 
+use crate::slot_rows::{OTU2_SLOT_ROW, OTU3_SLOT_ROW};
 use crate::{SlotRows, turn};
+use otn_base::limits::{OTU2_SLOTS, OTU3_SLOTS};
 
 /// Writes the payload of a row, 3,808 bytes, out of its slots: byte x, from 0, is byte `x / SLOTS` of slot
 /// `x % SLOTS + 1` (G.709 clause 19.1).
 pub fn join<const SLOTS: usize>(rows: &SlotRows<SLOTS>, into: &mut [u8])
-    requires { length into.old ≡ 3808 }
-    ensures { (x : ℕ) → x < 3808 → slice_index into.new x ≡ slice_index (slot_bytes SLOTS (x % SLOTS + 1) rows.now) (x / SLOTS) }
+    requires { length into.old ≡ PAYLOAD_COLUMNS }
+    ensures { (x : ℕ) → x < PAYLOAD_COLUMNS → slice_index into.new x ≡ slice_index (slot_bytes SLOTS (x % SLOTS + 1) rows.now) (x / SLOTS) }
 {
-    if SLOTS == 8 {
+    if SLOTS == OTU2_SLOTS {
         join_eight(&rows.bytes, into);
     } else {
         join_thirty_two(&rows.bytes, into);
@@ -18,28 +22,35 @@ pub fn join<const SLOTS: usize>(rows: &SlotRows<SLOTS>, into: &mut [u8])
 }
 
 /// `join` for the 8 slots of an OPU2.
-pub fn join8(rows: &SlotRows<8>, into: &mut [u8])
-    requires { length into.old ≡ 3808 }
-    ensures { (x : ℕ) → x < 3808 → slice_index into.new x ≡ slice_index (slot_bytes 8 (x % 8 + 1) rows.now) (x / 8) }
+pub fn join8(rows: &SlotRows<OTU2_SLOTS>, into: &mut [u8])
+    requires { length into.old ≡ PAYLOAD_COLUMNS }
+    ensures { (x : ℕ) → x < PAYLOAD_COLUMNS → slice_index into.new x ≡ slice_index (slot_bytes OTU2_SLOTS (x % OTU2_SLOTS + 1) rows.now) (x / OTU2_SLOTS) }
 {
     join(rows, into);
 }
 
 fn join_eight(lists: &[u8], into: &mut [u8])
-    requires lists { length lists.now ≡ 3808 }
-    requires into { length into.old ≡ 3808 }
-    ensures { (k j : ℕ) → k < 8 → j < 476 → slice_index into.new (8 * j + k) ≡ slice_index lists.now (476 * k + j) }
+    requires lists { length lists.now ≡ PAYLOAD_COLUMNS }
+    requires into { length into.old ≡ PAYLOAD_COLUMNS }
+    ensures { (k j : ℕ) → k < OTU2_SLOTS → j < OTU2_SLOT_ROW → slice_index into.new (OTU2_SLOTS * j + k) ≡ slice_index lists.now (OTU2_SLOT_ROW * k + j) }
 {
-    turn::together(lists, 0, 476, into, 0, 8);
+    turn::together(lists, 0, OTU2_SLOT_ROW, into, 0, OTU2_SLOTS);
 }
 
 // Eight slots after the other.
 fn join_thirty_two(lists: &[u8], into: &mut [u8])
-    requires lists { length lists.now ≡ 3808 }
-    requires into { length into.old ≡ 3808 }
-    ensures { (k j : ℕ) → k < 32 → j < 119 → slice_index into.new (32 * j + k) ≡ slice_index lists.now (119 * k + j) }
+    requires lists { length lists.now ≡ PAYLOAD_COLUMNS }
+    requires into { length into.old ≡ PAYLOAD_COLUMNS }
+    ensures { (k j : ℕ) → k < OTU3_SLOTS → j < OTU3_SLOT_ROW → slice_index into.new (OTU3_SLOTS * j + k) ≡ slice_index lists.now (OTU3_SLOT_ROW * k + j) }
 {
     for quarter in 0..4_usize {
-        turn::together(lists, 952 * quarter, 119, into, 8 * quarter, 32);
+        turn::together(
+            lists,
+            8 * OTU3_SLOT_ROW * quarter,
+            OTU3_SLOT_ROW,
+            into,
+            8 * quarter,
+            OTU3_SLOTS,
+        );
     }
 }

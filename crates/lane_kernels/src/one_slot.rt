@@ -3,6 +3,7 @@ ghost use Rattle.std.specs.Prelude.{◌≡◌, ◌≢◌, ℕ, ◌+◌, ◌-◌,
 ghost use Rattle.lane_kernels.specs.SlotPlaces.{IsSlotCount};
 
 use crate::block::Block;
+use otn_base::limits::OTU2_SLOTS;
 
 /// Writes the bytes of slot `k` (1 to `SLOTS`) of some whole cycles of `SLOTS` columns, as the 3,808
 /// payload bytes of a row, in the order of their columns (G.709 clause 19.1).
@@ -14,7 +15,7 @@ pub fn take_slot<const SLOTS: usize>(row: &[u8], k: u8, into: &mut [u8])
     requires size { length row.now ≡ SLOTS * length into.old }
     ensures { (j : ℕ) → j < length into.old → slice_index into.new j ≡ slice_index row.now (SLOTS * j + k - 1) }
 {
-    let done = if SLOTS == 8 {
+    let done = if SLOTS == OTU2_SLOTS {
         take_blocks(row, k as usize - 1, into)
     } else {
         0

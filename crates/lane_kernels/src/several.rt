@@ -3,7 +3,9 @@ ghost use Rattle.std.specs.Prelude.{◌≡◌, ℕ, ◌+◌, ◌-◌, ◌*◌, �
 ghost use Rattle.std.specs.Simd.Lanes.{Each1};
 ghost use Rattle.lane_kernels.specs.SlotPlaces.{IsSlotCount};
 ghost use Rattle.otn_base.specs.SlotList.{IsSlotList};
+ghost use Rattle.otn_base.specs.declared.limits.TheConstants.{MOST_SLOTS, OTU2_SLOTS, OTU3_SLOTS};
 
+use otn_base::limits::{OTU2_SLOTS, OTU3_SLOTS};
 use std::simd::u8x16;
 
 /// Writes a byte of each of these slots, in slot order, for each of some whole cycles of `SLOTS` columns, as the 3,808 payload bytes of a row
@@ -16,7 +18,7 @@ pub fn take_slots<const SLOTS: usize>(row: &[u8], cycles: usize, slots: &[u8], i
     requires into { length into.old ≡ length slots.now * cycles }
     ensures { (j p : ℕ) → j < cycles → p < length slots.now → slice_index into.new (length slots.now * j + p) ≡ slice_index row.now (SLOTS * j + (slice_index slots.now p - 1)) }
 {
-    let done = if SLOTS == 8 {
+    let done = if SLOTS == OTU2_SLOTS {
         take_pairs(row, cycles, slots, into)
     } else {
         take_halves(row, cycles, slots, into)
@@ -28,12 +30,12 @@ pub fn take_slots<const SLOTS: usize>(row: &[u8], cycles: usize, slots: &[u8], i
 // are.
 #[inline(always)]
 fn take_pairs(row: &[u8], cycles: usize, slots: &[u8], into: &mut [u8]) -> usize
-    requires slots { IsSlotList 8 slots.now }
-    requires few { length slots.now ≤ 8 }
-    requires row { length row.now ≡ 8 * cycles }
+    requires slots { IsSlotList OTU2_SLOTS slots.now }
+    requires few { length slots.now ≤ OTU2_SLOTS }
+    requires row { length row.now ≡ OTU2_SLOTS * cycles }
     requires into { length into.old ≡ length slots.now * cycles }
     ensures count { result ≤ cycles }
-    ensures bytes { (j p : ℕ) → j < result → p < length slots.now → slice_index into.new (length slots.now * j + p) ≡ slice_index row.now (8 * j + (slice_index slots.now p - 1)) }
+    ensures bytes { (j p : ℕ) → j < result → p < length slots.now → slice_index into.new (length slots.now * j + p) ≡ slice_index row.now (OTU2_SLOTS * j + (slice_index slots.now p - 1)) }
 {
     let lanes = pair_lanes(slots);
     let two = 2 * slots.len();
@@ -47,10 +49,10 @@ fn take_pairs(row: &[u8], cycles: usize, slots: &[u8], into: &mut [u8]) -> usize
 // Where the bytes of these slots stand in two cycles of 8 columns.
 #[inline(always)]
 fn pair_lanes(slots: &[u8]) -> u8x16
-    requires slots { IsSlotList 8 slots.now }
-    requires few { length slots.now ≤ 8 }
+    requires slots { IsSlotList OTU2_SLOTS slots.now }
+    requires few { length slots.now ≤ OTU2_SLOTS }
     ensures first { (p : ℕ) → p < length slots.now → slice_index result p ≡ slice_index slots.now p - 1 }
-    ensures second { (p : ℕ) → p < length slots.now → slice_index result (length slots.now + p) ≡ 8 + (slice_index slots.now p - 1) }
+    ensures second { (p : ℕ) → p < length slots.now → slice_index result (length slots.now + p) ≡ OTU2_SLOTS + (slice_index slots.now p - 1) }
     ensures low { Each1 (λ i. i < 16) result }
     ensures long { length result ≡ 16 }
 {
@@ -66,11 +68,11 @@ fn pair_lanes(slots: &[u8]) -> u8x16
 // first half's; says how many cycles they are.
 #[inline(always)]
 fn take_halves(row: &[u8], cycles: usize, slots: &[u8], into: &mut [u8]) -> usize
-    requires slots { IsSlotList 32 slots.now }
-    requires row { length row.now ≡ 32 * cycles }
+    requires slots { IsSlotList OTU3_SLOTS slots.now }
+    requires row { length row.now ≡ OTU3_SLOTS * cycles }
     requires into { length into.old ≡ length slots.now * cycles }
     ensures count { result ≤ cycles }
-    ensures bytes { (j p : ℕ) → j < result → p < length slots.now → slice_index into.new (length slots.now * j + p) ≡ slice_index row.now (32 * j + (slice_index slots.now p - 1)) }
+    ensures bytes { (j p : ℕ) → j < result → p < length slots.now → slice_index into.new (length slots.now * j + p) ≡ slice_index row.now (OTU3_SLOTS * j + (slice_index slots.now p - 1)) }
 {
     let low = low_slots(slots);
     let first = half_lanes(&slots[..low], 0);
@@ -78,8 +80,14 @@ fn take_halves(row: &[u8], cycles: usize, slots: &[u8], into: &mut [u8]) -> usiz
     let all = slots.len();
     let count = ((into.len() + all).saturating_sub(low + 16) / all).min(cycles);
     for cycle in 0..count {
-        take_pair(row, 32 * cycle, first, into, all * cycle);
-        take_pair(row, 32 * cycle + 16, second, into, all * cycle + low);
+        take_pair(row, OTU3_SLOTS * cycle, first, into, all * cycle);
+        take_pair(
+            row,
+            OTU3_SLOTS * cycle + 16,
+            second,
+            into,
+            all * cycle + low,
+        );
     }
     count
 }
@@ -87,7 +95,7 @@ fn take_halves(row: &[u8], cycles: usize, slots: &[u8], into: &mut [u8]) -> usiz
 /// How many of these slots are of the first 16.
 #[inline(always)]
 pub(crate) fn low_slots(slots: &[u8]) -> usize
-    requires { IsSlotList 32 slots.now }
+    requires { IsSlotList OTU3_SLOTS slots.now }
     ensures count { result ≤ length slots.now }
     ensures low { (p : ℕ) → p < result → slice_index slots.now p ≤ 16 }
     ensures high { (p : ℕ) → result ≤ p → p < length slots.now → 17 ≤ slice_index slots.now p }
@@ -135,7 +143,7 @@ fn take_pair(row: &[u8], at: usize, lanes: u8x16, into: &mut [u8], to: usize)
 // The cycles from one on, byte by byte.
 #[inline(always)]
 fn take_cycles(row: &[u8], line: usize, cycles: usize, slots: &[u8], into: &mut [u8], from: usize)
-    requires line { (1 ≤ line) × (line ≤ 32) }
+    requires line { (1 ≤ line) × (line ≤ MOST_SLOTS) }
     requires slots { All (λ k. (1 ≤ k) × (k ≤ line)) slots.now }
     requires from { from ≤ cycles }
     requires row { length row.now ≡ line * cycles }

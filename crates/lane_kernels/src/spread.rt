@@ -3,8 +3,10 @@ ghost use Rattle.std.specs.Prelude.{◌≡◌, ◌≢◌, ℕ, ◌+◌, ◌-◌,
 ghost use Rattle.lane_kernels.specs.SlotPlaces.{IsSlotCount};
 ghost use Rattle.lane_kernels.specs.Spread.{HalfLanes, SpreadLanes};
 ghost use Rattle.otn_base.specs.SlotList.{IsSlotList};
+ghost use Rattle.otn_base.specs.declared.limits.TheConstants.{MOST_SLOTS, OTU2_SLOTS, OTU3_SLOTS};
 
 use crate::several::low_slots;
+use otn_base::limits::{OTU2_SLOTS, OTU3_SLOTS};
 use std::simd::prelude::*;
 
 /// Writes these bytes, a byte of each of these slots for each of some whole cycles of `SLOTS` columns, into
@@ -19,7 +21,7 @@ pub fn put_slots<const SLOTS: usize>(bytes: &[u8], cycles: usize, slots: &[u8], 
     ensures here { (j p : ℕ) → j < cycles → p < length slots.now → slice_index row.new (SLOTS * j + (slice_index slots.now p - 1)) ≡ slice_index bytes.now (length slots.now * j + p) }
     ensures others { (x : ℕ) → ((p : ℕ) → p < length slots.now → x % SLOTS + 1 ≢ slice_index slots.now p) → slice_index row.new x ≡ slice_index row.old x }
 {
-    let done = if SLOTS == 8 {
+    let done = if SLOTS == OTU2_SLOTS {
         put_pairs(bytes, cycles, slots, row)
     } else {
         put_halves(bytes, cycles, slots, row)
@@ -30,13 +32,13 @@ pub fn put_slots<const SLOTS: usize>(bytes: &[u8], cycles: usize, slots: &[u8], 
 // Two cycles of 8 columns at a time, as far as sixteen bytes can be read; says how many cycles they are.
 #[inline(always)]
 fn put_pairs(bytes: &[u8], cycles: usize, slots: &[u8], row: &mut [u8]) -> usize
-    requires slots { IsSlotList 8 slots.now }
-    requires few { length slots.now ≤ 8 }
+    requires slots { IsSlotList OTU2_SLOTS slots.now }
+    requires few { length slots.now ≤ OTU2_SLOTS }
     requires bytes { length bytes.now ≡ length slots.now * cycles }
-    requires row { length row.old ≡ 8 * cycles }
+    requires row { length row.old ≡ OTU2_SLOTS * cycles }
     ensures count { result ≤ cycles }
-    ensures here { (j p : ℕ) → j < result → p < length slots.now → slice_index row.new (8 * j + (slice_index slots.now p - 1)) ≡ slice_index bytes.now (length slots.now * j + p) }
-    ensures others { (x : ℕ) → ((p : ℕ) → p < length slots.now → x % 8 + 1 ≢ slice_index slots.now p) → slice_index row.new x ≡ slice_index row.old x }
+    ensures here { (j p : ℕ) → j < result → p < length slots.now → slice_index row.new (OTU2_SLOTS * j + (slice_index slots.now p - 1)) ≡ slice_index bytes.now (length slots.now * j + p) }
+    ensures others { (x : ℕ) → ((p : ℕ) → p < length slots.now → x % OTU2_SLOTS + 1 ≢ slice_index slots.now p) → slice_index row.new x ≡ slice_index row.old x }
 {
     let lanes = spread_lanes(slots);
     let two = 2 * slots.len();
@@ -50,8 +52,8 @@ fn put_pairs(bytes: &[u8], cycles: usize, slots: &[u8], row: &mut [u8]) -> usize
 // Which of the bytes of two cycles stands in each of their columns: 128 for a column of another slot.
 #[inline(always)]
 fn spread_lanes(slots: &[u8]) -> u8x16
-    requires slots { IsSlotList 8 slots.now }
-    requires few { length slots.now ≤ 8 }
+    requires slots { IsSlotList OTU2_SLOTS slots.now }
+    requires few { length slots.now ≤ OTU2_SLOTS }
     ensures { SpreadLanes slots.now result }
 {
     let mut lanes = [128u8; 16];
@@ -66,12 +68,12 @@ fn spread_lanes(slots: &[u8]) -> u8x16
 // half's; says how many cycles they are.
 #[inline(always)]
 fn put_halves(bytes: &[u8], cycles: usize, slots: &[u8], row: &mut [u8]) -> usize
-    requires slots { IsSlotList 32 slots.now }
+    requires slots { IsSlotList OTU3_SLOTS slots.now }
     requires bytes { length bytes.now ≡ length slots.now * cycles }
-    requires row { length row.old ≡ 32 * cycles }
+    requires row { length row.old ≡ OTU3_SLOTS * cycles }
     ensures count { result ≤ cycles }
-    ensures here { (j p : ℕ) → j < result → p < length slots.now → slice_index row.new (32 * j + (slice_index slots.now p - 1)) ≡ slice_index bytes.now (length slots.now * j + p) }
-    ensures others { (x : ℕ) → ((p : ℕ) → p < length slots.now → x % 32 + 1 ≢ slice_index slots.now p) → slice_index row.new x ≡ slice_index row.old x }
+    ensures here { (j p : ℕ) → j < result → p < length slots.now → slice_index row.new (OTU3_SLOTS * j + (slice_index slots.now p - 1)) ≡ slice_index bytes.now (length slots.now * j + p) }
+    ensures others { (x : ℕ) → ((p : ℕ) → p < length slots.now → x % OTU3_SLOTS + 1 ≢ slice_index slots.now p) → slice_index row.new x ≡ slice_index row.old x }
 {
     let low = low_slots(slots);
     let first = half_spread(&slots[..low], 0);
@@ -79,8 +81,14 @@ fn put_halves(bytes: &[u8], cycles: usize, slots: &[u8], row: &mut [u8]) -> usiz
     let all = slots.len();
     let count = ((bytes.len() + all).saturating_sub(low + 16) / all).min(cycles);
     for cycle in 0..count {
-        put_pair(bytes, all * cycle, first, row, 32 * cycle);
-        put_pair(bytes, all * cycle + low, second, row, 32 * cycle + 16);
+        put_pair(bytes, all * cycle, first, row, OTU3_SLOTS * cycle);
+        put_pair(
+            bytes,
+            all * cycle + low,
+            second,
+            row,
+            OTU3_SLOTS * cycle + 16,
+        );
     }
     count
 }
@@ -135,7 +143,7 @@ fn where_low(lanes: u8x16, new: u8x16, old: u8x16) -> u8x16
 // The cycles from one on, byte by byte.
 #[inline(always)]
 fn put_cycles(bytes: &[u8], cycles: usize, slots: &[u8], row: &mut [u8], line: usize, from: usize)
-    requires line { (1 ≤ line) × (line ≤ 32) }
+    requires line { (1 ≤ line) × (line ≤ MOST_SLOTS) }
     requires slots { IsSlotList line slots.now }
     requires from { from ≤ cycles }
     requires bytes { length bytes.now ≡ length slots.now * cycles }

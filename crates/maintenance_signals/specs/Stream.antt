@@ -3,6 +3,7 @@ use Rattle.std.specs.Prelude.{ℕ, ◌+◌, ◌-◌, ◌/◌, ◌%◌, ◌==◌,
 use Rattle.std.specs.List.{range_with_len}
 use Rattle.maintenance_signals.specs.declared.signal.Signal.{Signal}
 use Rattle.maintenance_signals.specs.declared.signal.Signal.TheVariants.{Ais, Oci, Lck}
+use Rattle.otn_base.specs.declared.limits.TheConstants.{CLIENT_COLUMNS, CLIENT_FRAME_BYTES}
 
 -- G.709 clause 15.6.2.1: the frame alignment signal
 abbrev pub fas : List ℕ
@@ -30,8 +31,8 @@ frame_byte signal mfas row column = if (row == 1) && nat_le column 14 then align
 -- A byte of the stream of signal frames of four rows of 3,824 columns, 15,296 bytes each, with MFAS from 0 on, modulo 256.
 unfoldable pub signal_byte : Signal → (place : ℕ) → ℕ
 signal_byte signal place =
-    let p = place % 15296 in
-    frame_byte signal (place / 15296 % 256) (p / 3824 + 1) (p % 3824 + 1)
+    let p = place % CLIENT_FRAME_BYTES in
+    frame_byte signal (place / CLIENT_FRAME_BYTES % 256) (p / CLIENT_COLUMNS + 1) (p % CLIENT_COLUMNS + 1)
 
 -- So many bytes of the stream from a place on.
 unfoldable pub signal_bytes : Signal → (place n : ℕ) → List ℕ

@@ -1,6 +1,8 @@
 // The runs of equal bytes that a signal's frames are made of.
 ghost use Rattle.std.specs.Prelude.{◌≡◌, ◌+◌, ◌%◌, ◌<◌, ◌≤◌, ℕ, length, slice_index};
 ghost use Rattle.maintenance_signals.specs.Stream.{alignment, filling, pattern, signal_byte};
+ghost use Rattle.otn_base.specs.declared.limits.TheConstants.{CLIENT_FRAME_BYTES};
+ghost use Rattle.maintenance_signals.specs.declared.runs.TheConstants.{PERIOD};
 
 use crate::Signal;
 use otn_base::limits::{CLIENT_COLUMNS, CLIENT_FRAME_BYTES};
@@ -23,9 +25,9 @@ struct Run {
 
 /// Writes the bytes of a stream from a place on, and says where it stands then.
 pub(crate) fn fill_from(signal: Signal, place: usize, into: &mut [u8]) -> usize
-    requires { place < 3915776 }
+    requires { place < PERIOD }
     ensures bytes { (k : ℕ) → k < length into.old → slice_index into.new k ≡ signal_byte signal (place + k) }
-    ensures place { result ≡ (place + length into.old) % 3915776 }
+    ensures place { result ≡ (place + length into.old) % PERIOD }
 {
     let mut done = 0usize;
     let mut at = place;
@@ -50,9 +52,9 @@ fn put_run(into: &mut [u8], at: usize, count: usize, byte: u8)
 
 // The byte at a place of the stream, and a run from there on in which it stands.
 fn run_at(signal: Signal, place: usize) -> Run
-    requires { place < 3915776 }
+    requires { place < PERIOD }
     ensures some { 1 ≤ result.places }
-    ensures few { result.places ≤ 15296 }
+    ensures few { result.places ≤ CLIENT_FRAME_BYTES }
     ensures same { (k : ℕ) → k < result.places → signal_byte signal (place + k) ≡ result.byte }
 {
     let in_frame = place % CLIENT_FRAME_BYTES;

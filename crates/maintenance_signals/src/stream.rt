@@ -16,12 +16,13 @@ pub struct SignalBytes {
 impl Model for SignalBytes {
     ghost use Rattle.std.specs.Prelude.{◌<◌};
     ghost use Rattle.maintenance_signals.specs.Given.{Standing};
+    ghost use Rattle.maintenance_signals.specs.declared.runs.TheConstants.{PERIOD};
 
     ghost Value = { Standing };
 
     ghost view = { λ s. record { signal = s.signal; place = s.place } };
 
-    ghost invariant = { λ s. s.place < 3915776 };
+    ghost invariant = { λ s. s.place < PERIOD };
 }
 
 impl SignalBytes {

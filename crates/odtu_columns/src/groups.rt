@@ -8,11 +8,12 @@ ghost use Rattle.otn_base.specs.declared.limits.TheConstants.{GROUPS, PAYLOAD_CO
 
 use crate::line::{cycles_in_row, take_one, take_several};
 use frame_geometry::Frame;
+use otn_base::limits::LINE_COLUMNS;
 use otn_base::{LineKind, Slots};
 
 /// Writes group `g` of a frame for these slots: a byte of each, in slot order. A frame has 1,904 groups on
 /// an OTU2, 476 on an OTU3, counted from 1.
-pub fn group(frame: &Frame<4080>, g: u32, slots: &Slots, into: &mut [u8])
+pub fn group(frame: &Frame<LINE_COLUMNS>, g: u32, slots: &Slots, into: &mut [u8])
     requires low { 1 ≤ g }
     requires high { g ≤ GROUPS / slots_of slots.now.kind }
     requires size { length into.old ≡ length slots.now.list }
@@ -26,7 +27,7 @@ pub fn group(frame: &Frame<4080>, g: u32, slots: &Slots, into: &mut [u8])
 
 /// Writes all groups of a row (1 to 4) for these slots, one after the other: 476 on an OTU2, 119 on an
 /// OTU3.
-pub fn row_groups(frame: &Frame<4080>, row: u32, slots: &Slots, into: &mut [u8])
+pub fn row_groups(frame: &Frame<LINE_COLUMNS>, row: u32, slots: &Slots, into: &mut [u8])
     requires row_low { 1 ≤ row }
     requires row_high { row ≤ 4 }
     requires size { length into.old ≡ PAYLOAD_COLUMNS / slots_of slots.now.kind * length slots.now.list }

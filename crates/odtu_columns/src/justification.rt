@@ -2,12 +2,14 @@
 ghost use Rattle.std.specs.Prelude.{◌≡◌, ◌≤◌, ℕ, slice_index};
 ghost use Rattle.frame_geometry.specs.Places.{place_of};
 ghost use Rattle.odtu_columns.specs.Message.{message_of};
+ghost use Rattle.otn_base.specs.declared.limits.TheConstants.{LINE_COLUMNS};
 
 use frame_geometry::Frame;
 use frame_geometry::overhead::{NUMBER_COLUMN, REMAINDER_COLUMN};
+use otn_base::limits::LINE_COLUMNS;
 
 /// JC1 to JC6 of a frame, in this order (G.709 clause 19.4).
-pub fn message(frame: &Frame<4080>) -> [u8; 6]
+pub fn message(frame: &Frame<LINE_COLUMNS>) -> [u8; 6]
     ensures { result ≡ message_of frame.now }
 {
     [
@@ -21,9 +23,9 @@ pub fn message(frame: &Frame<4080>) -> [u8; 6]
 }
 
 /// Writes JC1 to JC6 of a frame, in this order; every other byte stays.
-pub fn put_message(frame: &mut Frame<4080>, bytes: [u8; 6])
+pub fn put_message(frame: &mut Frame<LINE_COLUMNS>, bytes: [u8; 6])
     ensures message { message_of frame.new ≡ bytes }
-    ensures kept { (place : ℕ) → ((row column : ℕ) → 1 ≤ row → row ≤ 3 → 15 ≤ column → column ≤ 16 → place ≡ place_of 4080 row column → ⊥) → slice_index frame.new place ≡ slice_index frame.old place }
+    ensures kept { (place : ℕ) → ((row column : ℕ) → 1 ≤ row → row ≤ 3 → 15 ≤ column → column ≤ 16 → place ≡ place_of LINE_COLUMNS row column → ⊥) → slice_index frame.new place ≡ slice_index frame.old place }
 {
     let _whole = frame.as_bytes();
     frame.set(1, NUMBER_COLUMN, bytes[0]);

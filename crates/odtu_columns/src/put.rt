@@ -3,19 +3,19 @@ ghost use Rattle.std.specs.Prelude.{◌≡◌, ◌≢◌, [], ◌∷◌, ◌+◌
 ghost use Rattle.frame_geometry.specs.Places.{place_of};
 ghost use Rattle.otn_base.specs.LineSlots.{slots_of};
 ghost use Rattle.otn_base.specs.SlotList.{IsSlotList};
-ghost use Rattle.otn_base.specs.declared.limits.TheConstants.{GROUPS, PAYLOAD_COLUMNS};
+ghost use Rattle.otn_base.specs.declared.limits.TheConstants.{GROUPS, LINE_COLUMNS, PAYLOAD_COLUMNS};
 ghost use Rattle.odtu_columns.specs.Columns.{slot_row_of};
 ghost use Rattle.odtu_columns.specs.Groups.{frame_group, row_groups_of};
 ghost use Rattle.odtu_columns.specs.Put.{slot_place, RowWasPut};
 
 use crate::line::{cycles_in_row, put_one, put_several};
 use frame_geometry::Frame;
-use otn_base::limits::OVERHEAD_COLUMNS;
+use otn_base::limits::{LINE_COLUMNS, OVERHEAD_COLUMNS};
 use otn_base::{LineKind, Slots};
 
 /// Writes all groups of a row (1 to 4) for these slots, which stand in `bytes` one after the other, 476 on
 /// an OTU2, 119 on an OTU3; every byte that is not of the slots stays.
-pub fn put_row_groups(frame: &mut Frame<4080>, row: u32, slots: &Slots, bytes: &[u8])
+pub fn put_row_groups(frame: &mut Frame<LINE_COLUMNS>, row: u32, slots: &Slots, bytes: &[u8])
     requires row_low { 1 ≤ row }
     requires row_high { row ≤ 4 }
     requires size { length bytes.now ≡ length slots.now.list * (PAYLOAD_COLUMNS / slots_of slots.now.kind) }
@@ -28,7 +28,13 @@ pub fn put_row_groups(frame: &mut Frame<4080>, row: u32, slots: &Slots, bytes: &
 
 /// Writes the bytes of a slot (1 to 8 on an OTU2, 1 to 32 on an OTU3) in a row (1 to 4), 476 or 119, in the
 /// order of their columns; every other byte stays.
-pub fn put_slot_row(frame: &mut Frame<4080>, kind: LineKind, slot: u8, row: u32, bytes: &[u8])
+pub fn put_slot_row(
+    frame: &mut Frame<LINE_COLUMNS>,
+    kind: LineKind,
+    slot: u8,
+    row: u32,
+    bytes: &[u8],
+)
     requires slot_low { 1 ≤ slot }
     requires slot_high { slot ≤ slots_of kind }
     requires row_low { 1 ≤ row }
@@ -42,7 +48,7 @@ pub fn put_slot_row(frame: &mut Frame<4080>, kind: LineKind, slot: u8, row: u32,
 
 /// Writes group `g` of a frame for these slots, a byte of each in slot order; every other byte stays. A
 /// frame has 1,904 groups on an OTU2, 476 on an OTU3, counted from 1.
-pub fn put_group(frame: &mut Frame<4080>, g: u32, slots: &Slots, bytes: &[u8])
+pub fn put_group(frame: &mut Frame<LINE_COLUMNS>, g: u32, slots: &Slots, bytes: &[u8])
     requires low { 1 ≤ g }
     requires high { g ≤ GROUPS / slots_of slots.now.kind }
     requires size { length bytes.now ≡ length slots.now.list }
@@ -58,14 +64,14 @@ pub fn put_group(frame: &mut Frame<4080>, g: u32, slots: &Slots, bytes: &[u8])
 }
 
 // Writes the group of the cycle that begins behind so many columns of a row.
-fn set_group(frame: &mut Frame<4080>, row: u32, first: u32, slots: &[u8], bytes: &[u8])
+fn set_group(frame: &mut Frame<LINE_COLUMNS>, row: u32, first: u32, slots: &[u8], bytes: &[u8])
     requires row_low { 1 ≤ row }
     requires row_high { row ≤ 4 }
-    requires slots { All (λ slot. (1 ≤ slot) × (first + slot ≤ 4080)) slots.now }
+    requires slots { All (λ slot. (1 ≤ slot) × (first + slot ≤ LINE_COLUMNS)) slots.now }
     requires rising { (i j : ℕ) → i < j → j < length slots.now → slice_index slots.now i < slice_index slots.now j }
     requires size { length bytes.now ≡ length slots.now }
-    ensures put { (i : ℕ) → i < length slots.now → slice_index frame.new (place_of 4080 row (first + slice_index slots.now i)) ≡ slice_index bytes.now i }
-    ensures kept { (place : ℕ) → ((i : ℕ) → i < length slots.now → place ≡ place_of 4080 row (first + slice_index slots.now i) → ⊥) → slice_index frame.new place ≡ slice_index frame.old place }
+    ensures put { (i : ℕ) → i < length slots.now → slice_index frame.new (place_of LINE_COLUMNS row (first + slice_index slots.now i)) ≡ slice_index bytes.now i }
+    ensures kept { (place : ℕ) → ((i : ℕ) → i < length slots.now → place ≡ place_of LINE_COLUMNS row (first + slice_index slots.now i) → ⊥) → slice_index frame.new place ≡ slice_index frame.old place }
 {
     let _whole = frame.as_bytes();
     for (i, slot) in slots.iter().enumerate() {

@@ -1,6 +1,7 @@
 // The mask of a scrambled line.
-ghost use Rattle.std.specs.Prelude.{◌≡◌, ℕ, ◌+◌, ◌*◌, ◌/◌, ◌%◌, ◌^◌, ◌<◌, length, slice_index, true};
+ghost use Rattle.std.specs.Prelude.{◌≡◌, ℕ, ◌+◌, ◌-◌, ◌*◌, ◌/◌, ◌%◌, ◌^◌, ◌<◌, length, slice_index, true};
 ghost use Rattle.otu_overhead.specs.Mask.{bits_from, mask};
+ghost use Rattle.otn_base.specs.declared.limits.TheConstants.{LINE_FRAME_BYTES};
 
 use frame_geometry::overhead::FAS;
 use otn_base::limits::LINE_FRAME_BYTES;
@@ -18,7 +19,7 @@ pub fn line_mask(into: &mut [u8])
 fn put_mask(into: &mut [u8])
     requires { length into.old ≡ LINE_FRAME_BYTES }
     ensures fas { (place : ℕ) → place < 6 → slice_index into.new place ≡ 0 }
-    ensures behind { (k : ℕ) → k < 16314 → slice_index into.new (6 + k) ≡ bits_from (8 * k) 8 }
+    ensures behind { (k : ℕ) → k < LINE_FRAME_BYTES - 6 → slice_index into.new (6 + k) ≡ bits_from (8 * k) 8 }
 {
     into[..FAS.len()].fill(0);
     put_sequence(&mut into[FAS.len()..]);

@@ -14,6 +14,7 @@ use Rattle.plan_file.specs.Table.{outline_at}
 use Rattle.plan_file.specs.TableRules.{table_rules, table_places}
 use Rattle.plan_file.specs.PlanRules.{plan_rules, plan_places}
 use Rattle.plan_file.specs.Places.{first_broken}
+use Rattle.otn_base.specs.declared.limits.TheConstants.{MOST_PLAN_BYTES}
 
 -- the first of the rules of the values that is broken
 abbrev pub fault_of : Outline → Option (PlanError × ℕ)
@@ -38,7 +39,7 @@ plan_of_table (Some top) = accepted_or (plan_of (outline_at top)) (refusal_of to
 
 -- the table of a text that is no longer than 1,048,576 bytes, as TOML has it
 unfoldable pub table_of_text : List ℕ → Option Members
-table_of_text text = if nat_le (length text) 1048576 && is_utf8 text then parse_document text else None
+table_of_text text = if nat_le (length text) MOST_PLAN_BYTES && is_utf8 text then parse_document text else None
 
 -- the plan that a text is, or the first rule that it breaks
 abbrev pub plan_of_text : List ℕ → Result Plan NoPlan

@@ -4,10 +4,11 @@ use Rattle.std.specs.List.{list_all}
 use Rattle.otn_base.specs.LineSlots.{slots_of}
 use Rattle.plan_file.specs.Entry.{End, at_line, at_client, of_signal, Entry, Top, Outline, slots_between}
 use Rattle.plan_file.specs.Rules.{is_within, is_sapi, is_slot_list}
+use Rattle.otn_base.specs.declared.limits.TheConstants.{MOST_SLOTS, MOST_TURNS}
 
 -- the end is in range, where it is at a line with a line's slots
 abbrev pub is_sound : End → Bool
-is_sound (at_line line port kind slots) = (is_within 0 3 line && is_within 1 32 port) && is_slot_list (slots_of kind) slots
+is_sound (at_line line port kind slots) = (is_within 0 3 line && is_within 1 MOST_SLOTS port) && is_slot_list (slots_of kind) slots
 is_sound (at_client client) = is_within 0 15 client
 is_sound (of_signal signal) = true
 
@@ -18,7 +19,7 @@ is_no_signal (of_signal signal) = false
 
 -- a top that a plan can have
 pub record IsSoundTop (top : Top) : Type 0 where
-  pub turns : IsTrue (is_within 1 16384 top.turns)
+  pub turns : IsTrue (is_within 1 MOST_TURNS top.turns)
   pub otu3_in : IsTrue (list_all (is_within 0 3) top.otu3_in)
   pub otu3_out : IsTrue (list_all (is_within 0 3) top.otu3_out)
   pub scrambled_in : IsTrue (list_all (is_within 0 3) top.scrambled_in)
@@ -31,9 +32,9 @@ pub record IsSound (e : Entry) : Type 0 where
   pub to : IsTrue (is_sound e.to)
   pub no_signal : IsTrue (is_no_signal e.to)
   pub pace : IsTrue (list_all (is_within 0 4294967295) e.pace)
-  pub few : slots_between e.from e.to ≤ 32
-  pub start : IsTrue (is_within 1 16384 e.start)
-  pub stop : IsTrue (is_within 1 16384 e.stop)
+  pub few : slots_between e.from e.to ≤ MOST_SLOTS
+  pub start : IsTrue (is_within 1 MOST_TURNS e.start)
+  pub stop : IsTrue (is_within 1 MOST_TURNS e.stop)
 
 -- each of the connections is one that a plan can have
 pub record AreSound (es : List Entry) : Type 0 where

@@ -1,7 +1,7 @@
 -- The own places of a tributary in a multiframe of its line, and what stands there.
 use Rattle.std.specs.Prelude.{◌≡◌, ◌⊎◌, ℕ, ◌+◌, ◌/◌, ◌-◌, ◌≤◌, ◌==◌, max, List, [], ◌∷◌, if◌then◌else◌, Option, Some, None, slice_index, slice_get, map, option_map, length, All}
 use Rattle.std.specs.List.{flat_map, range_with_len, Contains}
-use Rattle.otn_base.specs.declared.limits.TheConstants.{GROUPS, LINE_COLUMNS, PAYLOAD_COLUMNS}
+use Rattle.otn_base.specs.declared.limits.TheConstants.{GROUPS, LAST_PAYLOAD_COLUMN, LINE_COLUMNS, PAYLOAD_COLUMNS}
 use Rattle.otn_base.specs.LineSlots.{LineSlots, slots_of}
 use Rattle.frame_geometry.specs.Places.{place_of}
 use Rattle.odtu_columns.specs.Columns.{slot_of}
@@ -18,7 +18,7 @@ pub record Tributary : Type 0 where
 abbrev pub tributary_of : LineSlots → (port : ℕ) → Tributary
 tributary_of slots port = record { line_slots = slots_of slots.kind; slots = slots.list; port = port }
 
--- G.709 clause 11.1: the byte in a row and a column, both from 1, of an OTU2 frame of 4 rows of 4,080 columns
+-- G.709 clause 11.1: the byte in a row and a column, both from 1, of a frame of an OTU2 or an OTU3 of 4 rows of 4,080 columns
 abbrev pub byte_at : List ℕ → (row column : ℕ) → ℕ
 byte_at frame row column = slice_index frame (place_of LINE_COLUMNS row column)
 
@@ -37,7 +37,7 @@ greatest (k ∷ slots) = max k (greatest slots)
 -- G.709 clause 19.1: the payload columns of an own slot, in all four rows
 pub record IsOwnPayload (own : Tributary) (row column : ℕ) : Type 0 where
   pub rows : (1 ≤ row) × (row ≤ 4)
-  pub columns : (17 ≤ column) × (column ≤ 3824)
+  pub columns : (17 ≤ column) × (column ≤ LAST_PAYLOAD_COLUMN)
   pub slot : Contains own.slots (slot_of own.line_slots column)
 
 -- G.709 clause 19.4: columns 15 and 16 of rows 1 to 3 in the frame of the greatest of the slots

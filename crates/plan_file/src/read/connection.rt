@@ -6,6 +6,7 @@ ghost use Rattle.plan_file.specs.Rules.{is_within};
 ghost use Rattle.plan_file.specs.Seen.{end_in, entry_in};
 ghost use Rattle.plan_file.specs.Sound.{IsSound, is_sound, is_no_signal};
 ghost use Rattle.plan_file.specs.Table.{nominal};
+ghost use Rattle.otn_base.specs.declared.limits.TheConstants.{MOST_SLOTS};
 
 use crate::connection::{Connection, FromEnd, ToEnd};
 use crate::name::Name;
@@ -77,7 +78,7 @@ fn pace(alloc: Global, entry: &Entry) -> Result<Pace, Memory>
 
 // The nominal pace of so many slots.
 fn nominal_pace(alloc: Global, count: usize) -> Result<Pace, Memory>
-    requires { count ≤ 32 }
+    requires { count ≤ MOST_SLOTS }
     ensures { IfOk result (λ pace. pace ≡ map natural (nominal count)) }
 {
     let mut list = Vec::new(alloc);

@@ -5,6 +5,7 @@ ghost use Rattle.otn_base.specs.LineSlots.{slots_of};
 ghost use Rattle.plan_file.specs.Entry.{natural, slots_as};
 ghost use Rattle.plan_file.specs.Rules.{is_within, is_sapi, is_slot_list};
 ghost use Rattle.plan_file.specs.Seen.{numbers_in};
+ghost use Rattle.otn_base.specs.declared.limits.TheConstants.{MOST_SLOTS};
 
 use crate::lines::LineList;
 use crate::outline::Numbers;
@@ -76,7 +77,7 @@ pub(crate) fn slots(kind: LineKind, numbers: &Numbers) -> Slots
 
 #[tactic(auto, using(crate::proofs::Filled::filled_more, crate::proofs::Filled::filled_all))]
 fn bytes(numbers: &Numbers) -> ArrayVec<u8, MOST_SLOTS>
-    requires few { length (numbers_in numbers.now) ≤ 32 }
+    requires few { length (numbers_in numbers.now) ≤ MOST_SLOTS }
     requires small { IsTrue (list_all (is_within 0 255) (numbers_in numbers.now)) }
     ensures { result.items ≡ map natural (numbers_in numbers.now) }
 {
