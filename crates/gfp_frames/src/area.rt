@@ -40,6 +40,7 @@ fn append_type(buffer: &mut Vec<u8>, fcs: bool)
 pub fn packet_size(area: &[u8]) -> Option<usize>
     requires { 4 ≤ length area.now }
     ensures packet { packet_in area.now ≡ option_map (λ n. take n (drop 4 area.now)) result }
+    ensures some { IfSome result (λ n. 1 ≤ n) }
     ensures within { IfSome result (λ n. n + 4 ≤ length area.now) }
 {
     let fcs = has_fcs(area);

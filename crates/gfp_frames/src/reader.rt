@@ -1,6 +1,7 @@
 // Packets out of any list of bytes.
-ghost use Rattle.std.specs.Prelude.{◌≡◌, ℕ, ◌+◌, ◌-◌, ◌/◌, ◌%◌, ◌^◌, ◌≤◌, ◌<◌, min, false, IsNone, List, [], ◌∷◌, ◌++◌, IfOk, IfSome, IsTrue, length, take, drop, vec_len, option_copied, option_map, option_to_list};
+ghost use Rattle.std.specs.Prelude.{◌≡◌, ℕ, ◌+◌, ◌-◌, ◌/◌, ◌%◌, ◌^◌, ◌≤◌, ◌<◌, min, true, false, IsNone, List, [], ◌∷◌, ◌++◌, IfOk, IfSome, IsTrue, length, take, drop, vec_len, option_copied, option_map, option_to_list};
 ghost use Rattle.std.specs.Option.{option_map_or};
+ghost use Rattle.otn_base.specs.declared.limits.TheConstants.{MOST_DELIVERED};
 ghost use Rattle.gfp_scrambler.specs.Register.{last_bits, descrambled};
 ghost use Rattle.gfp_frames.specs.CoreHeader.{four_bytes, header_in, right_pli, near_pli};
 ghost use Rattle.gfp_frames.specs.Area.{packet_in};
@@ -85,6 +86,7 @@ impl GfpReader {
         ensures* read { sem 𝓛 (EndsHavingRead self.entry byte) }
         ensures packets { (taken : List ℕ) → HasRead taken self.old →
             delivered (taken ++ byte ∷ []) ≡ delivered taken ++ option_to_list (option_copied result) }
+        ensures size { IfSome result (λ packet. (1 ≤ length packet.now) × (length packet.now ≤ MOST_DELIVERED)) }
     {
         if self.advance(byte) {
             Some(&self.buffer[HEADER..HEADER + self.packet])
@@ -104,6 +106,7 @@ impl GfpReader {
         ensures within { result.0 ≤ length bytes.now }
         ensures all { IsNone result.1 → result.0 ≡ length bytes.now }
         ensures some { 1 ≤ length bytes.now → 1 ≤ result.0 }
+        ensures size { IfSome result.1 (λ packet. (1 ≤ length packet.now) × (length packet.now ≤ MOST_DELIVERED)) }
     {
         let (count, found) = self.advance_over(bytes);
         let packet = if found {
@@ -122,6 +125,7 @@ impl GfpReader {
         ensures within { result.0 ≤ length bytes.now }
         ensures all { result.1 ≡ false → result.0 ≡ length bytes.now }
         ensures some { 1 ≤ length bytes.now → 1 ≤ result.0 }
+        ensures size { result.1 ≡ true → 1 ≤ length self.new.packet }
     {
         let mut at = self.pass_over(bytes);
         while at < bytes.len() {
@@ -213,7 +217,8 @@ impl GfpReader {
 
     // Whether a packet is delivered with this byte.
     fn advance(&mut self, byte: u8) -> bool
-        ensures { Goes self.old byte result self.new }
+        ensures goes { Goes self.old byte result self.new }
+        ensures size { result ≡ true → 1 ≤ length self.new.packet }
     {
         if self.held + 1 < self.wanted {
             self.keep(byte);
@@ -353,6 +358,7 @@ impl GfpReader {
         requires last { length self.old.held + 1 ≡ self.old.wanted }
         ensures state { self.new ≡ area_after self.old byte self.new.packet }
         ensures packet { option_to_list (packet_in (descrambled self.old.register (self.old.held ++ byte ∷ []))) ≡ news result self.new }
+        ensures size { result ≡ true → 1 ≤ length self.new.packet }
     {
         let size = self.wanted;
         self.buffer[self.held] = byte;
@@ -377,6 +383,7 @@ fn open_area(descrambler: &mut Descrambler, buffer: &mut Vec<u8>, size: usize) -
     requires area { 4 ≤ size }
     requires here { size ≤ vec_len buffer.old }
     ensures packet { packet_in (descrambled descrambler.old (take size buffer.old.items)) ≡ option_map (λ n. take n (drop 4 buffer.new.items)) result }
+    ensures some { IfSome result (λ n. 1 ≤ n) }
     ensures within { IfSome result (λ n. n + 4 ≤ size) }
     ensures register { descrambler.new ≡ last_bits descrambler.old (take size buffer.old.items) }
     ensures len { vec_len buffer.new ≡ vec_len buffer.old }

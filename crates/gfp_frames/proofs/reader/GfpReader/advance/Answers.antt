@@ -4,8 +4,8 @@ use Rattle.gfp_frames.specs.Reader.{ReaderState, may_want, Goes}
 use Rattle.gfp_frames.proofs.Reading.{goes_kept, goes_in_hunt, goes_in_presync, goes_in_sync, goes_past_presync, goes_past_area, held_size, full_size, four_in_hunt, four_in_presync, four_in_sync, big_in_area}
 use Rattle.gfp_frames.proofs.reader.GfpReader.advance.Goals as goal
 
-pub returns-then-self : goal.returns-then-self
-returns-then-self c =
+pub returns-then-self-clause-goes : goal.returns-then-self-clause-goes
+returns-then-self-clause-goes c =
     let old = c.args.self.now in
     let in_view = c.self.inside in
     let May : ReaderState → Type 0 = λ s. may_want s.phase s.wanted ≡ true in
@@ -14,8 +14,8 @@ returns-then-self c =
     let wanted : in_view.wanted ≡ old.wanted = ap (λ s. s.wanted) c.self.view_is in
     subst New (sym c.keep.ensures) (goes_kept old c.args.byte (subst May c.self.view_is c.self.invariant.3) (omega arith))
 
-pub returns-in-Hunt : goal.returns-in-Hunt
-returns-in-Hunt c =
+pub returns-in-Hunt-clause-goes : goal.returns-in-Hunt-clause-goes
+returns-in-Hunt-clause-goes c =
     let old = c.args.self.now in
     let in_view = c.self.inside in
     let New : ReaderState → Type 0 = λ s. Goes old c.args.byte false s in
@@ -25,8 +25,8 @@ returns-in-Hunt c =
     subst New (sym c.end_hunt_header.ensures)
     (goes_in_hunt old c.args.byte (right_pli (header_in (old.held ++ c.args.byte ∷ []))) (sym (ap (λ s. s.phase) c.self.view_is) ∙ c.in-Hunt.is) (full ∙ four) refl)
 
-pub returns-in-Presync : goal.returns-in-Presync
-returns-in-Presync c =
+pub returns-in-Presync-clause-goes : goal.returns-in-Presync-clause-goes
+returns-in-Presync-clause-goes c =
     let old = c.args.self.now in
     let in_view = c.self.inside in
     let New : ReaderState → Type 0 = λ s. Goes old c.args.byte false s in
@@ -36,8 +36,8 @@ returns-in-Presync c =
     subst New (sym c.end_presync_header.ensures)
     (goes_in_presync old c.args.byte (right_pli (header_in (old.held ++ c.args.byte ∷ []))) (sym (ap (λ s. s.phase) c.self.view_is) ∙ c.in-Presync.is) (full ∙ four) refl)
 
-pub returns-in-Sync : goal.returns-in-Sync
-returns-in-Sync c =
+pub returns-in-Sync-clause-goes : goal.returns-in-Sync-clause-goes
+returns-in-Sync-clause-goes c =
     let old = c.args.self.now in
     let in_view = c.self.inside in
     let New : ReaderState → Type 0 = λ s. Goes old c.args.byte false s in
@@ -47,8 +47,8 @@ returns-in-Sync c =
     subst New (sym c.end_sync_header.ensures)
     (goes_in_sync old c.args.byte (near_pli (header_in (old.held ++ c.args.byte ∷ []))) (sym (ap (λ s. s.phase) c.self.view_is) ∙ c.in-Sync.is) (full ∙ four) refl)
 
-pub returns-in-PresyncArea : goal.returns-in-PresyncArea
-returns-in-PresyncArea c =
+pub returns-in-PresyncArea-clause-goes : goal.returns-in-PresyncArea-clause-goes
+returns-in-PresyncArea-clause-goes c =
     let old = c.args.self.now in
     let in_view = c.self.inside in
     let New : ReaderState → Type 0 = λ s. Goes old c.args.byte false s in
@@ -57,8 +57,8 @@ returns-in-PresyncArea c =
     subst New (sym c.await_next.ensures)
     (goes_past_presync old c.args.byte (sym (ap (λ s. s.phase) c.self.view_is) ∙ c.in-PresyncArea.is) (full ∙ ap (λ s. s.wanted) c.self.view_is))
 
-pub returns-in-SyncArea : goal.returns-in-SyncArea
-returns-in-SyncArea c =
+pub returns-in-SyncArea-clause-goes : goal.returns-in-SyncArea-clause-goes
+returns-in-SyncArea-clause-goes c =
     let old = c.args.self.now in
     let in_view = c.self.inside in
     let new = c.end_area.new.self in

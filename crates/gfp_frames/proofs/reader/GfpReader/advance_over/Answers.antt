@@ -13,7 +13,7 @@ returns-then-found-clause-goes c =
     c.keep_some-at.ensures.state in
     let P : Bool → Type 0 = λ b. GoesOver c.args.self.now (take (at + c.keep_some-at.result + 1) bytes) b c.advance-found.new.self in
     subst P c.if-found.true
-    (over_byte c.args.self.now c.keep_some-at.new.self c.advance-found.new.self bytes (at + c.keep_some-at.result) c.advance-found.result c.if-at-bytes.true kept c.advance-found.ensures)
+    (over_byte c.args.self.now c.keep_some-at.new.self c.advance-found.new.self bytes (at + c.keep_some-at.result) c.advance-found.result c.if-at-bytes.true kept c.advance-found.ensures.goes)
 
 pub loop-at-preserved-then-at-bytes : goal.loop-at-preserved-then-at-bytes
 loop-at-preserved-then-at-bytes c =
@@ -26,7 +26,7 @@ loop-at-preserved-then-at-bytes c =
     let P : Bool → Type 0 = λ b. GoesOver c.args.self.now (take next bytes) b c.advance-found.new.self in
     let gone =
     subst P c.if-found.false
-    (over_byte c.args.self.now c.keep_some-at.new.self c.advance-found.new.self bytes (at + c.keep_some-at.result) c.advance-found.result c.if-at-bytes.true kept c.advance-found.ensures) in
+    (over_byte c.args.self.now c.keep_some-at.new.self c.advance-found.new.self bytes (at + c.keep_some-at.result) c.advance-found.result c.if-at-bytes.true kept c.advance-found.ensures.goes) in
     let short : at + c.keep_some-at.result < length bytes = c.if-at-bytes.true in
     record {
       within = (let few : c.pass_over-at-then-at-bytes.result ≤ length (take (length bytes - next) (drop next bytes)) = c.pass_over-at-then-at-bytes.ensures.within in let e = take_rest bytes next in let f = length-drop next bytes in omega arith);
