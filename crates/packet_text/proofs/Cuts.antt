@@ -1,6 +1,6 @@
 -- What the steps of a cutter meet.
-use Rattle.std.proofs.Common.{◌≡◌, ◌≢◌, ◌<◌, ◌≤◌, ◌+◌, ◌-◌, ℕ, Bool, true, false, List, [], ◌∷◌, ◌++◌, length, take, drop, arith, refl, sym, ap, ◌∙◌, append_assoc, append-nil}
-use Rattle.std.proofs.lemmas.List.{drop-drop, drop-take}
+use Rattle.std.proofs.Common.{◌≡◌, ◌≢◌, ◌<◌, ◌≤◌, ◌+◌, ◌-◌, ◌%◌, ◌⊎◌, inl, inr, ℕ, Bool, true, false, List, [], ◌∷◌, ◌++◌, length, take, drop, arith, refl, sym, ap, ◌∙◌, append_assoc, append-nil}
+use Rattle.std.proofs.lemmas.List.{drop-drop, drop-take, length-take}
 use Rattle.std.proofs.Math.Seq.{take-length}
 use Rattle.otn_ports.specs.Views.{InView}
 use Rattle.otn_ports.proofs.GivenLaws.{gave_none}
@@ -8,7 +8,7 @@ use Rattle.otn_ports.specs.declared.in_place.Reading.{Reading}
 use Rattle.otn_ports.specs.declared.in_place.Reading.TheVariants as reading
 use Rattle.packet_text.specs.Blocks.{BlockRead}
 use Rattle.packet_text.specs.Carrying.{Carried, NoneCarried}
-use Rattle.packet_text.specs.Cutting.{CutView, GoesOnBy, CutsSome}
+use Rattle.packet_text.specs.Cutting.{CutView, all_of, GoesOnBy, LastRead, CutsSome}
 use Rattle.packet_text.specs.declared.cutter.Cut.{Cut}
 use Rattle.packet_text.specs.declared.cutter.Cut.TheVariants.{More, Line, Last, Long, End, Lost}
 use Rattle.packet_text.proofs.Lists.{clean_both}
@@ -57,6 +57,7 @@ cuts_line found old new was met h = record {
     long = λ e. absurd (cc);
     end = λ e. absurd (cc);
     lost = λ e. absurd (cc);
+    reads = inl (record { none = refl; ended = h.ended; alive = λ e. cc });
   };
 }
 
@@ -74,9 +75,10 @@ cuts_long found old new was no_lf h long = record {
     more = λ e. absurd (cc);
     ends_line = λ e. absurd (cc);
     last = λ e. absurd (cc);
-    long = λ _. (let g = h.all no_lf in rw (g.0, g.1) (ap (λ bytes. old.line ++ bytes) (append-nil old.hand) ∙ sym (append-nil (old.line ++ old.hand))), long);
+    long = λ _. (let g = h.all no_lf in rw (g.0, g.1) (ap (λ bytes. old.line ++ bytes) (append-nil old.hand) ∙ sym (append-nil (old.line ++ old.hand))), long, (h.all no_lf).1);
     end = λ e. absurd (cc);
     lost = λ e. absurd (cc);
+    reads = inl (record { none = refl; ended = h.ended; alive = λ e. cc });
   };
 }
 
@@ -97,6 +99,7 @@ cuts_last found old new was no_lf h ended some = record {
     long = λ e. absurd (cc);
     end = λ e. absurd (cc);
     lost = λ e. absurd (cc);
+    reads = inl (record { none = refl; ended = h.ended; alive = λ e. cc });
   };
 }
 
@@ -117,6 +120,7 @@ cuts_end found old new was no_lf h ended none = record {
     long = λ e. absurd (cc);
     end = λ _. (let g = h.all no_lf in (ap (λ bytes. old.line ++ bytes) (append-nil old.hand) ∙ sym g.0 ∙ none, ended));
     lost = λ e. absurd (cc);
+    reads = inl (record { none = refl; ended = h.ended; alive = λ e. cc });
   };
 }
 
@@ -146,13 +150,39 @@ goes_more found old new was no_lf h = record {
     long = λ e. absurd (cc);
     end = λ e. absurd (cc);
     lost = λ e. absurd (cc);
+    reads = inl (record { none = refl; ended = h.ended; alive = λ e. cc });
   };
 }
 
+-- the first read of a step
+first_read : (r : Cut) (old : CutView) (came : List ℕ) (new : CutView) → old.hand ≡ [] → old.ended ≡ false → length old.line ≤ 131055 → length came ≤ 4096
+    → (r ≢ Lost → new.ended ≡ false → length came % 4096 ≡ 0) → ((new.ended ≡ true) ⊎ (r ≡ Lost) → length came < 4096) → LastRead r old came new
+first_read r old came new none still_open short most whole part =
+    let all : all_of old [] ≡ old.line = rw none (append-nil old.line) in
+    record {
+      before = [];
+      last = came;
+      parts = refl;
+      blocks = refl;
+      most = most;
+      whole = whole;
+      part = part;
+      still_open = still_open;
+      clean = λ k. rw all k;
+      short = rw all short;
+    }
+
+no_part : {n : ℕ} {ended : Bool} → ended ≡ false → (ended ≡ true) ⊎ (More ≡ Lost) → n < 4096
+no_part still (inl e) = absurd (cc)
+no_part still (inr e) = absurd (cc)
+
+take_less : (n : ℕ) (came block : List ℕ) → came ≡ take n block → n < 4096 → length came < 4096
+take_less n came block e less = rw (e, length-take n block) (omega arith)
+
 -- a block came
 pub reads_more : (old new : CutView) (r : Reading) (was is : InView) (block : List ℕ) → BlockRead r was block is → r ≡ reading.Full → length block ≡ 4096
-    → old.hand ≡ [] → old.ended ≡ false → new.line ≡ old.line → new.hand ≡ block → new.ended ≡ false → CutsSome More old was new is
-reads_more old new r was is block h full size none still_open line hand still = record {
+    → old.hand ≡ [] → old.ended ≡ false → new.line ≡ old.line → new.hand ≡ block → new.ended ≡ false → length old.line ≤ 131055 → CutsSome More old was new is
+reads_more old new r was is block h full size none still_open line hand still short = record {
   came = h.came;
   cuts = record {
     gave = h.gave;
@@ -167,13 +197,14 @@ reads_more old new r was is block h full size none still_open line hand still = 
     long = λ e. absurd (cc);
     end = λ e. absurd (cc);
     lost = λ e. absurd (cc);
+    reads = inr (first_read More old h.came new none still_open short (rw (h.whole full, size) (omega arith)) (λ _ _. rw (h.whole full, size) refl) (no_part still));
   };
 }
 
 -- the last bytes came
 pub reads_end : (old new : CutView) (r : Reading) (n : ℕ) (was is : InView) (block : List ℕ) → BlockRead r was block is → r ≡ reading.End n
-    → old.hand ≡ [] → old.ended ≡ false → new.line ≡ old.line → new.hand ≡ take n block → new.ended ≡ true → CutsSome More old was new is
-reads_end old new r n was is block h end none still_open line hand seen = record {
+    → old.hand ≡ [] → old.ended ≡ false → new.line ≡ old.line → new.hand ≡ take n block → new.ended ≡ true → length old.line ≤ 131055 → CutsSome More old was new is
+reads_end old new r n was is block h end none still_open line hand seen short = record {
   came = h.came;
   cuts = record {
     gave = h.gave;
@@ -188,13 +219,14 @@ reads_end old new r n was is block h end none still_open line hand seen = record
     long = λ e. absurd (cc);
     end = λ e. absurd (cc);
     lost = λ e. absurd (cc);
+    reads = inr (first_read More old h.came new none still_open short (let e = take_less n h.came block (h.end n end).0 (h.end n end).1 in omega arith) (λ _ e. absurd (cc)) (λ _. take_less n h.came block (h.end n end).0 (h.end n end).1));
   };
 }
 
 -- the place died
 pub reads_lost : (old new : CutView) (r : Reading) (was is : InView) (block : List ℕ) → BlockRead r was block is → r ≡ reading.Lost
-    → old.hand ≡ [] → old.ended ≡ false → new.line ≡ old.line → new.ended ≡ false → CutsSome Lost old was new is
-reads_lost old new r was is block h lost none still_open line still = record {
+    → old.hand ≡ [] → old.ended ≡ false → new.line ≡ old.line → new.ended ≡ false → length old.line ≤ 131055 → CutsSome Lost old was new is
+reads_lost old new r was is block h lost none still_open line still short = record {
   came = h.came;
   cuts = record {
     gave = h.gave;
@@ -221,6 +253,7 @@ reads_lost old new r was is block h lost none still_open line still = record {
       },
       still,
     );
+    reads = inr (first_read Lost old h.came new none still_open short (let e = (h.lost lost).0 in omega arith) (λ e _. absurd (e refl)) (λ _. (h.lost lost).0));
   };
 }
 

@@ -1,10 +1,10 @@
 -- Steps of a cutter one after another.
-use Rattle.std.proofs.Common.{◌≡◌, ◌%◌, ℕ, Bool, true, false, List, [], ◌++◌, length, arith, refl, sym, ap, ◌∙◌, append_assoc, append-nil, length-append}
+use Rattle.std.proofs.Common.{◌≡◌, ◌%◌, ◌⊎◌, inl, inr, ℕ, Bool, true, false, List, [], ◌++◌, length, arith, refl, sym, ap, ◌∙◌, append_assoc, append-nil, length-append}
 use Rattle.otn_ports.specs.Views.{InView}
 use Rattle.otn_ports.proofs.GivenLaws.{gave_none, gave_twice, dead_not_live}
-use Rattle.packet_text.specs.Cutting.{CutView, all_of, LostIn, Cuts, CutsSome}
+use Rattle.packet_text.specs.Cutting.{CutView, all_of, LostIn, NoneRead, LastRead, Cuts, CutsSome}
 use Rattle.packet_text.specs.declared.cutter.Cut.{Cut}
-use Rattle.packet_text.specs.declared.cutter.Cut.TheVariants.{More}
+use Rattle.packet_text.specs.declared.cutter.Cut.TheVariants.{More, Lost}
 
 all_twice : (a b : CutView) (x y : List ℕ) → all_of a x ≡ b.line ++ b.hand → all_of a (x ++ y) ≡ all_of b y
 all_twice a b x y e =
@@ -23,6 +23,46 @@ lost_then a b c p q s x y e blocks same h = record {
   dead = h.dead;
 }
 
+shut : (b : Bool) → (b ≡ true → ⊥) → b ≡ false
+shut true f = absurd (f refl)
+shut false f = refl
+
+-- the last read of two steps
+reads_then : (r : Cut) (a b c : CutView) (p q s : InView) (x y : List ℕ) → (h : Cuts More a p x b q) → Cuts r b q y c s → NoneRead More a x b ⊎ LastRead More a x b → NoneRead r b y c ⊎ LastRead r b y c
+    → NoneRead r a (x ++ y) c ⊎ LastRead r a (x ++ y) c
+reads_then r a b c p q s x y h k (inl f) (inl g) = inl (record { none = rw (f.none, g.none) refl; ended = g.ended ∙ f.ended; alive = g.alive })
+reads_then r a b c p q s x y h k (inr l) (inl g) = inr (record {
+  before = l.before;
+  last = l.last;
+  parts = rw (g.none, append-nil x) l.parts;
+  blocks = l.blocks;
+  most = l.most;
+  whole = λ _ e. l.whole (λ m. cc) (sym g.ended ∙ e);
+  part = λ e. l.part (by_part e);
+  still_open = l.still_open;
+  clean = l.clean;
+  short = l.short;
+})
+  where
+    by_part : (c.ended ≡ true) ⊎ (r ≡ Lost) → (b.ended ≡ true) ⊎ (More ≡ Lost)
+    by_part (inl e) = inl (sym g.ended ∙ e)
+    by_part (inr e) = absurd (g.alive e)
+reads_then r a b c p q s x y h k f (inr l) =
+    let all : all_of a (x ++ l.before) ≡ all_of b l.before = all_twice a b x l.before (h.more refl) in
+    let blocks = h.blocks (λ e. cc) l.still_open in
+    inr (record {
+      before = x ++ l.before;
+      last = l.last;
+      parts = ap (λ bytes. x ++ bytes) l.parts ∙ sym (append_assoc x l.before l.last);
+      blocks = (let e = l.blocks in rw (length-append x l.before) (omega arith));
+      most = l.most;
+      whole = l.whole;
+      part = l.part;
+      still_open = shut a.ended (λ e. let u = (h.quiet e).1 in let still = l.still_open in cc);
+      clean = λ e. rw all (l.clean (h.clean e));
+      short = rw all l.short;
+    })
+
 -- blocks that go on with a line, and what comes behind them
 pub cuts_then : (r : Cut) (a b c : CutView) (p q s : InView) (x y : List ℕ) → Cuts More a p x b q → Cuts r b q y c s → Cuts r a p (x ++ y) c s
 cuts_then r a b c p q s x y h k = record {
@@ -35,9 +75,10 @@ cuts_then r a b c p q s x y h k = record {
   more = λ e. all ∙ k.more e;
   ends_line = λ e. all ∙ k.ends_line e;
   last = λ e. (let l = k.last e in (all ∙ l.0, l.1, l.2, l.3));
-  long = λ e. (let l = k.long e in (all ∙ l.0, l.1));
+  long = λ e. (let l = k.long e in (all ∙ l.0, l.1, l.2));
   end = λ e. (let l = k.end e in (all ∙ l.0, l.1));
   lost = λ e. (let l = k.lost e in (lost_then a b c p q s x y (h.more refl) (h.blocks (λ e. cc) (opened_lost l.0)) (h.alive (λ e. cc)) l.0, l.1));
+  reads = reads_then r a b c p q s x y h k h.reads k.reads;
 }
   where
     all : all_of a (x ++ y) ≡ all_of b y
@@ -68,6 +109,7 @@ cuts_none a p = record {
   long = λ e. absurd (cc);
   end = λ e. absurd (cc);
   lost = λ e. absurd (cc);
+  reads = inl (record { none = refl; ended = refl; alive = λ e. cc });
 }
 
 pub some_then : (r : Cut) (a b c : CutView) (p q s : InView) → CutsSome More a p b q → CutsSome r b q c s → CutsSome r a p c s

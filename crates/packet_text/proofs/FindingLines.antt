@@ -1,16 +1,17 @@
 -- What the search for the next line that counts finds.
-use Rattle.std.proofs.Common.{◌≡◌, ◌+◌, ◌%◌, ℕ, Bool, true, false, List, [], ◌∷◌, ◌++◌, length, arith, refl, sym, ap, ◌∙◌, length-append, append_assoc, append-nil}
+use Rattle.std.proofs.Common.{◌≡◌, ◌+◌, ◌%◌, ◌⊎◌, inl, inr, ℕ, Bool, true, false, List, [], ◌∷◌, ◌++◌, length, arith, refl, sym, ap, ◌∙◌, length-append, append_assoc, append-nil}
 use Rattle.otn_ports.specs.Views.{InView}
 use Rattle.otn_ports.proofs.GivenLaws.{dead_not_live, gave_none, gave_twice}
 use Rattle.packet_text.specs.TextLines.{has_lf, lines_of, full_lines, whole_blocks, text_of_dead}
-use Rattle.packet_text.specs.LinesStand.{LinesView, stopped, GoesOn}
-use Rattle.packet_text.specs.Finding.{Counts, Judges, Finds}
+use Rattle.packet_text.specs.LinesStand.{LinesView, stopped, GoesOn, came_short, ReadAsNeeded}
+use Rattle.packet_text.specs.Finding.{answer_of, Counts, Judges, Rests, Finds}
 use Rattle.packet_text.specs.Cutting.{CutView, CutsSome}
 use Rattle.packet_text.specs.declared.cutter.Cut.TheVariants as cut
 use Rattle.packet_text.specs.declared.found.Found.{Found}
 use Rattle.packet_text.specs.declared.found.Found.TheVariants as found
 use Rattle.packet_text.proofs.Texts.{lines_of-line, lines_of-long, lines_of-last, LongLine, full_lines-none, whole_blocks-part}
 use Rattle.packet_text.proofs.Judging.{bad_gives, long_gives}
+use Rattle.packet_text.proofs.AsNeeded.{shown_by_lf, shown_too_long, alive_short, reads_on, rests_on}
 use Rattle.packet_text.proofs.GoingOn.{start, all_lines, text_lines, sound_empty, sound_packet, has_bad, has_ended, line_goes, last_goes}
 
 pub find_line : (taken : List ℕ) (packets : List (List ℕ)) (r : Found) (old new : LinesView) (cnew : CutView) (was is : InView) → (h : GoesOn taken packets old) → CutsSome cut.Line (start old) was cnew is
@@ -35,6 +36,8 @@ find_line taken packets r old new cnew was is h s judges hand ended =
           has_bad h text cnew.line (lines_of (cnew.hand ++ t.rest)) new.number (t.parts ∙ ap (λ ls. h.lines ++ ls) line) g.0 g.1;
       end = λ e. absurd (j.open_place.0 e);
       lost = λ e. absurd (j.open_place.1 e);
+      shown = λ e still. (let g = j.bad e in shown_by_lf h k (sym ended ∙ still) g.0 new.number g.1);
+      reads = reads_on h r new ended (λ e. absurd (j.open_place.1 e)) (λ _ e. cc) k.reads;
     }
 
 pub find_last : (taken : List ℕ) (packets : List (List ℕ)) (r : Found) (old new : LinesView) (cnew : CutView) (was is : InView) → (h : GoesOn taken packets old) → CutsSome cut.Last (start old) was cnew is
@@ -59,6 +62,8 @@ find_last taken packets r old new cnew was is h s judges hand ended =
           has_bad h text cnew.line [] new.number (t.parts ∙ ap (λ ls. h.lines ++ ls) (ap lines_of all ∙ lines_of-last cnew.line (k.clean refl) last.3)) g.0 g.1;
       end = λ e. absurd (j.open_place.0 e);
       lost = λ e. absurd (j.open_place.1 e);
+      shown = λ e still. absurd (let f = ended ∙ last.2 in cc);
+      reads = reads_on h r new ended (λ e. absurd (j.open_place.1 e)) (λ _ e. cc) k.reads;
     }
 
 pub find_long : (taken : List ℕ) (packets : List (List ℕ)) (r : Found) (old new : LinesView) (cnew : CutView) (was is : InView) → r ≡ found.Bad → (h : GoesOn taken packets old) → CutsSome cut.Long (start old) was cnew is
@@ -84,6 +89,8 @@ find_long taken packets r old new cnew was is bad h s number ended =
           has_bad h text (cnew.line ++ l.more) l.later new.number (t.parts ∙ ap (λ ls. h.lines ++ ls) line) none (let e = h.number in omega (arith, number, e));
       end = λ e. absurd (cc);
       lost = λ e. absurd (cc);
+      shown = λ e still. shown_too_long h k (sym ended ∙ still);
+      reads = reads_on h r new ended (λ e. absurd (cc)) (λ _ e. cc) k.reads;
     }
 
 pub find_end : (taken : List ℕ) (packets : List (List ℕ)) (old new : LinesView) (cnew : CutView) (was is : InView) → (h : GoesOn taken packets old) → CutsSome cut.End (start old) was cnew is
@@ -103,6 +110,8 @@ find_end taken packets old new cnew was is h s ended =
       bad = λ e text whole begins. absurd (cc);
       end = λ _. (ended ∙ end.1, has_ended h (taken ++ s.came) (all_lines h k ∙ ap (λ b. h.lines ++ lines_of b) end.0));
       lost = λ e. absurd (cc);
+      shown = λ e still. absurd (cc);
+      reads = reads_on h found.End new ended (λ e. absurd (cc)) (λ _ e. cc) k.reads;
     }
 
 pub find_lost : (taken : List ℕ) (packets : List (List ℕ)) (old new : LinesView) (cnew : CutView) (was is : InView) → (h : GoesOn taken packets old) → CutsSome cut.Lost (start old) was cnew is
@@ -131,6 +140,8 @@ find_lost taken packets old new cnew was is h s ended =
       bad = λ e text whole begins. absurd (cc);
       end = λ e. absurd (cc);
       lost = λ _. (l.live, l.dead, new_still, has_ended h (text_of_dead (taken ++ s.came)) lines);
+      shown = λ e still_open. absurd (cc);
+      reads = reads_on h found.Lost new ended (λ e. refl) (λ e. absurd (e refl)) k.reads;
     }
   where
     flag : (b : Bool) → (b ≡ true → ⊥) → b ≡ false
@@ -153,7 +164,20 @@ finds_none taken packets view place h = record {
   bad = λ e text whole begins. absurd (cc);
   end = λ e. absurd (cc);
   lost = λ e. absurd (cc);
+  shown = λ e still. absurd (cc);
+  reads = inl (record { none = refl; ended = refl; alive = λ e. cc });
 }
+
+-- what was read in two searches was needed
+both_reads : (taken : List ℕ) (packets : List (List ℕ)) (r : Found) (a b c : LinesView) (p q s : InView) → (h : Finds found.Empty taken packets a p b q) → (k : Finds r (taken ++ h.came) packets b q c s)
+    → Rests found.Empty h.came a b ⊎ ReadAsNeeded (came_short b.ended (answer_of found.Empty b.number)) (taken ++ h.came)
+    → Rests r k.came b c ⊎ ReadAsNeeded (came_short c.ended (answer_of r c.number)) ((taken ++ h.came) ++ k.came)
+    → Rests r (h.came ++ k.came) a c ⊎ ReadAsNeeded (came_short c.ended (answer_of r c.number)) (taken ++ (h.came ++ k.came))
+both_reads taken packets r a b c p q s h k (inl f) (inl g) = inl (record { none = rw (f.none, g.none) refl; ended = g.ended ∙ f.ended; alive = g.alive })
+both_reads taken packets r a b c p q s h k (inr l) (inl g) =
+    let same : came_short c.ended (answer_of r c.number) ≡ b.ended = alive_short r c.ended c.number g.alive ∙ g.ended in
+    inr (rw (← append_assoc taken h.came k.came) (rests_on b.ended (came_short c.ended (answer_of r c.number)) (taken ++ h.came) k.came same g.none l))
+both_reads taken packets r a b c p q s h k f (inr l) = inr (rw (← append_assoc taken h.came k.came) l)
 
 -- empty lines, and what was found behind them
 pub finds_then : (taken : List ℕ) (packets : List (List ℕ)) (r : Found) (a b c : LinesView) (p q s : InView) → (h : Finds found.Empty taken packets a p b q) → Finds r (taken ++ h.came) packets b q c s → Finds r taken packets a p c s
@@ -172,6 +196,8 @@ finds_then taken packets r a b c p q s h k =
       bad = λ f text whole begins. k.bad f text (λ u. whole u ∙ sym e) (rw e begins);
       end = λ f. (let u = k.end f in (u.0, rw (← e) u.1));
       lost = λ f. (let u = k.lost f in (sym (h.alive (λ g. cc)) ∙ u.0, u.1, u.2, rw (← e) u.3));
+      shown = λ f still. rw (← e) (k.shown f still);
+      reads = both_reads taken packets r a b c p q s h k h.reads k.reads;
     }
 
 pub empty_then : (taken : List ℕ) (packets : List (List ℕ)) (r : Found) (a b c : LinesView) (p q s : InView) → r ≡ found.Empty → (h : Finds found.Empty taken packets a p b q) → Finds r (taken ++ h.came) packets b q c s → Finds found.Empty taken packets a p c s

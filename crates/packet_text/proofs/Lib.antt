@@ -6,6 +6,7 @@ pub mod Texts
 pub mod LineEnds
 pub mod Judging
 pub mod GoingOn
+pub mod AsNeeded
 pub mod FindingLines
 pub mod StandingLines
 pub mod ReadingBack

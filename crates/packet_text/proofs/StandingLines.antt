@@ -1,15 +1,16 @@
 -- Where the lines of a place stand, from one answer to the next.
-use Rattle.std.proofs.Common.{◌≡◌, ◌≢◌, ◌%◌, ℕ, Bool, true, false, if◌then◌else◌, List, [], ◌∷◌, ◌++◌, length, refl, sym, ap, subst, ◌∙◌, append_assoc, append-nil}
+use Rattle.std.proofs.Common.{◌≡◌, ◌≢◌, ◌%◌, ◌⊎◌, inl, inr, ℕ, Bool, true, false, if◌then◌else◌, List, [], ◌∷◌, ◌++◌, length, arith, refl, sym, ap, subst, ◌∙◌, append_assoc, append-nil}
 use Rattle.otn_ports.specs.Views.{InView}
 use Rattle.otn_ports.proofs.GivenLaws.{gave_none, gave_twice}
 use Rattle.packet_text.specs.TextLines.{lines_of, full_lines, text_of_dead}
 use Rattle.packet_text.specs.PacketText.{packets_of, packets_behind, empty_lines}
-use Rattle.packet_text.specs.LinesStand.{LinesView, Begins, GoesOnWith, may_be, GoesOn, LinesStand, TakeStands, fresh_lines, given_by, is_packet}
-use Rattle.packet_text.specs.Finding.{Finds, answer_of, with_answer}
+use Rattle.packet_text.specs.LinesStand.{LinesView, Begins, GoesOnWith, may_be, GoesOn, came_short, ReadAsNeeded, LinesStand, TakeStands, fresh_lines, given_by, is_packet}
+use Rattle.packet_text.specs.Finding.{Rests, Finds, answer_of, with_answer}
 use Rattle.packet_text.specs.declared.line.Line.{Line}
 use Rattle.packet_text.specs.declared.line.Line.TheVariants as line
 use Rattle.packet_text.specs.declared.found.Found.{Found}
 use Rattle.packet_text.specs.declared.found.Found.TheVariants as found
+use Rattle.packet_text.proofs.AsNeeded.{alive_short, rests_on}
 use Rattle.packet_text.proofs.Texts.{full_lines-front, full_lines-more, whole_blocks-more}
 
 -- nothing was read yet
@@ -43,6 +44,10 @@ goes_told taken packets view h text may = by_flag view.ended refl may
         let rest = full_lines view.hand ++ begins.rest in
         by_lines (lines_of rest) (ap lines_of (begins.parts ∙ ap (λ b. b ++ begins.rest) used ∙ append_assoc h.used (full_lines view.hand) begins.rest) ∙ h.split e rest)
 
+fresh_read : ReadAsNeeded false []
+unfolding lines_of full_lines packets_of packets_behind
+fresh_read = record { before = []; last = []; parts = refl; blocks = refl; most = omega arith; whole = λ _. refl; part = λ e. absurd (cc); needed = refl }
+
 pub fresh_stands : (first : InView) (view : LinesView) → view ≡ fresh_lines → LinesStand first first [] [] view
 fresh_stands first view e = rw e (record {
   gave = gave_none first;
@@ -52,6 +57,8 @@ fresh_stands first view e = rw e (record {
   lost = λ f. absurd (cc);
   goes = λ _. fresh_goes;
   told = λ text may. goes_told [] [] fresh_lines fresh_goes text may;
+  shown = λ n f still. absurd (cc);
+  read = fresh_read;
 })
 
 -- the answer is no part of what goes on
@@ -148,6 +155,11 @@ found_stands r first taken packets old mid was is counts going finds h = record 
     all_lost true t text e may = absurd (cc)
     all_lost false t text e may = may
 
+    as_needed : (q : Found) → (g : Finds q taken packets old was mid is) → Rests q g.came old mid ⊎ ReadAsNeeded (came_short mid.ended (answer_of q mid.number)) (taken ++ g.came)
+        → ReadAsNeeded (came_short mid.ended (answer_of q mid.number)) (taken ++ g.came)
+    as_needed q g (inl rests) = rests_on (came_short old.ended old.answer) (came_short mid.ended (answer_of q mid.number)) taken g.came (alive_short q mid.ended mid.number rests.alive ∙ rests.ended ∙ sym (ap (came_short old.ended) going)) rests.none h.read
+    as_needed q g (inr l) = l
+
     by_found : (q : Found) → q ≢ found.Empty → (g : Finds q taken packets old was mid is) → LinesStand first is (taken ++ g.came) (packets ++ given_by (answer_of q mid.number) mid.packet) (with_answer q mid)
     by_found found.Empty no_empty g = absurd (no_empty refl)
     by_found found.Packet no_empty g = record {
@@ -158,6 +170,8 @@ found_stands r first taken packets old mid was is counts going finds h = record 
       lost = λ f. absurd (cc);
       goes = λ _. same_goes (taken ++ g.came) (packets ++ mid.packet ∷ []) mid found.Packet (g.packet refl);
       told = λ text may. goes_told (taken ++ g.came) (packets ++ mid.packet ∷ []) mid (g.packet refl) text may;
+      shown = λ n e still. absurd (cc);
+      read = as_needed found.Packet g g.reads;
     }
     by_found found.Bad no_empty g = rw (append-nil packets) (record {
       gave = gave_twice first was is taken g.came h.gave g.gave;
@@ -167,6 +181,8 @@ found_stands r first taken packets old mid was is counts going finds h = record 
       lost = λ f. absurd (cc);
       goes = λ e. absurd (cc);
       told = λ text may. g.bad refl text (whole mid.ended mid.number (taken ++ g.came) text may) (begins mid.ended mid.number (taken ++ g.came) text may);
+      shown = λ n e still. g.shown refl still;
+      read = as_needed found.Bad g g.reads;
     })
     by_found found.End no_empty g = let end = g.end refl in rw (append-nil packets) (record {
       gave = gave_twice first was is taken g.came h.gave g.gave;
@@ -176,6 +192,8 @@ found_stands r first taken packets old mid was is counts going finds h = record 
       lost = λ f. absurd (cc);
       goes = λ e. absurd (cc);
       told = λ text may. ap packets_of (all_ended mid.ended (taken ++ g.came) text end.0 may) ∙ end.1;
+      shown = λ n e still. absurd (cc);
+      read = as_needed found.End g g.reads;
     })
     by_found found.Lost no_empty g = let lost = g.lost refl in rw (append-nil packets) (record {
       gave = gave_twice first was is taken g.came h.gave g.gave;
@@ -185,6 +203,8 @@ found_stands r first taken packets old mid was is counts going finds h = record 
       lost = λ f. (lost.2, lost.1);
       goes = λ e. absurd (cc);
       told = λ text may. ap packets_of (all_lost mid.ended (taken ++ g.came) text lost.2 may) ∙ lost.3;
+      shown = λ n e still. absurd (cc);
+      read = as_needed found.Lost g g.reads;
     })
 
 -- the last answer is given again

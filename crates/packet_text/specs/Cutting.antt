@@ -1,5 +1,5 @@
 -- How a text is cut into lines while it is read.
-use Rattle.std.specs.Prelude.{◌≡◌, ◌≢◌, ◌<◌, ◌%◌, ◌+◌, ◌-◌, if◌then◌else◌, ℕ, Bool, true, false, List, [], ◌∷◌, ◌++◌, length, take, drop}
+use Rattle.std.specs.Prelude.{◌≡◌, ◌≢◌, ◌<◌, ◌≤◌, ◌⊎◌, ◌%◌, ◌+◌, ◌-◌, if◌then◌else◌, ℕ, Bool, true, false, List, [], ◌∷◌, ◌++◌, length, take, drop}
 use Rattle.otn_ports.specs.Views.{InView, Live, Dead}
 use Rattle.otn_ports.specs.Given.{Gave}
 use Rattle.otn_ports.specs.Reads.{HasEnded}
@@ -51,6 +51,25 @@ pub record GoesOnBy (found : Bool) (old new : CutView) : Type 0 where
 abbrev pub blocks_left : CutView → ℕ
 blocks_left c = (if c.ended then 0 else 1) + (400000 - (length c.line + length c.hand))
 
+-- nothing was read
+pub record NoneRead (result : Cut) (old : CutView) (came : List ℕ) (new : CutView) : Type 0 where
+  pub none : came ≡ []
+  pub ended : new.ended ≡ old.ended
+  pub alive : result ≢ Lost
+
+-- the last read: before it there was no LF, and no more bytes of a line than it may have
+pub record LastRead (result : Cut) (old : CutView) (came : List ℕ) (new : CutView) : Type 0 where
+  pub before : List ℕ
+  pub last : List ℕ
+  pub parts : came ≡ before ++ last
+  pub blocks : length before % 4096 ≡ 0
+  pub most : length last ≤ 4096
+  pub whole : result ≢ Lost → new.ended ≡ false → length last % 4096 ≡ 0
+  pub part : (new.ended ≡ true) ⊎ (result ≡ Lost) → length last < 4096
+  pub still_open : old.ended ≡ false
+  pub clean : has_lf old.line ≡ false → has_lf (all_of old before) ≡ false
+  pub short : length (all_of old before) ≤ 131055
+
 -- what a step from a line's beginning on met, in which these bytes came
 pub record Cuts (result : Cut) (old : CutView) (was : InView) (came : List ℕ) (new : CutView) (is : InView) : Type 0 where
   pub gave : Gave was came is
@@ -62,9 +81,10 @@ pub record Cuts (result : Cut) (old : CutView) (was : InView) (came : List ℕ) 
   pub more : result ≡ More → all_of old came ≡ new.line ++ new.hand
   pub ends_line : result ≡ Line → all_of old came ≡ new.line ++ 10 ∷ new.hand
   pub last : result ≡ Last → (all_of old came ≡ new.line) × (new.hand ≡ []) × (new.ended ≡ true) × (new.line ≢ [])
-  pub long : result ≡ Long → (all_of old came ≡ new.line ++ new.hand) × (131055 < length new.line)
+  pub long : result ≡ Long → (all_of old came ≡ new.line ++ new.hand) × (131055 < length new.line) × (new.hand ≡ [])
   pub end : result ≡ End → (all_of old came ≡ []) × (new.ended ≡ true)
   pub lost : result ≡ Lost → LostIn old was came new is × (new.ended ≡ false)
+  pub reads : NoneRead result old came new ⊎ LastRead result old came new
 
 -- a step in which some bytes came
 pub record CutsSome (result : Cut) (old : CutView) (was : InView) (new : CutView) (is : InView) : Type 0 where

@@ -1,10 +1,10 @@
 -- Where the lines of a place stand.
-use Rattle.std.specs.Prelude.{◌≡◌, ◌≢◌, ◌%◌, ◌^◌, ◌-◌, if◌then◌else◌, min, ℕ, Bool, true, false, List, [], ◌∷◌, ◌++◌, length, take}
+use Rattle.std.specs.Prelude.{◌≡◌, ◌≢◌, ◌<◌, ◌≤◌, ◌%◌, ◌^◌, ◌-◌, if◌then◌else◌, min, ℕ, Bool, true, false, List, [], ◌∷◌, ◌++◌, length, take}
 use Rattle.otn_ports.specs.Views.{InView, Live, Dead}
 use Rattle.otn_ports.specs.Given.{Gave}
 use Rattle.otn_ports.specs.Reads.{HasEnded}
 use Rattle.packet_text.specs.TextLines.{lines_of, full_lines, text_of_dead}
-use Rattle.packet_text.specs.PacketText.{Packets, Ended, BadAt, behind, packets_behind, packets_of, empty_lines}
+use Rattle.packet_text.specs.PacketText.{Packets, Ended, BadAt, behind, packets_behind, packets_of, shows_bad, empty_lines}
 use Rattle.packet_text.specs.Cutting.{cut_view}
 use Rattle.packet_text.specs.declared.line.Line.{Line}
 use Rattle.packet_text.specs.declared.line.Line.TheVariants.{Packet, End, Bad, Lost}
@@ -73,8 +73,28 @@ pub record GoesOn (taken : List ℕ) (packets : List (List ℕ)) (view : LinesVi
   pub empty : view.empty ≡ empty_lines lines
   pub blocks : view.ended ≡ false → length taken % 4096 ≡ 0
 
+-- whether the last read came short, at the place's end or its death
+abbrev pub came_short : Bool → Line → Bool
+came_short ended Packet = ended
+came_short ended End = ended
+came_short ended (Bad n) = ended
+came_short ended Lost = true
+
+-- How these bytes were read: by blocks of 4,096 bytes, but for a last read that came short. The last read was needed: what was taken
+-- before it shows no bad line.
+pub record ReadAsNeeded (short : Bool) (taken : List ℕ) : Type 0 where
+  pub before : List ℕ
+  pub last : List ℕ
+  pub parts : taken ≡ before ++ last
+  pub blocks : length before % 4096 ≡ 0
+  pub most : length last ≤ 4096
+  pub whole : short ≡ false → length last % 4096 ≡ 0
+  pub part : short ≡ true → length last < 4096
+  pub needed : shows_bad before ≡ false
+
 -- `first` and `now` are views of a place, between which these bytes were taken, and these packets given: whatever text it may turn
--- out to have, they are its first packets, and the last answer is right.
+-- out to have, they are its first packets, and the last answer is right. Before the end is seen no line is found bad but where the bytes
+-- that were taken show it, and then nothing more is read.
 pub record LinesStand (first now : InView) (taken : List ℕ) (packets : List (List ℕ)) (view : LinesView) : Type 0 where
   pub gave : Gave first taken now
   pub over : view.ended ≡ true → now.state ≡ Live → HasEnded now.left
@@ -83,6 +103,8 @@ pub record LinesStand (first now : InView) (taken : List ℕ) (packets : List (L
   pub lost : view.answer ≡ Lost → (view.ended ≡ false) × (now.state ≡ Dead)
   pub goes : view.answer ≡ Packet → GoesOn taken packets view
   pub told : (text : List ℕ) → MayBe view taken text → Told view.answer packets (packets_of text)
+  pub shown : (n : ℕ) → view.answer ≡ Bad n → view.ended ≡ false → shows_bad taken ≡ true
+  pub read : ReadAsNeeded (came_short view.ended view.answer) taken
 
 -- what the lines of a place are before anything was read
 abbrev pub fresh_lines : LinesView

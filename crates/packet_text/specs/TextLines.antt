@@ -1,5 +1,5 @@
 -- The lines of a text, each ended by LF; the last may have none.
-use Rattle.std.specs.Prelude.{ℕ, ◌*◌, ◌/◌, ◌==◌, ◌||◌, Bool, false, if◌then◌else◌, List, [], ◌∷◌, length, take}
+use Rattle.std.specs.Prelude.{ℕ, ◌*◌, ◌/◌, ◌==◌, ◌||◌, Bool, false, if◌then◌else◌, List, [], ◌∷◌, length, take, drop}
 
 -- whether there is an LF among these bytes
 unfoldable pub has_lf : List ℕ → Bool
@@ -20,6 +20,10 @@ lines_of (x ∷ xs) = if x == 10 then [] ∷ lines_of xs else with_byte x (lines
 unfoldable pub full_lines : List ℕ → List ℕ
 full_lines [] = []
 full_lines (x ∷ xs) = if has_lf (x ∷ xs) then x ∷ full_lines xs else []
+
+-- the bytes behind their last LF: the line that has begun
+abbrev pub begun_line : List ℕ → List ℕ
+begun_line bytes = drop (length (full_lines bytes)) bytes
 
 -- the whole blocks of 4,096 bytes
 unfoldable pub whole_blocks : List ℕ → List ℕ

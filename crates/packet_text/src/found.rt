@@ -1,6 +1,7 @@
 // What the next line of a text is.
 ghost use Rattle.std.specs.Prelude.{◌≡◌, ◌<◌, ◌≤◌, ◌+◌};
 ghost use Rattle.packet_text.specs.Finding.{answer_of};
+ghost use Rattle.otn_base.specs.declared.limits.TheConstants.{MOST_EMPTY_LINES};
 
 use crate::Line;
 use otn_base::limits::MOST_EMPTY_LINES;
@@ -29,8 +30,8 @@ pub(crate) fn answer_for(found: Found, number: u64) -> Line
 
 /// Passes over an empty line, if there were not too many in a row.
 pub(crate) fn pass(empty: &mut usize) -> Found
-    ensures bad { 65536 ≤ empty.old → (result ≡ Found.Bad) × (empty.new ≡ empty.old) }
-    ensures empty { empty.old < 65536 → (result ≡ Found.Empty) × (empty.new ≡ empty.old + 1) }
+    ensures bad { MOST_EMPTY_LINES ≤ empty.old → (result ≡ Found.Bad) × (empty.new ≡ empty.old) }
+    ensures empty { empty.old < MOST_EMPTY_LINES → (result ≡ Found.Empty) × (empty.new ≡ empty.old + 1) }
 {
     if *empty >= MOST_EMPTY_LINES {
         return Found::Bad;

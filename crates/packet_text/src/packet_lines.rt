@@ -3,6 +3,7 @@ ghost use Rattle.std.specs.Prelude.{◌≡◌, ◌≢◌, ◌<◌, ◌≤◌, �
 ghost use Rattle.otn_ports.specs.InPlace.{in_view};
 ghost use Rattle.otn_ports.specs.Views.{InView, Live, Dead};
 ghost use Rattle.otn_ports.specs.Given.{Gave};
+ghost use Rattle.otn_base.specs.declared.limits.TheConstants.{MOST_EMPTY_LINES};
 
 use crate::Line;
 use crate::cutter::{Cut, Cutter};
@@ -11,6 +12,7 @@ use crate::found::{Found, answer_for, pass};
 use otn_base::Memory;
 use otn_ports::{InPlaceOf, Source};
 use std::alloc::Global;
+use std::mem;
 
 // Bytes of a packet at most: half as many as a line has digits.
 const MOST_PACKET: usize = MOST_DIGITS / 2;
@@ -21,12 +23,15 @@ pub struct PacketLines {
     cutter: Cutter,
     packet: Vec<u8>,
     len: usize,
+    // Where the next line's bytes are made.
+    spare: Vec<u8>,
     number: u64,
     empty: usize,
     answer: Line,
     ghost packet_size: { vec_len packet ≡ 65527 },
+    ghost spare_size: { vec_len spare ≡ 65527 },
     ghost len_within: { len ≤ 65527 },
-    ghost empty_within: { empty ≤ 65536 },
+    ghost empty_within: { empty ≤ MOST_EMPTY_LINES },
 }
 
 impl PacketLines {
@@ -44,6 +49,7 @@ impl PacketLines {
             cutter: Cutter::new(alloc)?,
             packet: vec![in alloc; 0u8; MOST_PACKET]?,
             len: 0,
+            spare: vec![in alloc; 0u8; MOST_PACKET]?,
             number: 0,
             empty: 0,
             answer: Line::Packet,
@@ -62,8 +68,8 @@ impl PacketLines {
         self.answer = Line::Packet;
     }
 
-    /// The next line that counts. Bad has its number, from 1. After Bad, End or Lost the same answer is given again, and nothing
-    /// is read.
+    /// The next line that counts. Bad has its number, from 1: a line is found bad at its LF or at the text's end, or once more than
+    /// 131,055 bytes of it came. After Bad, End or Lost the same answer is given again, and nothing is read.
     pub fn take<P: Source>(&mut self, place: &mut InPlaceOf<P>) -> Line
         ensures answer { (lines_view self.new).answer ≡ result }
         ensures stands { (first : InView) (taken : List ℕ) (packets : List (List ℕ)) → LinesStand first (in_view P.Source place.old) taken packets (lines_view self.old)
@@ -74,6 +80,9 @@ impl PacketLines {
 
         // a packet has 1 to 65,527 bytes
         ensures packet { result ≡ Line.Packet → (1 ≤ length (lines_view self.new).packet) × (length (lines_view self.new).packet ≤ 65527) }
+
+        // which stays until the next comes
+        ensures kept { result ≢ Line.Packet → (lines_view self.new).packet ≡ (lines_view self.old).packet }
 
         // a block is read only where the last is used up: fewer bytes than a block are in hand
         ensures near { (lines_view self.old).answer ≡ Line.Packet → length (lines_view self.new).hand < 4096 }
@@ -88,7 +97,7 @@ impl PacketLines {
         }
     }
 
-    /// The packet of the last answer `Packet`.
+    /// The packet of the last answer `Packet`, which stands also behind `Bad`, `End` or `Lost`. Before the first it has no byte.
     pub fn packet(&self) -> &[u8]
         ensures { result.now ≡ (lines_view self.now).packet }
     {
@@ -102,6 +111,7 @@ impl PacketLines {
             → TakeStands first taken packets (lines_view self.old) (lines_view self.new) (in_view P.Source place.new) }
         ensures lost { result ≡ Line.Lost → ((in_view P.Source place.old).state ≡ Live) × ((in_view P.Source place.new).state ≡ Dead) }
         ensures some { result ≡ Line.Packet → 1 ≤ self.new.len }
+        ensures kept { result ≢ Line.Packet → (lines_view self.new).packet ≡ (lines_view self.old).packet }
         ensures near { self.new.cutter.end < self.new.cutter.at + 4096 }
         ensures quiet { (lines_view self.old).ended ≡ true → place.new ≡ place.old }
     {
@@ -116,6 +126,7 @@ impl PacketLines {
             → Finds result taken packets (lines_view self.old) (in_view P.Source place.old) (lines_view self.new) (in_view P.Source place.new) }
         ensures counts { result ≢ Found.Empty }
         ensures some { result ≡ Found.Packet → 1 ≤ self.new.len }
+        ensures kept { result ≢ Found.Packet → (lines_view self.new).packet ≡ (lines_view self.old).packet }
         ensures alive { result ≢ Found.Lost → (in_view P.Source place.new).state ≡ (in_view P.Source place.old).state }
         ensures lost { result ≡ Found.Lost → ((in_view P.Source place.old).state ≡ Live) × ((in_view P.Source place.new).state ≡ Dead) }
         ensures near { self.new.cutter.end < self.new.cutter.at + 4096 }
@@ -135,6 +146,7 @@ impl PacketLines {
             → Finds result taken packets (lines_view self.old) (in_view P.Source place.old) (lines_view self.new) (in_view P.Source place.new) }
         ensures rises { result ≡ Found.Empty → self.new.empty ≡ self.old.empty + 1 }
         ensures some { result ≡ Found.Packet → 1 ≤ self.new.len }
+        ensures kept { result ≢ Found.Packet → (lines_view self.new).packet ≡ (lines_view self.old).packet }
         ensures alive { result ≢ Found.Lost → (in_view P.Source place.new).state ≡ (in_view P.Source place.old).state }
         ensures lost { result ≡ Found.Lost → ((in_view P.Source place.old).state ≡ Live) × ((in_view P.Source place.new).state ≡ Dead) }
         ensures near { self.new.cutter.end < self.new.cutter.at + 4096 }
@@ -157,12 +169,14 @@ impl PacketLines {
         ensures some { result ≡ Found.Packet → 1 ≤ self.new.len }
         ensures cutter { self.new.cutter ≡ self.old.cutter }
         ensures line { (result ≢ Found.End) × (result ≢ Found.Lost) }
+        ensures kept { result ≢ Found.Packet → (lines_view self.new).packet ≡ (lines_view self.old).packet }
     {
         self.number = self.number.saturating_add(1);
-        match read_line(self.cutter.line(), &mut self.packet) {
+        match read_line(self.cutter.line(), &mut self.spare) {
             None => Found::Bad,
             Some(0) => pass(&mut self.empty),
             Some(n) => {
+                mem::swap(&mut self.packet, &mut self.spare);
                 self.len = n;
                 self.empty = 0;
                 Found::Packet
@@ -175,6 +189,7 @@ impl PacketLines {
         ensures result { result ≡ Found.Bad }
         ensures number { (lines_view self.new).number ≡ stopped ((lines_view self.old).number + 1) }
         ensures cutter { self.new.cutter ≡ self.old.cutter }
+        ensures kept { (lines_view self.new).packet ≡ (lines_view self.old).packet }
     {
         self.number = self.number.saturating_add(1);
         Found::Bad

@@ -1,33 +1,8 @@
 // Whole texts, line by line.
-ghost use Rattle.std.specs.Prelude.{None};
-
 use crate::{Line, PacketLines, write_packet};
-use otn_ports::{Failed, InPlaceOf, MemSink, MemSource, OutPlaceOf, Source, Written};
+use otn_ports::{InPlaceOf, ListedSink, ListedSource, MemSource, OutPlaceOf, Source, Written};
 use std::alloc::{AllocError, Global};
 use std::test::Fail;
-
-// A source that fails at the read after so many.
-#[derive(Drop)]
-struct FailsAfter {
-    source: MemSource,
-    reads: u32,
-    failed: u64,
-}
-
-impl Source for FailsAfter {
-    ghost left = { λ _. None };
-
-    ghost faults = { λ s. s.failed };
-
-    fn read(&mut self, into: &mut [u8]) -> Result<usize, Failed> {
-        if self.reads == 0 {
-            self.failed = self.failed.saturating_add(1);
-            return Err(Failed);
-        }
-        self.reads -= 1;
-        self.source.read(into)
-    }
-}
 
 // The lengths of the packets of a source, a thousand at most, the first byte of each, and the last answer.
 fn packets<P: Source>(alloc: Global, source: P) -> Result<(Vec<usize>, Vec<u8>, Line), AllocError> {
@@ -106,34 +81,86 @@ fn the_shortest_and_the_longest(rt: HostRuntime) -> Result<(), Fail> {
 #[test]
 fn fails_at_the_third_read(rt: HostRuntime) -> Result<(), Fail> {
     let alloc = rt.alloc();
-    let source = FailsAfter {
-        source: MemSource::new(lines_of(alloc, 60, 200)?),
-        reads: 2,
-        failed: 0,
-    };
+    let source = ListedSource::new(lines_of(alloc, 60, 200)?, [3_u32].to_vec(alloc)?, 4096);
     let (lengths, _, line) = packets(alloc, source)?;
     assert_eq!(rt; lengths.len(), 67);
+    for length in lengths.as_slice() {
+        assert_eq!(rt; *length, 60);
+    }
     assert_eq!(rt; line, Line::Lost);
     Ok(())
 }
 
+// Digits, so many, behind a text.
+fn digits_behind(alloc: Global, text: &[u8], count: u32) -> Result<Vec<u8>, AllocError> {
+    let mut bytes = Vec::from_slice(alloc, text)?;
+    for _ in 0..count {
+        bytes.push(b'7')?;
+    }
+    Ok(bytes)
+}
+
+// The first answer that is no packet, of a place whose source fails at the call of this number; how often it is given in three more
+// calls; and whether the place is live then.
+fn last_answer(
+    alloc: Global,
+    text: Vec<u8>,
+    failing: u32,
+) -> Result<(Line, u32, bool), AllocError> {
+    let source = ListedSource::new(text, [failing].to_vec(alloc)?, 4096);
+    let mut place = InPlaceOf::Live(source, 0);
+    let mut lines = PacketLines::new(alloc).map_err(|_memory| AllocError)?;
+    let mut last = Line::Packet;
+    for _ in 0..100_u32 {
+        if last == Line::Packet {
+            last = lines.take(&mut place);
+        }
+    }
+    let mut again = 0_u32;
+    for _ in 0..3_u32 {
+        if lines.take(&mut place) == last {
+            again = again.saturating_add(1);
+        }
+    }
+    Ok((last, again, is_live(&place)))
+}
+
+fn is_live<P>(place: &InPlaceOf<P>) -> bool {
+    matches!(place, InPlaceOf::Live(..))
+}
+
+// The source's next call would fail, and is not made: behind the end of the text, a bad line, and 32 blocks without LF.
 #[test]
-fn a_packet_is_written(rt: HostRuntime) -> Result<(), Fail> {
+fn nothing_is_read_behind_the_last_answer(rt: HostRuntime) -> Result<(), Fail> {
     let alloc = rt.alloc();
-    let sink = MemSink::with_room(alloc, 16).map_err(|_memory| AllocError)?;
+    let ends = Vec::from_slice(alloc, b"ff\n01")?;
+    assert_eq!(rt; last_answer(alloc, ends, 3)?, (Line::End, 3, true));
+    let bad = digits_behind(alloc, b"ff\nabc\n", 5000)?;
+    assert_eq!(rt; last_answer(alloc, bad, 2)?, (Line::Bad(2), 3, true));
+    let long = digits_behind(alloc, b"", 140_000)?;
+    assert_eq!(rt; last_answer(alloc, long, 33)?, (Line::Bad(1), 3, true));
+    let lost = lines_of(alloc, 60, 100)?;
+    assert_eq!(rt; last_answer(alloc, lost, 3)?, (Line::Lost, 3, false));
+    Ok(())
+}
+
+// The sink fails at its third write: two lines went out by then.
+#[test]
+fn a_line_is_one_write(rt: HostRuntime) -> Result<(), Fail> {
+    let alloc = rt.alloc();
+    let sink = ListedSink::with_room(alloc, 16, [3_u32].to_vec(alloc)?).map_err(
+        |_memory| AllocError,
+    )?;
     let mut place = OutPlaceOf::Live(sink, 0);
     let mut text = [0_u8; 9];
-    assert_eq!(rt;
-        write_packet(&mut place, &[0x0A, 0xFF], &mut text),
-        Written::Whole
-    );
-    match place {
-        OutPlaceOf::Live(sink, number) => {
-            assert_eq!(rt; number, 5);
-            assert_eq!(rt; sink.into_bytes().as_slice(), b"0aff\n".as_slice());
-        }
-        OutPlaceOf::Empty => assert!(rt; false),
-        OutPlaceOf::Dead(_sink, _number) => assert!(rt; false),
+    for (packet, written) in [
+        ([0x0A_u8, 0xFF], Written::Whole),
+        ([0x00, 0x10], Written::Whole),
+        ([0x11, 0x22], Written::Lost),
+    ] {
+        assert_eq!(rt; write_packet(&mut place, &packet, &mut text), written);
     }
+    assert_eq!(rt; place.kept(), Some(b"0aff\n0010\n".as_slice()));
+    assert!(rt; matches!(place, OutPlaceOf::Dead(_, 10)));
     Ok(())
 }

@@ -13,7 +13,7 @@ returns-in-Full-clause-cuts g c =
     let full : length block ≡ s.block.len = omega (arith, s.block_size) in
     let all : n ≡ length block = omega (arith, c.len-self.ensures) in
     let hand : take (n - 0) (drop 0 (with_items s.block block).items) ≡ block = hand_all n _ block all (with_items_is s.block block full) in
-    reads_more _ (record { line = s.line.items; hand = take (n - 0) (drop 0 (with_items s.block block).items); ended = s.ended }) _ _ _ _ c.read_block.ensures c.in-Full.is size c.requires.hand c.requires.open refl hand c.requires.open
+    reads_more _ (record { line = s.line.items; hand = take (n - 0) (drop 0 (with_items s.block block).items); ended = s.ended }) _ _ _ _ c.read_block.ensures c.in-Full.is size c.requires.hand c.requires.open refl hand c.requires.open c.requires.short
 
 pub invariant_of-self-in-End-clause-end_within : goal.invariant_of-self-in-End-clause-end_within
 invariant_of-self-in-End-clause-end_within g c = let e = (c.read_block.ensures.end c.in-End.n c.in-End.is).1 in omega arith
@@ -25,7 +25,7 @@ returns-in-End-clause-cuts g c =
     let n = c.in-End.n in
     let full : length block ≡ s.block.len = omega (arith, c.read_block.auto.block, c.deref_mut.ensures.len, s.block_size) in
     let hand : take (n - 0) (drop 0 (with_items s.block block).items) ≡ take n block = hand_from n _ ∙ ap (take n) (with_items_is s.block block full) in
-    reads_end _ (record { line = s.line.items; hand = take (n - 0) (drop 0 (with_items s.block block).items); ended = true }) _ n _ _ _ c.read_block.ensures c.in-End.is c.requires.hand c.requires.open refl hand refl
+    reads_end _ (record { line = s.line.items; hand = take (n - 0) (drop 0 (with_items s.block block).items); ended = true }) _ n _ _ _ c.read_block.ensures c.in-End.is c.requires.hand c.requires.open refl hand refl c.requires.short
 
 pub returns-in-Lost-clause-cuts : goal.returns-in-Lost-clause-cuts
-returns-in-Lost-clause-cuts g c = reads_lost _ _ _ _ _ _ c.read_block.ensures c.in-Lost.is c.requires.hand c.requires.open refl c.requires.open
+returns-in-Lost-clause-cuts g c = reads_lost _ _ _ _ _ _ c.read_block.ensures c.in-Lost.is c.requires.hand c.requires.open refl c.requires.open c.requires.short

@@ -4,7 +4,7 @@ use Rattle.packet_text.proofs.FindingLines.{finds_none, finds_then, empty_then}
 use Rattle.packet_text.proofs.packet_lines.PacketLines.search.Goals as goal
 
 pub loop-found-init : goal.loop-found-init
-loop-found-init g c = record { finds = λ taken packets h. finds_none taken packets _ _ h; alive = refl; quiet = λ e. (refl, e) }
+loop-found-init g c = record { finds = λ taken packets h. finds_none taken packets _ _ h; alive = refl; kept = refl; quiet = λ e. (refl, e) }
 
 pub loop-found-preserved : goal.loop-found-preserved
 loop-found-preserved g c =
@@ -14,6 +14,7 @@ loop-found-preserved g c =
     record {
       finds = λ taken packets h. (let f = i.finds taken packets h in empty_then taken packets _ _ _ _ _ _ _ empty f (e.finds _ packets (f.empty refl)));
       alive = e.alive (λ lost. cc) ∙ i.alive;
+      kept = e.kept (λ p. cc) ∙ i.kept;
       quiet = λ ended. (let q = i.quiet ended in let r = e.quiet q.1 in (r.0 ∙ q.0, r.1));
     }
 

@@ -10,6 +10,7 @@ invariant-loop-found g l = record {
   finds : (taken : List ℕ) (packets : List (List ℕ)) → GoesOn taken packets (lines_view l.fn.self)
       → Finds Empty taken packets (lines_view l.fn.self) (in_view g.P.Source l.fn.place) (lines_view l.self) (in_view g.P.Source l.place);
   alive : (in_view g.P.Source l.place).state ≡ (in_view g.P.Source l.fn.place).state;
+  kept : (lines_view l.self).packet ≡ (lines_view l.fn.self).packet;
   quiet : (lines_view l.fn.self).ended ≡ true → (l.place ≡ l.fn.place) × ((lines_view l.self).ended ≡ true);
 }
 
