@@ -11,3 +11,4 @@ pub mod Slices
 pub mod Growing
 pub mod ArrivingText
 pub mod WholeFrames
+pub mod PuttingOut

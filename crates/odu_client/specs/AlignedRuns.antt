@@ -1,6 +1,7 @@
 -- Client frames in any list of bytes. A list is looked at from a place on; what comes before the place does not count.
 use Rattle.std.specs.Prelude.{ℕ, zero, suc, ◌+◌, ◌%◌, ◌==◌, nat_lt, nat_le, ◌&&◌, Bool, if◌then◌else◌, List, [], ◌∷◌, ◌++◌, length, take, drop, slice_index}
 use Rattle.frame_geometry.specs.Places.{place_of, payload_row_of}
+use Rattle.otn_base.specs.declared.limits.TheConstants.{CLIENT_COLUMNS, CLIENT_FRAME_BYTES}
 
 -- the list begins with the six bytes of the FAS (G.709 clause 15.6.2.1)
 unfoldable pub has_fas : List ℕ → Bool
@@ -12,7 +13,7 @@ misses_after misses bytes = if has_fas bytes then 0 else misses + 1
 
 -- AIS, OCI and LCK: STAT, bits 6 to 8 of row 3, column 12, is 111, 110 or 101 (G.709 clause 15.8.2.2)
 abbrev pub is_signal : List ℕ → Bool
-is_signal frame = nat_le 5 (slice_index frame (place_of 3824 3 12) % 8)
+is_signal frame = nat_le 5 (slice_index frame (place_of CLIENT_COLUMNS 3 12) % 8)
 
 -- what arrives: a whole frame that is used, or a break
 pub data Arrival : Type 0 where
@@ -25,7 +26,7 @@ arrival_of frame = if is_signal frame then Broken else Handed frame
 
 -- a frame begins the list: what it is, if it is whole, in front of what comes behind it
 abbrev pub whole_frame : List ℕ → List Arrival → List Arrival
-whole_frame bytes later = if nat_lt (length bytes) 15296 then [] else arrival_of (take 15296 bytes) ∷ later
+whole_frame bytes later = if nat_lt (length bytes) CLIENT_FRAME_BYTES then [] else arrival_of (take CLIENT_FRAME_BYTES bytes) ∷ later
 
 -- a frame begins the list, behind so many in a row without the FAS: if it is the fifth, it is given up after its sixth byte, which is a
 -- break, and a search begins
@@ -37,12 +38,12 @@ unfoldable mutual
   -- the search: the first FAS is sought, byte by byte; it begins a frame
   pub searching : (places : ℕ) → List ℕ → List Arrival
   searching zero bytes = []
-  searching (suc places) bytes = if has_fas bytes then whole_frame bytes (framing places 0 (drop 15296 bytes)) else searching places (drop 1 bytes)
+  searching (suc places) bytes = if has_fas bytes then whole_frame bytes (framing places 0 (drop CLIENT_FRAME_BYTES bytes)) else searching places (drop 1 bytes)
 
   -- a frame begins wherever the former one has ended
   pub framing : (places misses : ℕ) → List ℕ → List Arrival
   framing zero misses bytes = []
-  framing (suc places) misses bytes = next_frame misses bytes (whole_frame bytes (framing places (misses_after misses bytes) (drop 15296 bytes))) (searching places (drop 6 bytes))
+  framing (suc places) misses bytes = next_frame misses bytes (whole_frame bytes (framing places (misses_after misses bytes) (drop CLIENT_FRAME_BYTES bytes))) (searching places (drop 6 bytes))
 
 -- the same where a search, or a frame behind so many without the FAS, is at the list's front
 abbrev pub from_search : List ℕ → List Arrival
@@ -57,7 +58,7 @@ arrivals bytes = from_search bytes
 
 -- the payload of a frame, row by row (G.709 clause 12.1)
 abbrev pub payload_of : List ℕ → List ℕ
-payload_of frame = payload_row_of 3824 1 frame ++ payload_row_of 3824 2 frame ++ payload_row_of 3824 3 frame ++ payload_row_of 3824 4 frame
+payload_of frame = payload_row_of CLIENT_COLUMNS 1 frame ++ payload_row_of CLIENT_COLUMNS 2 frame ++ payload_row_of CLIENT_COLUMNS 3 frame ++ payload_row_of CLIENT_COLUMNS 4 frame
 
 -- bytes in front of the first run
 abbrev pub with_payload : List ℕ → List (List ℕ) → List (List ℕ)

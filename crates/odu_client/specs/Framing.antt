@@ -11,6 +11,7 @@ use Rattle.packet_text.specs.declared.line.Line.{Line}
 use Rattle.packet_text.specs.declared.line.Line.TheVariants.{Packet, End, Lost}
 use Rattle.odu_client.specs.ClientFrames.{client_frames, frames_begun, stream_part}
 use Rattle.odu_client.specs.ClientInput.{gfp_length}
+use Rattle.otn_base.specs.declared.limits.TheConstants.{CLIENT_COLUMNS, CLIENT_PAYLOAD_BYTES}
 
 -- what is seen of a stream of GFP frames: its maker, whether its packets have FCS, the last answer of the text's lines, and how
 -- many packets were begun
@@ -74,12 +75,12 @@ pub record StreamGoes (first now : InView) (taken given : List ℕ) (packets : L
 -- a framer that has made so many frames, which carry these payload bytes, and of which these bytes are gone
 pub record Framed (packets : List (List ℕ)) (given : List ℕ) (count : ℕ) (gone : List ℕ) (framer : FramerState) : Type 0 where
   pub stream : StreamMade packets given framer.stream
-  pub size : length given ≡ 15232 * count
-  pub path : HasSent 3824 (client_frames framer.sapi count given) framer.path
+  pub size : length given ≡ CLIENT_PAYLOAD_BYTES * count
+  pub path : HasSent CLIENT_COLUMNS (client_frames framer.sapi count given) framer.path
   pub mfas : framer.mfas ≡ count % 256
   pub frames : gone ++ framer.left ≡ concat (client_frames framer.sapi count given)
-  pub fresh : framer.stream.answer ≢ Packet → framer.fresh ≡ true → 15232 * count ≤ gfp_length packets framer.stream.fcs + 15232
-  pub late : framer.stream.answer ≢ Packet → framer.fresh ≡ false → gfp_length packets framer.stream.fcs + 15232 < 15232 * count
+  pub fresh : framer.stream.answer ≢ Packet → framer.fresh ≡ true → CLIENT_PAYLOAD_BYTES * count ≤ gfp_length packets framer.stream.fcs + CLIENT_PAYLOAD_BYTES
+  pub late : framer.stream.answer ≢ Packet → framer.fresh ≡ false → gfp_length packets framer.stream.fcs + CLIENT_PAYLOAD_BYTES < CLIENT_PAYLOAD_BYTES * count
 
 -- `first` and `now` are views of the place of a client's text, between which these bytes were taken; and these bytes of its stream are
 -- gone since its start

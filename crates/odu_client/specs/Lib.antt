@@ -8,4 +8,5 @@ pub mod Framing
 pub mod PacketStream
 pub mod FramePuts
 pub mod FramerSteps
+pub mod OutputSteps
 pub mod Laws

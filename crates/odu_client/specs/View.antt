@@ -8,7 +8,7 @@ use Rattle.odu_client.specs.declared.aligner.ClientAligner.{ClientAligner}
 abbrev pub aligner_state : ClientAligner → AlignerState
 aligner_state a = record { searches = a.searching; misses = a.misses; held = a.held.items }
 
--- the frame that was handed on last
+-- the frame of the last answer Whole; before the first, bytes that are 0
 abbrev pub handed : ClientAligner → List ℕ
 handed a = a.frame
 

@@ -1,7 +1,8 @@
 // The frames of a client in the bytes that arrive.
-ghost use Rattle.std.specs.Prelude.{◌≡◌, ◌<◌, ◌≤◌, ◌++◌, ℕ, List, [], true, false, length, take, vec_len, IfOk};
+ghost use Rattle.std.specs.Prelude.{◌≡◌, ◌≢◌, ◌<◌, ◌≤◌, ◌++◌, ℕ, List, [], true, false, length, take, slice_index, vec_len, IfOk};
 ghost use Rattle.std.specs.Vec.{vec_capacity};
 ghost use Rattle.odu_client.specs.AlignedRuns.{misses_after};
+ghost use Rattle.otn_base.specs.declared.limits.TheConstants.{CLIENT_FRAME_BYTES};
 
 use crate::Aligned;
 use crate::buffer::append;
@@ -20,9 +21,9 @@ pub struct ClientAligner {
     held: Vec<u8>,
     frame: Frame<CLIENT_COLUMNS>,
     frames: u64,
-    ghost room: { 15296 ≤ vec_capacity held },
+    ghost room: { CLIENT_FRAME_BYTES ≤ vec_capacity held },
     ghost few: { misses < 5 },
-    ghost held_short: { vec_len held ≤ 15295 },
+    ghost held_short: { vec_len held < CLIENT_FRAME_BYTES },
     ghost search_short: { searching ≡ true → vec_len held ≤ 5 },
     ghost going: { 6 ≤ vec_len held → misses_after misses held.items < 5 },
 }
@@ -36,6 +37,7 @@ impl ClientAligner {
     pub fn new(alloc: Global) -> Result<ClientAligner, Memory>
         ensures aligned { IfOk result (λ aligner. HasAligned [] (aligner_state aligner)) }
         ensures fresh { IfOk result (λ aligner. aligner_state aligner ≡ searches_anew) }
+        ensures frame { IfOk result (λ aligner. (place : ℕ) → slice_index (handed aligner) place ≡ 0) }
         ensures frames { IfOk result (λ aligner. aligner.frames ≡ 0) }
     {
         Ok(ClientAligner {
@@ -47,10 +49,11 @@ impl ClientAligner {
         })
     }
 
-    /// Begins anew with a search.
+    /// Begins anew with a search. The frame of the last answer `Whole` stays.
     pub fn restart(&mut self)
         ensures aligned { HasAligned [] (aligner_state self.new) }
         ensures fresh { aligner_state self.new ≡ searches_anew }
+        ensures frame { handed self.new ≡ handed self.old }
         ensures frames { self.new.frames ≡ 0 }
     {
         self.held.clear();
@@ -63,6 +66,7 @@ impl ClientAligner {
     /// behind it.
     pub fn take(&mut self, byte: u8) -> Aligned
         ensures aligned { (taken : List ℕ) → HasAligned taken (aligner_state self.old) → Aligns taken byte result (handed self.new) (aligner_state self.new) }
+        ensures kept { result ≢ Aligned.Whole → handed self.new ≡ handed self.old }
         ensures frames { self.new.frames ≡ frames_after self.old.frames result }
     {
         if self.searching {
@@ -76,8 +80,10 @@ impl ClientAligner {
     pub fn take_some(&mut self, bytes: &[u8]) -> (Aligned, usize)
         ensures within { result.1 ≤ length bytes.now }
         ensures all { result.0 ≡ Aligned.Nothing → result.1 ≡ length bytes.now }
+        ensures some { 1 ≤ length bytes.now → 1 ≤ result.1 }
         ensures aligned { (taken : List ℕ) → HasAligned taken (aligner_state self.old) → AlignsBy taken (take result.1 bytes.now) result.0 (handed self.new) (aligner_state self.new) }
         ensures none_before { (taken : List ℕ) (k : ℕ) → HasAligned taken (aligner_state self.old) → k < result.1 → arrivals (taken ++ take k bytes.now) ≡ arrivals taken }
+        ensures kept { result.0 ≢ Aligned.Whole → handed self.new ≡ handed self.old }
         ensures frames { self.new.frames ≡ frames_after self.old.frames result.0 }
     {
         let mut done = 0;
@@ -99,6 +105,7 @@ impl ClientAligner {
     fn pass(&mut self, bytes: &[u8]) -> usize
         ensures within { result ≤ length bytes.now }
         ensures goes { (taken : List ℕ) → HasAligned taken (aligner_state self.old) → AlignsBy taken (take result bytes.now) Aligned.Nothing (handed self.new) (aligner_state self.new) }
+        ensures kept { handed self.new ≡ handed self.old }
         ensures frames { self.new.frames ≡ self.old.frames }
     {
         if self.searching {
@@ -112,7 +119,7 @@ impl ClientAligner {
         count
     }
 
-    /// The frame of the last answer `Whole`.
+    /// The frame of the last answer `Whole`, which stands until the next; before the first, all its bytes are 0.
     pub fn frame(&self) -> &Frame<CLIENT_COLUMNS>
         ensures { result.now ≡ handed self.now }
     {
@@ -129,6 +136,7 @@ impl ClientAligner {
     fn search(&mut self, byte: u8) -> Aligned
         requires { self.old.searching ≡ true }
         ensures goes { Goes (aligner_state self.old) byte result (handed self.new) (aligner_state self.new) }
+        ensures kept { handed self.new ≡ handed self.old }
         ensures frames { self.new.frames ≡ self.old.frames }
         ensures nothing { result ≡ Aligned.Nothing }
     {
@@ -148,6 +156,7 @@ impl ClientAligner {
     fn go_on(&mut self, byte: u8) -> Aligned
         requires { self.old.searching ≡ false }
         ensures goes { Goes (aligner_state self.old) byte result (handed self.new) (aligner_state self.new) }
+        ensures kept { result ≢ Aligned.Whole → handed self.new ≡ handed self.old }
         ensures frames { self.new.frames ≡ frames_after self.old.frames result }
     {
         append(&mut self.held, &[byte]);
@@ -161,11 +170,12 @@ impl ClientAligner {
             return Aligned::Nothing;
         }
         self.misses = count(self.misses, &self.held);
-        self.frame.fill_from(&self.held);
-        self.held.clear();
-        if has_signal(self.frame.as_bytes()) {
+        if has_signal(&self.held) {
+            self.held.clear();
             return Aligned::Break;
         }
+        self.frame.fill_from(&self.held);
+        self.held.clear();
         self.frames = self.frames.saturating_add(1);
         Aligned::Whole
     }

@@ -2,6 +2,7 @@
 ghost use Rattle.std.specs.Prelude.{◌≡◌, ◌*◌, ◌<◌, ◌≤◌, length, take, drop};
 ghost use Rattle.odu_client.specs.ClientFrames.{client_psi};
 ghost use Rattle.odu_client.specs.FramePuts.{RowWasPut, FrameWasPut};
+ghost use Rattle.otn_base.specs.declared.limits.TheConstants.{CLIENT_PAYLOAD_BYTES, PAYLOAD_COLUMNS};
 
 use frame_geometry::Frame;
 use frame_geometry::overhead::{FAS, PAYLOAD_COLUMN, PM_ROW, PSI_ROW, SECTION_ROW};
@@ -14,7 +15,7 @@ const GFP_MAPPING: u8 = 0x05;
 /// Writes the payload, 15,232 bytes, into a frame, and in front of it the alignment, with this MFAS, and the overhead of the OPU;
 /// columns 1 to 14 of rows 2 to 4 are left to the path.
 pub(crate) fn put_frame(frame: &mut Frame<CLIENT_COLUMNS>, mfas: u8, payload: &[u8])
-    requires { length payload.now ≡ 15232 }
+    requires { length payload.now ≡ CLIENT_PAYLOAD_BYTES }
     ensures { FrameWasPut mfas payload.now frame.new }
 {
     let _opened = frame.as_bytes();
@@ -45,10 +46,10 @@ fn psi(mfas: u8) -> u8
 
 // The payload of a row, from 0.
 fn row_of(payload: &[u8], row: usize) -> &[u8]
-    requires payload { length payload.now ≡ 15232 }
+    requires payload { length payload.now ≡ CLIENT_PAYLOAD_BYTES }
     requires row { row < 4 }
-    ensures bytes { result.now ≡ take 3808 (drop (3808 * row) payload.now) }
-    ensures size { length result.now ≡ 3808 }
+    ensures bytes { result.now ≡ take PAYLOAD_COLUMNS (drop (PAYLOAD_COLUMNS * row) payload.now) }
+    ensures size { length result.now ≡ PAYLOAD_COLUMNS }
 {
     &payload[PAYLOAD_COLUMNS * row..PAYLOAD_COLUMNS * row + PAYLOAD_COLUMNS]
 }
@@ -58,7 +59,7 @@ fn put_row(frame: &mut Frame<CLIENT_COLUMNS>, row: u32, overhead: &[u8], payload
     requires row_low { 1 ≤ row }
     requires row_high { row ≤ 4 }
     requires overhead { length overhead.now ≡ 16 }
-    requires payload { length payload.now ≡ 3808 }
+    requires payload { length payload.now ≡ PAYLOAD_COLUMNS }
     ensures { RowWasPut row overhead.now payload.now frame.old frame.new }
 {
     put_run(frame, row, 1, overhead);

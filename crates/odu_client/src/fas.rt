@@ -1,6 +1,7 @@
 // The frame alignment signal at the front of bytes.
 ghost use Rattle.std.specs.Prelude.{◌≡◌, true, false, ◌+◌, ◌<◌, ◌≤◌, length};
 ghost use Rattle.odu_client.specs.AlignedRuns.{has_fas, misses_after, is_signal};
+ghost use Rattle.otn_base.specs.declared.limits.TheConstants.{CLIENT_FRAME_BYTES};
 
 use frame_geometry::overhead::{FAS, PM_ROW, STAT_COLUMN};
 use otn_base::limits::CLIENT_COLUMNS;
@@ -55,7 +56,7 @@ pub(crate) fn is_given_up(misses: u8, held: &[u8]) -> bool
 
 /// Whether a frame has AIS, OCI or LCK.
 pub(crate) fn has_signal(frame: &[u8]) -> bool
-    requires { length frame.now ≡ 15296 }
+    requires { length frame.now ≡ CLIENT_FRAME_BYTES }
     ensures { result ≡ is_signal frame.now }
 {
     frame[STAT] % 8 >= 5

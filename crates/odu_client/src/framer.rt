@@ -7,6 +7,7 @@ ghost use Rattle.packet_text.specs.PacketText.{packets_of};
 ghost use Rattle.odu_client.specs.ClientInput.{input_of, is_spent, bad_line, packets_begun};
 ghost use Rattle.odu_client.specs.Framing.{FramerState, ClientStands, Fills, MayDie, TextStands};
 ghost use Rattle.odu_client.specs.FramerSteps.{fresh_framer, FramedSome, Makes, Gives};
+ghost use Rattle.otn_base.specs.declared.limits.TheConstants.{CLIENT_FRAME_BYTES, CLIENT_PAYLOAD_BYTES};
 
 use crate::client_frame::put_frame;
 use crate::packet_stream::PacketStream;
@@ -39,12 +40,13 @@ pub struct ClientFramer {
 impl Model for ClientFramer {
     ghost use Rattle.std.specs.Prelude.{◌≡◌, ◌≤◌, drop, vec_len};
     ghost use Rattle.odu_client.specs.Framing.{FramerState};
+    ghost use Rattle.otn_base.specs.declared.limits.TheConstants.{CLIENT_FRAME_BYTES, CLIENT_PAYLOAD_BYTES};
 
     ghost Value = { FramerState };
 
     ghost view = { λ f. record { sapi = f.trace; stream = f.stream; path = f.path; mfas = f.mfas; left = drop f.at f.frame; fresh = f.fresh } };
 
-    ghost invariant = { λ f. (vec_len f.payload ≡ 15232) × (f.at ≤ 15296) };
+    ghost invariant = { λ f. (vec_len f.payload ≡ CLIENT_PAYLOAD_BYTES) × (f.at ≤ CLIENT_FRAME_BYTES) };
 }
 
 impl ClientFramer {
@@ -185,7 +187,7 @@ impl ClientFramer {
         ensures some { 1 ≤ result }
         ensures within { result ≤ length into.old }
         ensures size { length into.new ≡ length into.old }
-        ensures short { length self.new.left < 15296 }
+        ensures short { length self.new.left < CLIENT_FRAME_BYTES }
         ensures gives { Gives (take result into.new) self.old self.new }
     {
         let count = into.len().min(CLIENT_FRAME_BYTES - self.at);

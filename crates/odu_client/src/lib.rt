@@ -15,4 +15,4 @@ mod tests;
 pub use aligned::Aligned;
 pub use aligner::ClientAligner;
 pub use framer::ClientFramer;
-pub use laws::{delivered_stays, packets_arrive};
+pub use laws::{delivered_stays, output_goes_on, packets_arrive};

@@ -41,7 +41,6 @@ invariant_of-self-then-has_signal-clause-few c =
     let here = few_here s.misses c.deref.result.now c.append.new.buffer.items c.deref.ensures.value (c.is_given_up.ensures.not_yet c.if-is_given_up.false) in
     let few : 6 ≤ length c.append.new.buffer.items → misses_after s.misses c.append.new.buffer.items < 5 = still_few s.misses c.args.byte s.held.items c.append.new.buffer.items a (λ six. s.going (omega arith)) here in
     let size : length c.append.new.buffer.items ≡ 15296 = omega arith in
-    let frame = c.fill_from.ensures ∙ c.deref-3.ensures.value in
     let count = c.count-self.ensures.value ∙ ap (misses_after s.misses) c.deref-2.ensures.value in
     let f = few (omega arith) in
     omega (arith, count)
@@ -56,10 +55,9 @@ returns-then-has_signal-clause-goes c =
     let here = few_here s.misses c.deref.result.now c.append.new.buffer.items c.deref.ensures.value (c.is_given_up.ensures.not_yet c.if-is_given_up.false) in
     let few : 6 ≤ length c.append.new.buffer.items → misses_after s.misses c.append.new.buffer.items < 5 = still_few s.misses c.args.byte s.held.items c.append.new.buffer.items a (λ six. s.going (omega arith)) here in
     let size : length c.append.new.buffer.items ≡ 15296 = omega arith in
-    let frame = c.fill_from.ensures ∙ c.deref-3.ensures.value in
     let count = c.count-self.ensures.value ∙ ap (misses_after s.misses) c.deref-2.ensures.value in
-    let signal = sym (ap is_signal (c.as_bytes.ensures.bytes ∙ frame)) ∙ sym c.has_signal.ensures ∙ c.if-has_signal.true in
-    ends _ _ _ _ _ _ c.append.new.buffer.items _ _ c.requires a size (few (omega arith)) count (news_break c.fill_from.new.self c.append.new.buffer.items signal) c.clear-2.ensures.items
+    let signal = sym (ap is_signal c.deref-3.ensures.value) ∙ sym c.has_signal.ensures ∙ c.if-has_signal.true in
+    ends _ _ _ _ _ _ c.append.new.buffer.items _ _ c.requires a size (few (omega arith)) count (news_break s.frame c.append.new.buffer.items signal) c.clear-then-has_signal.ensures.items
 
 pub invariant_of-self-2-clause-few : goal.invariant_of-self-2-clause-few
 invariant_of-self-2-clause-few c =
@@ -71,7 +69,6 @@ invariant_of-self-2-clause-few c =
     let here = few_here s.misses c.deref.result.now c.append.new.buffer.items c.deref.ensures.value (c.is_given_up.ensures.not_yet c.if-is_given_up.false) in
     let few : 6 ≤ length c.append.new.buffer.items → misses_after s.misses c.append.new.buffer.items < 5 = still_few s.misses c.args.byte s.held.items c.append.new.buffer.items a (λ six. s.going (omega arith)) here in
     let size : length c.append.new.buffer.items ≡ 15296 = omega arith in
-    let frame = c.fill_from.ensures ∙ c.deref-3.ensures.value in
     let count = c.count-self.ensures.value ∙ ap (misses_after s.misses) c.deref-2.ensures.value in
     let f = few (omega arith) in
     omega (arith, count)
@@ -86,7 +83,7 @@ returns-clause-goes c =
     let here = few_here s.misses c.deref.result.now c.append.new.buffer.items c.deref.ensures.value (c.is_given_up.ensures.not_yet c.if-is_given_up.false) in
     let few : 6 ≤ length c.append.new.buffer.items → misses_after s.misses c.append.new.buffer.items < 5 = still_few s.misses c.args.byte s.held.items c.append.new.buffer.items a (λ six. s.going (omega arith)) here in
     let size : length c.append.new.buffer.items ≡ 15296 = omega arith in
-    let frame = c.fill_from.ensures ∙ c.deref-3.ensures.value in
+    let frame = c.fill_from.ensures ∙ c.deref-4.ensures.value in
     let count = c.count-self.ensures.value ∙ ap (misses_after s.misses) c.deref-2.ensures.value in
-    let signal = sym (ap is_signal (c.as_bytes.ensures.bytes ∙ frame)) ∙ sym c.has_signal.ensures ∙ c.if-has_signal.false in
+    let signal = sym (ap is_signal c.deref-3.ensures.value) ∙ sym c.has_signal.ensures ∙ c.if-has_signal.false in
     ends _ _ _ _ _ _ c.append.new.buffer.items _ _ c.requires a size (few (omega arith)) count (news_whole c.fill_from.new.self c.append.new.buffer.items frame signal) c.clear-2.ensures.items

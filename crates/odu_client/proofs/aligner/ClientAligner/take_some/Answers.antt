@@ -17,6 +17,7 @@ loop-done-preserved c =
           let a = i.aligned taken h in
           let b = passed_on taken _ _ _ _ _ _ _ a (p.goes _ a.aligned) in
           none_on taken _ _ _ _ _ nothing (stepped_on taken _ _ _ _ _ _ _ (omega arith) b (t.aligned _ b.aligned));
+      kept = t.kept (λ whole. cc) ∙ p.kept ∙ i.kept;
       frames = t.frames ∙ ap (frames_after c.pass-done.new.self.frames) nothing ∙ p.frames ∙ i.frames;
     }
 

@@ -8,6 +8,7 @@ abbrev pub invariant-loop-done : goal.invariant-loop-done
 invariant-loop-done l = record {
   within : l.done ≤ length l.bytes;
   aligned : (taken : List ℕ) → HasAligned taken (aligner_state l.fn.self) → AlignsBy taken (take l.done l.bytes) Nothing (handed l.self) (aligner_state l.self);
+  kept : handed l.self ≡ handed l.fn.self;
   frames : l.self.frames ≡ l.fn.self.frames;
 }
 

@@ -1,0 +1,180 @@
+-- A client's output, step by step.
+use Rattle.std.proofs.Common.{◌≡◌, ◌+◌, ℕ, List, [], ◌∷◌, ◌++◌, length, arith, refl, sym, ap, ◌∙◌, append_assoc, append-nil, length-append}
+use Rattle.std.specs.Prelude.{flat_map}
+use Rattle.std.proofs.lemmas.Grind.{flat_map-append}
+use Rattle.gfp_frames.specs.Delivered.{delivered}
+use Rattle.gfp_frames.specs.Delineation.{sync_areas, from_hunt}
+use Rattle.gfp_frames.proofs.Reading.{hunt_short, none_to_come}
+use Rattle.packet_text.specs.LinesStand.{stopped}
+use Rattle.packet_text.specs.PacketText.{packet_line, hex_text}
+use Rattle.odu_client.specs.AlignedRuns.{Arrival, Handed, Broken, arrivals, searching, payload_of, with_payload, runs_of}
+use Rattle.odu_client.specs.Aligner.{news}
+use Rattle.odu_client.specs.ClientOutput.{arriving_packets, arriving_text, handed_count, arriving_frames}
+use Rattle.odu_client.specs.OutputSteps.{OutputStarts, OutputGoesOn, OutputGoesOnByByte, OutputTextGoesOn, FramesGoOn}
+use Rattle.odu_client.specs.View.{frames_after}
+use Rattle.odu_client.specs.declared.aligned.Aligned.{Aligned}
+use Rattle.odu_client.specs.declared.aligned.Aligned.TheVariants as aligned
+use Rattle.odu_client.proofs.Aligning.{by_byte}
+
+-- the last run, with which others go on
+record Split (xs : List Arrival) : Type 0 where
+  front : List (List ℕ)
+  last : List ℕ
+  was : runs_of xs ≡ front ++ last ∷ []
+  on : (ys : List Arrival) → runs_of (xs ++ ys) ≡ front ++ with_payload last (runs_of ys)
+
+payload_twice : (a b : List ℕ) (runs : List (List ℕ)) → with_payload a (with_payload b runs) ≡ with_payload (a ++ b) runs
+payload_twice a b [] = refl
+payload_twice a b (run ∷ runs) = ap (λ r. r ∷ runs) (sym (append_assoc a b run))
+
+payload_first : (frame : List ℕ) (xs : List Arrival) → Split xs → Split (Handed frame ∷ xs)
+unfolding runs_of
+payload_first frame xs s = by_front s.front s.was s.on
+  where
+    payload : List ℕ
+    payload = payload_of frame
+
+    by_front : (front : List (List ℕ)) → runs_of xs ≡ front ++ s.last ∷ [] → ((ys : List Arrival) → runs_of (xs ++ ys) ≡ front ++ with_payload s.last (runs_of ys)) → Split (Handed frame ∷ xs)
+    by_front [] was on = record {
+      front = [];
+      last = payload ++ s.last;
+      was = ap (with_payload payload) was;
+      on = λ ys. ap (with_payload payload) (on ys) ∙ payload_twice payload s.last (runs_of ys);
+    }
+    by_front (run ∷ front) was on = record {
+      front = (payload ++ run) ∷ front;
+      last = s.last;
+      was = ap (with_payload payload) was;
+      on = λ ys. ap (with_payload payload) (on ys);
+    }
+
+split : (xs : List Arrival) → Split xs
+unfolding runs_of
+split [] = record { front = []; last = []; was = refl; on = λ ys. some_first ys }
+  where
+    some_first : (ys : List Arrival) → runs_of ys ≡ with_payload [] (runs_of ys)
+    some_first [] = refl
+    some_first (Handed frame ∷ ys) = sym (payload_twice [] (payload_of frame) (runs_of ys))
+    some_first (Broken ∷ ys) = refl
+split (Handed frame ∷ xs) = payload_first frame xs (split xs)
+split (Broken ∷ xs) = let s = split xs in record { front = [] ∷ s.front; last = s.last; was = ap (λ r. [] ∷ r) s.was; on = λ ys. ap (λ r. [] ∷ r) (s.on ys) }
+
+-- a list has one last member
+record SameEnd (a b : List (List ℕ)) (x y : List ℕ) : Type 0 where
+  front : a ≡ b
+  last : x ≡ y
+
+same_end : (a b : List (List ℕ)) (x y : List ℕ) → a ++ x ∷ [] ≡ b ++ y ∷ [] → SameEnd a b x y
+same_end [] [] x y e = record { front = refl; last = cc }
+same_end [] (c ∷ b) x y e = absurd (let n = ap length e in let m = length-append b (y ∷ []) in omega arith)
+same_end (c ∷ a) [] x y e = absurd (let n = ap length e in let m = length-append a (x ∷ []) in omega arith)
+same_end (c ∷ a) (d ∷ b) x y e =
+    let head : c ≡ d = cc in
+    let tail : a ++ x ∷ [] ≡ b ++ y ∷ [] = cc in
+    let s = same_end a b x y tail in
+    record { front = rw (head, s.front) refl; last = s.last }
+
+-- what goes on behind the last run
+goes_behind : (xs ys : List Arrival) (ended : List (List ℕ)) (run : List ℕ) → runs_of xs ≡ ended ++ run ∷ [] → runs_of (xs ++ ys) ≡ ended ++ with_payload run (runs_of ys)
+goes_behind xs ys ended run e =
+    let s = split xs in
+    let same = same_end s.front ended s.last run (sym s.was ∙ e) in
+    s.on ys ∙ ap (λ f. f ++ with_payload s.last (runs_of ys)) same.front ∙ ap (λ l. ended ++ with_payload l (runs_of ys)) same.last
+
+pub handed_behind : (xs : List Arrival) (frame : List ℕ) (ended : List (List ℕ)) (run : List ℕ) → runs_of xs ≡ ended ++ run ∷ [] → runs_of (xs ++ Handed frame ∷ []) ≡ ended ++ (run ++ payload_of frame) ∷ []
+unfolding runs_of
+handed_behind xs frame ended run e = goes_behind xs (Handed frame ∷ []) ended run e ∙ ap (λ p. ended ++ (run ++ p) ∷ []) (append-nil (payload_of frame))
+
+pub broken_behind : (xs : List Arrival) (ended : List (List ℕ)) (run : List ℕ) → runs_of xs ≡ ended ++ run ∷ [] → runs_of (xs ++ Broken ∷ []) ≡ (ended ++ run ∷ []) ++ [] ∷ []
+unfolding runs_of
+broken_behind xs ended run e = goes_behind xs (Broken ∷ []) ended run e ∙ ap (λ p. ended ++ p ∷ [] ∷ []) (append-nil run) ∙ sym (append_assoc ended (run ∷ []) ([] ∷ []))
+
+no_bytes : delivered [] ≡ []
+unfolding delivered sync_areas
+no_bytes = none_to_come 0 (from_hunt []) (hunt_short [] (omega arith))
+
+-- the packets of all runs
+packets_of_runs : (ended : List (List ℕ)) (run : List ℕ) → flat_map delivered (ended ++ run ∷ []) ≡ flat_map delivered ended ++ delivered run
+packets_of_runs ended run = flat_map-append delivered ended (run ∷ []) ∙ ap (λ ps. flat_map delivered ended ++ ps) (append-nil (delivered run))
+
+pub output_starts : OutputStarts
+unfolding arriving_packets arrivals searching runs_of
+output_starts aligner reader aligned read = record {
+  ended = [];
+  run = [];
+  runs = refl;
+  aligned = aligned;
+  read = read;
+  all = sym (ap (λ ps. ps ++ []) no_bytes);
+}
+
+pub output_goes_on : OutputGoesOn
+unfolding arriving_packets
+output_goes_on arrived came frame packets more aligned.Nothing aligner next reader after h a r =
+    let same : arrivals (arrived ++ came) ≡ arrivals arrived = a.arrived ∙ append-nil (arrivals arrived) in
+    record {
+      ended = h.ended;
+      run = h.run;
+      runs = ap runs_of same ∙ h.runs;
+      aligned = a.aligned;
+      read = rw r.1 h.read;
+      all = ap (λ ps. packets ++ ps) r.0 ∙ append-nil packets ∙ h.all ∙ ap (λ xs. flat_map delivered (runs_of xs)) (sym same);
+    }
+output_goes_on arrived came frame packets more aligned.Whole aligner next reader after h a r =
+    let took = r h.run h.read in
+    let runs : runs_of (arrivals (arrived ++ came)) ≡ h.ended ++ (h.run ++ payload_of frame) ∷ [] = ap runs_of a.arrived ∙ handed_behind (arrivals arrived) frame h.ended h.run h.runs in
+    record {
+      ended = h.ended;
+      run = h.run ++ payload_of frame;
+      runs = runs;
+      aligned = a.aligned;
+      read = took.0;
+      all = ap (λ ps. ps ++ more) (h.all ∙ ap (flat_map delivered) h.runs ∙ packets_of_runs h.ended h.run)
+          ∙ append_assoc (flat_map delivered h.ended) (delivered h.run) more
+          ∙ ap (λ ps. flat_map delivered h.ended ++ ps) (sym took.1)
+          ∙ sym (packets_of_runs h.ended (h.run ++ payload_of frame)) ∙ sym (ap (flat_map delivered) runs);
+    }
+output_goes_on arrived came frame packets more aligned.Break aligner next reader after h a r =
+    let runs : runs_of (arrivals (arrived ++ came)) ≡ (h.ended ++ h.run ∷ []) ++ [] ∷ [] = ap runs_of a.arrived ∙ broken_behind (arrivals arrived) h.ended h.run h.runs in
+    record {
+      ended = h.ended ++ h.run ∷ [];
+      run = [];
+      runs = runs;
+      aligned = a.aligned;
+      read = r.1;
+      all = ap (λ ps. packets ++ ps) r.0 ∙ append-nil packets ∙ h.all ∙ ap (flat_map delivered) h.runs ∙ sym (packets_of_runs (h.ended ++ h.run ∷ []) [] ∙ ap (λ ps. flat_map delivered (h.ended ++ h.run ∷ []) ++ ps) no_bytes ∙ append-nil (flat_map delivered (h.ended ++ h.run ∷ []))) ∙ sym (ap (flat_map delivered) runs);
+    }
+
+pub output_goes_on_by_byte : OutputGoesOnByByte
+output_goes_on_by_byte arrived frame byte packets more answer aligner next reader after h a r =
+    output_goes_on arrived (byte ∷ []) frame packets more answer aligner next reader after h (by_byte arrived byte answer frame next a) r
+
+-- ---- the text
+
+text_behind : (xs ys : List (List ℕ)) → hex_text (xs ++ ys) ≡ hex_text xs ++ hex_text ys
+unfolding hex_text
+text_behind [] ys = refl
+text_behind (x ∷ xs) ys = ap (λ text. packet_line x ++ text) (text_behind xs ys) ∙ sym (append_assoc (packet_line x) (hex_text xs) (hex_text ys))
+
+pub output_text_goes_on : OutputTextGoesOn
+unfolding arriving_text
+output_text_goes_on arrived came packets more aligner next reader after h k =
+    sym (ap hex_text k.all) ∙ text_behind packets more ∙ ap (λ ps. hex_text ps ++ hex_text more) h.all
+
+-- ---- how many whole frames
+
+count_behind : (xs ys : List Arrival) → handed_count (xs ++ ys) ≡ handed_count xs + handed_count ys
+unfolding handed_count
+count_behind [] ys = omega arith
+count_behind (Handed frame ∷ xs) ys = let e = count_behind xs ys in omega (arith, e)
+count_behind (Broken ∷ xs) ys = count_behind xs ys
+
+count_news : (n frames : ℕ) (answer : Aligned) (frame : List ℕ) → frames ≡ stopped n → frames_after frames answer ≡ stopped (n + handed_count (news answer frame))
+unfolding handed_count
+count_news n frames aligned.Nothing frame e = omega (arith, e)
+count_news n frames aligned.Whole frame e = omega (arith, e)
+count_news n frames aligned.Break frame e = omega (arith, e)
+
+pub frames_go_on : FramesGoOn
+frames_go_on arrived came frame answer next frames a e =
+    count_news (arriving_frames arrived) frames answer frame e ∙ ap stopped (sym (ap handed_count a.arrived ∙ count_behind (arrivals arrived) (news answer frame)))
