@@ -1,4 +1,4 @@
--- Between two turns a line knows that it has ended exactly where it has; and the MFAS that is expected in hand.
+-- Between two turns a line knows that it has ended exactly where it has; and the frame in hand, and the MFAS that is expected in it.
 use Rattle.std.proofs.Common.{◌≡◌, ◌≤◌, ◌+◌, ◌-◌, ◌/◌, ◌%◌, ℕ, zero, suc, Bool, true, false, cond, ltb, leb, List, Option, Some, None, length, take, drop, arith, refl, sym, ap, ◌∙◌, subst}
 use Rattle.std.specs.Prelude.{IfSome, ◌↔◌, ⊤}
 use Rattle.std.proofs.lemmas.Bool.{ltb-false, le-ltb}
@@ -7,7 +7,7 @@ use Rattle.multiframe.specs.LineTurns.{Lock, Standing, Hunting, Locked, Ended, C
 use Rattle.multiframe.specs.Alignment.{Alignment, taken_of}
 use Rattle.multiframe.specs.TurnPieces.{AlignedIn, aligned_by, ended_in, in_hand, hand_at}
 use Rattle.line_side.specs.LineForm.{LineForm, size_of}
-use Rattle.line_side.specs.LineFile.{mfas_of}
+use Rattle.line_side.specs.LineFile.{frame_at, mfas_of}
 use Rattle.line_side.specs.MayBe.{MayBe}
 use Rattle.line_side.specs.LineStands.{LineView, LineStands}
 use Rattle.line_side.proofs.TurnEnds.{standing_suc, standing_none}
@@ -77,6 +77,14 @@ expected_by ms (Some lock) k result alignment h e =
     by_test : (b : Bool) → result ≡ (lock.expected + k) % 256 → IfSome {T = Lock} (cond b (Some (record { frame = lock.frame + k; expected = (lock.expected + k) % 256 })) None) (λ member. result ≡ member.expected)
     by_test true e = e
     by_test false e = tt
+
+-- the frame in hand is the one to which the last piece came
+pub hand_in : (form : LineForm) (first now : InView) (taken given frame : List ℕ) (t : ℕ) (line : LineView) → frame ≡ line.reader.hand → LineStands form first now taken t line
+    → MayBe form.scrambled line.reader.ending taken given
+    → IfSome (in_hand (size_of form) (mfas_of given) (standing (size_of form) (mfas_of given) t) line.pieces) (λ member. frame ≡ frame_at given member.frame)
+hand_in form first now taken given frame t line e h may =
+    let P : List ℕ → Type 0 = λ f. IfSome (in_hand (size_of form) (mfas_of given) (standing (size_of form) (mfas_of given) t) line.pieces) (λ member. f ≡ frame_at given member.frame) in
+    subst P (sym e) (h.is_line given may).hand
 
 -- the MFAS that is expected in hand is that of the alignment
 pub expected_is : (form : LineForm) (first now : InView) (taken given : List ℕ) (t k result : ℕ) (line : LineView) → line.pieces ≡ suc k → LineStands form first now taken t line

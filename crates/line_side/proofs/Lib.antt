@@ -15,5 +15,6 @@ pub mod Standing
 pub mod Ended
 pub mod Exits
 pub mod Members
+pub mod Numbers
 pub mod Made
 pub mod LineFiles

@@ -3,6 +3,7 @@ pub mod LineFile
 pub mod MayBe
 pub mod Reader
 pub mod LineStands
+pub mod LineNumbers
 pub mod LineMoves
 pub mod LineOutput
 pub mod Laws

@@ -15,9 +15,10 @@ pub record Keeps (old new : LineView) : Type 0 where
   pub pieces : new.pieces ≡ old.pieces
   pub lost : new.lost ≡ old.lost
 
--- a frame was taken into the alignment, and the line is locked, or none was taken
+-- a frame was taken into the alignment, and the line is locked, or none was taken, and the alignment stays
 pub record TakesMember (taken : Bool) (old new : LineView) : Type 0 where
   pub aligned : taken ≡ true → IsSome new.alignment
+  pub stays : taken ≡ false → new.alignment ≡ old.alignment
   pub count : members new ≡ members old + one_if taken
 
 -- so many more lead-in frames were passed over

@@ -69,6 +69,14 @@ counted_frames Empty made went = length made
 counted_frames Live made went = length went / LINE_FRAME_BYTES
 counted_frames Dead made went = length went / LINE_FRAME_BYTES
 
+-- whether a frame counts, by how its place stood before and after it was written: it was made on an empty place, or went out whole
+abbrev pub frame_counts : (was is : State) → Bool
+frame_counts Empty is = true
+frame_counts Live Live = true
+frame_counts Live Empty = false
+frame_counts Live Dead = false
+frame_counts Dead is = false
+
 -- Line n of this form has made the frames in which these were put. `first` and `now` are views of its place: between them the
 -- line's file was due to it, which is these frames, through the mask where the line is scrambled.
 pub record LineMade (n : ℕ) (form : LineForm) (first now : OutView) (puts : List FramePut) (line : LineOutView) : Type 0 where

@@ -1,10 +1,10 @@
 -- Where an input line stands in its turns.
-use Rattle.std.specs.Prelude.{◌≡◌, ◌≢◌, ◌↔◌, ◌+◌, ℕ, Bool, true, List, ◌++◌, length, Option, Some, None, IfSome, is_some}
+use Rattle.std.specs.Prelude.{◌≡◌, ◌≢◌, ◌↔◌, ◌+◌, ◌≤◌, ℕ, Bool, true, false, List, ◌++◌, length, Option, Some, None, IfSome, is_some}
 use Rattle.otn_base.specs.declared.line_kind.LineKind.{LineKind}
 use Rattle.otn_ports.specs.Views.{InView, Live}
 use Rattle.otn_ports.specs.Given.{Gave}
 use Rattle.otn_ports.specs.Reads.{HasEnded}
-use Rattle.multiframe.specs.LineTurns.{Ended, standing, multiframe, used_in, wanted_so_far, lost_count}
+use Rattle.multiframe.specs.LineTurns.{Ended, Lock, standing, multiframe, used_in, wanted_so_far, lost_count}
 use Rattle.multiframe.specs.Alignment.{Alignment}
 use Rattle.line_side.specs.LineForm.{LineForm, size_of}
 use Rattle.line_side.specs.LineFile.{frame_at, first_frames, mfas_of}
@@ -73,6 +73,15 @@ pub record PieceStands (form : LineForm) (first now : InView) (taken : List ℕ)
 abbrev pub InEachTurn : LineView → ((form : LineForm) → (given : List ℕ) → (t : ℕ) → Type 0) → Type 0
 InEachTurn line Holds = (form : LineForm) (first now : InView) (taken given : List ℕ) (t : ℕ) → LineStands form first now taken t line → MayBe form.scrambled line.reader.ending taken given
     → Holds form given t
+
+-- What holds of the frame of a multiframe to which the last piece of the turn came, if it came to one: of all bytes of the line
+-- and of the number of the frame with the MFAS expected in it.
+abbrev pub OfMember : LineView → ((given : List ℕ) → (member : Lock) → Type 0) → Type 0
+OfMember line Holds = InEachTurn line (λ form given t. IfSome (in_hand (size_of form) (mfas_of given) (standing (size_of form) (mfas_of given) t) line.pieces) (Holds given))
+
+-- The line takes no frame before its next turn: it has ended, or it hunts and has done so in this turn, in its first piece.
+abbrev pub AwaitsTurn : LineView → Type 0
+AwaitsTurn line = line.ended ≡ false → (1 ≤ line.pieces) × (line.alignment ≡ None)
 
 -- turn t + 1 has ended: whether it has a multiframe, and whether the line has ended
 pub record TurnEnded (form : LineForm) (given : List ℕ) (t : ℕ) (result : Bool) (new : LineView) : Type 0 where

@@ -50,17 +50,13 @@ impl Model for LineIn {
 }
 
 impl LineIn {
-    ghost use Rattle.otn_base.specs.declared.limits.TheConstants.{LINE_COLUMNS as COLUMNS};
-    ghost use Rattle.frame_geometry.specs.declared.overhead.TheConstants.{SECTION_ROW, SM_BIP8_COLUMN, PM_ROW, PM_BIP8_COLUMN};
-    ghost use Rattle.line_side.specs.LineForm.{LineForm, size_of};
-    ghost use Rattle.line_side.specs.LineStands.{LineStands, PieceStands, InEachTurn, TurnEnded, members, used_frames};
-    ghost use Rattle.frame_overhead.specs.TwoBefore.{stopped, wrong_parities};
-    ghost use Rattle.otu_overhead.specs.Section.{wrong_fas};
+    ghost use Rattle.line_side.specs.LineForm.{LineForm};
+    ghost use Rattle.line_side.specs.LineStands.{LineStands, PieceStands, InEachTurn, OfMember, AwaitsTurn, TurnEnded, members};
+    ghost use Rattle.line_side.specs.LineNumbers.{numbers_of};
     ghost use Rattle.line_side.specs.LineMoves.{TakesNext, Tries, Hunts, StepMoves, EndMoves, TakesMember, is_locked};
     ghost use Rattle.line_side.specs.Reader.{AsksNoMore};
-    ghost use Rattle.line_side.specs.LineFile.{mfas_of};
-    ghost use Rattle.multiframe.specs.LineTurns.{standing, one_if};
-    ghost use Rattle.multiframe.specs.TurnPieces.{in_hand};
+    ghost use Rattle.line_side.specs.LineFile.{frame_at};
+    ghost use Rattle.multiframe.specs.LineTurns.{one_if};
     ghost use Rattle.line_side.specs.declared.ending.Ending.TheVariants.{Open, Seen};
 
     /// A line of this kind, scrambled or plain, before its first turn, of which nothing was read.
@@ -100,6 +96,10 @@ impl LineIn {
         // once the end was seen, the place died or the line has ended, the place is asked nothing more
         ensures quiet { self.old.reader.ending ≢ Open → place.new ≡ place.old }
         ensures ended { self.old.ended ≡ true → place.new ≡ place.old }
+
+        // after a piece that came to no frame of a multiframe the turn's others come to none, and ask the place nothing
+        ensures missed { result ≡ false → AwaitsTurn self.new }
+        ensures awaits { AwaitsTurn self.old → (result ≡ false) × (place.new ≡ place.old) }
     {
         let first = self.pieces == 0;
         self.pieces += 1;
@@ -108,10 +108,12 @@ impl LineIn {
         self.member
     }
 
-    /// The frame in hand: one of the turn's multiframe. The last piece has said that there is one.
+    /// The frame in hand: one of the turn's multiframe, through the line's mask. The last piece has said that there is one.
+    #[tactic(auto, using(crate::proofs::Ended::hand_in))]
     pub fn frame(&self) -> &Frame<LINE_COLUMNS>
         requires { self.now.member ≡ true }
-        ensures { result.now ≡ self.now.reader.hand }
+        ensures hand { result.now ≡ self.now.reader.hand }
+        ensures line { OfMember self.now (λ given member. result.now ≡ frame_at given member.frame) }
     {
         self.reader.frame()
     }
@@ -120,8 +122,7 @@ impl LineIn {
     pub fn expected(&self) -> u8
         requires { self.now.member ≡ true }
         ensures alignment { IfSome self.now.alignment (λ a. result ≡ (a.expected + (self.now.pieces - 1)) % 256) }
-        ensures line { InEachTurn self.now (λ form given t.
-            IfSome (in_hand (size_of form) (mfas_of given) (standing (size_of form) (mfas_of given) t) self.now.pieces) (λ member. result ≡ member.expected)) }
+        ensures line { OfMember self.now (λ given member. result ≡ member.expected) }
     {
         let _ = &self.member;
         self.phase.expected(self.pieces - 1)
@@ -172,16 +173,13 @@ impl LineIn {
     }
 
     /// The numbers of the line so far.
+    #[tactic(auto, using(crate::proofs::Numbers::numbers_are))]
     pub fn counts(&self) -> LineCounts
         ensures frames { result.frames ≡ self.now.reader.frames }
         ensures lead_in { result.lead_in ≡ self.now.lead_in }
         ensures lost { result.lost ≡ self.now.lost }
         ensures rest { result.rest ≡ self.now.reader.rest }
-        ensures fas { InEachTurn self.now (λ form given t. result.fas ≡ stopped (wrong_fas (used_frames (size_of form) given t self.now.pieces))) }
-        ensures sm { InEachTurn self.now (λ form given t.
-            result.sm ≡ stopped (wrong_parities COLUMNS SECTION_ROW SM_BIP8_COLUMN (used_frames (size_of form) given t self.now.pieces))) }
-        ensures pm { InEachTurn self.now (λ form given t.
-            result.pm ≡ stopped (wrong_parities COLUMNS PM_ROW PM_BIP8_COLUMN (used_frames (size_of form) given t self.now.pieces))) }
+        ensures line { InEachTurn self.now (λ form given t. result ≡ numbers_of form self.now.reader.ending given t self.now.pieces) }
     {
         let seen = self.reader.seen();
         LineCounts {
@@ -205,7 +203,9 @@ impl LineIn {
         ensures kind { self.new.kind ≡ self.old.kind }
         ensures pieces { self.new.pieces ≡ self.old.pieces }
         ensures member { TakesMember result self.old self.new }
+        ensures missed { result ≡ false → self.new.ended ≡ false → self.new.alignment ≡ None }
         ensures rests { self.old.ended ≡ true → place.new ≡ place.old }
+        ensures waits { (self.old.ended ≡ false → (first ≡ false) × (self.old.alignment ≡ None)) → (result ≡ false) × (place.new ≡ place.old) }
         ensures quiet { AsksNoMore self.old.reader.ending place.old self.new.reader.ending place.new }
     {
         if self.ended {
@@ -223,6 +223,7 @@ impl LineIn {
         requires most { self.old.pieces ≤ slots_of self.old.kind }
         ensures takes { TakesNext result self.old (in_view P.Source place.old) self.new (in_view P.Source place.new) }
         ensures member { TakesMember result self.old self.new }
+        ensures ended { result ≡ false → self.new.ended ≡ true }
         ensures quiet { AsksNoMore self.old.reader.ending place.old self.new.reader.ending place.new }
     {
         if !self.reader.advance(place) {

@@ -1,8 +1,10 @@
 // An output line: it gives a frame to be filled, adds the overhead and writes it.
-ghost use Rattle.std.specs.Prelude.{◌≡◌, ◌<◌, ◌++◌, ◌∷◌, ℕ, List, [], IfOk, length, slice_index};
+ghost use Rattle.std.specs.Prelude.{◌≡◌, ◌≢◌, ◌<◌, ◌+◌, ◌++◌, ◌∷◌, ℕ, List, [], IfOk, length, slice_index};
 ghost use Rattle.otn_base.specs.declared.limits.TheConstants.{LINE_FRAME_BYTES as FRAME_BYTES};
 ghost use Rattle.otn_ports.specs.OutPlace.{out_view};
-ghost use Rattle.otn_ports.specs.Views.{OutView};
+ghost use Rattle.otn_ports.specs.Views.{OutView, Live};
+ghost use Rattle.multiframe.specs.LineTurns.{one_if as one_of};
+ghost use Rattle.line_side.specs.LineOutput.{frame_counts};
 
 use crate::mask::LineMask;
 use frame_geometry::Frame;
@@ -44,6 +46,8 @@ impl LineOut {
     ghost use Rattle.line_side.specs.Rows.{frame_row};
     ghost use Rattle.line_side.specs.LineForm.{LineForm};
     ghost use Rattle.line_side.specs.LineOutput.{FramePut, LineMade};
+    ghost use Rattle.line_side.specs.Reader.{stopped};
+    ghost use Rattle.otn_ports.specs.Given.{Gained};
 
     /// Line output n, 0 to 3, of this kind, scrambled or plain, before its first frame.
     pub fn new(alloc: Global, line: u8, kind: LineKind, scrambled: bool) -> Result<LineOut, Memory>
@@ -79,10 +83,16 @@ impl LineOut {
     }
 
     /// Adds the overhead to the frame, which has this MFAS on a line whose slots are used so, and writes it through the
-    /// line's mask.
+    /// line's mask. The MSI bytes are those of the map's slots, so the map of a line is one of its `kind`.
     pub fn finish<K: Sink>(&mut self, mfas: u8, map: &SlotMap, place: &mut OutPlaceOf<K>)
-        ensures { (n : ℕ) (form : LineForm) (first : OutView) (puts : List FramePut) → LineMade n form first (out_view K.Sink place.old) puts self.old
+        ensures made { (n : ℕ) (form : LineForm) (first : OutView) (puts : List FramePut) → LineMade n form first (out_view K.Sink place.old) puts self.old
             → LineMade n form first (out_view K.Sink place.new) (puts ++ record { mfas = mfas; ports = map.now; bytes = self.old.frame } ∷ []) self.new }
+        ensures form { self.new.form ≡ self.old.form }
+
+        // bytes go to a live place, which may die of its own port's fault, and any other place is asked nothing
+        ensures gained { (went : List ℕ) × Gained (out_view K.Sink place.old) went (out_view K.Sink place.new) }
+        ensures quiet { (out_view K.Sink place.old).state ≢ Live → place.new ≡ place.old }
+        ensures frames { self.new.frames ≡ stopped (self.old.frames + one_of (frame_counts (out_view K.Sink place.old).state (out_view K.Sink place.new).state)) }
     {
         self.frame.set(PSI_ROW, PSI_COLUMN, psi_byte(mfas, map));
         let parity = parity(&self.frame);
@@ -118,7 +128,9 @@ fn trace_of(line: u8) -> Trace
 
 // Writes a frame, and says whether it counts: it went out whole, or the place is empty.
 fn send<K: Sink>(place: &mut OutPlaceOf<K>, frame: &[u8]) -> bool
-    ensures { Writes result (out_view K.Sink place.old) frame.now (out_view K.Sink place.new) }
+    ensures writes { Writes result (out_view K.Sink place.old) frame.now (out_view K.Sink place.new) }
+    ensures counts { result ≡ frame_counts (out_view K.Sink place.old).state (out_view K.Sink place.new).state }
+    ensures quiet { (out_view K.Sink place.old).state ≢ Live → place.new ≡ place.old }
 {
     if is_dead(place) {
         return false;
@@ -148,8 +160,6 @@ fn is_whole(written: Written) -> bool
         Written::Lost => false,
     }
 }
-
-ghost use Rattle.multiframe.specs.LineTurns.{one_if as one_of};
 
 fn one_if(counts: bool) -> u64
     ensures { result ≡ one_of counts }

@@ -36,7 +36,15 @@ returns-clause-hunts g c =
 pub returns-in-Locks-clause-member : goal.returns-in-Locks-clause-member
 returns-in-Locks-clause-member g c = record {
   aligned = c.in-Locks.ensures.member.aligned;
+  stays = λ f. absurd (cc);
   count = (let x = c.in-Locks.ensures.member.count in let y = c.loop.invariant.members in omega arith);
+}
+
+pub returns-in-Ends-clause-member : goal.returns-in-Ends-clause-member
+returns-in-Ends-clause-member g c = record {
+  aligned = λ f. absurd (cc);
+  stays = λ _. c.in-Ends.ensures.member.stays refl ∙ c.loop.invariant.hunts.alignment;
+  count = (let x = c.in-Ends.ensures.member.count in let y = c.loop.invariant.members in omega arith);
 }
 
 pub returns-in-Locks-clause-quiet : goal.returns-in-Locks-clause-quiet
