@@ -49,6 +49,11 @@ pub record StandsAfter (own : Tributary) (past : List (Option View)) (frames : L
   pub message : greatest own.slots ≤ length frames → s.message ≡ message_in (slice_get frames (greatest own.slots - 1))
   pub msi : s.msi ≡ flat_map (msi_in own) frames
 
+-- What holds of a sink after whatever turns it stands: it is one of this tributary, these are the views of the turns that ended, the
+-- last first, and these the frames that it has taken of the turn after them.
+abbrev pub AfterAnyTurns : Sink → ((own : Tributary) → (past : List (Option View)) → (frames : List Taken) → Type 0) → Type 0
+AfterAnyTurns sink Holds = (own : Tributary) (past : List (Option View)) (frames : List Taken) → StandsAfter own past frames sink → Holds own past frames
+
 -- the view of a turn of these frames, where it has a multiframe
 abbrev pub ended_view : Tributary → (whole : Bool) → List Taken → Option View
 ended_view own whole frames = turn_view own (if whole then Some frames else None)

@@ -9,10 +9,15 @@ use arrayvec::ArrayVec;
 use frame_geometry::Frame;
 use odtu_columns::message;
 use otn_base::Slots;
-use otn_base::limits::MOST_SLOTS;
+use otn_base::limits::{LINE_COLUMNS, MOST_SLOTS};
 
 /// The message of a multiframe so far: that of frame `n` where it is the frame of the greatest slot.
-pub(crate) fn message_so_far(slots: &Slots, n: u8, frame: &Frame<4080>, former: [u8; 6]) -> [u8; 6]
+pub(crate) fn message_so_far(
+    slots: &Slots,
+    n: u8,
+    frame: &Frame<LINE_COLUMNS>,
+    former: [u8; 6],
+) -> [u8; 6]
     requires { n < MOST_SLOTS }
     ensures { result ≡ (if n + 1 == greatest slots.now.list then message_of frame.now else former) }
 {
@@ -34,7 +39,7 @@ fn greatest_slot(slots: &Slots) -> u8
 /// Notes the MSI byte of a frame, with its slot, where an own one has its MSI byte there.
 pub(crate) fn note_msi(
     slots: &Slots,
-    frame: &Frame<4080>,
+    frame: &Frame<LINE_COLUMNS>,
     expected: u8,
     came: &mut ArrayVec<(u8, u8), MOST_SLOTS>,
 )

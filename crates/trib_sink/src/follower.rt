@@ -1,5 +1,5 @@
 // How a sink follows its tributary from turn to turn, without totals.
-ghost use Rattle.std.specs.Prelude.{◌≡◌, ◌+◌, ◌*◌, ◌<◌, ◌≤◌, [], ◌++◌, Some, IfOk, length, take, drop};
+ghost use Rattle.std.specs.Prelude.{◌≡◌, ◌+◌, ◌-◌, ◌*◌, ◌<◌, ◌≤◌, [], ◌++◌, Some, IfOk, length, take, drop};
 ghost use Rattle.otn_base.specs.declared.limits.TheConstants.{GROUPS, MOST_SLOTS, NOMINAL};
 ghost use Rattle.maintenance_signals.specs.declared.signal.Signal.TheVariants.{Ais};
 ghost use Rattle.maintenance_signals.specs.Stream.{signal_byte};
@@ -16,7 +16,7 @@ use crate::said::{begun, gone_on};
 use frame_geometry::Frame;
 use jc_codec::Listener;
 use maintenance_signals::{Signal, SignalBytes};
-use otn_base::limits::NOMINAL;
+use otn_base::limits::{LINE_COLUMNS, NOMINAL};
 use otn_base::{Memory, Slots};
 use std::alloc::Global;
 use std::marker::Model;
@@ -83,7 +83,7 @@ impl Follower {
     }
 
     /// Extracts the data groups of a frame.
-    pub(crate) fn take_frame(&mut self, frame: &Frame<4080>, slots: &Slots)
+    pub(crate) fn take_frame(&mut self, frame: &Frame<LINE_COLUMNS>, slots: &Slots)
         requires count { length slots.now.list ≡ self.old.extraction.slots }
         requires asked { self.old.extraction.asked + 4 * row_cycles slots.now.kind ≤ GROUPS }
         ensures { self.new ≡ record self.old { extraction = after_frame slots.now frame.now self.old.extraction } }
@@ -110,6 +110,7 @@ impl Follower {
         ensures at { (s : Machine) → IsAt s self.old → IsAt (after_heard self.old.extraction.slots heard self.old.extraction.fresh s) self.new }
         ensures bytes { (s : Machine) → IsAt s self.old → into.new ≡ gives_heard self.old.extraction.slots (signal_byte Ais) heard self.old.extraction.fresh s ++ drop result into.old }
         ensures count { (s : Machine) → IsAt s self.old → result ≡ length (gives_heard self.old.extraction.slots (signal_byte Ais) heard self.old.extraction.fresh s) }
+        ensures most { result ≤ self.old.extraction.slots * GROUPS + (self.old.extraction.slots - 1) }
         ensures between { IsBetween self.old self.new }
     {
         match self.standing {
@@ -158,6 +159,7 @@ impl Follower {
         ensures at { (s : Machine) → IsAt s self.old → IsAt (opened first (record { standing = StandingDown; pending = []; place = s.place + self.old.extraction.slots * NOMINAL })) self.new }
         ensures bytes { (s : Machine) → IsAt s self.old → into.new ≡ down_gives first (stream_bytes (signal_byte Ais) s.place (self.old.extraction.slots * NOMINAL)) ++ drop result into.old }
         ensures count { (s : Machine) → IsAt s self.old → result ≡ length (down_gives first (stream_bytes (signal_byte Ais) s.place (self.old.extraction.slots * NOMINAL))) }
+        ensures most { result ≤ self.old.extraction.slots * GROUPS + (self.old.extraction.slots - 1) }
         ensures between { IsBetween self.old self.new }
     {
         match first {
@@ -178,6 +180,7 @@ impl Follower {
         ensures at { (s : Machine) → IsAt s self.old → IsAt (record { standing = StandingDown; pending = []; place = s.place + self.old.extraction.slots * NOMINAL }) self.new }
         ensures bytes { (s : Machine) → IsAt s self.old → into.new ≡ stream_bytes (signal_byte Ais) s.place (self.old.extraction.slots * NOMINAL) ++ drop result into.old }
         ensures count { result ≡ self.old.extraction.slots * NOMINAL }
+        ensures most { result ≤ self.old.extraction.slots * GROUPS + (self.old.extraction.slots - 1) }
         ensures between { IsBetween self.old self.new }
     {
         let count = self.payload.slots() * NOMINAL;
@@ -195,6 +198,7 @@ impl Follower {
         ensures at { (s : Machine) → IsAt s self.old → IsAt (went_on next said s.pending self.old.extraction.fresh) self.new }
         ensures bytes { (s : Machine) → IsAt s self.old → into.new ≡ up_gives next said s.pending self.old.extraction.fresh ++ drop result into.old }
         ensures count { (s : Machine) → IsAt s self.old → result ≡ length (up_gives next said s.pending self.old.extraction.fresh) }
+        ensures most { result ≤ self.old.extraction.slots * GROUPS + (self.old.extraction.slots - 1) }
         ensures between { IsBetween self.old self.new }
     {
         let _opened = &self.payload;
@@ -233,6 +237,7 @@ impl Follower {
         ensures at { (s : Machine) → IsAt s self.old → IsAt (record { standing = Up next; pending = drop due self.old.extraction.fresh; place = 0 }) self.new }
         ensures bytes { into.new ≡ self.old.extraction.pending ++ take due self.old.extraction.fresh ++ drop result into.old }
         ensures count { result ≡ length (self.old.extraction.pending ++ take due self.old.extraction.fresh) }
+        ensures most { result ≤ self.old.extraction.slots * GROUPS + (self.old.extraction.slots - 1) }
         ensures between { IsBetween self.old self.new }
     {
         let count = self.payload.give_due(due, next.number, into);
@@ -248,6 +253,7 @@ impl Follower {
         ensures at { (s : Machine) → IsAt s self.old → IsAt (record { standing = StandingDown; pending = []; place = 0 }) self.new }
         ensures bytes { into.new ≡ self.old.extraction.pending ++ drop result into.old }
         ensures count { result ≡ length self.old.extraction.pending }
+        ensures most { result ≤ self.old.extraction.slots * GROUPS + (self.old.extraction.slots - 1) }
         ensures between { IsBetween self.old self.new }
     {
         let count = self.payload.give_pending(into);

@@ -8,7 +8,7 @@ use crate::extract;
 use circular_buffer::HeapCircularBuffer;
 use frame_geometry::Frame;
 use gmp_rule::Runner;
-use otn_base::limits::{GROUPS, PAYLOAD_COLUMNS};
+use otn_base::limits::{GROUPS, LINE_COLUMNS, PAYLOAD_COLUMNS};
 use otn_base::{Memory, Slots};
 use std::alloc::Global;
 use std::marker::Model;
@@ -61,7 +61,7 @@ impl Payload {
     }
 
     /// Extracts the data groups of a frame, row by row.
-    pub(crate) fn take_frame(&mut self, frame: &Frame<4080>, slots: &Slots)
+    pub(crate) fn take_frame(&mut self, frame: &Frame<LINE_COLUMNS>, slots: &Slots)
         requires count { length slots.now.list ≡ self.old.slots }
         requires asked { self.old.asked + 4 * row_cycles slots.now.kind ≤ GROUPS }
         ensures { self.new ≡ after_frame slots.now frame.now self.old }
@@ -71,7 +71,7 @@ impl Payload {
     }
 
     // Extracts the data groups of a row and of the next one.
-    fn take_rows(&mut self, frame: &Frame<4080>, slots: &Slots, row: u32)
+    fn take_rows(&mut self, frame: &Frame<LINE_COLUMNS>, slots: &Slots, row: u32)
         requires low { 1 ≤ row }
         requires high { row ≤ 3 }
         requires count { length slots.now.list ≡ self.old.slots }
@@ -110,6 +110,7 @@ impl Payload {
         ensures state { self.new ≡ record self.old { number = number; asked = 0; pending = drop due self.old.fresh; fresh = [] } }
         ensures bytes { into.new ≡ self.old.pending ++ take due self.old.fresh ++ drop result into.old }
         ensures count { result ≡ length (self.old.pending ++ take due self.old.fresh) }
+        ensures most { result ≤ self.old.slots * GROUPS + due }
     {
         let fresh = self.ring.len() - self.held;
         let count = self.held + fresh.min(due as usize);
@@ -125,6 +126,7 @@ impl Payload {
         ensures state { self.new ≡ record self.old { number = 0; asked = 0; pending = []; fresh = [] } }
         ensures bytes { into.new ≡ self.old.pending ++ drop result into.old }
         ensures count { result ≡ length self.old.pending }
+        ensures most { result ≤ self.old.slots * GROUPS }
     {
         let count = self.held;
         self.ring.read_into(&mut into[..count]);

@@ -1,10 +1,10 @@
 // The sink of a tributary.
-ghost use Rattle.std.specs.Prelude.{◌≡◌, ℕ, ◌+◌, ◌*◌, ◌<◌, ◌≤◌, List, [], ◌∷◌, ◌++◌, Option, IfOk, IsTrue, length, drop};
+ghost use Rattle.std.specs.Prelude.{◌≡◌, ◌+◌, ◌-◌, ◌*◌, ◌<◌, ◌≤◌, [], ◌∷◌, ◌++◌, IfOk, IsTrue, length, drop};
 ghost use Rattle.maintenance_signals.specs.declared.signal.Signal.TheVariants.{Ais};
 ghost use Rattle.maintenance_signals.specs.Stream.{signal_byte};
 ghost use Rattle.otn_base.specs.LineSlots.{slots_of};
 ghost use Rattle.otn_base.specs.declared.limits.TheConstants.{GROUPS};
-ghost use Rattle.tributary_model.specs.Places.{Tributary, tributary_of, Taken, View};
+ghost use Rattle.tributary_model.specs.Places.{tributary_of};
 ghost use Rattle.tributary_model.specs.Stretches.{state_after};
 ghost use Rattle.tributary_model.specs.Emission.{emission};
 ghost use Rattle.tributary_model.specs.Machine.{state_of_standing};
@@ -15,7 +15,7 @@ use crate::turn::hear_turn;
 use arrayvec::ArrayVec;
 use frame_geometry::Frame;
 use msi_table::MsiWatch;
-use otn_base::limits::MOST_SLOTS;
+use otn_base::limits::{LINE_COLUMNS, MOST_SLOTS};
 use otn_base::{Memory, Slots};
 use std::alloc::Global;
 use std::marker::Model;
@@ -45,7 +45,7 @@ impl Model for TribSink {
 }
 
 impl TribSink {
-    ghost use Rattle.trib_sink.specs.Sink.{StandsAfter, ended_view};
+    ghost use Rattle.trib_sink.specs.Sink.{AfterAnyTurns, StandsAfter, ended_view};
 
     /// A sink of these slots and this tributary port (1 to the number of the line's slots), before its
     /// first turn. Takes all memory that it will ever need, 30,464 bytes a slot and a row; answers
@@ -56,6 +56,7 @@ impl TribSink {
         ensures stands { IfOk result (λ s. StandsAfter (tributary_of slots.now port) [] [] s) }
         ensures taken { IfOk result (λ s. s.taken ≡ 0) }
         ensures slots { IfOk result (λ s. s.slots ≡ slots.now) }
+        ensures port { IfOk result (λ s. s.port ≡ port) }
     {
         let follower = Follower::new(alloc, slots.count() as usize)?;
         let slots = slots.clone()?;
@@ -72,7 +73,7 @@ impl TribSink {
 
     /// How the sink stands after the turns that ended.
     pub fn state(&self) -> SinkState
-        ensures { (own : Tributary) (past : List (Option View)) (frames : List Taken) → StandsAfter own past frames self.now → result ≡ state_after own past }
+        ensures { AfterAnyTurns self.now (λ own past frames. result ≡ state_after own past) }
     {
         state_of(self.follower.standing())
     }
@@ -82,6 +83,7 @@ impl TribSink {
         ensures stands { StandsAfter (tributary_of self.old.slots self.old.port) [] [] self.new }
         ensures taken { self.new.taken ≡ 0 }
         ensures slots { self.new.slots ≡ self.old.slots }
+        ensures port { self.new.port ≡ self.old.port }
     {
         let _rising = self.slots.count();
         self.follower.restart();
@@ -93,13 +95,13 @@ impl TribSink {
 
     /// Takes frame `n` (from 0; a multiframe has as many as the line has slots) of a turn, of which `n`
     /// frames are taken, with the MFAS number that is expected of it.
-    pub fn take_frame(&mut self, n: u8, frame: &Frame<4080>, expected: u8)
+    pub fn take_frame(&mut self, n: u8, frame: &Frame<LINE_COLUMNS>, expected: u8)
         requires number { n < slots_of self.old.slots.kind }
         requires taken { n ≡ self.old.taken }
-        ensures stands { (own : Tributary) (past : List (Option View)) (frames : List Taken) → StandsAfter own past frames self.old
-            → StandsAfter own past (frames ++ record { frame = frame.now; expected = expected } ∷ []) self.new }
+        ensures stands { AfterAnyTurns self.old (λ own past frames. StandsAfter own past (frames ++ record { frame = frame.now; expected = expected } ∷ []) self.new) }
         ensures taken { self.new.taken ≡ self.old.taken + 1 }
         ensures slots { self.new.slots ≡ self.old.slots }
+        ensures port { self.new.port ≡ self.old.port }
     {
         self.follower.take_frame(frame, &self.slots);
         self.message = message_so_far(&self.slots, n, frame, self.message);
@@ -108,19 +110,19 @@ impl TribSink {
     }
 
     /// Ends a turn: `whole` says that it has a multiframe, all of whose frames were taken. `into` has at
-    /// its front the bytes that the turn emits, and the answer is how many they are: at most
-    /// `most_bytes` of the slots. In a turn without a multiframe no byte that was taken counts.
+    /// its front the bytes that the turn emits, and the answer is how many they are: at most 15,232 groups
+    /// and a part of one. In a turn without a multiframe no byte that was taken counts.
     pub fn end_turn(&mut self, whole: bool, into: &mut [u8]) -> usize
         requires whole { IsTrue whole → self.old.taken ≡ slots_of self.old.slots.kind }
         requires room { length self.old.slots.list * (GROUPS + 1) ≤ length into.old }
-        ensures stands { (own : Tributary) (past : List (Option View)) (frames : List Taken) → StandsAfter own past frames self.old
-            → StandsAfter own (ended_view own whole frames ∷ past) [] self.new }
-        ensures bytes { (own : Tributary) (past : List (Option View)) (frames : List Taken) → StandsAfter own past frames self.old
-            → into.new ≡ emission own (signal_byte Ais) past (ended_view own whole frames) ++ drop result into.old }
-        ensures count { (own : Tributary) (past : List (Option View)) (frames : List Taken) → StandsAfter own past frames self.old
-            → result ≡ length (emission own (signal_byte Ais) past (ended_view own whole frames)) }
+        ensures stands { AfterAnyTurns self.old (λ own past frames. StandsAfter own (ended_view own whole frames ∷ past) [] self.new) }
+        ensures bytes { AfterAnyTurns self.old (λ own past frames. into.new ≡ emission own (signal_byte Ais) past (ended_view own whole frames) ++ drop result into.old) }
+        ensures count { AfterAnyTurns self.old (λ own past frames. result ≡ length (emission own (signal_byte Ais) past (ended_view own whole frames))) }
+        ensures within { result ≤ length into.old }
+        ensures most { result ≤ length self.old.slots.list * GROUPS + (length self.old.slots.list - 1) }
         ensures taken { self.new.taken ≡ 0 }
         ensures slots { self.new.slots ≡ self.old.slots }
+        ensures port { self.new.port ≡ self.old.port }
     {
         let heard = hear_turn(
             whole,

@@ -15,6 +15,7 @@ use frame_geometry::Frame;
 use jc_codec::say;
 use odtu_columns::put_message;
 use otn_base::Slots;
+use otn_base::limits::LINE_COLUMNS;
 
 /// The six bytes that say a number after a former one, or without one, and the bytes over.
 pub(crate) fn say_turn(former: Option<u16>, number: u16, rest: u16) -> [u8; 6]
@@ -30,7 +31,12 @@ pub(crate) fn say_turn(former: Option<u16>, number: u16, rest: u16) -> [u8; 6]
 
 /// Puts the message into frame `n` where it is the frame of the greatest slot, and bytes 0 into its place
 /// where it is that of another one; every other byte stays.
-pub(crate) fn put_own_message(slots: &Slots, n: u8, message: [u8; 6], frame: &mut Frame<4080>)
+pub(crate) fn put_own_message(
+    slots: &Slots,
+    n: u8,
+    message: [u8; 6],
+    frame: &mut Frame<LINE_COLUMNS>,
+)
     requires { n < slots_of slots.now.kind }
     ensures greatest { n + 1 ≡ greatest slots.now.list → message_of frame.new ≡ message }
     ensures other { Contains slots.now.list (n + 1) → n + 1 ≢ greatest slots.now.list → message_of frame.new ≡ 0 ∷ 0 ∷ 0 ∷ 0 ∷ 0 ∷ 0 ∷ [] }

@@ -11,7 +11,7 @@ use circular_buffer::HeapCircularBuffer;
 use frame_geometry::Frame;
 use gmp_rule::{Runner, data_groups};
 use odtu_columns::put_row_groups;
-use otn_base::limits::{GROUPS, OTU2_SLOTS, OTU3_SLOTS, PAYLOAD_COLUMNS, ROWS};
+use otn_base::limits::{GROUPS, LINE_COLUMNS, OTU2_SLOTS, OTU3_SLOTS, PAYLOAD_COLUMNS, ROWS};
 use otn_base::{LineKind, Slots};
 
 // The rows of a frame, in the type of their numbers.
@@ -33,7 +33,7 @@ pub(crate) fn put_rows(
     ring: &mut HeapCircularBuffer<u8>,
     slots: &Slots,
     scratch: &mut [u8],
-    frame: &mut Frame<4080>,
+    frame: &mut Frame<LINE_COLUMNS>,
 )
     requires number { number ≡ runner.old.number }
     requires low { number ≤ GROUPS }

@@ -11,7 +11,7 @@ use crate::rows::{cycles_in_row, groups_before, put_rows};
 use circular_buffer::HeapCircularBuffer;
 use frame_geometry::Frame;
 use gmp_rule::Runner;
-use otn_base::limits::GROUPS;
+use otn_base::limits::{GROUPS, LINE_COLUMNS};
 use otn_base::{Memory, Slots};
 use std::alloc::Global;
 use std::marker::Model;
@@ -112,10 +112,19 @@ impl TribSource {
         self.filled = 0;
     }
 
+    /// How many bytes the next turn may bring: those that, with the bytes over of the last turn, complete at
+    /// most 15,232 groups.
+    pub fn room(&self) -> usize
+        ensures { result + self.now.rest + 1 ≡ length self.now.slots.list * (GROUPS + 1) }
+    {
+        let m = self.slots.count() as usize;
+        m * (GROUPS + 1) - 1 - self.rest as usize
+    }
+
     /// Puts the turn's groups and message into its frame `n`, from 0 and below the number of the line's
     /// slots, where `n` frames of it were filled: into the payload columns of the slots, and into the
     /// message bytes where the frame is one of theirs. Every other byte stays.
-    pub fn fill(&mut self, n: u8, frame: &mut Frame<4080>)
+    pub fn fill(&mut self, n: u8, frame: &mut Frame<LINE_COLUMNS>)
         requires number { n < slots_of self.old.slots.kind }
         requires filled { n ≡ self.old.filled }
         requires begun { IsSome self.old.said }

@@ -155,6 +155,18 @@ fn wrong_turn(
     Ok(first_wrong(&mut source, &bytes, kind.slots(), at, turns, &mut frame))
 }
 
+// How many bytes the turn after one that brings so many may bring.
+fn room_after(alloc: Global, list: &[u8], kind: LineKind, count: usize) -> Result<usize, Memory> {
+    let Some(slots) = Slots::new(list, kind) else {
+        return Ok(0);
+    };
+    let size = slots.count() as usize * GROUPS;
+    let bytes = numbered(alloc, size)?;
+    let mut source = TribSource::new(alloc, &slots)?;
+    begin(&mut source, &bytes[..count.min(size)]);
+    Ok(source.room())
+}
+
 #[test]
 fn messages(rt: HostRuntime) -> Result<(), Fail> {
     let alloc = rt.alloc();
@@ -178,6 +190,7 @@ fn messages(rt: HostRuntime) -> Result<(), Fail> {
         wrong_turn(alloc, &[17], LineKind::Otu3, 16, &ONE_OF_OTU3)?,
         0
     );
+    assert_eq!(rt; room_after(alloc, &[1, 2, 8], LineKind::Otu2, 5)?, 45_696);
     Ok(())
 }
 
