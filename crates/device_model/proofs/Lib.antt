@@ -1,1 +1,17 @@
 pub mod LineViews
+pub mod Kept
+pub mod SeenNumbers
+pub mod SoundEnds
+pub mod SoundEntries
+pub mod Apart
+pub mod SoundPlans
+pub mod MadeFrames
+pub mod MadeTurns
+pub mod MadeShows
+pub mod GotTurns
+pub mod Carried
+pub mod CarriedFrom
+pub mod ClientStreams
+pub mod GotStreams
+pub mod Delivery
+pub mod Chains

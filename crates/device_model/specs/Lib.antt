@@ -1,2 +1,15 @@
 pub mod Agreements
 pub mod LineViews
+pub mod Entries
+pub mod SoundPlans
+pub mod Through
+pub mod LineFiles
+pub mod Moments
+pub mod Inputs
+pub mod Outcomes
+pub mod Report
+pub mod Numbers
+pub mod Made
+pub mod Carried
+pub mod Delivery
+pub mod Chains

@@ -1,9 +1,18 @@
 //! What a device shows and carries, over the definitions of its layers: definitions that the node and the
 //! top call cite, and laws about them, each the contract of a function.
 //!
+//! - `carriage`: what the file of an output line shows and carries of the connections that go to it.
 //! - `line_views`: what the turns of a line show of a tributary, and what a sink on it emits.
+//! - `outcome`: how a run ends, and what the from end of a connection is.
+//! - `plans`: what is promised of a plan that breaks no rule.
 #![tactic(auto)]
 
+mod carriage;
 mod line_views;
+mod outcome;
+mod plans;
 
+pub use carriage::{carried_from, carried_on, carried_through_all, made_files, packets_at_client};
 pub use line_views::{same_views, whole_views};
+pub use outcome::{FromState, Outcome};
+pub use plans::accepted_plans;

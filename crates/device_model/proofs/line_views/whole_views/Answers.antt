@@ -1,5 +1,6 @@
+use Rattle.std.proofs.Common.{rules}
 use Rattle.device_model.proofs.LineViews.{whole_at}
 use Rattle.device_model.proofs.line_views.whole_views.Goals as goal
 
 pub returns : goal.returns
-returns c = whole_at
+returns c = search (rules, whole_at)

@@ -1,0 +1,87 @@
+-- The numbers of a run, by its plan, what its inputs gave, and what went to its outputs.
+use Rattle.std.specs.Prelude.{◌≡◌, ◌-◌, ◌*◌, ◌==◌, ℕ, true, if◌then◌else◌, nat_lt, List, length, filter, Option, Some, None, option_map, slice_get}
+use Rattle.std.specs.List.{Contains}
+use Rattle.otn_base.specs.declared.kind.PortName.TheVariants as port
+use Rattle.otn_ports.specs.Views.{State, Empty, Live, Dead, BaysView}
+use Rattle.line_side.specs.LineFile.{mfas_of}
+use Rattle.line_side.specs.LineForm.{LineForm, size_of}
+use Rattle.line_side.specs.LineNumbers.{numbers_of}
+use Rattle.line_side.specs.LineOutput.{counted_frames}
+use Rattle.line_side.specs.Reader.{stopped}
+use Rattle.line_side.specs.declared.ending.Ending.{Ending}
+use Rattle.line_side.specs.declared.ending.Ending.TheVariants.{Open, Seen, Died}
+use Rattle.multiframe.specs.LineTurns.{wanted}
+use Rattle.odu_client.specs.ClientInput.{ClientInput, packets_begun, is_spent, bad_line}
+use Rattle.odu_client.specs.ClientOutput.{arriving_packets, arriving_frames}
+use Rattle.plan_file.specs.declared.connection.Connection.{Connection}
+use Rattle.plan_file.specs.declared.connection.FromEnd.TheVariants as from_end
+use Rattle.plan_file.specs.declared.connection.ToEnd.TheVariants as to_end
+use Rattle.plan_file.specs.declared.plan.Plan.{Plan}
+use Rattle.device_model.specs.Entries.{first_turn, form_in, form_out}
+use Rattle.device_model.specs.LineFiles.{IsLineFile}
+use Rattle.device_model.specs.Moments.{uses, turns_done}
+use Rattle.device_model.specs.Outcomes.{place_state, emitted_in_all, IsOutcome}
+use Rattle.device_model.specs.Report.{Numbers, ClientInNumbers, ClientOutNumbers}
+use Rattle.device_model.specs.Through.{Inputs, OwnInput, own_input, arrived_by, state_in}
+use Rattle.device_model.specs.declared.outcome.FromState.{FromState}
+
+-- ---- of a line
+
+-- How a line that was read stands with its place in the end: the place died; or its end was seen, where the turns wanted a frame that is not
+-- whole; or neither.
+abbrev pub ending_of : State → (whole wanted : ℕ) → Ending
+ending_of Dead whole wanted = Died
+ending_of Live whole wanted = if nat_lt whole wanted then Seen else Open
+ending_of Empty whole wanted = if nat_lt whole wanted then Seen else Open
+
+abbrev pub line_ending : State → LineForm → (given : List ℕ) → (turns : ℕ) → Ending
+line_ending state form given turns = ending_of state (length (mfas_of given)) (wanted (size_of form) (mfas_of given) turns)
+
+-- ---- of a client
+
+-- how many whole lines a text has: each ends in a line feed
+abbrev pub whole_lines : (text : List ℕ) → ℕ
+whole_lines text = length (filter (λ byte. byte == 10) text)
+
+-- how many of the delivered packets count: on an empty place all, else those whose line went out whole
+abbrev pub counted_packets : State → (packets : List (List ℕ)) → (went : List ℕ) → ℕ
+counted_packets Empty packets went = length packets
+counted_packets Live packets went = whole_lines went
+counted_packets Dead packets went = whole_lines went
+
+-- of the client input of a connection, when all its turns are done
+abbrev pub client_numbers : Connection → ClientInput → ClientInNumbers
+client_numbers x input = record {
+  packets = stopped (packets_begun input.packets x.fcs (emitted_in_all x));
+  spent = is_spent input x.fcs (emitted_in_all x);
+  bad = option_map stopped (bad_line input x.fcs (emitted_in_all x));
+}
+
+-- of its client output, to which this text went; a place that was so at first
+abbrev pub output_numbers : State → (arrived went : List ℕ) → ClientOutNumbers
+output_numbers first arrived went = record { frames = stopped (arriving_frames arrived); packets = stopped (counted_packets first (arriving_packets arrived) went) }
+
+-- ---- of a connection
+
+-- what its from end was after the last turn of the plan; nothing where the connection was not active in that
+abbrev pub last_state : (turns : ℕ) → Connection → OwnInput → Option FromState
+last_state turns x input = if x.stop == turns then Some (state_in x input (turns - first_turn x)) else None
+
+-- ---- of all
+
+-- what went to the output lines and to the client outputs
+pub record Went : Type 0 where
+  pub line : (b : ℕ) → List ℕ
+  pub client : (n : ℕ) → List ℕ
+
+-- The numbers of a run whose places were first and last so, whose inputs gave these, and to whose outputs this went.
+pub record AreNumbers (plan : Plan) (inputs : Inputs) (went : Went) (first last : BaysView) (numbers : Numbers) : Type 0 where
+  pub line_in : (a : ℕ) → uses plan (port.LineIn a) ≡ true
+      → numbers.line_in a ≡ numbers_of (form_in plan a) (line_ending (place_state last (port.LineIn a)) (form_in plan a) (inputs.line a) plan.turns) (inputs.line a) plan.turns 0
+  pub line_out : (b : ℕ) (frames : List (List ℕ)) → uses plan (port.LineOut b) ≡ true → IsLineFile plan inputs b (size_of (form_out plan b) * plan.turns) frames
+      → numbers.line_out b ≡ stopped (counted_frames (place_state first (port.LineOut b)) frames (went.line b))
+  pub client_in : (x : Connection) (n : ℕ) → Contains plan.connections x → x.from ≡ from_end.Client n → numbers.client_in n ≡ client_numbers x (inputs.client n)
+  pub client_out : (x : Connection) (n : ℕ) → Contains plan.connections x → x.to ≡ to_end.Client n
+      → numbers.client_out n ≡ output_numbers (place_state first (port.ClientOut n)) (arrived_by x (own_input inputs x) (turns_done x plan.turns 0)) (went.client n)
+  pub from : (i : ℕ) (x : Connection) → slice_get plan.connections i ≡ Some x → numbers.from i ≡ last_state plan.turns x (own_input inputs x)
+  pub outcome : IsOutcome plan inputs last numbers.outcome

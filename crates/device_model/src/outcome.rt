@@ -1,0 +1,27 @@
+// How a run ends, and what the from end of a connection is.
+
+/// What the end that a connection comes from is, after a turn in which the connection was active.
+#[derive(Clone, Copy, Debug, PartialEq, Eq)]
+pub enum FromState {
+    /// A client.
+    Client,
+    /// A maintenance signal.
+    Signal,
+    /// A tributary of a line, whose sink waits for its first multiframes.
+    Waiting,
+    /// A tributary of a line, whose sink follows it.
+    Up,
+    /// A tributary of a line, whose sink has lost it or never found it: it emits AIS.
+    Down,
+}
+
+/// How a run ends.
+#[derive(Clone, Copy, Debug, PartialEq, Eq)]
+pub enum Outcome {
+    /// Every input was read to its end.
+    Done,
+    /// Bytes of a line were left, or a client was not spent.
+    Unfinished,
+    /// A place that the plan uses is dead.
+    Cut,
+}
