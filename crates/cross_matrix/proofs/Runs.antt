@@ -1,0 +1,209 @@
+-- Runs of payload bytes, as frames and breaks arrive, and what they deliver.
+use Rattle.std.proofs.Common.{◌≡◌, ℕ, ◌+◌, ◌-◌, ◌<◌, ◌≤◌, List, [], ◌∷◌, ◌++◌, length, take, drop, arith, refl, sym, ap, subst, ◌∙◌, append_assoc, append-nil, length-drop}
+use Rattle.std.specs.Prelude.{flat_map}
+use Rattle.std.proofs.lemmas.Grind.{flat_map-append}
+use Rattle.std.proofs.lemmas.List.{take_rest}
+use Rattle.std.proofs.Math.Seq.{take-add, take-length}
+use Rattle.frame_geometry.specs.Places.{payload_row_of}
+use Rattle.gfp_frames.specs.Delivered.{plain_areas, delivered}
+use Rattle.gfp_frames.specs.Delineation.{sync_areas, hunting}
+use Rattle.gfp_frames.specs.Reader.{ReaderState, HasRead}
+use Rattle.odu_client.proofs.PuttingOut.{handed_behind, broken_behind, frames_go_on}
+use Rattle.odu_client.specs.AlignedRuns.{Arrival, Handed, Broken, searching, arrivals, payload_of, with_payload, runs_of}
+use Rattle.odu_client.specs.Aligner.{AlignerState, HasAligned, news, AlignsBy}
+use Rattle.odu_client.specs.ClientOutput.{arriving_packets, arriving_text, arriving_frames, handed_count}
+use Rattle.odu_client.specs.View.{frames_after}
+use Rattle.odu_client.specs.declared.aligned.Aligned.{Aligned}
+use Rattle.otn_ports.specs.Views.{State, Empty, Live, Dead, OutView}
+use Rattle.otn_ports.proofs.GivenLaws.{gained_none}
+use Rattle.packet_text.specs.LinesStand.{stopped}
+use Rattle.packet_text.specs.PacketText.{hex_text}
+use Rattle.device_model.specs.Numbers.{counted_packets}
+use Rattle.cross_matrix.specs.Receiving.{ReceiverView, last_run, ReceiverStands, LinesSent, RunRead, AllRead}
+
+-- all runs but the last
+abbrev pub front_runs : List (List ℕ) → List (List ℕ)
+front_runs [] = []
+front_runs (run ∷ []) = []
+front_runs (run ∷ next ∷ runs) = run ∷ front_runs (next ∷ runs)
+
+-- there is a run always
+record SomeRun (runs : List (List ℕ)) : Type 0 where
+  first : List ℕ
+  rest : List (List ℕ)
+  parts : runs ≡ first ∷ rest
+
+some_run : (xs : List Arrival) → SomeRun (runs_of xs)
+unfolding runs_of
+some_run [] = record { first = []; rest = []; parts = refl }
+some_run (Handed frame ∷ xs) = let s = some_run xs in record { first = payload_of frame ++ s.first; rest = s.rest; parts = ap (with_payload (payload_of frame)) s.parts }
+some_run (Broken ∷ xs) = record { first = []; rest = runs_of xs; parts = refl }
+
+with_last : (run : List ℕ) (runs : List (List ℕ)) → run ∷ runs ≡ front_runs (run ∷ runs) ++ last_run (run ∷ runs) ∷ []
+with_last run [] = refl
+with_last run (next ∷ runs) = ap (λ rs. run ∷ rs) (with_last next runs)
+
+-- the runs before the open one, and the open one
+abbrev pub before : List Arrival → List (List ℕ)
+before xs = front_runs (runs_of xs)
+
+abbrev pub open_run : List Arrival → List ℕ
+open_run xs = last_run (runs_of xs)
+
+runs-same : (xs : List Arrival) → runs_of xs ≡ before xs ++ open_run xs ∷ []
+runs-same xs = let s = some_run xs in rw s.parts (with_last s.first s.rest)
+
+runs-handed : (xs : List Arrival) (frame : List ℕ) → runs_of (xs ++ Handed frame ∷ []) ≡ before xs ++ (open_run xs ++ payload_of frame) ∷ []
+runs-handed xs frame = handed_behind xs frame (before xs) (open_run xs) (runs-same xs)
+
+runs-broken : (xs : List Arrival) → runs_of (xs ++ Broken ∷ []) ≡ (before xs ++ open_run xs ∷ []) ++ [] ∷ []
+runs-broken xs = broken_behind xs (before xs) (open_run xs) (runs-same xs)
+
+last-append : (runs : List (List ℕ)) (run : List ℕ) → last_run (runs ++ run ∷ []) ≡ run
+last-append [] run = refl
+last-append (r ∷ []) run = refl
+last-append (r ∷ s ∷ runs) run = last-append (s ∷ runs) run
+
+-- no bytes deliver nothing
+delivered-none : delivered [] ≡ []
+unfolding delivered plain_areas sync_areas hunting
+delivered-none = refl
+
+delivered-runs : (runs : List (List ℕ)) (run : List ℕ) → flat_map delivered (runs ++ run ∷ []) ≡ flat_map delivered runs ++ delivered run
+delivered-runs runs run = flat_map-append delivered runs (run ∷ []) ∙ ap (λ ps. flat_map delivered runs ++ ps) (append-nil (delivered run))
+
+delivered-same : (xs : List Arrival) → flat_map delivered (runs_of xs) ≡ flat_map delivered (before xs) ++ delivered (open_run xs)
+delivered-same xs = ap (flat_map delivered) (runs-same xs) ∙ delivered-runs (before xs) (open_run xs)
+
+delivered-handed : (xs : List Arrival) (frame : List ℕ) → flat_map delivered (runs_of (xs ++ Handed frame ∷ [])) ≡ flat_map delivered (before xs) ++ delivered (open_run xs ++ payload_of frame)
+delivered-handed xs frame = ap (flat_map delivered) (runs-handed xs frame) ∙ delivered-runs (before xs) (open_run xs ++ payload_of frame)
+
+delivered-broken : (xs : List Arrival) → flat_map delivered (runs_of (xs ++ Broken ∷ [])) ≡ flat_map delivered (runs_of xs)
+delivered-broken xs =
+    let runs = before xs ++ open_run xs ∷ [] in
+    ap (flat_map delivered) (runs-broken xs) ∙ delivered-runs runs [] ∙ ap (λ ps. flat_map delivered runs ++ ps) delivered-none ∙ append-nil (flat_map delivered runs) ∙ ap (flat_map delivered) (sym (runs-same xs))
+
+-- ---- steps
+
+same_lines : (first now : OutView) (ps qs : List (List ℕ)) (count : ℕ) → ps ≡ qs → LinesSent first now ps count → LinesSent first now qs count
+same_lines first now ps qs count e h = let P : List (List ℕ) → Type 0 = λ x. LinesSent first now x count in subst P e h
+
+same_read : (xs ys : List ℕ) (reader : ReaderState) → xs ≡ ys → HasRead xs reader → HasRead ys reader
+same_read xs ys reader e h = let P : List ℕ → Type 0 = λ x. HasRead x reader in subst P e h
+
+-- the run that is open is read on
+pub goes_on : (first now : OutView) (came : List Arrival) (reader : ReaderState) (count : ℕ) → AllRead first now came reader count → RunRead first now (flat_map delivered (before came)) (open_run came) reader count
+goes_on first now came reader count h = record { read = h.read; lines = same_lines first now (flat_map delivered (runs_of came)) (flat_map delivered (before came) ++ delivered (open_run came)) count (delivered-same came) h.lines }
+
+pub whole_read : (first now : OutView) (came : List Arrival) (frame : List ℕ) (reader : ReaderState) (count : ℕ)
+    → RunRead first now (flat_map delivered (before came)) (open_run came ++ payload_of frame) reader count → AllRead first now (came ++ Handed frame ∷ []) reader count
+whole_read first now came frame reader count h = record {
+  read = same_read (open_run came ++ payload_of frame) (last_run (runs_of (came ++ Handed frame ∷ []))) reader (sym (ap last_run (runs-handed came frame) ∙ last-append (before came) (open_run came ++ payload_of frame))) h.read;
+  lines = same_lines first now (flat_map delivered (before came) ++ delivered (open_run came ++ payload_of frame)) (flat_map delivered (runs_of (came ++ Handed frame ∷ []))) count (sym (delivered-handed came frame)) h.lines;
+}
+
+-- a break begins a run
+pub break_read : (first now : OutView) (came : List Arrival) (old new : ReaderState) (count : ℕ) → HasRead [] new → AllRead first now came old count → AllRead first now (came ++ Broken ∷ []) new count
+break_read first now came old new count fresh h = record {
+  read =
+      same_read [] (last_run (runs_of (came ++ Broken ∷ []))) new
+      (sym (ap last_run (runs-broken came) ∙ last-append (before came ++ open_run came ∷ []) [])) fresh;
+  lines = same_lines first now (flat_map delivered (runs_of came)) (flat_map delivered (runs_of (came ++ Broken ∷ []))) count (sym (delivered-broken came)) h.lines;
+}
+
+pub none_sent : (first now : OutView) (packets : List (List ℕ)) (count : ℕ) → LinesSent first now packets count → LinesSent first now (packets ++ []) count
+none_sent first now packets count = same_lines first now packets (packets ++ []) count (sym (append-nil packets))
+
+-- some bytes more of a run, which deliver these packets
+pub run_more : (first old new : OutView) (earlier : List (List ℕ)) (taken came : List ℕ) (packets : List (List ℕ)) (was is : ReaderState) (count counted : ℕ) → delivered (taken ++ came) ≡ delivered taken ++ packets → HasRead (taken ++ came) is
+    → (LinesSent first old (earlier ++ delivered taken) count → LinesSent first new ((earlier ++ delivered taken) ++ packets) counted) → RunRead first old earlier taken was count → RunRead first new earlier (taken ++ came) is counted
+run_more first old new earlier taken came packets was is count counted e read goes h = record {
+  read = read;
+  lines = same_lines first new ((earlier ++ delivered taken) ++ packets) (earlier ++ delivered (taken ++ came)) counted (append_assoc earlier (delivered taken) packets ∙ ap (λ ps. earlier ++ ps) (sym e)) (goes h.lines);
+}
+
+pub run_same : (first now : OutView) (earlier : List (List ℕ)) (taken others : List ℕ) (reader : ReaderState) (count : ℕ) → taken ≡ others → RunRead first now earlier taken reader count → RunRead first now earlier others reader count
+run_same first now earlier taken others reader count e h = let P : List ℕ → Type 0 = λ x. RunRead first now earlier x reader count in subst P e h
+
+-- ---- pieces of bytes, and rows of a frame
+
+pub more_taken : (front bytes : List ℕ) (done k : ℕ) → (front ++ take done bytes) ++ take k (take (length bytes - done) (drop done bytes)) ≡ front ++ take (done + k) bytes
+more_taken front bytes done k =
+    append_assoc front (take done bytes) (take k (take (length bytes - done) (drop done bytes)))
+    ∙ ap (λ bs. front ++ bs) (ap (λ rest. take done bytes ++ take k rest) (take_rest bytes done) ∙ sym (take-add done k bytes))
+
+pub all_taken : (front bytes : List ℕ) (done : ℕ) → done ≤ length bytes → ¬ (done < length bytes) → front ++ take done bytes ≡ front ++ bytes
+all_taken front bytes done within over = let e : done ≡ length bytes = omega arith in ap (λ bs. front ++ bs) (ap (λ n. take n bytes) e ∙ take-length bytes)
+
+-- a piece of what is left was taken, and not more
+pub piece_within : (bytes : List ℕ) (done k : ℕ) → done ≤ length bytes → k ≤ length (take (length bytes - done) (drop done bytes)) → done + k ≤ length bytes
+piece_within bytes done k within h = let e = ap length (take_rest bytes done) in let f = length-drop done bytes in omega arith
+
+four_rows : (taken a b c d : List ℕ) → taken ++ a ++ b ++ c ++ d ≡ taken ++ (a ++ b ++ c ++ d)
+four_rows taken a b c d = ap (λ x. x ++ d) (ap (λ x. x ++ c) (append_assoc taken a b) ∙ append_assoc taken (a ++ b) c) ∙ append_assoc taken (a ++ b ++ c) d
+
+pub frame_read : (first now : OutView) (earlier : List (List ℕ)) (taken frame a b c d : List ℕ) (reader : ReaderState) (count : ℕ) → a ≡ payload_row_of 3824 1 frame → b ≡ payload_row_of 3824 2 frame
+    → c ≡ payload_row_of 3824 3 frame → d ≡ payload_row_of 3824 4 frame → RunRead first now earlier (taken ++ a ++ b ++ c ++ d) reader count → RunRead first now earlier (taken ++ payload_of frame) reader count
+frame_read first now earlier taken frame a b c d reader count ea eb ec ed h =
+    run_same first now earlier (taken ++ a ++ b ++ c ++ d) (taken ++ payload_of frame) reader count (four_rows taken a b c d ∙ rw (ea, eb, ec, ed) refl) h
+
+-- ---- the receiver
+
+-- nothing has arrived
+arrivals-none : arrivals [] ≡ []
+unfolding arrivals searching
+arrivals-none = refl
+
+packets-none : arriving_packets [] ≡ []
+unfolding arriving_packets runs_of
+packets-none = ap (λ xs. flat_map delivered (runs_of xs)) arrivals-none ∙ append-nil (delivered []) ∙ delivered-none
+
+text-none : arriving_text [] ≡ []
+unfolding arriving_text hex_text
+text-none = ap hex_text packets-none
+
+frames-none : arriving_frames [] ≡ 0
+unfolding handed_count
+frames-none = ap handed_count arrivals-none
+
+run-none : last_run (runs_of (arrivals [])) ≡ []
+unfolding runs_of
+run-none = ap (λ xs. last_run (runs_of xs)) arrivals-none
+
+none_counted : (s : State) → counted_packets s [] [] ≡ 0
+none_counted Empty = refl
+none_counted Live = refl
+none_counted Dead = refl
+
+pub stands_none : (first : OutView) (aligner : AlignerState) (reader : ReaderState) (frames : ℕ) → HasAligned [] aligner → HasRead [] reader → frames ≡ 0
+    → ReceiverStands first first [] (record { aligner = aligner; reader = reader; frames = frames; packets = 0 })
+stands_none first aligner reader frames aligned read e = record {
+  aligned = aligned;
+  read = same_read [] (last_run (runs_of (arrivals []))) reader (sym run-none) read;
+  sent = record { went = []; rest = []; parts = sym text-none; gained = gained_none first; whole = λ _. refl };
+  frames = e ∙ ap stopped (sym frames-none);
+  packets = sym (ap (λ ps. stopped (counted_packets first.state ps [])) packets-none ∙ ap stopped (none_counted first.state));
+}
+
+-- what stands of a receiver, without its aligner
+pub all_read : (first now : OutView) (arrived : List ℕ) (receiver : ReceiverView) → ReceiverStands first now arrived receiver → AllRead first now (arrivals arrived) receiver.reader receiver.packets
+unfolding arriving_text arriving_packets
+all_read first now arrived receiver h = record { read = h.read; lines = record { sent = h.sent; counted = h.packets } }
+
+-- bytes came, and what arrived with them was read
+pub stands_more : (first old now : OutView) (arrived came frame : List ℕ) (r : Aligned) (was is : ReceiverView) → AlignsBy arrived came r frame is.aligner → is.frames ≡ frames_after was.frames r
+    → AllRead first now (arrivals arrived ++ news r frame) is.reader is.packets → ReceiverStands first old arrived was → ReceiverStands first now (arrived ++ came) is
+unfolding arriving_text arriving_packets
+stands_more first old now arrived came frame r was is aligns frames all h =
+    let P : List Arrival → Type 0 = λ xs. AllRead first now xs is.reader is.packets in
+    let read = subst P (sym aligns.arrived) all in
+    record {
+      aligned = aligns.aligned;
+      read = read.read;
+      sent = read.lines.sent;
+      frames = frames ∙ frames_go_on arrived came frame r is.aligner was.frames aligns h.frames;
+      packets = read.lines.counted;
+    }
+
+pub stands_same : (first now : OutView) (arrived others : List ℕ) (receiver : ReceiverView) → arrived ≡ others → ReceiverStands first now arrived receiver → ReceiverStands first now others receiver
+stands_same first now arrived others receiver e h = let P : List ℕ → Type 0 = λ x. ReceiverStands first now x receiver in subst P e h

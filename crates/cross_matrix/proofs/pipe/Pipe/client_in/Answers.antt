@@ -1,0 +1,10 @@
+use Rattle.std.proofs.Common.{sym, subst}
+use Rattle.device_model.specs.Through.{of_client}
+use Rattle.cross_matrix.specs.Parts.{ClientInStands, MayShow}
+use Rattle.cross_matrix.specs.Pipes.{PipeView}
+use Rattle.cross_matrix.proofs.pipe.Pipe.client_in.Goals as goal
+
+pub returns : goal.returns
+returns c = λ x first now taken n input h may.
+    c.text_numbers.ensures x first now taken n input (subst (λ (p : PipeView). ClientInStands x first now taken n p.taking) (sym c.self.view_is) h)
+    (subst (λ (p : PipeView). MayShow p.taking taken (of_client input)) (sym c.self.view_is) may)

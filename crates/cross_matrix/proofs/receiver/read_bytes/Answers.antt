@@ -1,0 +1,24 @@
+use Rattle.std.proofs.Common.{rules, ◌+◌, ◌-◌, ◌++◌, length, take, drop}
+use Rattle.otn_ports.specs.OutPlace.{out_view}
+use Rattle.cross_matrix.proofs.Runs.{run_same, more_taken, all_taken, piece_within}
+use Rattle.cross_matrix.proofs.receiver.read_bytes.Goals as goal
+
+pub loop-done-preserved : goal.loop-done-preserved
+loop-done-preserved g c =
+    let bytes = c.args.bytes.now in
+    let done = c.loop-done.done in
+    let more = c.read_some-more.result.0 in
+    record {
+      within = piece_within bytes done more c.loop-done.invariant.within c.read_some-more.ensures.within;
+      room = search rules;
+      stands = λ first earlier taken h.
+          run_same first (out_view g.K.Sink c.read_some-more.new.place) earlier (taken ++ take done bytes ++ take more (take (length bytes - done) (drop done bytes))) (taken ++ take (done + more) bytes) c.read_some-more.new.reader
+          c.read_some-more.result.1 (more_taken taken bytes done more) (c.read_some-more.ensures.stands first earlier (taken ++ take done bytes) (c.loop-done.invariant.stands first earlier taken h));
+    }
+
+pub returns : goal.returns
+returns g c = λ first earlier taken h.
+    let bytes = c.args.bytes.now in
+    let done = c.loop-done.done in
+    run_same first (out_view g.K.Sink c.loop-done.place) earlier (taken ++ take done bytes) (taken ++ bytes) c.loop-done.reader c.loop-done.counted (all_taken taken bytes done c.loop-done.invariant.within (search rules))
+    (c.loop-done.invariant.stands first earlier taken h)

@@ -1,0 +1,4 @@
+pub mod Bursts
+pub mod Receiving
+pub mod Parts
+pub mod Pipes

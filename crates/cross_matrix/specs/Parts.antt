@@ -1,0 +1,164 @@
+-- The parts of a connection: the one that takes from its input, and the one that gives to its output.
+use Rattle.std.specs.Prelude.{◌≡◌, ⊤, ℕ, suc, Bool, true, false, if◌then◌else◌, List, ◌++◌, length, IsSome}
+use Rattle.maintenance_signals.specs.Given.{HasGiven}
+use Rattle.odu_client.specs.ClientInput.{ClientInput, input_of, input_emits, emitted_before}
+use Rattle.odu_client.specs.Framing.{ClientStands, MayDie}
+use Rattle.otn_ports.specs.Views.{InView, OutView}
+use Rattle.packet_text.specs.LinesStand.{LinesView, lines_view, MayBe}
+use Rattle.plan_file.specs.declared.connection.Connection.{Connection}
+use Rattle.plan_file.specs.declared.connection.FromEnd.{FromEnd}
+use Rattle.plan_file.specs.declared.connection.FromEnd.TheVariants as from_end
+use Rattle.plan_file.specs.declared.connection.ToEnd.{ToEnd}
+use Rattle.plan_file.specs.declared.connection.ToEnd.TheVariants as to_end
+use Rattle.trib_sink.specs.Sink.{Sink, StandsAfter as SinkStands}
+use Rattle.trib_source.specs.Source.{Source, StandsAfter as SourceStands}
+use Rattle.tributary_model.specs.Carries.{past_of}
+use Rattle.tributary_model.specs.Places.{Taken, tributary_of}
+use Rattle.device_model.specs.Entries.{first_turn}
+use Rattle.device_model.specs.Through.{OwnInput, of_line, of_client, of_signal, got_by, arrived_by}
+use Rattle.cross_matrix.specs.Receiving.{ReceiverView, ReceiverStands}
+use Rattle.cross_matrix.specs.declared.taking.ClientText.{ClientText}
+use Rattle.cross_matrix.specs.declared.taking.TakingPart.{TakingPart}
+use Rattle.cross_matrix.specs.declared.taking.TakingPart.TheVariants as taking
+use Rattle.cross_matrix.specs.declared.giving.GivingPart.{GivingPart}
+use Rattle.cross_matrix.specs.declared.giving.GivingPart.TheVariants as giving
+
+-- ---- what is fixed of the parts
+
+-- the part takes what comes from this end of the connection
+abbrev pub TakesFrom : FromEnd → Connection → TakingPart → Type 0
+TakesFrom (from_end.Line a port slots) x (taking.Line sink) = (sink.slots ≡ slots) × (sink.port ≡ port)
+TakesFrom (from_end.Client n) x (taking.Client client) = (client.trace ≡ x.trace) × (client.fcs ≡ x.fcs)
+TakesFrom (from_end.Signal signal) x (taking.Signal stream) = (given : ℕ) × HasGiven signal given stream
+TakesFrom from x other = ⊥
+
+-- the part gives what goes to this end
+abbrev pub GivesTo : ToEnd → GivingPart → Type 0
+GivesTo (to_end.Line b port slots) (giving.Line source) = source.slots ≡ slots
+GivesTo (to_end.Client n) (giving.Client receiver) = ⊤
+GivesTo to other = ⊥
+
+-- ---- what is counted in a turn
+
+-- how many frames of the turn were taken of a line, and how many of a line were filled
+abbrev pub frames_taken : TakingPart → ℕ
+frames_taken (taking.Line sink) = sink.taken
+frames_taken (taking.Client client) = 0
+frames_taken (taking.Signal stream) = 0
+
+abbrev pub frames_filled : GivingPart → ℕ
+frames_filled (giving.Line source) = source.filled
+frames_filled (giving.Client receiver) = 0
+
+-- the part takes from a line, and this holds of its sink; or gives to a line, and this holds of its source; or to a client, and this of its receiver
+abbrev pub OnSink : TakingPart → (Sink → Type 0) → Type 0
+OnSink (taking.Line sink) Holds = Holds sink
+OnSink (taking.Client client) Holds = ⊥
+OnSink (taking.Signal stream) Holds = ⊥
+
+abbrev pub OnSource : GivingPart → (Source → Type 0) → Type 0
+OnSource (giving.Line source) Holds = Holds source
+OnSource (giving.Client receiver) Holds = ⊥
+
+abbrev pub OnReceiver : GivingPart → (ReceiverView → Type 0) → Type 0
+OnReceiver (giving.Client receiver) Holds = Holds receiver
+OnReceiver (giving.Line source) Holds = ⊥
+
+abbrev pub IsOfClient : TakingPart → Type 0
+IsOfClient (taking.Line sink) = ⊥
+IsOfClient (taking.Client client) = ⊤
+IsOfClient (taking.Signal stream) = ⊥
+
+abbrev pub IsToClient : GivingPart → Type 0
+IsToClient (giving.Line source) = ⊥
+IsToClient (giving.Client receiver) = ⊤
+
+-- ---- where the parts stand
+
+-- how many of its own turns a connection has taken in own turn j, whose own part has ended or not
+abbrev pub turns_taken : (j : ℕ) → (ended : Bool) → ℕ
+turns_taken j ended = if ended then suc j else j
+
+-- The taking part in own turn j, of which these frames of a line were taken: what it has of a client's text is told with its place.
+abbrev pub TakingStands : FromEnd → Connection → OwnInput → (j : ℕ) → (frames : List Taken) → (ended : Bool) → TakingPart → Type 0
+TakingStands (from_end.Line a port slots) x (of_line shows) j frames ended (taking.Line sink) =
+    SinkStands (tributary_of slots port) (past_of shows (first_turn x) (turns_taken j ended)) frames sink
+TakingStands (from_end.Client n) x (of_client input) j frames ended (taking.Client client) = ⊤
+TakingStands (from_end.Signal signal) x of_signal j frames ended (taking.Signal stream) = HasGiven signal (emitted_before x.pace j) stream
+TakingStands from x input j frames ended other = ⊥
+
+-- the giving part in own turn j, in which so many frames of a line were filled: what it has given to a client is told with its place
+abbrev pub GivingStands : ToEnd → Connection → OwnInput → (j filled : ℕ) → GivingPart → Type 0
+GivingStands (to_end.Line b port slots) x input j filled (giving.Line source) = SourceStands (tributary_of slots port) (got_by x input (suc j)) filled source
+GivingStands (to_end.Client n) x input j filled (giving.Client receiver) = ⊤
+GivingStands to x input j filled other = ⊥
+
+-- ---- with the place of a client
+
+-- A client's text, of which these bytes were taken between two views of its place, has emitted what the first n own turns ask.
+pub record TextStands (x : Connection) (first now : InView) (taken : List ℕ) (n : ℕ) (client : ClientText) : Type 0 where
+  pub gone : List ℕ
+  pub count : length gone ≡ emitted_before x.pace n
+  pub stands : ClientStands first now taken gone (lines_view client.lines) client.framer
+  pub sapi : client.framer.sapi ≡ x.trace
+  pub fcs : client.framer.stream.fcs ≡ x.fcs
+
+abbrev pub ClientInStands : Connection → (first now : InView) → (taken : List ℕ) → (n : ℕ) → TakingPart → Type 0
+ClientInStands x first now taken n (taking.Client client) = TextStands x first now taken n client
+ClientInStands x first now taken n (taking.Line sink) = ⊥
+ClientInStands x first now taken n (taking.Signal stream) = ⊥
+
+-- the packets of a client, and how they end, that lines of which these bytes were taken may turn out to tell
+pub record MayTell (lines : LinesView) (taken : List ℕ) (input : ClientInput) : Type 0 where
+  pub died : Bool
+  pub text : List ℕ
+  pub may : MayBe lines taken text
+  pub die : MayDie lines.answer died
+  pub is : input ≡ input_of died text
+
+-- what a connection's own input may turn out to show, where these bytes were taken of a client
+abbrev pub MayShow : TakingPart → (taken : List ℕ) → OwnInput → Type 0
+MayShow (taking.Line sink) taken (of_line shows) = ⊤
+MayShow (taking.Client client) taken (of_client input) = MayTell (lines_view client.lines) taken input
+MayShow (taking.Signal stream) taken of_signal = ⊤
+MayShow other taken input = ⊥
+
+-- A client was taken in own turn n: more bytes of its text, and what it may turn out to be from then on it might be before. Whatever it is,
+-- these bytes are what it emits in the turn.
+pub record TextTook (x : Connection) (first now : InView) (taken : List ℕ) (n : ℕ) (old new : TakingPart) (bytes : List ℕ) : Type 0 where
+  pub more : List ℕ
+  pub stands : ClientInStands x first now (taken ++ more) (suc n) new
+  pub earlier : (input : OwnInput) → MayShow new (taken ++ more) input → MayShow old taken input
+  pub emitted : (input : ClientInput) → MayShow new (taken ++ more) (of_client input) → bytes ≡ input_emits x.trace x.fcs x.pace input n
+
+-- what the first n own turns gave has arrived at a client, and its text was due to the place
+abbrev pub ClientOutStands : Connection → OwnInput → (first now : OutView) → (n : ℕ) → GivingPart → Type 0
+ClientOutStands x input first now n part = OnReceiver part (ReceiverStands first now (arrived_by x input n))
+
+-- an input of the kind of this end
+abbrev pub IsInputOf : FromEnd → OwnInput → Type 0
+IsInputOf (from_end.Line a port slots) (of_line shows) = ⊤
+IsInputOf (from_end.Client n) (of_client input) = ⊤
+IsInputOf (from_end.Signal signal) of_signal = ⊤
+IsInputOf from other = ⊥
+
+-- its own part of the turn is over: a line or a client was taken; a signal needs nothing
+abbrev pub IsOver : FromEnd → (ended : Bool) → Type 0
+IsOver (from_end.Line a port slots) ended = ended ≡ true
+IsOver (from_end.Client n) ended = ended ≡ true
+IsOver (from_end.Signal signal) ended = ended ≡ false
+
+-- the numbers of the receiver: whole frames, and packets
+abbrev pub IsReceived : GivingPart → (numbers : ℕ × ℕ) → Type 0
+IsReceived part numbers = OnReceiver part (λ receiver. numbers ≡ (receiver.frames, receiver.packets))
+
+-- a line's sink has as many slots as the pipe
+abbrev pub HasSlots : (m : ℕ) → TakingPart → Type 0
+HasSlots m (taking.Line sink) = length sink.slots.list ≡ m
+HasSlots m (taking.Client client) = ⊤
+HasSlots m (taking.Signal stream) = ⊤
+
+-- a line's source has begun a turn
+abbrev pub IsBegun : GivingPart → Type 0
+IsBegun (giving.Line source) = IsSome source.said
+IsBegun (giving.Client receiver) = ⊤

@@ -1,0 +1,57 @@
+-- A client's output: the packets that arrive, written as text.
+use Rattle.std.specs.Prelude.{◌≡◌, ℕ, ◌==◌, Bool, true, false, List, [], ◌∷◌, ◌++◌, length, filter, flat_map}
+use Rattle.otn_ports.specs.Sent.{IsSent}
+use Rattle.otn_ports.specs.Views.{State, Empty, Live, Dead, OutView}
+use Rattle.gfp_frames.specs.Delivered.{delivered}
+use Rattle.gfp_frames.specs.Reader.{ReaderState, HasRead}
+use Rattle.odu_client.specs.AlignedRuns.{Arrival, arrivals, runs_of}
+use Rattle.odu_client.specs.Aligner.{AlignerState, HasAligned}
+use Rattle.odu_client.specs.ClientOutput.{arriving_packets, arriving_text, arriving_frames}
+use Rattle.packet_text.specs.LinesStand.{stopped}
+use Rattle.device_model.specs.Numbers.{counted_packets}
+use Rattle.packet_text.specs.PacketText.{hex_text}
+
+-- what is seen of a receiver: its aligner, its GFP reader, how many whole frames were handed on, and how many packets count
+pub record ReceiverView : Type 0 where
+  pub aligner : AlignerState
+  pub reader : ReaderState
+  pub frames : ℕ
+  pub packets : ℕ
+
+-- the last of some runs of payload bytes: the one that is still open
+abbrev pub last_run : List (List ℕ) → List ℕ
+last_run [] = []
+last_run (run ∷ []) = run
+last_run (run ∷ next ∷ runs) = last_run (next ∷ runs)
+
+-- These bytes have arrived at the receiver since its start. `first` and `now` are views of its place: between them the text of the packets
+-- that the bytes deliver was due to it.
+pub record ReceiverStands (first now : OutView) (arrived : List ℕ) (receiver : ReceiverView) : Type 0 where
+  pub aligned : HasAligned arrived receiver.aligner
+  pub read : HasRead (last_run (runs_of (arrivals arrived))) receiver.reader
+  pub sent : IsSent first (arriving_text arrived) now
+  pub frames : receiver.frames ≡ stopped (arriving_frames arrived)
+  pub packets : receiver.packets ≡ stopped (counted_packets first.state (arriving_packets arrived) sent.went)
+
+-- ---- steps of a receiver
+
+-- whether a place is dead
+abbrev pub is_dead : State → Bool
+is_dead Empty = false
+is_dead Live = false
+is_dead Dead = true
+
+-- the text of these packets was due to a place, and so many of them count
+pub record LinesSent (first now : OutView) (packets : List (List ℕ)) (count : ℕ) : Type 0 where
+  pub sent : IsSent first (hex_text packets) now
+  pub counted : count ≡ stopped (counted_packets first.state packets sent.went)
+
+-- the reader has read these bytes of a run: behind earlier packets, the text of those that they deliver was due to the place
+pub record RunRead (first now : OutView) (earlier : List (List ℕ)) (taken : List ℕ) (reader : ReaderState) (count : ℕ) : Type 0 where
+  pub read : HasRead taken reader
+  pub lines : LinesSent first now (earlier ++ delivered taken) count
+
+-- all that arrived was read
+pub record AllRead (first now : OutView) (came : List Arrival) (reader : ReaderState) (count : ℕ) : Type 0 where
+  pub read : HasRead (last_run (runs_of came)) reader
+  pub lines : LinesSent first now (flat_map delivered (runs_of came)) count

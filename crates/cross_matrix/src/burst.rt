@@ -1,0 +1,141 @@
+// The bytes of one turn.
+ghost use Rattle.std.specs.Prelude.{◌≡◌, ◌≢◌, ◌≤◌, ◌+◌, ◌*◌, ℕ, List, [], ◌∷◌, Option, IfOk, IsTrue, length, take, true};
+ghost use Rattle.maintenance_signals.specs.Given.{HasGiven};
+ghost use Rattle.maintenance_signals.specs.Stream.{signal_byte, signal_bytes};
+ghost use Rattle.maintenance_signals.specs.declared.signal.Signal.{Signal};
+ghost use Rattle.maintenance_signals.specs.declared.signal.Signal.TheVariants.{Ais};
+ghost use Rattle.odu_client.specs.Framing.{ClientStands, Fills};
+ghost use Rattle.otn_base.specs.LineSlots.{slots_of};
+ghost use Rattle.otn_base.specs.declared.limits.TheConstants.{GROUPS};
+ghost use Rattle.otn_ports.specs.InPlace.{in_view};
+ghost use Rattle.otn_ports.specs.Views.{InView};
+ghost use Rattle.packet_text.specs.LinesStand.{lines_view};
+ghost use Rattle.trib_sink.specs.Sink.{StandsAfter, ended_view};
+ghost use Rattle.tributary_model.specs.Emission.{emission};
+ghost use Rattle.tributary_model.specs.Places.{Tributary, Taken, View};
+
+use maintenance_signals::SignalBytes;
+use odu_client::ClientFramer;
+use otn_base::Memory;
+use otn_ports::{InPlaceOf, Source};
+use packet_text::{Line, PacketLines};
+use std::alloc::Global;
+use std::marker::Model;
+use trib_sink::TribSink;
+
+/// Bytes that a turn brought, in a buffer with room for those of any turn. It is seen as the list of them,
+/// beside the room.
+#[derive(Drop)]
+pub(crate) struct Burst {
+    buffer: Vec<u8>,
+    len: usize,
+}
+
+impl Model for Burst {
+    ghost use Rattle.std.specs.Prelude.{◌≤◌, take, vec_len};
+    ghost use Rattle.cross_matrix.specs.Bursts.{BurstView};
+
+    ghost Value = { BurstView };
+
+    ghost view = { λ b. record { bytes = take b.len b.buffer.items; room = vec_len b.buffer } };
+
+    ghost invariant = { λ b. b.len ≤ vec_len b.buffer };
+}
+
+impl Burst {
+    /// No bytes, and room for so many.
+    pub(crate) fn new(alloc: Global, room: usize) -> Result<Burst, Memory>
+        ensures { IfOk result (λ b. b ≡ record { bytes = []; room = room }) }
+    {
+        Ok(Burst {
+            buffer: vec![in alloc; 0u8; room]?,
+            len: 0,
+        })
+    }
+
+    /// The bytes.
+    pub(crate) fn bytes(&self) -> &[u8]
+        ensures { result.now ≡ self.now.bytes }
+    {
+        &self.buffer[..self.len]
+    }
+
+    /// Drops the bytes.
+    pub(crate) fn clear(&mut self)
+        ensures { self.new ≡ record self.old { bytes = [] } }
+    {
+        self.len = 0;
+    }
+
+    /// What a sink emits in the turn that ends with this: the bytes are these.
+    pub(crate) fn take_turn(&mut self, sink: &mut TribSink, whole: bool)
+        requires whole { IsTrue whole → sink.old.taken ≡ slots_of sink.old.slots.kind }
+        requires room { length sink.old.slots.list * (GROUPS + 1) ≤ self.old.room }
+        ensures bytes { (own : Tributary) (past : List (Option View)) (frames : List Taken) → StandsAfter own past frames sink.old
+            → self.new.bytes ≡ emission own (signal_byte Ais) past (ended_view own whole frames) }
+        ensures stands { (own : Tributary) (past : List (Option View)) (frames : List Taken) → StandsAfter own past frames sink.old
+            → StandsAfter own (ended_view own whole frames ∷ past) [] sink.new }
+        ensures taken { sink.new.taken ≡ 0 }
+        ensures slots { sink.new.slots ≡ sink.old.slots }
+        ensures port { sink.new.port ≡ sink.old.port }
+        ensures room_stays { self.new.room ≡ self.old.room }
+    {
+        let count = sink.end_turn(whole, &mut self.buffer);
+        self.len = count.min(self.buffer.len());
+    }
+
+    /// The next bytes, so many, of a client's stream.
+    pub(crate) fn take_client<P: Source>(
+        &mut self,
+        framer: &mut ClientFramer,
+        lines: &mut PacketLines,
+        place: &mut InPlaceOf<P>,
+        count: usize,
+    )
+        requires room { count ≤ self.old.room }
+        ensures count { length self.new.bytes ≡ count }
+        ensures fills { (first : InView) (taken gone : List ℕ) → ClientStands first (in_view P.Source place.old) taken gone (lines_view lines.old) framer.old
+            → Fills first (in_view P.Source place.new) taken gone self.new.bytes (lines_view lines.old) (lines_view lines.new) framer.old framer.new }
+        ensures over { framer.old.stream.answer ≢ Line.Packet → lines.new ≡ lines.old }
+        ensures room_stays { self.new.room ≡ self.old.room }
+    {
+        fill_front(framer, lines, place, &mut self.buffer, count);
+        self.len = count;
+    }
+
+    /// The next bytes, so many, of a signal's stream.
+    pub(crate) fn take_signal(&mut self, stream: &mut SignalBytes, count: usize)
+        requires room { count ≤ self.old.room }
+        ensures bytes { (signal : Signal) (given : ℕ) → HasGiven signal given stream.old → self.new.bytes ≡ signal_bytes signal given count }
+        ensures given { (signal : Signal) (given : ℕ) → HasGiven signal given stream.old → HasGiven signal (given + count) stream.new }
+        ensures room_stays { self.new.room ≡ self.old.room }
+    {
+        next_front(stream, &mut self.buffer, count);
+        self.len = count;
+    }
+}
+
+// The next bytes of a client's stream, so many, to the front of a slice.
+fn fill_front<P: Source>(
+    framer: &mut ClientFramer,
+    lines: &mut PacketLines,
+    place: &mut InPlaceOf<P>,
+    into: &mut [u8],
+    count: usize,
+)
+    requires { count ≤ length into.old }
+    ensures fills { (first : InView) (taken gone : List ℕ) → ClientStands first (in_view P.Source place.old) taken gone (lines_view lines.old) framer.old
+        → Fills first (in_view P.Source place.new) taken gone (take count into.new) (lines_view lines.old) (lines_view lines.new) framer.old framer.new }
+    ensures over { framer.old.stream.answer ≢ Line.Packet → lines.new ≡ lines.old }
+{
+    framer.fill(lines, place, &mut into[..count]);
+}
+
+// The next bytes of a signal's stream, so many, to the front of a slice.
+fn next_front(stream: &mut SignalBytes, into: &mut [u8], count: usize)
+    requires { count ≤ length into.old }
+    ensures bytes { (signal : Signal) (given : ℕ) → HasGiven signal given stream.old → take count into.new ≡ signal_bytes signal given count }
+    ensures given { (signal : Signal) (given : ℕ) → HasGiven signal given stream.old → HasGiven signal (given + count) stream.new }
+{
+    stream.next(&mut into[..count]);
+}

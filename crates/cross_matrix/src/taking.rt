@@ -1,0 +1,203 @@
+// The part of a pipe that takes from the connection's input.
+ghost use Rattle.std.specs.Prelude.{◌≡◌, ◌<◌, ◌≤◌, ◌+◌, ◌*◌, ℕ, suc, Bool, true, false, List, [], ◌∷◌, ◌++◌, Option, IsTrue, length, option_map};
+ghost use Rattle.odu_client.specs.ClientInput.{ClientInput, packets_begun, is_spent, bad_line, emitted_before, pace_of};
+ghost use Rattle.otn_base.specs.LineSlots.{LineSlots, slots_of};
+ghost use Rattle.otn_base.specs.declared.limits.TheConstants.{GROUPS};
+ghost use Rattle.otn_ports.specs.InPlace.{in_view};
+ghost use Rattle.otn_ports.specs.Views.{InView};
+ghost use Rattle.packet_text.specs.LinesStand.{stopped};
+ghost use Rattle.plan_file.specs.declared.connection.Connection.{Connection};
+ghost use Rattle.plan_file.specs.declared.connection.FromEnd.{FromEnd};
+ghost use Rattle.plan_file.specs.declared.connection.FromEnd.TheVariants as from_end;
+ghost use Rattle.trib_sink.specs.Sink.{ended_view};
+ghost use Rattle.tributary_model.specs.Places.{Taken, View, tributary_of};
+ghost use Rattle.device_model.specs.Entries.{first_turn};
+ghost use Rattle.device_model.specs.Through.{OwnInput, of_line, of_client, emits_by, state_by, sink_state};
+ghost use Rattle.cross_matrix.specs.Parts.{OnSink, IsOfClient, TakesFrom, HasSlots, IsInputOf, IsOver, frames_taken, turns_taken, TakingStands, TextStands, ClientInStands, MayShow, TextTook};
+
+use crate::FromState;
+use crate::burst::Burst;
+use frame_geometry::Frame;
+use maintenance_signals::SignalBytes;
+use odu_client::ClientFramer;
+use otn_base::Trace;
+use otn_base::limits::LINE_COLUMNS;
+use otn_ports::{InPlaceOf, Source};
+use packet_text::PacketLines;
+use trib_sink::TribSink;
+use tributary_model::SinkState;
+
+/// A client's text, and the frames that are made of it.
+#[derive(Drop)]
+pub(crate) struct ClientText {
+    pub(crate) framer: ClientFramer,
+    pub(crate) lines: PacketLines,
+    pub(crate) trace: Trace,
+    pub(crate) fcs: bool,
+}
+
+/// What a pipe takes from: a tributary of a line, a client, or a signal.
+#[derive(Drop)]
+pub(crate) enum TakingPart {
+    Line(TribSink),
+    Client(ClientText),
+    Signal(SignalBytes),
+}
+
+/// Begins anew, as for another run of the connection.
+pub(crate) fn restart_taking(part: &mut TakingPart)
+    ensures stands { (from : FromEnd) (x : Connection) (input : OwnInput) → TakesFrom from x part.old → IsInputOf from input → TakingStands from x input 0 [] false part.new }
+    ensures text { (x : Connection) (n : ℕ) (first : InView) → TakesFrom (from_end.Client n) x part.old → ClientInStands x first first [] 0 part.new }
+    ensures entry { (from : FromEnd) (x : Connection) → TakesFrom from x part.old → TakesFrom from x part.new }
+    ensures taken { frames_taken part.new ≡ 0 }
+    ensures slots { (m : ℕ) → HasSlots m part.old → HasSlots m part.new }
+{
+    match part {
+        TakingPart::Line(sink) => sink.restart(),
+        TakingPart::Client(client) => restart_text(client),
+        TakingPart::Signal(stream) => stream.restart(),
+    }
+}
+
+fn restart_text(client: &mut ClientText)
+    ensures stands { (x : Connection) (first : InView) → client.old.trace ≡ x.trace → client.old.fcs ≡ x.fcs → TextStands x first first [] 0 client.new }
+    ensures trace { client.new.trace ≡ client.old.trace }
+    ensures fcs { client.new.fcs ≡ client.old.fcs }
+{
+    client.framer.restart(&client.trace, client.fcs);
+    client.lines.restart();
+}
+
+/// Takes a frame of the connection's line.
+pub(crate) fn take_line(part: &mut TakingPart, n: u8, frame: &Frame<LINE_COLUMNS>, expected: u8)
+    requires line { OnSink part.old (λ sink. (n < slots_of sink.slots.kind) × (n ≡ sink.taken)) }
+    ensures stands { (from : FromEnd) (x : Connection) (input : OwnInput) (j : ℕ) (frames : List Taken) → TakingStands from x input j frames false part.old
+        → TakingStands from x input j (frames ++ record { frame = frame.now; expected = expected } ∷ []) false part.new }
+    ensures entry { (from : FromEnd) (x : Connection) → TakesFrom from x part.old → TakesFrom from x part.new }
+    ensures taken { frames_taken part.new ≡ frames_taken part.old + 1 }
+    ensures slots { (m : ℕ) → HasSlots m part.old → HasSlots m part.new }
+{
+    match part {
+        TakingPart::Line(sink) => sink.take_frame(n, frame, expected),
+        TakingPart::Client(_) => unreachable!(),
+        TakingPart::Signal(_) => unreachable!(),
+    }
+}
+
+/// Ends a turn of the connection's line: what its sink emits came.
+pub(crate) fn end_line(part: &mut TakingPart, whole: bool, came: &mut Burst)
+    requires line { OnSink part.old (λ sink. IsTrue whole → sink.taken ≡ slots_of sink.slots.kind) }
+    requires room { OnSink part.old (λ sink. length sink.slots.list * (GROUPS + 1) ≤ came.old.room) }
+    ensures stands { (x : Connection) (a port : ℕ) (slots : LineSlots) (shows : ℕ → Option View) (j : ℕ) (frames : List Taken)
+        → TakingStands (from_end.Line a port slots) x (of_line shows) j frames false part.old → ended_view (tributary_of slots port) whole frames ≡ shows (first_turn x + j)
+        → TakingStands (from_end.Line a port slots) x (of_line shows) j [] true part.new }
+    ensures bytes { (x : Connection) (a port : ℕ) (slots : LineSlots) (shows : ℕ → Option View) (j : ℕ) (frames : List Taken)
+        → TakingStands (from_end.Line a port slots) x (of_line shows) j frames false part.old → ended_view (tributary_of slots port) whole frames ≡ shows (first_turn x + j)
+        → came.new.bytes ≡ emits_by (from_end.Line a port slots) x (of_line shows) j }
+    ensures entry { (from : FromEnd) (x : Connection) → TakesFrom from x part.old → TakesFrom from x part.new }
+    ensures taken { frames_taken part.new ≡ 0 }
+    ensures slots { (m : ℕ) → HasSlots m part.old → HasSlots m part.new }
+    ensures room_stays { came.new.room ≡ came.old.room }
+{
+    match part {
+        TakingPart::Line(sink) => came.take_turn(sink, whole),
+        TakingPart::Client(_) => unreachable!(),
+        TakingPart::Signal(_) => unreachable!(),
+    }
+}
+
+/// Takes so many bytes of a client's stream.
+pub(crate) fn take_text<P: Source>(
+    part: &mut TakingPart,
+    count: usize,
+    place: &mut InPlaceOf<P>,
+    came: &mut Burst,
+)
+    requires client { IsOfClient part.old }
+    requires room { count ≤ came.old.room }
+    ensures took { (x : Connection) (first : InView) (taken : List ℕ) (n : ℕ) → count ≡ pace_of x.pace n → ClientInStands x first (in_view P.Source place.old) taken n part.old
+        → TextTook x first (in_view P.Source place.new) taken n part.old part.new came.new.bytes }
+    ensures entry { (from : FromEnd) (x : Connection) → TakesFrom from x part.old → TakesFrom from x part.new }
+    ensures slots { (m : ℕ) → HasSlots m part.old → HasSlots m part.new }
+    ensures room_stays { came.new.room ≡ came.old.room }
+{
+    match part {
+        TakingPart::Client(client) => came.take_client(
+            &mut client.framer,
+            &mut client.lines,
+            place,
+            count,
+        ),
+        TakingPart::Line(_) => unreachable!(),
+        TakingPart::Signal(_) => unreachable!(),
+    }
+}
+
+/// A signal emits so many bytes; a line and a client have had their turn.
+pub(crate) fn emit_signal(part: &mut TakingPart, count: usize, came: &mut Burst)
+    requires room { count ≤ came.old.room }
+    ensures stands { (from : FromEnd) (x : Connection) (input : OwnInput) (j : ℕ) (ended : Bool) → count ≡ pace_of x.pace j → IsOver from ended
+        → TakingStands from x input j [] ended part.old → TakingStands from x input (suc j) [] false part.new }
+    ensures bytes { (from : FromEnd) (x : Connection) (input : OwnInput) (j : ℕ) (ended : Bool) → count ≡ pace_of x.pace j → IsOver from ended
+        → TakingStands from x input j [] ended part.old → (ended ≡ true → came.old.bytes ≡ emits_by from x input j) → came.new.bytes ≡ emits_by from x input j }
+    ensures client { IsOfClient part.old → part.new ≡ part.old }
+    ensures entry { (from : FromEnd) (x : Connection) → TakesFrom from x part.old → TakesFrom from x part.new }
+    ensures taken { frames_taken part.new ≡ frames_taken part.old }
+    ensures slots { (m : ℕ) → HasSlots m part.old → HasSlots m part.new }
+    ensures room_stays { came.new.room ≡ came.old.room }
+{
+    match part {
+        TakingPart::Signal(stream) => came.take_signal(stream, count),
+        TakingPart::Line(_) => {}
+        TakingPart::Client(_) => {}
+    }
+}
+
+/// What the part takes from is.
+pub(crate) fn state_of(part: &TakingPart) -> FromState
+    ensures { (from : FromEnd) (x : Connection) (input : OwnInput) (j : ℕ) (frames : List Taken) (ended : Bool) → TakingStands from x input j frames ended part.now
+        → result ≡ state_by from x input (turns_taken j ended) }
+{
+    match part {
+        TakingPart::Line(sink) => of_sink(sink.state()),
+        TakingPart::Client(_) => FromState::Client,
+        TakingPart::Signal(_) => FromState::Signal,
+    }
+}
+
+fn of_sink(state: SinkState) -> FromState
+    ensures { result ≡ sink_state state }
+{
+    match state {
+        SinkState::Waiting => FromState::Waiting,
+        SinkState::Up => FromState::Up,
+        SinkState::Down => FromState::Down,
+    }
+}
+
+/// A client's packets begun, whether it is spent, and its bad line.
+pub(crate) fn text_numbers(part: &TakingPart) -> (u64, bool, Option<u64>)
+    requires client { IsOfClient part.now }
+    ensures { (x : Connection) (first now : InView) (taken : List ℕ) (n : ℕ) (input : ClientInput) → ClientInStands x first now taken n part.now → MayShow part.now taken (of_client input)
+        → result ≡ (stopped (packets_begun input.packets x.fcs (emitted_before x.pace n)), is_spent input x.fcs (emitted_before x.pace n), option_map stopped (bad_line input x.fcs (emitted_before x.pace n))) }
+{
+    match part {
+        TakingPart::Client(client) => (
+            client.framer.packets(),
+            client.framer.spent(),
+            client.framer.bad(),
+        ),
+        TakingPart::Line(_) => unreachable!(),
+        TakingPart::Signal(_) => unreachable!(),
+    }
+}
+
+/// The pace of a turn of the connection: the list is gone round.
+pub(crate) fn pace_at(paces: &[u32], turn: u32) -> usize
+    ensures { result ≡ pace_of paces.now turn }
+{
+    if paces.is_empty() {
+        return 0;
+    }
+    paces[turn as usize % paces.len()] as usize
+}
