@@ -1,24 +1,23 @@
 -- What the top call answers for, of a command over line input 0.
-use Rattle.std.proofs.Common.{◌≡◌, ◌≢◌, ◌∙◌, ℕ, List, [], ◌∷◌, Option, Some, Result, Ok, Err, IfOk, IfErr, refl, sym, ap, subst, slice_get, slice_set, map}
+use Rattle.std.proofs.Common.{◌≡◌, ◌≢◌, ◌∙◌, ℕ, List, [], Option, Some, Result, Ok, Err, IfOk, IfErr, refl, sym, ap, subst, slice_get}
 use Rattle.otn_base.specs.declared.memory.Memory.{Memory as NoMemory}
 use Rattle.otn_ports.proofs.BaysLaws.{only_line_in, line_in_seen, line_in_set}
 use Rattle.otn_ports.proofs.GivenLaws.{gave_none}
 use Rattle.otn_ports.proofs.PortLaws.{sink_later_none, source_later_none}
 use Rattle.otn_ports.specs.Given.{Gave}
 use Rattle.otn_ports.specs.InPlace.{in_view}
-use Rattle.otn_ports.specs.OutPlace.{out_view}
-use Rattle.otn_ports.specs.Racks.{bays_view, line_ins, line_outs, client_ins, client_outs, with_line_in}
+use Rattle.otn_ports.specs.Racks.{bays_view, line_ins, with_line_in}
 use Rattle.otn_ports.specs.Views.{line_in_at}
 use Rattle.otn_ports.specs.declared.bays.Rack.{Rack}
 use Rattle.otn_ports.specs.declared.in_place.InPlaceOf.{InPlaceOf}
 use Rattle.otn_ports.specs.declared.sink.Sink as sink
 use Rattle.otn_ports.specs.declared.source.Source as source
 use Rattle.tributary_model.specs.Places.{Tributary}
-use Rattle.line_tool.specs.Answers.{PullAnswers, SlotAnswers}
+use Rattle.line_tool.specs.Answers.{LineAnswers, PullRan, SlotRan}
 use Rattle.otn_ports.specs.PortViews.{SinkLater, sink_view, source_view}
 use Rattle.line_tool.specs.Device.{Device, Stays, device, line_zero}
 use Rattle.line_tool.specs.Ends.{ReportAfter, line_status}
-use Rattle.line_tool.specs.PlanCheck.{CheckRun}
+use Rattle.line_tool.specs.PlanCheck.{CheckRun, CountsBy}
 use Rattle.line_tool.specs.PullRuns.{PullRun}
 use Rattle.line_tool.specs.Runs.{IsRefusal}
 use Rattle.line_tool.specs.SlotRuns.{SlotRun}
@@ -27,19 +26,8 @@ use Rattle.line_tool.specs.declared.ended.Ended.TheVariants.{Done, Unfinished, R
 use Rattle.line_tool.specs.declared.status.Status.{Status}
 use Rattle.line_tool.specs.declared.status.Status.TheVariants as status
 use Rattle.line_tool.proofs.PullTable.{pull_ran}
+use Rattle.line_tool.proofs.PutBack.{put_back}
 use Rattle.line_tool.proofs.SlotTable.{slot_ran}
-
--- ---- a place that is put back as it was
-
-set_first : {X : Type 0} (xs : List X) (x : X) → slice_get xs 0 ≡ Some x → slice_set xs 0 x ≡ xs
-set_first [] x there = absurd (cc)
-set_first (z ∷ zs) x there = let e : z ≡ x = cc in ap (λ y. y ∷ zs) (sym e)
-
-put_back : {P K : Type 0} (p : source.Ghosts P) (k : sink.Ghosts K) (rack : Rack P K) (x y : InPlaceOf P) → slice_get (line_ins rack) 0 ≡ Some x → y ≡ x
-    → bays_view p k (with_line_in rack 0 y) ≡ bays_view p k rack
-put_back p k rack x y there same =
-    let back : slice_set (line_ins rack) 0 y ≡ line_ins rack = ap (slice_set (line_ins rack) 0) same ∙ set_first (line_ins rack) x there in
-    ap (λ places. record { line_in = map (in_view p) places; line_out = map (out_view k) (line_outs rack); client_in = map (in_view p) (client_ins rack); client_out = map (out_view k) (client_outs rack) }) back
 
 -- ---- the answers, by how the command ended
 
@@ -59,23 +47,43 @@ refused_for (Ok Unfinished) A a refusal = absurd refusal
 refused_for (Ok ReportFault) A a refusal = absurd refusal
 refused_for (Ok Cut) A a refusal = absurd refusal
 
+-- a report's count of faults
+line_counts : (result : Result Ended NoMemory) (old new : Device) → IfErr result (λ _. new ≡ old) → IfOk result (λ ended. ReportAfter (Some ended) old.report new.report)
+    → CountsBy status.ReportFault (line_status result) old.report.faults new.report.faults
+line_counts (Err memory) old new same report = record { fault = λ e. absurd (cc); calm = λ _. ap (λ (d : Device). d.report.faults) same }
+line_counts (Ok Done) old new same report = record { fault = λ e. absurd (cc); calm = λ _. report.faults }
+line_counts (Ok Unfinished) old new same report = record { fault = λ e. absurd (cc); calm = λ _. report.faults }
+line_counts (Ok ReportFault) old new same report = record { fault = λ _. report.faults; calm = λ no. absurd (no refl) }
+line_counts (Ok Cut) old new same report = record { fault = λ e. absurd (cc); calm = λ _. report.faults }
+
+line_answers : (Ran : (old new : Device) → Status → Type 0) (result : Result Ended NoMemory) (old new : Device) → IfErr result (λ _. new ≡ old)
+    → IfOk result (λ ended. Ran old new (line_status (Ok ended))) → CountsBy status.ReportFault (line_status result) old.report.faults new.report.faults
+    → LineAnswers Ran old new (line_status result)
+line_answers Ran (Err memory) old new same run counts = record { answer = tt; counts = counts; memory = λ _. same; ran = λ no. absurd (no refl) }
+line_answers Ran (Ok Done) old new same run counts = record { answer = tt; counts = counts; memory = λ e. absurd (cc); ran = λ _. run }
+line_answers Ran (Ok Unfinished) old new same run counts = record { answer = tt; counts = counts; memory = λ e. absurd (cc); ran = λ _. run }
+line_answers Ran (Ok ReportFault) old new same run counts = record { answer = tt; counts = counts; memory = λ e. absurd (cc); ran = λ _. run }
+line_answers Ran (Ok Cut) old new same run counts = record { answer = tt; counts = counts; memory = λ e. absurd (cc); ran = λ _. run }
+
 slot_answers : (result : Result Ended NoMemory) (slot : ℕ) (old new : Device) → IfErr result (λ _. new ≡ old)
-    → IfOk result (λ ended. SlotRun slot (line_zero old) (line_zero new) old.report.got new.report.got ended) → IfOk result (λ ended. ReportAfter ended old.report new.report)
-    → SlotAnswers slot old new (line_status result)
-slot_answers (Err memory) slot old new same run report = record { answer = tt; memory = λ _. same; ran = λ no. absurd (no refl) }
-slot_answers (Ok Done) slot old new same run report = record { answer = tt; memory = λ e. absurd (cc); ran = λ _. slot_ran Done slot old new run report }
-slot_answers (Ok Unfinished) slot old new same run report = record { answer = tt; memory = λ e. absurd (cc); ran = λ _. slot_ran Unfinished slot old new run report }
-slot_answers (Ok ReportFault) slot old new same run report = record { answer = tt; memory = λ e. absurd (cc); ran = λ _. slot_ran ReportFault slot old new run report }
-slot_answers (Ok Cut) slot old new same run report = record { answer = tt; memory = λ e. absurd (cc); ran = λ _. slot_ran Cut slot old new run report }
+    → IfOk result (λ ended. SlotRun slot (line_zero old) (line_zero new) old.report.got new.report.got ended) → IfOk result (λ ended. ReportAfter (Some ended) old.report new.report)
+    → LineAnswers (SlotRan slot) old new (line_status result)
+slot_answers result slot old new same run report = line_answers (SlotRan slot) result old new same (ran result run) (line_counts result old new same report)
+  where
+    ran : (result : Result Ended NoMemory) → IfOk result (λ ended. SlotRun slot (line_zero old) (line_zero new) old.report.got new.report.got ended)
+        → IfOk result (λ ended. SlotRan slot old new (line_status (Ok ended)))
+    ran (Ok ended) run = slot_ran ended slot old new run
+    ran (Err memory) run = tt
 
 pull_answers : (result : Result Ended NoMemory) (own : Tributary) (old new : Device) → IfErr result (λ _. new ≡ old)
-    → IfOk result (λ ended. PullRun own (line_zero old) (line_zero new) old.report.got new.report.got ended) → IfOk result (λ ended. ReportAfter ended old.report new.report)
-    → PullAnswers own old new (line_status result)
-pull_answers (Err memory) own old new same run report = record { answer = tt; memory = λ _. same; ran = λ no. absurd (no refl) }
-pull_answers (Ok Done) own old new same run report = record { answer = tt; memory = λ e. absurd (cc); ran = λ _. pull_ran Done own old new run report }
-pull_answers (Ok Unfinished) own old new same run report = record { answer = tt; memory = λ e. absurd (cc); ran = λ _. pull_ran Unfinished own old new run report }
-pull_answers (Ok ReportFault) own old new same run report = record { answer = tt; memory = λ e. absurd (cc); ran = λ _. pull_ran ReportFault own old new run report }
-pull_answers (Ok Cut) own old new same run report = record { answer = tt; memory = λ e. absurd (cc); ran = λ _. pull_ran Cut own old new run report }
+    → IfOk result (λ ended. PullRun own (line_zero old) (line_zero new) old.report.got new.report.got ended) → IfOk result (λ ended. ReportAfter (Some ended) old.report new.report)
+    → LineAnswers (PullRan own) old new (line_status result)
+pull_answers result own old new same run report = line_answers (PullRan own) result old new same (ran result run) (line_counts result old new same report)
+  where
+    ran : (result : Result Ended NoMemory) → IfOk result (λ ended. PullRun own (line_zero old) (line_zero new) old.report.got new.report.got ended)
+        → IfOk result (λ ended. PullRan own old new (line_status (Ok ended)))
+    ran (Ok ended) run = pull_ran ended own old new run
+    ran (Err memory) run = tt
 
 -- ---- over all that the top call is handed
 
@@ -86,8 +94,7 @@ after_line p k i o plan rack line report = device p k i o plan (with_line_in rac
 same_device : {P K I O : Type 0} (p : source.Ghosts P) (k : sink.Ghosts K) (i : source.Ghosts I) (o : sink.Ghosts O) (plan : P) (rack : Rack I O) (x y : InPlaceOf I) (report new : K)
     → slice_get (line_ins rack) 0 ≡ Some x → (y ≡ x) × (new ≡ report) → after_line p k i o plan rack y new ≡ device p k i o plan rack report
 same_device p k i o plan rack x y report new there same =
-    ap (λ bays. record { plan = source_view p plan; bays = bays; report = sink_view k new }) (put_back i o rack x y there same.0)
-    ∙ ap (λ r. record { plan = source_view p plan; bays = bays_view i o rack; report = sink_view k r }) same.1
+    ap (λ bays. device p k i o plan bays new) (put_back rack x y there same.0) ∙ ap (λ r. device p k i o plan rack r) same.1
 
 same_if : {P K I O : Type 0} (p : source.Ghosts P) (k : sink.Ghosts K) (i : source.Ghosts I) (o : sink.Ghosts O) (plan : P) (rack : Rack I O) (x y : InPlaceOf I) (report new : K)
     (result : Result Ended NoMemory) → slice_get (line_ins rack) 0 ≡ Some x → IfErr result (λ _. (y ≡ x) × (new ≡ report))
@@ -97,8 +104,8 @@ same_if p k i o plan rack x y report new (Ok ended) there same = tt
 
 pub slot_answered : {P K I O : Type 0} (p : source.Ghosts P) (k : sink.Ghosts K) (i : source.Ghosts I) (o : sink.Ghosts O) (plan : P) (rack : Rack I O) (x y : InPlaceOf I) (report new : K)
     (result : Result Ended NoMemory) (slot : ℕ) → slice_get (line_ins rack) 0 ≡ Some x → IfErr result (λ _. (y ≡ x) × (new ≡ report))
-    → IfOk result (λ ended. SlotRun slot (in_view i x) (in_view i y) (k.got report) (k.got new) ended) → IfOk result (λ ended. ReportAfter ended (sink_view k report) (sink_view k new))
-    → SlotAnswers slot (device p k i o plan rack report) (after_line p k i o plan rack y new) (line_status result)
+    → IfOk result (λ ended. SlotRun slot (in_view i x) (in_view i y) (k.got report) (k.got new) ended) → IfOk result (λ ended. ReportAfter (Some ended) (sink_view k report) (sink_view k new))
+    → LineAnswers (SlotRan slot) (device p k i o plan rack report) (after_line p k i o plan rack y new) (line_status result)
 slot_answered p k i o plan rack x y report new result slot there memory run after =
     slot_answers result slot (device p k i o plan rack report) (after_line p k i o plan rack y new) (same_if p k i o plan rack x y report new result there memory)
     (subst (λ first. IfOk result (λ ended. SlotRun slot first (line_in_at (bays_view i o (with_line_in rack 0 y)) 0) (k.got report) (k.got new) ended)) (sym (line_in_seen i o rack 0 x there))
@@ -107,26 +114,25 @@ slot_answered p k i o plan rack x y report new result slot there memory run afte
 
 pub pull_answered : {P K I O : Type 0} (p : source.Ghosts P) (k : sink.Ghosts K) (i : source.Ghosts I) (o : sink.Ghosts O) (plan : P) (rack : Rack I O) (x y : InPlaceOf I) (report new : K)
     (result : Result Ended NoMemory) (own : Tributary) → slice_get (line_ins rack) 0 ≡ Some x → IfErr result (λ _. (y ≡ x) × (new ≡ report))
-    → IfOk result (λ ended. PullRun own (in_view i x) (in_view i y) (k.got report) (k.got new) ended) → IfOk result (λ ended. ReportAfter ended (sink_view k report) (sink_view k new))
-    → PullAnswers own (device p k i o plan rack report) (after_line p k i o plan rack y new) (line_status result)
+    → IfOk result (λ ended. PullRun own (in_view i x) (in_view i y) (k.got report) (k.got new) ended) → IfOk result (λ ended. ReportAfter (Some ended) (sink_view k report) (sink_view k new))
+    → LineAnswers (PullRan own) (device p k i o plan rack report) (after_line p k i o plan rack y new) (line_status result)
 pull_answered p k i o plan rack x y report new result own there memory run after =
     pull_answers result own (device p k i o plan rack report) (after_line p k i o plan rack y new) (same_if p k i o plan rack x y report new result there memory)
     (subst (λ first. IfOk result (λ ended. PullRun own first (line_in_at (bays_view i o (with_line_in rack 0 y)) 0) (k.got report) (k.got new) ended)) (sym (line_in_seen i o rack 0 x there))
     (subst (λ now. IfOk result (λ ended. PullRun own (in_view i x) now (k.got report) (k.got new) ended)) (sym (line_in_set i o rack 0 x y there)) run))
     after
 
--- after an answer that comes before anything was done, all places are as they were and nothing was written
-pub refused_line : {P K I O : Type 0} (p : source.Ghosts P) (k : sink.Ghosts K) (i : source.Ghosts I) (o : sink.Ghosts O) (plan : P) (rack : Rack I O) (x y : InPlaceOf I) (report new : K)
-    (result : Result Ended NoMemory) → slice_get (line_ins rack) 0 ≡ Some x → IfErr result (λ _. (y ≡ x) × (new ≡ report)) → IsRefusal (line_status result)
-    → (bays_view i o (with_line_in rack 0 y) ≡ bays_view i o rack) × (k.got new ≡ k.got report)
-refused_line p k i o plan rack x y report new result there memory refusal =
+-- after an answer that comes before anything was done, all places and the report are as they were
+pub refused_line : {P K O : Type 0} (rack : Rack P O) (x y : InPlaceOf P) (report new : K) (result : Result Ended NoMemory) → slice_get (line_ins rack) 0 ≡ Some x
+    → IfErr result (λ _. (y ≡ x) × (new ≡ report)) → IsRefusal (line_status result) → (with_line_in rack 0 y ≡ rack) × (new ≡ report)
+refused_line rack x y report new result there memory refusal =
     let same = refused_for result ((y ≡ x) × (new ≡ report)) memory refusal in
-    (put_back i o rack x y there same.0, ap k.got same.1)
+    (put_back rack x y there same.0, same.1)
 
 -- ---- what stays
 
 report_later : {K : Type 0} (k : sink.Ghosts K) (report new : K) (result : Result Ended NoMemory) → IfErr result (λ _. new ≡ report)
-    → IfOk result (λ ended. ReportAfter ended (sink_view k report) (sink_view k new)) → SinkLater (sink_view k report) (sink_view k new)
+    → IfOk result (λ ended. ReportAfter (Some ended) (sink_view k report) (sink_view k new)) → SinkLater (sink_view k report) (sink_view k new)
 report_later k report new (Ok ended) same after = after.later
 report_later k report new (Err memory) same after = subst (λ r. SinkLater (sink_view k report) (sink_view k r)) (sym same) (sink_later_none (sink_view k report))
 
@@ -138,7 +144,7 @@ line_gave i x y (Err memory) same gave = ([], subst (λ place. Gave (in_view i x
 
 pub line_stays : {P K I O : Type 0} (p : source.Ghosts P) (k : sink.Ghosts K) (i : source.Ghosts I) (o : sink.Ghosts O) (plan : P) (rack : Rack I O) (x y : InPlaceOf I) (report new : K)
     (result : Result Ended NoMemory) → slice_get (line_ins rack) 0 ≡ Some x → IfErr result (λ _. (y ≡ x) × (new ≡ report))
-    → IfOk result (λ ended. (taken : List ℕ) × Gave (in_view i x) taken (in_view i y)) → IfOk result (λ ended. ReportAfter ended (sink_view k report) (sink_view k new))
+    → IfOk result (λ ended. (taken : List ℕ) × Gave (in_view i x) taken (in_view i y)) → IfOk result (λ ended. ReportAfter (Some ended) (sink_view k report) (sink_view k new))
     → Stays (device p k i o plan rack report) (after_line p k i o plan rack y new)
 line_stays p k i o plan rack x y report new result there memory gave after = record {
   plan = source_later_none (source_view p plan);

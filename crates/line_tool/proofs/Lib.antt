@@ -11,6 +11,7 @@ pub mod PullLoop
 pub mod PullTable
 pub mod PullTurns
 pub mod PullWorlds
+pub mod PutBack
 pub mod Reports
 pub mod Rows
 pub mod SlotLoop

@@ -1,6 +1,5 @@
 -- The turns of `pull`, and how it ends.
-use Rattle.std.proofs.Common.{◌≡◌, ◌≢◌, ◌<◌, ◌≤◌, ◌+◌, ◌*◌, ◌/◌, ◌%◌, ◌∙◌, ◌⊎◌, ℕ, Bool, true, false, List, [], ◌++◌, Option, None, length, ltb, min, refl, sym, ap, subst, inl, inr, arith, append-nil, append_assoc, length-append}
-use Rattle.std.specs.List.{flat_map, range_with_len}
+use Rattle.std.proofs.Common.{◌≡◌, ◌≢◌, ◌<◌, ◌≤◌, ◌+◌, ◌*◌, ◌/◌, ◌%◌, ◌∙◌, ◌⊎◌, ℕ, Bool, true, false, List, [], ◌++◌, Option, Some, None, length, ltb, min, refl, sym, ap, subst, inl, inr, arith, append-nil, append_assoc, length-append}
 use Rattle.std.proofs.lemmas.Bool.{ltb-true, ltb-false}
 use Rattle.std.proofs.lemmas.List.{take-append-le}
 use Rattle.otn_ports.proofs.GivenLaws.{gave_twice}
@@ -17,11 +16,11 @@ use Rattle.line_side.specs.declared.ending.Ending.TheVariants.{Open, Seen, Died}
 use Rattle.multiframe.specs.LineTurns.{standing, has_ended}
 use Rattle.tributary_model.specs.Places.{Tributary}
 use Rattle.otn_ports.specs.PortViews.{SinkView}
-use Rattle.line_tool.specs.Ends.{ReportAfter, StepAfter}
+use Rattle.line_tool.specs.Ends.{ReportAfter}
 use Rattle.line_tool.specs.Gains.{GainsPart}
 use Rattle.device_model.specs.LineViews.{emitted_at}
-use Rattle.line_tool.specs.PullReport.{pull_report, frames_wanted, bytes_taken, LeavesBytes}
-use Rattle.line_tool.specs.PullRuns.{MayFollow, PullRun, TurnRun, TurnAfter, AnswerRun}
+use Rattle.line_tool.specs.PullReport.{emitted_until, pull_report, frames_wanted, bytes_taken, LeavesBytes}
+use Rattle.line_tool.specs.PullRuns.{MayFollow, PullRun, TurnRun, AnswerRun}
 use Rattle.line_tool.specs.PullTurn.{TapStands}
 use Rattle.line_tool.specs.declared.pull.After.{After}
 use Rattle.line_tool.specs.declared.pull.After.TheVariants as next
@@ -30,7 +29,6 @@ use Rattle.line_tool.specs.declared.ended.Ended.TheVariants.{Done, Unfinished, R
 use Rattle.line_tool.specs.declared.tap.Tap.{Tap}
 use Rattle.line_tool.proofs.PullEnds.{took_so_far, TookWanted, took_wanted, frames_there}
 use Rattle.line_tool.proofs.PullTurns.{turn_count, written_first, written_all}
-use Rattle.line_tool.proofs.Reports.{step_ends}
 use Rattle.line_tool.proofs.Rows.{flat_map-range_more}
 use Rattle.line_tool.proofs.SlotLoop.{after-none, part_after}
 
@@ -38,7 +36,7 @@ use Rattle.line_tool.proofs.SlotLoop.{after-none, part_after}
 pub record TurnsSoFar (own : Tributary) (first now : InView) (t : ℕ) (tap : Tap) (old new : Option (List ℕ)) : Type 0 where
   pub taken : List ℕ
   pub stands : TapStands own first now taken t tap
-  pub report : (given : List ℕ) → MayBe false tap.line.reader.ending taken given → new ≡ after old (flat_map (emitted_at own given) (range_with_len 0 t))
+  pub report : (given : List ℕ) → MayBe false tap.line.reader.ending taken given → new ≡ after old (emitted_until own given t)
   pub unended : (given : List ℕ) → MayBe false tap.line.reader.ending taken given → (s : ℕ) → s < t → has_ended (standing 8 (mfas_of given) s) ≡ false
 
 -- whether the line has ended after these turns
@@ -46,10 +44,7 @@ abbrev pub HasLast : (own : Tributary) (first now : InView) (t : ℕ) (tap : Tap
 HasLast own first now t tap old new h ended =
     (given : List ℕ) → MayBe false tap.line.reader.ending h.taken given → has_ended (standing 8 (mfas_of given) t) ≡ ended
 
--- what the sink emits in the turns 1 to t
-abbrev pub emitted_until : Tributary → List ℕ → ℕ → List ℕ
-emitted_until own given t = flat_map (emitted_at own given) (range_with_len 0 t)
-
+-- one turn more
 emitted_more : (own : Tributary) (given : List ℕ) (t : ℕ) → emitted_until own given (t + 1) ≡ emitted_until own given t ++ emitted_at own given t
 emitted_more own given t =
     let last : 0 + t ≡ t = omega arith in
@@ -156,18 +151,19 @@ turns_lost own first was now t before later old gained new h last few run none =
       subst (GainsPart old new) (sym all.1) (part_before old new (emitted_until own given (t + 1)) all.0 (subst (GainsPart old new) turn part));
   ends = tt;
   took = λ other. absurd (other refl);
-  stopped = λ _. record {
-    turns = t + 1;
-    few = omega (arith, few);
-    wanted = λ rest follow.
+  stopped = λ _. (
+    t,
+    λ rest follow.
         let given = (h.taken ++ run.moves.came) ++ rest in
-        took_so_far given (h.taken ++ run.moves.came) (t + 1) later.line
-        (run.moves.stands.line.is_line given (follows later.line.reader.ending (h.taken ++ run.moves.came) rest follow)) none;
-    unended = λ rest follow.
-        let given = (h.taken ++ run.moves.came) ++ rest in
-        let earlier = run.moves.earlier given (follows later.line.reader.ending (h.taken ++ run.moves.came) rest follow) in
-        still_unended (mfas_of given) t (h.unended given earlier) (last given earlier);
-  };
+        let may = follows later.line.reader.ending (h.taken ++ run.moves.came) rest follow in
+        let earlier = run.moves.earlier given may in
+        record {
+          few = few;
+          unended = λ s within. still_unended (mfas_of given) t (h.unended given earlier) (last given earlier) s (omega (arith, within));
+          last = took_so_far given (h.taken ++ run.moves.came) (t + 1) later.line (run.moves.stands.line.is_line given may) none;
+          gained = subst (λ r. GainsPart r new (emitted_at own given t)) (h.report given earlier) (subst (GainsPart gained new) (run.moves.emits given may) run.wrote);
+        },
+  );
 }
 
 open_is : (ending : Ending) → ending ≢ Seen → ending ≢ Died → ending ≡ Open
@@ -361,19 +357,8 @@ turns_end ReportFault own first was now t tap old new h few last none a = absurd
 
 -- ---- the report
 
--- after a turn that was written
-pub turn_reported : (old new : SinkView) → TurnAfter next.NextTurn old new → StepAfter None old new
-turn_reported old new h = record { later = h.later; faults = h.faults }
-
-pub line_ended : (old new : SinkView) → TurnAfter next.LineEnded old new → StepAfter None old new
-line_ended old new h = record { later = h.later; faults = h.faults }
-
--- and after one whose write failed
-pub turn_failed : (first old new : SinkView) → StepAfter None first old → TurnAfter next.ReportFailed old new → ReportAfter ReportFault first new
-turn_failed first old new h turn = step_ends ReportFault first old new h (record { later = turn.later; faults = turn.faults })
-
 -- the last answer is no write
-pub never_written : (answer : Ended) (line : LineView) (was now : InView) (old new : SinkView) → AnswerRun line was now answer → StepAfter None old new → ReportAfter answer old new
+pub never_written : (answer : Ended) (line : LineView) (was now : InView) (old new : SinkView) → AnswerRun line was now answer → ReportAfter None old new → ReportAfter (Some answer) old new
 never_written Done line was now old new a h = record { later = h.later; faults = h.faults }
 never_written Unfinished line was now old new a h = record { later = h.later; faults = h.faults }
 never_written Cut line was now old new a h = record { later = h.later; faults = h.faults }

@@ -5,11 +5,11 @@ use Rattle.otn_ports.specs.Given.{Gave, IsGiven}
 use Rattle.otn_ports.specs.Reads.{HasEnded}
 use Rattle.otn_ports.specs.Views.{State, Empty, Live, Dead, InView}
 use Rattle.tributary_model.specs.Places.{Tributary}
-use Rattle.line_tool.specs.Answers.{PullAnswers, PullRan}
+use Rattle.line_tool.specs.Answers.{LineAnswers, PullRan}
 use Rattle.line_tool.specs.Device.{Device, line_zero}
-use Rattle.line_tool.specs.Ends.{ReportAfter, line_status}
+use Rattle.line_tool.specs.Ends.{line_status}
 use Rattle.line_tool.specs.PullReport.{LeavesBytes, bytes_taken, pull_report}
-use Rattle.line_tool.specs.PullRuns.{MayFollow, PullRun}
+use Rattle.line_tool.specs.PullRuns.{MayFollow, PullRun, StoppedInTurn}
 use Rattle.line_tool.specs.Runs.{IsWell, Reports}
 use Rattle.line_tool.specs.declared.ended.Ended.{Ended}
 use Rattle.line_tool.specs.declared.ended.Ended.TheVariants.{Done, Unfinished, ReportFault, Cut}
@@ -50,54 +50,49 @@ followed own old new answer given h is =
 
 -- ---- what `pull` answers for
 
-pub pull_ran : (ended : Ended) (own : Tributary) (old new : Device) → PullRun own (line_zero old) (line_zero new) old.report.got new.report.got ended
-    → ReportAfter ended old.report new.report → PullRan own old new (line_status (Ok ended))
-pull_ran Done own old new h r = record {
+pub pull_ran : (ended : Ended) (own : Tributary) (old new : Device) → PullRun own (line_zero old) (line_zero new) old.report.got new.report.got ended → PullRan own old new (line_status (Ok ended))
+pull_ran Done own old new h = record {
   taken = h.taken;
   gave = h.gave;
   more = h.more;
   over = h.over;
   wrote = h.report;
-  counts = record { fault = λ e. absurd (cc); calm = λ _. r.faults };
   cut = λ _. (λ e. absurd (cc), λ dead. absurd (h.ends.0 dead));
   unfinished = λ _ rest follow. (λ e. absurd (cc), λ x. absurd (h.ends.2 (subst LeavesBytes (nothing_more h.more h.taken rest h.ends.1 follow) x.1)));
   counted = λ _. (λ e. absurd (cc), λ x. let none : length h.taken % 16320 ≡ 0 = h.ends.3 in let some : 0 < length h.taken % 16320 = x.1 in absurd (omega (arith, none, some)));
   took = λ _. h.took (λ e. cc);
   stopped = λ e. absurd (cc);
 }
-pull_ran Unfinished own old new h r = record {
+pull_ran Unfinished own old new h = record {
   taken = h.taken;
   gave = h.gave;
   more = h.more;
   over = h.over;
   wrote = h.report;
-  counts = record { fault = λ e. absurd (cc); calm = λ _. r.faults };
   cut = λ _. (λ e. absurd (cc), λ dead. absurd (h.ends.0 dead));
   unfinished = λ _ rest follow. (λ _. (h.ends.0, h.ends.1 rest follow), λ _. refl);
   counted = λ _. (λ _. (h.ends.0, h.ends.2), λ _. refl);
   took = λ _. h.took (λ e. cc);
   stopped = λ e. absurd (cc);
 }
-pull_ran Cut own old new h r = record {
+pull_ran Cut own old new h = record {
   taken = h.taken;
   gave = h.gave;
   more = h.more;
   over = h.over;
   wrote = h.report;
-  counts = record { fault = λ e. absurd (cc); calm = λ _. r.faults };
   cut = λ _. (λ _. h.ends, λ _. refl);
   unfinished = λ _ rest follow. (λ e. absurd (cc), λ x. absurd (x.0 h.ends));
   counted = λ _. (λ e. absurd (cc), λ x. absurd (x.0 h.ends));
   took = λ _. h.took (λ e. cc);
   stopped = λ e. absurd (cc);
 }
-pull_ran ReportFault own old new h r = record {
+pull_ran ReportFault own old new h = record {
   taken = h.taken;
   gave = h.gave;
   more = h.more;
   over = h.over;
   wrote = h.report;
-  counts = record { fault = λ _. r.faults; calm = λ no. absurd (no refl) };
   cut = λ no. absurd (no refl);
   unfinished = λ no. absurd (no refl);
   counted = λ no. absurd (no refl);
@@ -141,15 +136,28 @@ pull_took own old new answer given h other is below =
     let f = followed own old new answer given h is in
     taken_by_number (line_zero old) (line_zero new) h.taken h.gave below ∙ h.took other f.rest f.follows ∙ ap (λ xs. bytes_taken xs) (sym f.parts)
 
+-- how it stopped, by Given
+pub pull_stopped : (own : Tributary) (old new : Device) (given : List ℕ) → PullRan own old new status.ReportFault → IsGiven (line_zero old) (line_zero new) given
+    → (line_zero new).number < 2 ^ 64 - 1
+    → (t : ℕ) × StoppedInTurn own given ((line_zero new).number - (line_zero old).number) t old.report.got new.report.got
+pull_stopped own old new given h is below =
+    let f = followed own old new status.ReportFault given h is in
+    let k = h.stopped refl in
+    let n = taken_by_number (line_zero old) (line_zero new) h.taken h.gave below in (
+      k.0,
+      subst (λ count. StoppedInTurn own given count k.0 old.report.got new.report.got) (sym n)
+          (subst (λ xs. StoppedInTurn own xs (length h.taken) k.0 old.report.got new.report.got) (sym f.parts) (k.1 f.rest f.follows)),
+    )
+
 -- ---- without faults
 
-pub pull_complete : (answer : Status) (own : Tributary) (old new : Device) → PullAnswers own old new answer → IsWell old.report.faults new.report.faults
+pub pull_complete : (answer : Status) (own : Tributary) (old new : Device) → LineAnswers (PullRan own) old new answer → IsWell old.report.faults new.report.faults
     → IsWell (line_zero old).faults (line_zero new).faults → (line_zero old).state ≢ Dead
     → (answer ≡ status.Done) ⊎ (answer ≡ status.Unfinished) ⊎ (answer ≡ status.Memory)
 pull_complete status.Done own old new h report line alive = inl refl
 pull_complete status.Unfinished own old new h report line alive = inr (inl refl)
 pull_complete status.Memory own old new h report line alive = inr (inr refl)
-pull_complete status.ReportFault own old new h report line alive = absurd (report ((h.ran (λ e. cc)).counts.fault refl))
+pull_complete status.ReportFault own old new h report line alive = absurd (report (h.counts.fault refl))
 pull_complete status.Cut own old new h report line alive =
     let ran = h.ran (λ e. cc) in
     absurd (still_alive (line_zero old) (line_zero new) ran.gave.state line alive ((ran.cut (λ e. cc)).0 refl))

@@ -1,24 +1,22 @@
 -- A report from one step of a command to the next.
-use Rattle.std.proofs.Common.{◌≡◌, ◌∙◌, None, Some, refl, subst}
+use Rattle.std.proofs.Common.{◌≡◌, ◌∙◌, Option, None, Some, refl, subst}
 use Rattle.otn_ports.proofs.PortLaws.{sink_later_none, sink_later_twice}
 use Rattle.otn_ports.specs.Bytes.{HasFailed}
 use Rattle.otn_ports.specs.PortViews.{SinkView}
-use Rattle.line_tool.specs.Ends.{FaultsBy, ReportAfter, StepAfter}
+use Rattle.line_tool.specs.Ends.{FaultsBy, ReportAfter}
 use Rattle.line_tool.specs.declared.ended.Ended.{Ended}
 use Rattle.line_tool.specs.declared.ended.Ended.TheVariants.{Done, Unfinished, ReportFault, Cut}
 
-pub step_same : (s : SinkView) → StepAfter None s s
-step_same s = record { later = sink_later_none s; faults = refl }
+pub report_same : (s : SinkView) → ReportAfter None s s
+report_same s = record { later = sink_later_none s; faults = refl }
 
-pub step_more : (a b c : SinkView) → StepAfter None a b → StepAfter None b c → StepAfter None a c
-step_more a b c h k = record { later = sink_later_twice a b c h.later k.later; faults = k.faults ∙ h.faults }
+-- the count of faults after a step, where it was as at first before
+faults_from : (answer : Option Ended) (a b c : SinkView) → b.faults ≡ a.faults → FaultsBy answer b c → FaultsBy answer a c
+faults_from None a b c same h = h ∙ same
+faults_from (Some Done) a b c same h = h ∙ same
+faults_from (Some Unfinished) a b c same h = h ∙ same
+faults_from (Some Cut) a b c same h = h ∙ same
+faults_from (Some ReportFault) a b c same h = subst (λ n. HasFailed n c.faults) same h
 
--- how the count of faults ends, where it was as at first before
-faults_from : (ended : Ended) (a b c : SinkView) → b.faults ≡ a.faults → FaultsBy ended b c → FaultsBy ended a c
-faults_from Done a b c same h = h ∙ same
-faults_from Unfinished a b c same h = h ∙ same
-faults_from Cut a b c same h = h ∙ same
-faults_from ReportFault a b c same h = subst (λ n. HasFailed n c.faults) same h
-
-pub step_ends : (ended : Ended) (a b c : SinkView) → StepAfter None a b → StepAfter (Some ended) b c → ReportAfter ended a c
-step_ends ended a b c h k = record { later = sink_later_twice a b c h.later k.later; faults = faults_from ended a b c h.faults k.faults }
+pub report_more : (answer : Option Ended) (a b c : SinkView) → ReportAfter None a b → ReportAfter answer b c → ReportAfter answer a c
+report_more answer a b c h k = record { later = sink_later_twice a b c h.later k.later; faults = faults_from answer a b c h.faults k.faults }

@@ -1,5 +1,5 @@
 -- Rows, one after another.
-use Rattle.std.proofs.Common.{◌≡◌, ◌<◌, ◌≤◌, ◌+◌, ◌-◌, ◌*◌, ◌∙◌, ℕ, zero, suc, List, [], ◌∷◌, ◌++◌, length, take, ap, sym, arith, add-one, append-nil, drop, length-drop}
+use Rattle.std.proofs.Common.{◌≡◌, ◌<◌, ◌≤◌, ◌+◌, ◌-◌, ◌*◌, ◌∙◌, ℕ, zero, suc, List, [], ◌∷◌, ◌++◌, length, take, refl, ap, sym, arith, add-one, append-nil, drop, length-drop}
 use Rattle.std.proofs.lemmas.List.{length-take-le}
 use Rattle.std.specs.List.{flat_map, range_with_len}
 use Rattle.std.proofs.lemmas.Grind.{flat_map-append}
@@ -28,6 +28,13 @@ rows_filled f into new i so_far wide within room is =
     let order : 1 + i ≡ i + 1 = omega arith in
     take-put_mid (i * 476) (i * 476 + 476 - i * 476) into new ((i + 1) * 476) (omega arith) (omega arith)
     ∙ ap (λ xs. xs ++ new) so_far ∙ ap (λ xs. flat_map f (range_with_len 1 i) ++ xs) (is ∙ ap f (sym order)) ∙ sym (flat_map-range_more f 1 i)
+
+-- what is made of each number, one after another, is the same where it is the same at each of them
+pub flat_same : (g h : ℕ → List ℕ) (a n : ℕ) → ((x : ℕ) → a ≤ x → x < a + n → g x ≡ h x) → flat_map g (range_with_len a n) ≡ flat_map h (range_with_len a n)
+flat_same g h a zero same = refl
+flat_same g h a (suc n) same =
+    let later = flat_same g h (a + 1) n (λ x low high. same x (omega arith) (omega arith)) in
+    ap (λ xs. xs ++ flat_map g (range_with_len (a + 1) n)) (same a (omega arith) (omega arith)) ∙ ap (λ xs. h a ++ xs) later
 
 -- the bytes of a row among those of four
 pub part_length : (into : List ℕ) (i : ℕ) → length into ≡ 1904 → i < 4 → length (take (i * 476 + 476 - i * 476) (drop (i * 476) into)) ≡ 476

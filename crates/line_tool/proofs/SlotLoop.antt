@@ -6,15 +6,16 @@ use Rattle.otn_ports.proofs.TakenTwice.{after-after}
 use Rattle.otn_ports.specs.Bytes.{after}
 use Rattle.otn_ports.specs.Given.{Gave}
 use Rattle.otn_ports.specs.Views.{Dead, InView}
+use Rattle.line_side.specs.LineFile.{frame_at}
 use Rattle.otn_ports.specs.PortViews.{SinkView}
-use Rattle.line_tool.specs.Ends.{ReportAfter, StepAfter}
-use Rattle.line_tool.specs.SlotReport.{slot_bytes, slot_report, used_frames}
-use Rattle.line_tool.specs.SlotRuns.{SlotRun, SlotStep}
+use Rattle.line_tool.specs.Ends.{ReportAfter}
+use Rattle.line_tool.specs.SlotReport.{slot_bytes, slot_bytes_until, slot_report, whole_frames_used}
+use Rattle.line_tool.specs.SlotRuns.{SlotRun, SlotStep, StoppedInFrame}
 use Rattle.line_tool.specs.Gains.{GainsPart}
 use Rattle.line_tool.specs.Beyond.{ByteRun}
 use Rattle.line_tool.specs.declared.ended.Ended.{Ended}
 use Rattle.line_tool.specs.declared.ended.Ended.TheVariants.{Done, Unfinished, ReportFault, Cut}
-use Rattle.line_tool.proofs.LineFrames.{slots_of, slots_of-none, slots_of-more, used_frames-at, slot_report-at, slot_report-whole}
+use Rattle.line_tool.proofs.LineFrames.{last_frame, slot_report-at, slot_report-whole, until-append, until-came, until-more, until-none, used-at}
 
 -- after i whole frames
 pub record SoFar (slot i : ℕ) (first now : InView) (old new : Option (List ℕ)) : Type 0 where
@@ -22,7 +23,7 @@ pub record SoFar (slot i : ℕ) (first now : InView) (old new : Option (List ℕ
   pub gave : Gave first taken now
   pub size : length taken ≡ i * 16320
   pub state : now.state ≡ first.state
-  pub report : new ≡ after old (slots_of slot taken i)
+  pub report : new ≡ after old (slot_bytes_until slot taken i)
 
 pub after-none : (got : Option (List ℕ)) → got ≡ after got []
 after-none None = refl
@@ -34,7 +35,7 @@ so_far_none slot first old = record {
   gave = gave_none first;
   size = refl;
   state = refl;
-  report = after-none old ∙ ap (after old) (sym (slots_of-none slot));
+  report = after-none old ∙ ap (after old) (sym (until-none slot []));
 }
 
 pub so_far_more : (slot i : ℕ) (first mid now : InView) (old gained new : Option (List ℕ)) → SoFar slot i first mid old gained
@@ -44,8 +45,8 @@ so_far_more slot i first mid now old gained new h step = record {
   gave = gave_twice first mid now h.taken step.taken h.gave step.gave;
   size = omega (arith, length-append h.taken step.taken, h.size, step.ends.0);
   state = step.ends.1 ∙ h.state;
-  report = step.ends.2 ∙ ap (λ r. after r (slot_bytes slot step.taken)) h.report ∙ after-after old (slots_of slot h.taken i) (slot_bytes slot step.taken)
-      ∙ ap (after old) (sym (slots_of-more slot h.taken step.taken i h.size step.ends.0));
+  report = step.ends.2 ∙ ap (λ r. after r (slot_bytes slot step.taken)) h.report ∙ after-after old (slot_bytes_until slot h.taken i) (slot_bytes slot step.taken)
+      ∙ ap (after old) (sym (until-came slot h.taken step.taken i h.size step.ends.0));
 }
 
 -- what a part of the last frame's bytes is of the whole report
@@ -56,13 +57,33 @@ part_after old gained new before bytes e h = record {
   gained = h.gained ∙ ap (λ r. after r (take h.went bytes)) e ∙ after-after old before (take h.went bytes) ∙ ap (after old) (sym (take-append-add before bytes h.went));
 }
 
+-- a write that failed, of the frame that came behind so many
+pub stopped_in : (slot i : ℕ) (bytes frame : List ℕ) (old gained new : Option (List ℕ)) → length bytes ≡ i * 16320 → length frame ≡ 16320
+    → gained ≡ after old (slot_bytes_until slot bytes i) → GainsPart gained new (slot_bytes slot frame) → StoppedInFrame slot (bytes ++ frame) (length (bytes ++ frame)) old new
+stopped_in slot i bytes frame old gained new size wide before part =
+    let here : gained ≡ after old (slot_bytes_until slot (bytes ++ frame) i) = before ∙ ap (after old) (sym (until-append slot bytes frame i (omega (arith, size)))) in
+    record {
+      f = i;
+      last = omega (arith, length-append bytes frame, size, wide);
+      gained = subst (λ r. GainsPart r new (slot_bytes slot (frame_at (bytes ++ frame) i))) here
+          (subst (λ xs. GainsPart gained new (slot_bytes slot xs)) (sym (last_frame bytes frame i size wide)) part);
+    }
+
+-- it is a part of the whole report
+pub part_of_report : (slot : ℕ) (taken : List ℕ) (old new : Option (List ℕ)) → length taken ≤ 131072 * 16320 + 1 → StoppedInFrame slot taken (length taken) old new
+    → GainsPart old new (slot_report slot taken)
+part_of_report slot taken old new few h =
+    let whole = slot_report-whole slot taken (h.f + 1) (omega (arith, h.last)) (omega (arith, h.last, few)) ∙ until-more slot taken h.f in
+    subst (GainsPart old new) (sym whole)
+    (part_after old (after old (slot_bytes_until slot taken h.f)) new (slot_bytes_until slot taken h.f) (slot_bytes slot (frame_at taken h.f)) refl h.gained)
+
 -- the taken bytes end with a part of a frame
 record EndsIn (slot i : ℕ) (first mid now : InView) (old new : Option (List ℕ)) (more : List ℕ) : Type 0 where
   pub taken : List ℕ
   pub gave : Gave first (taken ++ more) now
   pub size : length (taken ++ more) ≡ i * 16320 + length more
   pub report : new ≡ after old (slot_report slot (taken ++ more))
-  pub used : used_frames (length (taken ++ more)) ≡ i
+  pub used : whole_frames_used (length (taken ++ more)) ≡ i
 
 ended : (slot i : ℕ) (first mid now : InView) (old gained new : Option (List ℕ)) (more : List ℕ) → i ≤ 131072 → SoFar slot i first mid old gained
     → Gave mid more now → length more < 16320 → new ≡ gained → EndsIn slot i first mid now old new more
@@ -73,7 +94,7 @@ ended slot i first mid now old gained new more few h gave part same =
       gave = gave_twice first mid now h.taken more h.gave gave;
       size = size;
       report = same ∙ h.report ∙ ap (after old) (sym (slot_report-at slot h.taken more i h.size part few));
-      used = ap used_frames size ∙ used_frames-at i (length more) part few;
+      used = ap whole_frames_used size ∙ used-at i (length more) part few;
     }
 
 -- how the command ends with a step
@@ -98,14 +119,15 @@ ends_with Unfinished slot i first mid now old gained new alive few h step =
 ends_with Cut slot i first mid now old gained new alive few h step =
     let e = ended slot i first mid now old gained new step.taken (omega arith) h step.gave step.ends.0 step.ends.2 in
     record { taken = e.taken ++ step.taken; gave = e.gave; ends = (e.report, step.ends.1, omega (arith, e.size, step.ends.0, few)) }
-ends_with ReportFault slot i first mid now old gained new alive few h step =
-    let size : length (h.taken ++ step.taken) ≡ (i + 1) * 16320 = omega (arith, length-append h.taken step.taken, h.size, step.ends.0) in
-    let whole = slot_report-whole slot (h.taken ++ step.taken) (i + 1) size (omega arith) ∙ slots_of-more slot h.taken step.taken i h.size step.ends.0 in
-    record {
-      taken = h.taken ++ step.taken;
-      gave = gave_twice first mid now h.taken step.taken h.gave step.gave;
-      ends = (subst (GainsPart old new) (sym whole) (part_after old gained new (slots_of slot h.taken i) (slot_bytes slot step.taken) h.report step.ends.2), step.ends.1 ∙ h.state, omega (arith, size, few));
-    }
+ends_with ReportFault slot i first mid now old gained new alive few h step = record {
+  taken = h.taken ++ step.taken;
+  gave = gave_twice first mid now h.taken step.taken h.gave step.gave;
+  ends = (
+    stopped_in slot i h.taken step.taken old gained new h.size step.ends.0 h.report step.ends.2,
+    step.ends.1 ∙ h.state,
+    omega (arith, length-append h.taken step.taken, h.size, step.ends.0, few),
+  );
+}
 
 -- how it ends once the most frames are written and a further byte was asked for
 pub ends_after : (ended : Ended) (slot : ℕ) (first mid now : InView) (old new : Option (List ℕ)) → first.state ≢ Dead
@@ -138,11 +160,11 @@ pub dead_run : (slot : ℕ) (line : InView) (report : Option (List ℕ)) → lin
 dead_run slot line report dead = record {
   taken = [];
   gave = gave_none line;
-  ends = (after-none report ∙ ap (after report) (sym (slot_report-whole slot [] 0 refl (lit≤ tt) ∙ slots_of-none slot)), dead, lit≤ tt);
+  ends = (after-none report ∙ ap (after report) (sym (slot_report-whole slot [] 0 refl (lit≤ tt) ∙ until-none slot [])), dead, lit≤ tt);
 }
 
 -- asking for one byte more is no write
-pub never_fault : (answer : Ended) (was now : InView) (old new : SinkView) → ByteRun was now answer → StepAfter None old new → ReportAfter answer old new
+pub never_fault : (answer : Ended) (was now : InView) (old new : SinkView) → ByteRun was now answer → ReportAfter None old new → ReportAfter (Some answer) old new
 never_fault Done was now old new byte h = record { later = h.later; faults = h.faults }
 never_fault Unfinished was now old new byte h = record { later = h.later; faults = h.faults }
 never_fault Cut was now old new byte h = record { later = h.later; faults = h.faults }

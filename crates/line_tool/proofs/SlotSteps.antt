@@ -6,9 +6,8 @@ use Rattle.otn_ports.specs.Views.{State, Empty, Live, Dead, InView}
 use Rattle.otn_ports.specs.declared.in_place.Reading.TheVariants.{Full, End}
 use Rattle.otn_ports.specs.declared.drain.Written.{Written}
 use Rattle.otn_ports.specs.declared.drain.Written.TheVariants.{Whole, Lost}
-use Rattle.otn_ports.specs.PortViews.{SinkView}
-use Rattle.line_tool.specs.Ends.{StepAfter, WriteAfter}
-use Rattle.line_tool.specs.SlotRuns.{SlotStep, SlotWritten, step_of}
+use Rattle.line_tool.specs.Ends.{step_of}
+use Rattle.line_tool.specs.SlotRuns.{SlotStep, SlotWritten}
 
 -- a place that filled a slice with room is live
 pub live_of : (s : State) (n : ℕ) → s ≢ Dead → (s ≢ Live → Full ≡ idle_reading (suc n)) → s ≡ Live
@@ -24,8 +23,3 @@ pub step_written : (answer : Written) (slot : ℕ) (frame : List ℕ) (first now
     → length frame ≡ 16320 → now.state ≡ first.state → SlotWritten answer slot frame old new → SlotStep slot first now old new (step_of answer)
 step_written Whole slot frame first now old new gave size state written = record { taken = frame; gave = gave; ends = (size, state, written) }
 step_written Lost slot frame first now old new gave size state written = record { taken = frame; gave = gave; ends = (size, state, written) }
-
--- the report after such a step
-pub step_reported : (answer : Written) (old new : SinkView) → WriteAfter answer old new → StepAfter (step_of answer) old new
-step_reported Whole old new h = record { later = h.later; faults = h.faults }
-step_reported Lost old new h = record { later = h.later; faults = h.faults }

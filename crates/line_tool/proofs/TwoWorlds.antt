@@ -1,12 +1,13 @@
 -- Bytes outside a slot's own columns change nothing.
-use Rattle.std.proofs.Common.{◌≡◌, ◌<◌, ◌≤◌, ◌+◌, ◌/◌, ◌∙◌, ℕ, zero, suc, Bool, true, false, cond, List, ◌∷◌, ◌++◌, length, map, filter, get_or, nat_eq, min, refl, sym, ap, arith}
+use Rattle.std.proofs.Common.{◌≡◌, ◌<◌, ◌≤◌, ◌+◌, ◌/◌, ◌∙◌, ℕ, zero, suc, Bool, true, false, cond, List, ◌∷◌, length, map, filter, get_or, nat_eq, min, refl, ap, arith}
 use Rattle.std.proofs.lemmas.Bool.Decides.{Decides-eqb}
 use Rattle.std.specs.List.{flat_map, range_with_len}
 use Rattle.frame_geometry.specs.Places.{place_of}
 use Rattle.odtu_columns.specs.Columns.{slot_of, columns_of, slot_row_of}
 use Rattle.line_tool.specs.Agreements.{AgreeOnSlot}
 use Rattle.line_side.specs.LineFile.{frame_at}
-use Rattle.line_tool.specs.SlotReport.{first_frames, used_frames, slot_bytes, slot_report}
+use Rattle.line_tool.proofs.Rows.{flat_same}
+use Rattle.line_tool.specs.SlotReport.{slot_bytes, slot_bytes_until, slot_report, whole_frames_used}
 
 -- what is made of the numbers that pass a test is the same where it is the same at each of them
 rows_same : (p : ℕ → Bool) (g h : ℕ → ℕ) (a n : ℕ) → ((x : ℕ) → a ≤ x → x < a + n → p x ≡ true → g x ≡ h x)
@@ -21,13 +22,6 @@ rows_same p g h a (suc n) same =
         ≡ map h (cond b (a ∷ filter p (range_with_len (a + 1) n)) (filter p (range_with_len (a + 1) n)))
     by_test true passes later = ap (λ x. x ∷ map g (filter p (range_with_len (a + 1) n))) (same a (omega arith) (omega arith) passes) ∙ ap (λ xs. h a ∷ xs) later
     by_test false passes later = later
-
--- what is made of each number, one after another, is the same where it is the same at each of them
-flat_same : (g h : ℕ → List ℕ) (a n : ℕ) → ((x : ℕ) → a ≤ x → x < a + n → g x ≡ h x) → flat_map g (range_with_len a n) ≡ flat_map h (range_with_len a n)
-flat_same g h a zero same = refl
-flat_same g h a (suc n) same =
-    let later = flat_same g h (a + 1) n (λ x low high. same x (omega arith) (omega arith)) in
-    ap (λ xs. xs ++ flat_map g (range_with_len (a + 1) n)) (same a (omega arith) (omega arith)) ∙ ap (λ xs. h a ++ xs) later
 
 row_same : (slot : ℕ) (one other : List ℕ) (f row : ℕ) → AgreeOnSlot slot one other → f < length one / 16320 → 1 ≤ row → row ≤ 4
     → slot_row_of 8 slot row (frame_at one f) ≡ slot_row_of 8 slot row (frame_at other f)
@@ -44,29 +38,18 @@ frame_same slot one other f agree whole =
     flat_same (λ row. slot_row_of 8 slot row (frame_at one f)) (λ row. slot_row_of 8 slot row (frame_at other f)) 1 4
     (λ row low high. row_same slot one other f row agree whole low (omega arith))
 
--- the slot's bytes frame by frame
-by_frames : (slot : ℕ) (bytes : List ℕ) (a n : ℕ)
-    → flat_map (slot_bytes slot) (map (frame_at bytes) (range_with_len a n)) ≡ flat_map (λ f. slot_bytes slot (frame_at bytes f)) (range_with_len a n)
-by_frames slot bytes a zero = refl
-by_frames slot bytes a (suc n) = ap (λ xs. slot_bytes slot (frame_at bytes a) ++ xs) (by_frames slot bytes (a + 1) n)
-
-report_by_frames : (slot : ℕ) (bytes : List ℕ) → slot_report slot bytes ≡ flat_map (λ f. slot_bytes slot (frame_at bytes f)) (range_with_len 0 (used_frames (length bytes)))
-unfolding slot_report first_frames
-report_by_frames slot bytes = by_frames slot bytes 0 (used_frames (length bytes))
-
-used_same : (n m : ℕ) → n / 16320 ≡ m / 16320 → used_frames n ≡ used_frames m
-unfolding used_frames
+used_same : (n m : ℕ) → n / 16320 ≡ m / 16320 → whole_frames_used n ≡ whole_frames_used m
+unfolding whole_frames_used
 used_same n m e = ap (λ k. min 131072 k) e
 
-used_whole : (n f : ℕ) → f < 0 + used_frames n → f < n / 16320
-unfolding used_frames
+used_whole : (n f : ℕ) → f < 0 + whole_frames_used n → f < n / 16320
+unfolding whole_frames_used
 used_whole n f below = omega arith
 
 -- lines that agree on a slot's own columns give one report
 pub same_report : (slot : ℕ) (one other : List ℕ) → AgreeOnSlot slot one other → slot_report slot one ≡ slot_report slot other
+unfolding slot_report slot_bytes_until
 same_report slot one other agree =
-    report_by_frames slot one
-    ∙ flat_same (λ f. slot_bytes slot (frame_at one f)) (λ f. slot_bytes slot (frame_at other f)) 0 (used_frames (length one))
+    flat_same (λ f. slot_bytes slot (frame_at one f)) (λ f. slot_bytes slot (frame_at other f)) 0 (whole_frames_used (length one))
     (λ f low below. frame_same slot one other f agree (used_whole (length one) f below))
     ∙ ap (λ n. flat_map (λ f. slot_bytes slot (frame_at other f)) (range_with_len 0 n)) (used_same (length one) (length other) agree.frames)
-    ∙ sym (report_by_frames slot other)

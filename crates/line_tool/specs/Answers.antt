@@ -8,29 +8,35 @@ use Rattle.tributary_model.specs.Places.{Tributary}
 use Rattle.line_tool.specs.Device.{Device, line_zero}
 use Rattle.line_tool.specs.PlanCheck.{CheckRun, CountsBy}
 use Rattle.line_tool.specs.PullReport.{LeavesBytes, bytes_taken, pull_report, tributary}
-use Rattle.line_tool.specs.PullRuns.{MayFollow, WantedByTurns}
+use Rattle.line_tool.specs.PullRuns.{MayFollow, StoppedInTurn}
 use Rattle.line_tool.specs.Runs.{Reports, HasRest, IsLineAnswer}
-use Rattle.line_tool.specs.SlotReport.{slot_report, most_bytes}
+use Rattle.line_tool.specs.SlotReport.{slot_report, most_taken}
+use Rattle.line_tool.specs.SlotRuns.{StoppedInFrame}
 use Rattle.line_tool.specs.declared.status.Status.{Status}
 use Rattle.line_tool.specs.declared.status.Status.TheVariants.{Unfinished, ReportFault, Cut, Memory}
 use Rattle.line_tool.specs.declared.words.Command.{Command}
 use Rattle.line_tool.specs.declared.words.Command.TheVariants.{Slot, Pull, Check}
 
--- The report's count of faults rose or stands at its end where the answer is ReportFault, and else it is as it was: no write that
--- failed was tried again and then went well.
-abbrev pub ReportCounts : (old new : Device) → Status → Type 0
-ReportCounts old new status = CountsBy ReportFault status old.report.faults new.report.faults
+-- ---- a command over line input 0, by what it is to have done once there was memory
+
+pub record LineAnswers (Ran : (old new : Device) → Status → Type 0) (old new : Device) (status : Status) : Type 0 where
+  pub answer : IsLineAnswer status
+  -- the report's count of faults rose or stands at its end where the answer is ReportFault, and else it is as it was: no write that
+  -- failed was tried again and then went well
+  pub counts : CountsBy ReportFault status old.report.faults new.report.faults
+  pub memory : status ≡ Memory → new ≡ old
+  pub ran : status ≢ Memory → Ran old new status
 
 -- ---- `slot K`: the slot's payload bytes of each whole frame of line input 0
 
--- once there was memory
 pub record SlotRan (slot : ℕ) (old new : Device) (status : Status) : Type 0 where
   -- these bytes were taken of the line
   pub taken : List ℕ
   pub gave : Gave (line_zero old) taken (line_zero new)
   -- what they give was written, whole, or a part of it from the front where a write failed
   pub wrote : Reports status old.report.got new.report.got (slot_report slot taken)
-  pub counts : ReportCounts old new status
+  -- that ended the command at once, with the frame whose slot was being written the last that was taken
+  pub stopped : status ≡ ReportFault → StoppedInFrame slot taken (length taken) old.report.got new.report.got
   -- Cut is the answer exactly where the line is dead
   pub cut : (status ≡ Cut) ↔ ((line_zero new).state ≡ Dead)
   -- and Unfinished where it is not, and bytes were taken behind the whole frames that are used; Done is the answer where none of
@@ -38,17 +44,12 @@ pub record SlotRan (slot : ℕ) (old new : Device) (status : Status) : Type 0 wh
   pub unfinished : status ≢ ReportFault → (status ≡ Unfinished) ↔ (((line_zero new).state ≢ Dead) × HasRest (length taken))
   -- all that there is was taken, but of 131,072 frames and one byte more at most; of a line that tells nothing this says nothing of
   -- an early end
-  pub most : length taken ≤ most_bytes
-  pub all : status ≢ ReportFault → (line_zero new).state ≢ Dead → HasEnded (line_zero new).left ⊎ (length taken ≡ most_bytes)
-
-pub record SlotAnswers (slot : ℕ) (old new : Device) (status : Status) : Type 0 where
-  pub answer : IsLineAnswer status
-  pub memory : status ≡ Memory → new ≡ old
-  pub ran : status ≢ Memory → SlotRan slot old new status
+  pub most : length taken ≤ most_taken
+  pub all : status ≢ ReportFault → (line_zero new).state ≢ Dead → HasEnded (line_zero new).left ⊎ (length taken ≡ most_taken)
 
 -- ---- `pull PORT K,K`: what the sink of a tributary on line input 0 emits, turn by turn
 
--- Once there was memory. Behind the bytes taken there may be more, `rest`: whatever they are, all this holds.
+-- Behind the bytes taken there may be more, `rest`: whatever they are, all this holds.
 pub record PullRan (own : Tributary) (old new : Device) (status : Status) : Type 0 where
   -- These bytes were taken of the line, and whether more may stand behind them: where it is true, what holds for every rest does
   -- so for any bytes, else for none. Of a line that tells nothing, `over` says nothing.
@@ -58,7 +59,6 @@ pub record PullRan (own : Tributary) (old new : Device) (status : Status) : Type
   pub over : more ≡ false → (line_zero new).state ≡ Live → HasEnded (line_zero new).left
   -- what they give was written, whole, or a part of it from the front where a write failed
   pub wrote : (rest : List ℕ) → MayFollow more rest → Reports status old.report.got new.report.got (pull_report own (taken ++ rest))
-  pub counts : ReportCounts old new status
   -- Cut is the answer where the line is dead, and Unfinished where it is not, and bytes stand behind the frames that the turns
   -- wanted: exactly so, but that a write may have failed before. Done is the answer where none of Memory, ReportFault, Cut and
   -- Unfinished is.
@@ -68,13 +68,9 @@ pub record PullRan (own : Tributary) (old new : Device) (status : Status) : Type
   pub counted : status ≢ ReportFault → (status ≡ Unfinished) ↔ (((line_zero new).state ≢ Dead) × (0 < length taken % LINE_FRAME_BYTES))
   -- as many bytes were taken as the turns want and one more, or all that there are
   pub took : status ≢ ReportFault → (rest : List ℕ) → MayFollow more rest → length taken ≡ bytes_taken (taken ++ rest)
-  -- and where a write failed, as many as some first turns want
-  pub stopped : status ≡ ReportFault → WantedByTurns more taken
-
-pub record PullAnswers (own : Tributary) (old new : Device) (status : Status) : Type 0 where
-  pub answer : IsLineAnswer status
-  pub memory : status ≡ Memory → new ≡ old
-  pub ran : status ≢ Memory → PullRan own old new status
+  -- and where a write failed, that ended the command at once, with the turn whose bytes were being written the last
+  pub stopped : status ≡ ReportFault
+      → (t : ℕ) × ((rest : List ℕ) → MayFollow more rest → StoppedInTurn own (taken ++ rest) (length taken) t old.report.got new.report.got)
 
 -- ---- `check`: whether the plan is one
 
@@ -84,8 +80,8 @@ CheckAnswers old new status = CheckRun old.plan new.plan old.report new.report s
 -- ---- each command
 
 abbrev pub Answers : Command → (old new : Device) → Status → Type 0
-Answers (Slot slot) old new status = SlotAnswers slot old new status
-Answers (Pull port slots) old new status = PullAnswers (tributary port slots.list) old new status
+Answers (Slot slot) old new status = LineAnswers (SlotRan slot) old new status
+Answers (Pull port slots) old new status = LineAnswers (PullRan (tributary port slots.list)) old new status
 Answers Check old new status = CheckAnswers old new status
 
 -- the commands that leave the plan's source alone, and those that leave the places alone

@@ -29,29 +29,16 @@ check_status (Ok checked.ReportFault) = status.ReportFault
 check_status (Err memory) = status.Memory
 
 -- a report's count of faults: it rose or stands at its end where a write failed, and else it is as it was
-abbrev pub FaultsBy : Ended → (old new : SinkView) → Type 0
-FaultsBy ReportFault old new = HasFailed old.faults new.faults
-FaultsBy ended old new = new.faults ≡ old.faults
+abbrev pub FaultsBy : Option Ended → (old new : SinkView) → Type 0
+FaultsBy (Some ReportFault) old new = HasFailed old.faults new.faults
+FaultsBy other old new = new.faults ≡ old.faults
 
--- the report after a command that ended so: the same sink, and its count of faults
-pub record ReportAfter (ended : Ended) (old new : SinkView) : Type 0 where
+-- the report after a step of a command: the same sink, and its count of faults. The step ended the command so; None where it goes on.
+pub record ReportAfter (answer : Option Ended) (old new : SinkView) : Type 0 where
   pub later : SinkLater old new
-  pub faults : FaultsBy ended old new
+  pub faults : FaultsBy answer old new
 
--- the same of a write
-abbrev pub FaultsOf : Written → (old new : SinkView) → Type 0
-FaultsOf written.Lost old new = HasFailed old.faults new.faults
-FaultsOf written.Whole old new = new.faults ≡ old.faults
-
-pub record WriteAfter (answer : Written) (old new : SinkView) : Type 0 where
-  pub later : SinkLater old new
-  pub faults : FaultsOf answer old new
-
--- the same of a step after which the command goes on, or ends so
-abbrev pub StepFaults : Option Ended → (old new : SinkView) → Type 0
-StepFaults None old new = new.faults ≡ old.faults
-StepFaults (Some ended) old new = FaultsBy ended old new
-
-pub record StepAfter (answer : Option Ended) (old new : SinkView) : Type 0 where
-  pub later : SinkLater old new
-  pub faults : StepFaults answer old new
+-- how a write ends a command
+abbrev pub step_of : Written → Option Ended
+step_of written.Whole = None
+step_of written.Lost = Some ReportFault

@@ -1,6 +1,5 @@
 -- What `pull` writes of a line on which a tributary carries a client's bytes.
 use Rattle.std.specs.Prelude.{◌≡◌, ℕ, ◌+◌, ◌-◌, ◌*◌, ◌/◌, ◌<◌, ◌≤◌, true, List, ◌++◌, length, take, slice_range}
-use Rattle.std.specs.List.{flat_map, range_with_len}
 use Rattle.otn_base.specs.SlotList.{IsSlotList}
 use Rattle.otn_base.specs.declared.limits.TheConstants.{MOST_TURNS, OTU2_SLOTS}
 use Rattle.line_side.specs.LineFile.{mfas_of}
@@ -8,8 +7,8 @@ use Rattle.multiframe.specs.LineTurns.{standing, has_ended}
 use Rattle.tributary_model.specs.Places.{Tributary}
 use Rattle.tributary_model.specs.Carries.{sent, Carries, IsSteady}
 use Rattle.tributary_model.specs.Carriage.{SaysAnew}
-use Rattle.device_model.specs.LineViews.{view_at, emitted_at}
-use Rattle.line_tool.specs.PullReport.{pull_report, tributary}
+use Rattle.device_model.specs.LineViews.{view_at}
+use Rattle.line_tool.specs.PullReport.{emitted_until, pull_report, tributary}
 
 -- In the turns b + 1 to u + 1 a line carries the bytes for a tributary, by the numbers of p, of a sender that began with turn
 -- s + 1. Up to turn u + 1 the numbers are steady.
@@ -38,4 +37,4 @@ HasWhatIsCarriedAfterDamage = (port : ℕ) (slots given bytes p : List ℕ) (s b
     → h + 3 ≤ u → u < MOST_TURNS
     → (rest : List ℕ)
     × (pull_report (tributary port slots) given
-    ≡ flat_map (emitted_at (tributary port slots) given) (range_with_len 0 (h + 3)) ++ (slice_range bytes (sent p (h + 1 - s)) (sent p (u - s - 1)) ++ rest))
+    ≡ emitted_until (tributary port slots) given (h + 3) ++ (slice_range bytes (sent p (h + 1 - s)) (sent p (u - s - 1)) ++ rest))

@@ -16,6 +16,10 @@ tributary port slots = record { line_slots = OTU2_SLOTS; slots = slots; port = p
 unfoldable pub turns_of : (mfas : List ℕ) → List ℕ
 turns_of ms = filter (λ t. not (has_ended (standing OTU2_SLOTS ms t))) (range_with_len 0 MOST_TURNS)
 
+-- what the sink emits in the turns 1 to t, in order
+abbrev pub emitted_until : Tributary → List ℕ → (t : ℕ) → List ℕ
+emitted_until own given t = flat_map (emitted_at own given) (range_with_len 0 t)
+
 -- what `pull` writes where a line gives these bytes: what the sink emits in each of these turns, in order
 unfoldable pub pull_report : Tributary → List ℕ → List ℕ
 pull_report own given = flat_map (emitted_at own given) (turns_of (mfas_of given))

@@ -1,7 +1,7 @@
 -- How `pull` goes: what it took of its line, what its report gained, and why it ended.
-use Rattle.std.specs.Prelude.{◌≡◌, ◌≢◌, ◌<◌, ◌≤◌, ◌⊎◌, ◌%◌, ℕ, Bool, true, false, List, [], ◌++◌, Option, length}
+use Rattle.std.specs.Prelude.{◌≡◌, ◌≢◌, ◌<◌, ◌≤◌, ◌⊎◌, ◌+◌, ◌%◌, ℕ, Bool, true, false, List, [], ◌++◌, Option, Some, None, Ok, length}
 use Rattle.otn_base.specs.declared.limits.TheConstants.{LINE_FRAME_BYTES, MOST_TURNS, OTU2_SLOTS}
-use Rattle.otn_ports.specs.Bytes.{after, HasFailed}
+use Rattle.otn_ports.specs.Bytes.{after}
 use Rattle.otn_ports.specs.Given.{Gave}
 use Rattle.otn_ports.specs.Reads.{HasEnded}
 use Rattle.otn_ports.specs.Views.{InView, Live, Dead}
@@ -10,11 +10,12 @@ use Rattle.line_side.specs.LineStands.{LineView}
 use Rattle.line_side.specs.declared.ending.Ending.TheVariants.{Seen}
 use Rattle.multiframe.specs.LineTurns.{standing, has_ended}
 use Rattle.tributary_model.specs.Places.{Tributary}
-use Rattle.otn_ports.specs.PortViews.{SinkView, SinkLater}
+use Rattle.device_model.specs.LineViews.{emitted_at}
+use Rattle.line_tool.specs.Ends.{line_status}
 use Rattle.line_tool.specs.Gains.{GainsPart}
-use Rattle.line_tool.specs.PullReport.{pull_report, LeavesBytes, bytes_taken, bytes_wanted}
+use Rattle.line_tool.specs.PullReport.{emitted_until, pull_report, LeavesBytes, bytes_taken, bytes_wanted}
 use Rattle.line_tool.specs.PullTurn.{TurnMoves}
-use Rattle.line_tool.specs.Runs.{Reported}
+use Rattle.line_tool.specs.Runs.{Reports}
 use Rattle.line_tool.specs.declared.pull.After.{After}
 use Rattle.line_tool.specs.declared.pull.After.TheVariants as next
 use Rattle.line_tool.specs.declared.ended.Ended.{Ended}
@@ -33,12 +34,14 @@ PullEnds Unfinished more taken now = (now.state ≢ Dead) × ((rest : List ℕ) 
 PullEnds Cut more taken now = now.state ≡ Dead
 PullEnds ReportFault more taken now = Unit {0}
 
--- What was taken is what some first turns of `pull` want, whatever may stand behind it.
-pub record WantedByTurns (more : Bool) (taken : List ℕ) : Type 0 where
-  pub turns : ℕ
-  pub few : turns ≤ MOST_TURNS
-  pub wanted : (rest : List ℕ) → MayFollow more rest → length taken ≡ bytes_wanted (taken ++ rest) turns
-  pub unended : (rest : List ℕ) → MayFollow more rest → (s : ℕ) → s < turns → has_ended (standing OTU2_SLOTS (mfas_of (taken ++ rest)) s) ≡ false
+-- A write failed, and ended the command at once: of a line of these bytes so many were taken, all that the turns up to turn t + 1
+-- want. The report gained what the sink emits in the turns before this one, and of what it emits in this one a part, from the front,
+-- and not all.
+pub record StoppedInTurn (own : Tributary) (given : List ℕ) (count t : ℕ) (old new : Option (List ℕ)) : Type 0 where
+  pub few : t < MOST_TURNS
+  pub unended : (s : ℕ) → s ≤ t → has_ended (standing OTU2_SLOTS (mfas_of given) s) ≡ false
+  pub last : count ≡ bytes_wanted given (t + 1)
+  pub gained : GainsPart (after old (emitted_until own given t)) new (emitted_at own given t)
 
 -- A command from the line and the report as they were to how they are. Where no more bytes may follow, a live line that tells
 -- its bytes has ended.
@@ -47,10 +50,10 @@ pub record PullRun (own : Tributary) (first now : InView) (old new : Option (Lis
   pub gave : Gave first taken now
   pub more : Bool
   pub over : more ≡ false → now.state ≡ Live → HasEnded now.left
-  pub report : (rest : List ℕ) → MayFollow more rest → Reported ended old new (pull_report own (taken ++ rest))
+  pub report : (rest : List ℕ) → MayFollow more rest → Reports (line_status (Ok ended)) old new (pull_report own (taken ++ rest))
   pub ends : PullEnds ended more taken now
   pub took : ended ≢ ReportFault → (rest : List ℕ) → MayFollow more rest → length taken ≡ bytes_taken (taken ++ rest)
-  pub stopped : ended ≡ ReportFault → WantedByTurns more taken
+  pub stopped : ended ≡ ReportFault → (t : ℕ) × ((rest : List ℕ) → MayFollow more rest → StoppedInTurn own (taken ++ rest) (length taken) t old new)
 
 -- what a turn wrote of the bytes that it emitted
 abbrev pub TurnWrote : After → (ended : Bool) → (old new : Option (List ℕ)) → (emitted : List ℕ) → Type 0
@@ -79,11 +82,7 @@ pub record AnswerRun (line : LineView) (was now : InView) (ended : Ended) : Type
   pub gave : Gave was came now
   pub ends : AnswerEnds ended line came was now
 
--- a report after a turn: the same sink, whose count of faults rose or stands at its end where a write failed, and else is as it was
-abbrev pub TurnFaults : After → (old new : SinkView) → Type 0
-TurnFaults next.ReportFailed old new = HasFailed old.faults new.faults
-TurnFaults other old new = new.faults ≡ old.faults
-
-pub record TurnAfter (answer : After) (old new : SinkView) : Type 0 where
-  pub later : SinkLater old new
-  pub faults : TurnFaults answer old new
+-- how the write of a turn ends the command
+abbrev pub fault_of : After → Option Ended
+fault_of next.ReportFailed = Some ReportFault
+fault_of other = None

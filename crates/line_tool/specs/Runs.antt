@@ -2,10 +2,8 @@
 use Rattle.std.specs.Prelude.{◌≡◌, ◌<◌, ◌*◌, ℕ, List, Option}
 use Rattle.otn_base.specs.declared.limits.TheConstants.{LINE_FRAME_BYTES}
 use Rattle.otn_ports.specs.Bytes.{after, HasFailed}
-use Rattle.line_tool.specs.SlotReport.{used_frames}
+use Rattle.line_tool.specs.SlotReport.{whole_frames_used}
 use Rattle.line_tool.specs.Gains.{GainsPart}
-use Rattle.line_tool.specs.declared.ended.Ended.{Ended}
-use Rattle.line_tool.specs.declared.ended.Ended.TheVariants as ended
 use Rattle.line_tool.specs.declared.status.Status.{Status}
 use Rattle.line_tool.specs.declared.status.Status.TheVariants.{Done, Unfinished, Words, Plan, PlanFault, ReportFault, Cut, Memory}
 
@@ -13,11 +11,6 @@ use Rattle.line_tool.specs.declared.status.Status.TheVariants.{Done, Unfinished,
 abbrev pub Reports : Status → (old new : Option (List ℕ)) → List ℕ → Type 0
 Reports ReportFault old new bytes = GainsPart old new bytes
 Reports status old new bytes = new ≡ after old bytes
-
--- the same, by how a command over a line ended
-abbrev pub Reported : Ended → (old new : Option (List ℕ)) → List ℕ → Type 0
-Reported ended.ReportFault old new bytes = GainsPart old new bytes
-Reported other old new bytes = new ≡ after old bytes
 
 -- the answers of a command over a line
 abbrev pub IsLineAnswer : Status → Type 0
@@ -43,7 +36,7 @@ IsRefusal Done = ⊥
 
 -- so many bytes are more than the whole frames among them that are used
 abbrev pub HasRest : (bytes : ℕ) → Type 0
-HasRest bytes = used_frames bytes * LINE_FRAME_BYTES < bytes
+HasRest bytes = whole_frames_used bytes * LINE_FRAME_BYTES < bytes
 
 -- a count of faults did not rise, and does not stand at its end
 abbrev pub IsWell : (old new : ℕ) → Type 0

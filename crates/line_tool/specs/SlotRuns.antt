@@ -1,27 +1,35 @@
 -- How `slot` goes: what it took of its line, what its report gained, and why it ended.
-use Rattle.std.specs.Prelude.{◌≡◌, ◌≢◌, ◌<◌, ◌≤◌, ◌⊎◌, ◌*◌, ℕ, List, [], Option, Some, None, length}
+use Rattle.std.specs.Prelude.{◌≡◌, ◌≢◌, ◌<◌, ◌≤◌, ◌⊎◌, ◌+◌, ◌*◌, ℕ, List, [], Option, Some, None, length}
 use Rattle.otn_base.specs.declared.limits.TheConstants.{LINE_FRAME_BYTES}
 use Rattle.otn_ports.specs.Bytes.{after}
 use Rattle.otn_ports.specs.Given.{Gave}
 use Rattle.otn_ports.specs.Reads.{HasEnded}
 use Rattle.otn_ports.specs.Views.{InView, Dead}
+use Rattle.line_side.specs.LineFile.{frame_at}
 use Rattle.otn_ports.specs.declared.drain.Written.{Written}
 use Rattle.otn_ports.specs.declared.drain.Written.TheVariants as written
 use Rattle.line_tool.specs.Gains.{GainsPart}
-use Rattle.line_tool.specs.SlotReport.{slot_bytes, slot_report, used_frames, most_bytes}
+use Rattle.line_tool.specs.SlotReport.{slot_bytes, slot_bytes_until, slot_report, whole_frames_used, most_taken}
 use Rattle.line_tool.specs.declared.ended.Ended.{Ended}
 use Rattle.line_tool.specs.declared.ended.Ended.TheVariants.{Done, Unfinished, ReportFault, Cut}
 
--- the answer of a command that took these bytes of its line; where no write failed, of the most frames and one byte more at most
+-- A write failed, and ended the command at once: of a line of these bytes so many were taken, up to the end of frame f, from 0. The
+-- report gained the slot's bytes of the frames before it, and of its own a part, from the front, and not all.
+pub record StoppedInFrame (slot : ℕ) (given : List ℕ) (count : ℕ) (old new : Option (List ℕ)) : Type 0 where
+  pub f : ℕ
+  pub last : count ≡ LINE_FRAME_BYTES * (f + 1)
+  pub gained : GainsPart (after old (slot_bytes_until slot given f)) new (slot_bytes slot (frame_at given f))
+
+-- the answer of a command that took these bytes of its line, of the most frames and one byte more at most
 abbrev pub SlotEnds : Ended → (slot : ℕ) → (taken : List ℕ) → (first now : InView) → (old new : Option (List ℕ)) → Type 0
 SlotEnds Done slot taken first now old new =
-    (new ≡ after old (slot_report slot taken)) × (now.state ≢ Dead) × HasEnded now.left × (length taken ≡ used_frames (length taken) * LINE_FRAME_BYTES)
-    × (length taken ≤ most_bytes)
+    (new ≡ after old (slot_report slot taken)) × (now.state ≢ Dead) × HasEnded now.left × (length taken ≡ whole_frames_used (length taken) * LINE_FRAME_BYTES)
+    × (length taken ≤ most_taken)
 SlotEnds Unfinished slot taken first now old new =
-    (new ≡ after old (slot_report slot taken)) × (now.state ≢ Dead) × (used_frames (length taken) * LINE_FRAME_BYTES < length taken)
-    × (HasEnded now.left ⊎ (length taken ≡ most_bytes)) × (length taken ≤ most_bytes)
-SlotEnds Cut slot taken first now old new = (new ≡ after old (slot_report slot taken)) × (now.state ≡ Dead) × (length taken ≤ most_bytes)
-SlotEnds ReportFault slot taken first now old new = GainsPart old new (slot_report slot taken) × (now.state ≡ first.state) × (length taken ≤ most_bytes)
+    (new ≡ after old (slot_report slot taken)) × (now.state ≢ Dead) × (whole_frames_used (length taken) * LINE_FRAME_BYTES < length taken)
+    × (HasEnded now.left ⊎ (length taken ≡ most_taken)) × (length taken ≤ most_taken)
+SlotEnds Cut slot taken first now old new = (new ≡ after old (slot_report slot taken)) × (now.state ≡ Dead) × (length taken ≤ most_taken)
+SlotEnds ReportFault slot taken first now old new = StoppedInFrame slot taken (length taken) old new × (now.state ≡ first.state) × (length taken ≤ most_taken)
 
 -- a command from the line and the report as they were to how they are
 pub record SlotRun (slot : ℕ) (first now : InView) (old new : Option (List ℕ)) (ended : Ended) : Type 0 where
@@ -48,8 +56,3 @@ pub record SlotStep (slot : ℕ) (first now : InView) (old new : Option (List �
 abbrev pub SlotWritten : Written → (slot : ℕ) → List ℕ → (old new : Option (List ℕ)) → Type 0
 SlotWritten written.Whole slot frame old new = new ≡ after old (slot_bytes slot frame)
 SlotWritten written.Lost slot frame old new = GainsPart old new (slot_bytes slot frame)
-
--- the answer of a step that wrote so
-abbrev pub step_of : Written → Option Ended
-step_of written.Whole = None
-step_of written.Lost = Some ReportFault

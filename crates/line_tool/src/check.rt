@@ -3,6 +3,7 @@ ghost use Rattle.std.specs.Prelude.{◌≡◌, IfOk, vec_len, string_bytes};
 ghost use Rattle.otn_ports.specs.PortViews.{source_view, sink_view, SinkLater};
 ghost use Rattle.line_tool.specs.Ends.{check_status};
 ghost use Rattle.line_tool.specs.PlanCheck.{CheckRun, CountsBy, PlanTold, plan_text};
+ghost use Rattle.line_tool.specs.Runs.{IsRefusal};
 
 use crate::Status;
 use otn_base::Memory;
@@ -44,7 +45,8 @@ pub(crate) fn check_plan<P: Source, K: Sink>(
     plan: &mut P,
     report: &mut K,
 ) -> Result<Checked, Memory>
-    ensures { CheckRun (source_view P.Source plan.old) (source_view P.Source plan.new) (sink_view K.Sink report.old) (sink_view K.Sink report.new) (check_status result) }
+    ensures run { CheckRun (source_view P.Source plan.old) (source_view P.Source plan.new) (sink_view K.Sink report.old) (sink_view K.Sink report.new) (check_status result) }
+    ensures refused { IsRefusal (check_status result) → report.new ≡ report.old }
 {
     let mut text = plan_buffer(alloc)?;
     let (reading, came) = read_whole(plan, &mut text);
@@ -70,6 +72,7 @@ fn tell_plan<K: Sink>(alloc: Global, plan: &Plan, report: &mut K) -> Result<Chec
     ensures told { PlanTold (check_status result) plan.now (K.got report.old) (K.got report.new) }
     ensures later { SinkLater (sink_view K.Sink report.old) (sink_view K.Sink report.new) }
     ensures counts { CountsBy Status.ReportFault (check_status result) (K.faults report.old) (K.faults report.new) }
+    ensures refused { IsRefusal (check_status result) → report.new ≡ report.old }
 {
     let line = plan_line(alloc, plan)?;
     match write_whole(report, line.as_bytes()) {

@@ -6,14 +6,16 @@ ghost use Rattle.plan_file.specs.declared.error.PlanError.{PlanError};
 ghost use Rattle.tributary_model.specs.Places.{Tributary};
 ghost use Rattle.device_model.specs.Agreements.{AgreeOnTributary};
 ghost use Rattle.line_tool.specs.Agreements.{AgreeOnSlot};
-ghost use Rattle.line_tool.specs.Answers.{CheckAnswers, PullAnswers, PullRan, SlotAnswers, SlotRan};
+ghost use Rattle.line_tool.specs.Answers.{CheckAnswers, LineAnswers, PullRan, SlotRan};
 ghost use Rattle.line_tool.specs.Device.{Device, line_zero};
 ghost use Rattle.line_tool.specs.PlanCheck.{CheckEnds};
 ghost use Rattle.line_tool.specs.PullCarried.{BeginsWithWhatIsCarried, IsTheWholeGroups, HasWhatIsCarriedAfterDamage};
 ghost use Rattle.line_tool.specs.PullDamaged.{WritesAsIfRepeated};
 ghost use Rattle.line_tool.specs.PullReport.{LeavesBytes, bytes_taken, pull_report, tributary};
+ghost use Rattle.line_tool.specs.PullRuns.{StoppedInTurn};
 ghost use Rattle.line_tool.specs.Runs.{HasRest, IsWell, Reports};
-ghost use Rattle.line_tool.specs.SlotReport.{most_bytes, slot_report};
+ghost use Rattle.line_tool.specs.SlotReport.{most_taken, slot_report};
+ghost use Rattle.line_tool.specs.SlotRuns.{StoppedInFrame};
 ghost use Rattle.line_tool.specs.Words.{IsForm};
 ghost use Rattle.line_tool.specs.declared.status.Status.{Status};
 ghost use Rattle.line_tool.specs.declared.words.Command.{Command};
@@ -27,7 +29,8 @@ pub fn forms_are_apart()
 
 /// `slot`, by all bytes that line input 0 had to give, where it tells them: they are what is written of (`report`), and Unfinished is the
 /// answer exactly where bytes stand behind the whole frames that are used (`unfinished`); by the place's number of bytes the same holds
-/// of any line (`counted`), and as many bytes are taken as there are, of the most frames and one byte more at most (`took`).
+/// of any line (`counted`), and as many bytes are taken as there are, of the most frames and one byte more at most (`took`). After
+/// ReportFault the last frame taken is the one whose slot was being written (`stopped`).
 pub fn slot_of_given()
     ensures report { (slot : ℕ) (old new : Device) (answer : Status) (given : List ℕ) → SlotRan slot old new answer
         → IsGiven (line_zero old) (line_zero new) given → Reports answer old.report.got new.report.got (slot_report slot given) }
@@ -38,11 +41,14 @@ pub fn slot_of_given()
         → (answer ≡ Status.Unfinished) ↔ (((line_zero new).state ≢ Dead) × HasRest ((line_zero new).number - (line_zero old).number)) }
     ensures took { (slot : ℕ) (old new : Device) (answer : Status) (given : List ℕ) → SlotRan slot old new answer → answer ≢ Status.ReportFault
         → IsGiven (line_zero old) (line_zero new) given → (line_zero new).number < 2 ^ 64 - 1
-        → (line_zero new).number - (line_zero old).number ≡ min (length given) most_bytes }
+        → (line_zero new).number - (line_zero old).number ≡ min (length given) most_taken }
+    ensures stopped { (slot : ℕ) (old new : Device) (given : List ℕ) → SlotRan slot old new Status.ReportFault
+        → IsGiven (line_zero old) (line_zero new) given → (line_zero new).number < 2 ^ 64 - 1
+        → StoppedInFrame slot given ((line_zero new).number - (line_zero old).number) old.report.got new.report.got }
 {}
 
 /// `pull`, likewise: Unfinished is the answer exactly where bytes stand behind the frames that its turns wanted (`unfinished`), or where a
-/// part of a frame was taken (`counted`).
+/// part of a frame was taken (`counted`). After ReportFault the last turn carried out is the one whose bytes were being written (`stopped`).
 pub fn pull_of_given()
     ensures report { (own : Tributary) (old new : Device) (answer : Status) (given : List ℕ) → PullRan own old new answer
         → IsGiven (line_zero old) (line_zero new) given → Reports answer old.report.got new.report.got (pull_report own given) }
@@ -54,6 +60,9 @@ pub fn pull_of_given()
     ensures took { (own : Tributary) (old new : Device) (answer : Status) (given : List ℕ) → PullRan own old new answer → answer ≢ Status.ReportFault
         → IsGiven (line_zero old) (line_zero new) given → (line_zero new).number < 2 ^ 64 - 1
         → (line_zero new).number - (line_zero old).number ≡ bytes_taken given }
+    ensures stopped { (own : Tributary) (old new : Device) (given : List ℕ) → PullRan own old new Status.ReportFault
+        → IsGiven (line_zero old) (line_zero new) given → (line_zero new).number < 2 ^ 64 - 1
+        → (t : ℕ) × StoppedInTurn own given ((line_zero new).number - (line_zero old).number) t old.report.got new.report.got }
 {}
 
 /// `check`, by the whole text of a source that tells it.
@@ -65,10 +74,10 @@ pub fn check_of_text()
 /// Where no count of faults rose or stands at its end, and the line was not dead, a command is Done or Unfinished, `check` Done or
 /// Plan; or there was no memory.
 pub fn without_faults()
-    ensures slot { (slot : ℕ) (old new : Device) (answer : Status) → SlotAnswers slot old new answer
+    ensures slot { (slot : ℕ) (old new : Device) (answer : Status) → LineAnswers (SlotRan slot) old new answer
         → IsWell old.report.faults new.report.faults → IsWell (line_zero old).faults (line_zero new).faults → (line_zero old).state ≢ Dead
         → (answer ≡ Status.Done) ⊎ (answer ≡ Status.Unfinished) ⊎ (answer ≡ Status.Memory) }
-    ensures pull { (own : Tributary) (old new : Device) (answer : Status) → PullAnswers own old new answer
+    ensures pull { (own : Tributary) (old new : Device) (answer : Status) → LineAnswers (PullRan own) old new answer
         → IsWell old.report.faults new.report.faults → IsWell (line_zero old).faults (line_zero new).faults → (line_zero old).state ≢ Dead
         → (answer ≡ Status.Done) ⊎ (answer ≡ Status.Unfinished) ⊎ (answer ≡ Status.Memory) }
     ensures check { (old new : Device) (answer : Status) → CheckAnswers old new answer

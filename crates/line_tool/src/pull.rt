@@ -1,5 +1,5 @@
 // The command `pull`: what the sink of a tributary on a line emits, turn by turn.
-ghost use Rattle.std.specs.Prelude.{◌≡◌, ◌+◌, ◌*◌, ◌≤◌, ℕ, List, [], IfErr, IfOk, length, vec_len};
+ghost use Rattle.std.specs.Prelude.{◌≡◌, ◌+◌, ◌*◌, ◌≤◌, ℕ, List, [], IfErr, IfOk, Some, length, vec_len};
 ghost use Rattle.otn_ports.specs.InPlace.{in_view};
 ghost use Rattle.otn_ports.specs.Views.{InView};
 ghost use Rattle.tributary_model.specs.Places.{Tributary};
@@ -25,11 +25,11 @@ enum After {
     ReportFailed,
 }
 
-ghost use Rattle.line_tool.specs.PullRuns.{PullRun, TurnRun, AnswerRun, TurnAfter};
+ghost use Rattle.line_tool.specs.PullRuns.{PullRun, TurnRun, AnswerRun, fault_of};
 
 /// Writes what a sink of these slots and this tributary port, 1 to 8, emits in each turn of the line, up to and with
 /// the turn in which the line ended, of 16,384 turns at most. Where its end was not seen and it is not dead, it is then asked
-/// for one byte more.
+/// for one byte more. A write that fails ends it at once.
 pub(crate) fn write_pull<I: Source, K: Sink>(
     alloc: Global,
     port: u8,
@@ -42,14 +42,14 @@ pub(crate) fn write_pull<I: Source, K: Sink>(
     requires plain { slots.now.kind ≡ LineKind.Otu2 }
     ensures memory { IfErr result (λ _. (line.new ≡ line.old) × (report.new ≡ report.old)) }
     ensures run { IfOk result (λ ended. PullRun (tributary port slots.now.list) (in_view I.Source line.old) (in_view I.Source line.new) (K.got report.old) (K.got report.new) ended) }
-    ensures report { IfOk result (λ ended. ReportAfter ended (sink_view K.Sink report.old) (sink_view K.Sink report.new)) }
+    ensures report { IfOk result (λ ended. ReportAfter (Some ended) (sink_view K.Sink report.old) (sink_view K.Sink report.new)) }
 {
     let mut tap = Tap::new(alloc, port, slots)?;
     let mut room = turn_room(alloc, slots)?;
     Ok(write_turns(&mut tap, line, report, &mut room))
 }
 
-// Takes room for what a turn emits: 15,233 bytes a slot, which is one more than the most in all.
+// Takes room for what a turn emits: 15,233 bytes a slot.
 fn turn_room(alloc: Global, slots: &Slots) -> Result<Vec<u8>, AllocError>
     ensures { IfOk result (λ room. vec_len room ≡ length slots.now.list * (GROUPS + 1)) }
 {
@@ -68,7 +68,7 @@ fn write_turns<I: Source, K: Sink>(
     requires room { length tap.old.sink.slots.list * (GROUPS + 1) ≤ length room.old }
     ensures run { (own : Tributary) → ((first : InView) → TapStands own first first [] 0 tap.old)
         → PullRun own (in_view I.Source line.old) (in_view I.Source line.new) (K.got report.old) (K.got report.new) result }
-    ensures report { ReportAfter result (sink_view K.Sink report.old) (sink_view K.Sink report.new) }
+    ensures report { ReportAfter (Some result) (sink_view K.Sink report.old) (sink_view K.Sink report.new) }
 {
     for _ in 0..MOST_TURNS {
         match write_turn(tap, line, report, room) {
@@ -94,7 +94,7 @@ fn write_turn<I: Source, K: Sink>(
         → TurnRun own first (in_view I.Source line.new) taken t tap.old tap.new (K.got report.old) (K.got report.new) result }
     ensures between { IsBetweenTurns tap.new }
     ensures slots { tap.new.sink.slots ≡ tap.old.sink.slots }
-    ensures report { TurnAfter result (sink_view K.Sink report.old) (sink_view K.Sink report.new) }
+    ensures report { ReportAfter (fault_of result) (sink_view K.Sink report.old) (sink_view K.Sink report.new) }
 {
     let count = tap.turn(line, room);
     if write_whole(report, &room[..count]) == Written::Lost {

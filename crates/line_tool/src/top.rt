@@ -1,6 +1,5 @@
 // The top call of the program.
 ghost use Rattle.std.specs.Prelude.{◌≡◌, ◌≢◌, ◌↔◌};
-ghost use Rattle.otn_ports.specs.Racks.{bays_view};
 ghost use Rattle.line_tool.specs.Answers.{Answers, LeavesBays, LeavesPlan};
 ghost use Rattle.line_tool.specs.Device.{Stays, device};
 ghost use Rattle.line_tool.specs.Runs.{IsRefusal};
@@ -24,7 +23,7 @@ use std::alloc::Global;
 /// for one byte more. `pull PORT K,K` writes what the sink of these slots and this tributary port emits in each turn of
 /// line input 0, one multiframe each (G.709 clause 19.4 and Annex D), up to and with the turn in which the line ended, of
 /// 16,384 turns at most; where by then the line has not ended, no read came to its end and it is not dead, it asks for one
-/// byte more.
+/// byte more. A write of the report that fails ends either at once, with ReportFault.
 /// `check` reads the plan, and writes `plan connections N turns T` where it is accepted.
 ///
 /// `Answers` says, of each command, what it took, what it wrote and why it ended, of all that it was
@@ -44,15 +43,13 @@ pub fn run<P: Source, K: Sink, C: Chooser, I: Source, O: Sink>(
     ensures form { result ≢ Status.Words → (command : Command) × IsForm (texts words.now) command }
     ensures idle { result ≡ Status.Words → (plan.new ≡ plan.old) × (bays.new ≡ bays.old) × (report.new ≡ report.old) }
 
-    // The command is answered for, by SlotAnswers, PullAnswers or CheckAnswers, over all that was handed in, before and after.
+    // The command is answered for, by LineAnswers or CheckAnswers, over all that was handed in, before and after.
     ensures answers { (command : Command) → IsForm (texts words.now) command
         → Answers command (device P.Source K.Sink I.Source O.Sink plan.old bays.old report.old)
         (device P.Source K.Sink I.Source O.Sink plan.new bays.new report.new) result }
 
-    // Before anything was done: after Words, PlanFault, Plan and Memory all places are seen as they were, and a report that tells its
-    // bytes got none.
-    ensures refused { IsRefusal result
-        → (bays_view I.Source O.Sink bays.new ≡ bays_view I.Source O.Sink bays.old) × (K.got report.new ≡ K.got report.old) }
+    // Before anything was done: after Words, PlanFault, Plan and Memory all places and the report are as they were.
+    ensures refused { IsRefusal result → (bays.new ≡ bays.old) × (report.new ≡ report.old) }
 
     // What stays.
     ensures stays { Stays (device P.Source K.Sink I.Source O.Sink plan.old bays.old report.old)

@@ -5,6 +5,7 @@ ghost use Rattle.otn_base.specs.declared.limits.TheConstants.{OTU2_SLOTS};
 ghost use Rattle.line_tool.specs.Words.{IsForm, IsNoForm, texts, digit, slots_text};
 
 use arrayvec::ArrayVec;
+use otn_base::limits::OTU2_SLOTS;
 use otn_base::{LineKind, Slots};
 
 /// A command of the program.
@@ -53,8 +54,8 @@ fn pull_command(port: &str, slots: &str) -> Option<Command>
 
 // The number, 1 to 8, that this text is the digit of.
 fn one_digit(text: &[u8]) -> Option<u8>
-    ensures digit { IfSome result (λ n. (text.now ≡ digit n) × (1 ≤ n) × (n ≤ 8)) }
-    ensures none { IfNone result ((n : ℕ) → text.now ≡ digit n → 1 ≤ n → n ≤ 8 → ⊥) }
+    ensures digit { IfSome result (λ n. (text.now ≡ digit n) × (1 ≤ n) × (n ≤ OTU2_SLOTS)) }
+    ensures none { IfNone result ((n : ℕ) → text.now ≡ digit n → 1 ≤ n → n ≤ OTU2_SLOTS → ⊥) }
 {
     match text {
         [digit @ b'1'..=b'8'] => Some(*digit - b'0'),
@@ -67,7 +68,7 @@ fn slot_digits(text: &[u8]) -> Option<Slots>
     ensures slots { IfSome result (λ slots. (text.now ≡ slots_text slots.list) × (slots.kind ≡ LineKind.Otu2) × IsSlotList OTU2_SLOTS slots.list) }
     ensures none { IfNone result ((slots : List ℕ) → text.now ≡ slots_text slots → IsSlotList OTU2_SLOTS slots → ⊥) }
 {
-    let mut slots: ArrayVec<u8, 8> = ArrayVec::new();
+    let mut slots: ArrayVec<u8, OTU2_SLOTS> = ArrayVec::new();
     let mut rest = text;
     while rest.len() > 1 {
         if rest[1] != b',' {
@@ -81,9 +82,9 @@ fn slot_digits(text: &[u8]) -> Option<Slots>
 }
 
 // Appends the number, 1 to 8, that this text is the digit of. None where it is none, or there are eight already.
-fn push_digit(slots: &mut ArrayVec<u8, 8>, text: &[u8]) -> Option<()>
+fn push_digit(slots: &mut ArrayVec<u8, OTU2_SLOTS>, text: &[u8]) -> Option<()>
     ensures pushed { IfSome result (λ _. (n : ℕ) × (text.now ≡ digit n) × (slots.new.items ≡ slots.old.items ++ n ∷ [])) }
-    ensures none { IfNone result ((n : ℕ) → text.now ≡ digit n → 1 ≤ n → n ≤ 8 → length slots.old.items ≡ 8) }
+    ensures none { IfNone result ((n : ℕ) → text.now ≡ digit n → 1 ≤ n → n ≤ OTU2_SLOTS → length slots.old.items ≡ OTU2_SLOTS) }
 {
     slots.try_push(one_digit(text)?).ok()
 }

@@ -1,4 +1,4 @@
-use Rattle.line_tool.proofs.PullTable.{pull_reports, pull_unfinished, pull_counted, pull_took}
+use Rattle.line_tool.proofs.PullTable.{pull_reports, pull_unfinished, pull_counted, pull_took, pull_stopped}
 use Rattle.line_tool.proofs.laws.pull_of_given.Goals as goal
 
 pub returns-clause-report : goal.returns-clause-report
@@ -12,3 +12,6 @@ returns-clause-counted c = pull_counted
 
 pub returns-clause-took : goal.returns-clause-took
 returns-clause-took c = pull_took
+
+pub returns-clause-stopped : goal.returns-clause-stopped
+returns-clause-stopped c = pull_stopped

@@ -1,4 +1,4 @@
-use Rattle.line_tool.proofs.SlotTable.{slot_reports, slot_unfinished, slot_counted, slot_took}
+use Rattle.line_tool.proofs.SlotTable.{slot_reports, slot_unfinished, slot_counted, slot_took, slot_stopped}
 use Rattle.line_tool.proofs.laws.slot_of_given.Goals as goal
 
 pub returns-clause-report : goal.returns-clause-report
@@ -12,3 +12,6 @@ returns-clause-counted c = slot_counted
 
 pub returns-clause-took : goal.returns-clause-took
 returns-clause-took c = slot_took
+
+pub returns-clause-stopped : goal.returns-clause-stopped
+returns-clause-stopped c = slot_stopped

@@ -1,11 +1,12 @@
-use Rattle.std.proofs.Common.{◌≡◌, ◌+◌, ◌++◌, ◌∙◌, refl, subst, inl, inr, arith, true, false}
+use Rattle.std.proofs.Common.{◌≡◌, ◌+◌, ◌++◌, ◌∙◌, refl, subst, inl, inr, Some, None, arith, true, false}
 use Rattle.otn_ports.specs.InPlace.{in_view}
 use Rattle.line_side.specs.LineStands.{LineView}
 use Rattle.otn_ports.specs.PortViews.{sink_view}
 use Rattle.line_tool.specs.PullRuns.{AnswerRun}
 use Rattle.line_tool.specs.declared.pull.After.TheVariants as next
-use Rattle.line_tool.proofs.PullLoop.{turns_none, turns_more, turns_lost, turns_end, turn_reported, turn_failed, line_ended, never_written}
-use Rattle.line_tool.proofs.Reports.{step_same, step_more}
+use Rattle.line_tool.specs.declared.ended.Ended.TheVariants.{ReportFault}
+use Rattle.line_tool.proofs.PullLoop.{turns_none, turns_more, turns_lost, turns_end, never_written}
+use Rattle.line_tool.proofs.Reports.{report_same, report_more}
 use Rattle.line_tool.proofs.pull.write_turns.Goals as goal
 
 pub loop-init : goal.loop-init
@@ -14,7 +15,7 @@ loop-init g c = record {
   somewhere = c.requires.stands;
   slots = refl;
   so_far = λ own stands. turns_none own (in_view g.I.Source c.args.line.now) c.args.tap.now (g.K.Sink.got c.args.report.now) stands;
-  report = step_same (sink_view g.K.Sink c.args.report.now);
+  report = report_same (sink_view g.K.Sink c.args.report.now);
 }
 
 pub loop-preserved : goal.loop-preserved
@@ -37,8 +38,7 @@ loop-preserved g c =
           let run = step.run own first h.0.taken c.loop.counter h.0.stands in
           turns_more own first (in_view g.I.Source c.loop.line) (in_view g.I.Source c.write_turn.new.line) c.loop.counter c.loop.tap c.write_turn.new.tap
           (g.K.Sink.got c.args.report.now) (g.K.Sink.got c.loop.report) (g.K.Sink.got c.write_turn.new.report) false next.NextTurn h.0 h.1 run run.wrote;
-      report = step_more (sink_view g.K.Sink c.args.report.now) (sink_view g.K.Sink c.loop.report) (sink_view g.K.Sink c.write_turn.new.report) c.loop.invariant.report
-          (turn_reported (sink_view g.K.Sink c.loop.report) (sink_view g.K.Sink c.write_turn.new.report) step.report);
+      report = report_more None (sink_view g.K.Sink c.args.report.now) (sink_view g.K.Sink c.loop.report) (sink_view g.K.Sink c.write_turn.new.report) c.loop.invariant.report step.report;
     }
 
 pub returns-in-ReportFailed-clause-run : goal.returns-in-ReportFailed-clause-run
@@ -73,13 +73,12 @@ returns-clause-run g c = λ own stands.
 
 pub returns-in-ReportFailed-clause-report : goal.returns-in-ReportFailed-clause-report
 returns-in-ReportFailed-clause-report g c =
-    turn_failed (sink_view g.K.Sink c.args.report.now) (sink_view g.K.Sink c.loop.report) (sink_view g.K.Sink c.write_turn.new.report) c.loop.invariant.report c.in-ReportFailed.ensures.report
+    report_more (Some ReportFault) (sink_view g.K.Sink c.args.report.now) (sink_view g.K.Sink c.loop.report) (sink_view g.K.Sink c.write_turn.new.report) c.loop.invariant.report c.in-ReportFailed.ensures.report
 
 pub returns-in-LineEnded-clause-report : goal.returns-in-LineEnded-clause-report
 returns-in-LineEnded-clause-report g c =
     never_written c.answer.result c.line.result.now (in_view g.I.Source c.write_turn.new.line) (in_view g.I.Source c.answer.new.place) (sink_view g.K.Sink c.args.report.now) (sink_view g.K.Sink c.write_turn.new.report)
-    c.answer.ensures (step_more (sink_view g.K.Sink c.args.report.now) (sink_view g.K.Sink c.loop.report) (sink_view g.K.Sink c.write_turn.new.report) c.loop.invariant.report
-    (line_ended (sink_view g.K.Sink c.loop.report) (sink_view g.K.Sink c.write_turn.new.report) c.in-LineEnded.ensures.report))
+    c.answer.ensures (report_more None (sink_view g.K.Sink c.args.report.now) (sink_view g.K.Sink c.loop.report) (sink_view g.K.Sink c.write_turn.new.report) c.loop.invariant.report c.in-LineEnded.ensures.report)
 
 pub returns-clause-report : goal.returns-clause-report
 returns-clause-report g c =

@@ -4,7 +4,7 @@ use Rattle.otn_ports.specs.Views.{InView}
 use Rattle.tributary_model.specs.Places.{Tributary}
 use Rattle.line_tool.specs.PullTurn.{TapStands, StandsSomewhere, IsBetweenTurns}
 use Rattle.otn_ports.specs.PortViews.{sink_view}
-use Rattle.line_tool.specs.Ends.{StepAfter}
+use Rattle.line_tool.specs.Ends.{ReportAfter}
 use Rattle.line_tool.proofs.PullLoop.{TurnsSoFar, HasLast}
 use Rattle.line_tool.proofs.pull.write_turns.Given as goal
 
@@ -17,5 +17,5 @@ invariant-loop g l = record {
   so_far : (own : Tributary) → ((first : InView) → TapStands own first first [] 0 l.fn.tap)
       → (h : TurnsSoFar own (in_view g.I.Source l.fn.line) (in_view g.I.Source l.line) l.counter l.tap (g.K.Sink.got l.fn.report) (g.K.Sink.got l.report))
       × HasLast own (in_view g.I.Source l.fn.line) (in_view g.I.Source l.line) l.counter l.tap (g.K.Sink.got l.fn.report) (g.K.Sink.got l.report) h false;
-  report : StepAfter None (sink_view g.K.Sink l.fn.report) (sink_view g.K.Sink l.report);
+  report : ReportAfter None (sink_view g.K.Sink l.fn.report) (sink_view g.K.Sink l.report);
 }

@@ -6,9 +6,9 @@ use Rattle.otn_ports.specs.Reads.{state_after, idle_reading}
 use Rattle.otn_ports.specs.Views.{Live}
 use Rattle.otn_ports.specs.declared.in_place.Reading.TheVariants.{Full}
 use Rattle.frame_geometry.specs.Loans.{after_loan-whole}
-use Rattle.line_tool.proofs.SlotSteps.{live_of, step_written, step_reported}
+use Rattle.line_tool.proofs.SlotSteps.{live_of, step_written}
 use Rattle.otn_ports.specs.PortViews.{sink_view}
-use Rattle.line_tool.specs.Ends.{StepAfter}
+use Rattle.line_tool.specs.Ends.{ReportAfter}
 use Rattle.line_tool.specs.SlotRuns.{SlotStep}
 use Rattle.line_tool.proofs.slot.write_frame.Goals as goal
 
@@ -31,5 +31,4 @@ returns-in-Full-clause-step g c =
 
 pub returns-in-Full-clause-report : goal.returns-in-Full-clause-report
 returns-in-Full-clause-report g c =
-    subst (λ answer. StepAfter answer (sink_view g.K.Sink c.args.report.now) (sink_view g.K.Sink c.write_slot_of.new.report)) (sym c.step_after.ensures)
-    (step_reported c.write_slot_of.result (sink_view g.K.Sink c.args.report.now) (sink_view g.K.Sink c.write_slot_of.new.report) c.write_slot_of.ensures.report)
+    subst (λ answer. ReportAfter answer (sink_view g.K.Sink c.args.report.now) (sink_view g.K.Sink c.write_slot_of.new.report)) (sym c.step_after.ensures) c.write_slot_of.ensures.report

@@ -1,14 +1,14 @@
-use Rattle.std.proofs.Common.{◌≡◌, subst, arith}
+use Rattle.std.proofs.Common.{◌≡◌, Some, None, subst, arith}
 use Rattle.otn_ports.specs.InPlace.{in_view}
 use Rattle.otn_ports.specs.PortViews.{sink_view}
-use Rattle.line_tool.proofs.Reports.{step_same, step_more, step_ends}
+use Rattle.line_tool.proofs.Reports.{report_same, report_more}
 use Rattle.line_tool.proofs.SlotLoop.{SoFar, so_far_none, so_far_more, ends_with, ends_after, never_fault}
 use Rattle.line_tool.proofs.slot.write_frames.Goals as goal
 
 pub loop-init : goal.loop-init
 loop-init g c = record {
   so_far = so_far_none c.args.slot (in_view g.I.Source c.args.line.now) (g.K.Sink.got c.args.report.now);
-  report = step_same (sink_view g.K.Sink c.args.report.now);
+  report = report_same (sink_view g.K.Sink c.args.report.now);
 }
 
 pub returns-in-Some-clause-run : goal.returns-in-Some-clause-run
@@ -19,7 +19,7 @@ returns-in-Some-clause-run g c =
 
 pub returns-in-Some-clause-report : goal.returns-in-Some-clause-report
 returns-in-Some-clause-report g c =
-    step_ends c.in-Some.ended (sink_view g.K.Sink c.args.report.now) (sink_view g.K.Sink c.loop.report) (sink_view g.K.Sink c.write_frame.new.report)
+    report_more (Some c.in-Some.ended) (sink_view g.K.Sink c.args.report.now) (sink_view g.K.Sink c.loop.report) (sink_view g.K.Sink c.write_frame.new.report)
     c.loop.invariant.report c.in-Some.ensures.report
 
 pub loop-preserved : goal.loop-preserved
@@ -28,7 +28,7 @@ loop-preserved g c =
     record {
       so_far = so_far_more c.args.slot c.loop.counter (in_view g.I.Source c.args.line.now) (in_view g.I.Source c.loop.line) (in_view g.I.Source c.write_frame.new.line)
           (g.K.Sink.got c.args.report.now) (g.K.Sink.got c.loop.report) (g.K.Sink.got c.write_frame.new.report) c.loop.invariant.so_far step.step;
-      report = step_more (sink_view g.K.Sink c.args.report.now) (sink_view g.K.Sink c.loop.report) (sink_view g.K.Sink c.write_frame.new.report) c.loop.invariant.report step.report;
+      report = report_more None (sink_view g.K.Sink c.args.report.now) (sink_view g.K.Sink c.loop.report) (sink_view g.K.Sink c.write_frame.new.report) c.loop.invariant.report step.report;
     }
 
 pub returns-clause-run : goal.returns-clause-run

@@ -1,4 +1,4 @@
-use Rattle.std.proofs.Common.{sym, subst}
+use Rattle.std.proofs.Common.{refl, sym, subst}
 use Rattle.otn_ports.specs.Racks.{with_line_in}
 use Rattle.line_tool.specs.Answers.{Answers}
 use Rattle.line_tool.specs.Device.{device}
@@ -24,7 +24,7 @@ returns-in-Some-Slot-clause-answers g c = λ command form.
 
 pub returns-in-Some-Slot-clause-refused : goal.returns-in-Some-Slot-clause-refused
 returns-in-Some-Slot-clause-refused g c = λ refusal.
-    refused_line g.P.Source g.K.Sink g.I.Source g.O.Sink c.args.plan.now c.args.bays.now c.line_in_mut-line.result.now c.write_slot.new.line c.args.report.now c.write_slot.new.report
+    refused_line c.args.bays.now c.line_in_mut-line.result.now c.write_slot.new.line c.args.report.now c.write_slot.new.report
     c.write_slot.result c.line_in_mut-line.ensures.value c.write_slot.ensures.memory (subst IsRefusal c.status_of.ensures refusal)
 
 pub returns-in-Some-Slot-clause-stays : goal.returns-in-Some-Slot-clause-stays
@@ -47,7 +47,7 @@ returns-in-Some-Pull-clause-answers g c = λ command form.
 
 pub returns-in-Some-Pull-clause-refused : goal.returns-in-Some-Pull-clause-refused
 returns-in-Some-Pull-clause-refused g c = λ refusal.
-    refused_line g.P.Source g.K.Sink g.I.Source g.O.Sink c.args.plan.now c.args.bays.now c.line_in_mut-tapped.result.now c.write_pull.new.line c.args.report.now c.write_pull.new.report
+    refused_line c.args.bays.now c.line_in_mut-tapped.result.now c.write_pull.new.line c.args.report.now c.write_pull.new.report
     c.write_pull.result c.line_in_mut-tapped.ensures.value c.write_pull.ensures.memory (subst IsRefusal c.status_of-in-Some-Pull.ensures refusal)
 
 pub returns-in-Some-Pull-clause-stays : goal.returns-in-Some-Pull-clause-stays
@@ -59,9 +59,12 @@ returns-in-Some-Pull-clause-stays g c =
 
 -- ---- `check`, and no command
 
+pub returns-in-Some-Check-clause-refused : goal.returns-in-Some-Check-clause-refused
+returns-in-Some-Check-clause-refused g c = λ refusal. (refl, c.check_plan.ensures.refused (subst IsRefusal c.status_of_check.ensures refusal))
+
 pub returns-in-Some-Check-clause-stays : goal.returns-in-Some-Check-clause-stays
 returns-in-Some-Check-clause-stays g c =
-    check_stays g.P.Source g.K.Sink g.I.Source g.O.Sink c.args.plan.now c.check_plan.new.plan c.args.bays.now c.args.report.now c.check_plan.new.report (check_status c.check_plan.result) c.check_plan.ensures
+    check_stays g.P.Source g.K.Sink g.I.Source g.O.Sink c.args.plan.now c.check_plan.new.plan c.args.bays.now c.args.report.now c.check_plan.new.report (check_status c.check_plan.result) c.check_plan.ensures.run
 
 pub returns-in-None-clause-stays : goal.returns-in-None-clause-stays
 returns-in-None-clause-stays g c = nothing_stays g.P.Source g.K.Sink g.I.Source g.O.Sink c.args.plan.now c.args.bays.now c.args.report.now

@@ -15,4 +15,4 @@ returns-clause-moves g c = λ own first bytes t h.
     piece_frame own first (in_view g.I.Source c.args.place.now) (in_view g.I.Source c.piece.new.place) bytes t c.expected.result c.args.self.now c.piece.new.self c.take_frame.new.self
     c.piece.ensures.pieces (sym c.piece.ensures.member ∙ c.if-not-piece.false) h p
     (λ given may. c.expected.ensures.line plain_otu2 first (in_view g.I.Source c.piece.new.place) (bytes ++ p.came) given t p.stands may)
-    (λ past frames stands. rw c.frame.ensures at c.take_frame.ensures.stands own past frames stands)
+    (λ past frames stands. rw c.frame.ensures.hand at c.take_frame.ensures.stands own past frames stands)
