@@ -79,7 +79,7 @@ pub(crate) fn take_several(alloc: Global, slots: &Slots, times: u32) -> Result<u
 }
 
 fn take_list(alloc: Global, slots: &[u8], times: u32) -> Result<u32, Memory>
-    requires { IsSlotList 8 slots.now }
+    requires { IsSlotList OTU2_SLOTS slots.now }
 {
     let mut row = row_of(alloc, PAYLOAD_COLUMNS)?;
     let mut bytes = row_of(alloc, slots.len() * CYCLES)?;
@@ -99,7 +99,7 @@ pub(crate) fn put_several(alloc: Global, slots: &Slots, times: u32) -> Result<u3
 }
 
 fn put_list(alloc: Global, slots: &[u8], times: u32) -> Result<u32, Memory>
-    requires { IsSlotList 8 slots.now }
+    requires { IsSlotList OTU2_SLOTS slots.now }
 {
     let mut row = row_of(alloc, PAYLOAD_COLUMNS)?;
     let mut bytes = row_of(alloc, slots.len() * CYCLES)?;

@@ -3,7 +3,7 @@ ghost use Rattle.std.specs.Prelude.{◌≡◌, ◌+◌, ◌*◌, ◌≤◌, IfOk
 ghost use Rattle.otn_base.specs.declared.limits.TheConstants.{GROUPS};
 
 use frame_geometry::Frame;
-use otn_base::limits::GROUPS;
+use otn_base::limits::{GROUPS, LINE_COLUMNS};
 use otn_base::{LineKind, Memory, Slots};
 use std::alloc::Global;
 use trib_sink::TribSink;
@@ -41,7 +41,7 @@ fn room_for(alloc: Global, slots: &Slots) -> Result<Vec<u8>, Memory>
 
 // A frame of a line on which every slot is of tributary port 1 and says 15,168 data groups in each
 // multiframe, with no byte left over.
-fn steady_frame(alloc: Global) -> Result<Frame<4080>, Memory> {
+fn steady_frame(alloc: Global) -> Result<Frame<LINE_COLUMNS>, Memory> {
     let mut frame = Frame::new(alloc)?;
     for row in 1..5_u32 {
         for column in 17..3825_u32 {
@@ -56,7 +56,7 @@ fn steady_frame(alloc: Global) -> Result<Frame<4080>, Memory> {
 }
 
 // One turn of eight such frames: a sum over how many bytes it emits, and the first of them.
-fn take_turn(sink: &mut TribSink, frame: &Frame<4080>, turn: u32, into: &mut [u8]) -> u32
+fn take_turn(sink: &mut TribSink, frame: &Frame<LINE_COLUMNS>, turn: u32, into: &mut [u8]) -> u32
     requires fresh { sink.old.taken ≡ 0 }
     requires kind { sink.old.slots.kind ≡ LineKind.Otu2 }
     requires room { length sink.old.slots.list * (GROUPS + 1) ≤ length into.old }

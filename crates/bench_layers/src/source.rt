@@ -4,7 +4,7 @@ ghost use Rattle.otn_base.specs.declared.limits.TheConstants.{NOMINAL};
 
 use crate::sink::first_slots;
 use frame_geometry::Frame;
-use otn_base::limits::NOMINAL;
+use otn_base::limits::{LINE_COLUMNS, NOMINAL};
 use otn_base::{LineKind, Memory, Slots};
 use std::alloc::Global;
 use trib_source::TribSource;
@@ -37,7 +37,7 @@ fn nominal_bytes(alloc: Global, slots: &Slots) -> Result<Vec<u8>, Memory>
 }
 
 // One turn of eight frames: a sum over a byte of each.
-fn put_turn(source: &mut TribSource, bytes: &[u8], frame: &mut Frame<4080>) -> u32
+fn put_turn(source: &mut TribSource, bytes: &[u8], frame: &mut Frame<LINE_COLUMNS>) -> u32
     requires rest { source.old.rest ≡ 0 }
     requires kind { source.old.slots.kind ≡ LineKind.Otu2 }
     requires size { length bytes.now ≡ length source.old.slots.list * NOMINAL }
