@@ -15,3 +15,11 @@ pub mod ClientStreams
 pub mod GotStreams
 pub mod Delivery
 pub mod Chains
+pub mod Accepted
+pub mod WorldInputs
+pub mod OpuBytes
+pub mod OwnBytes
+pub mod LineBytes
+pub mod OneFile
+pub mod TwoWorlds
+pub mod RunsInARow

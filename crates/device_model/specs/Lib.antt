@@ -13,3 +13,7 @@ pub mod Made
 pub mod Carried
 pub mod Delivery
 pub mod Chains
+pub mod Accepted
+pub mod TwoWorlds
+pub mod OneFile
+pub mod RunsInARow

@@ -1,4 +1,5 @@
 // The laws of a node, each the contract of a function: what the files of its output lines show and carry.
+ghost use Rattle.device_model.specs.Accepted.{GoesAsAsked, HasAsManySlots};
 ghost use Rattle.device_model.specs.Carried.{CarriesOn, CarriesAClient, CarriesASignal, GetsTheStream, GetsTheSignal};
 ghost use Rattle.device_model.specs.Chains.{CarriesThroughAll};
 ghost use Rattle.device_model.specs.Delivery.{GetsWhatIsCarried, DeliversItsPackets};
@@ -41,4 +42,11 @@ pub fn packets_at_client()
 /// and its mask, a client's bytes are carried to the last one's file, three turns later for each node.
 pub fn carried_through_all()
     ensures { CarriesThroughAll }
+{}
+
+/// Each connection of a sound plan meets what these laws ask of it: it goes to slots of its line, by one of
+/// the line's ports, its paces are within what they hold, and from a line to a line it has as many slots.
+pub fn sound_connections()
+    ensures goes { GoesAsAsked }
+    ensures slots { HasAsManySlots }
 {}

@@ -5,14 +5,22 @@
 //! - `line_views`: what the turns of a line show of a tributary, and what a sink on it emits.
 //! - `outcome`: how a run ends, and what the from end of a connection is.
 //! - `plans`: what is promised of a plan that breaks no rule.
+//! - `runs`: what runs in a row carry, each over the file that the one before made.
+//! - `worlds`: what leaves on a connection is the same wherever its own input is.
 #![tactic(auto)]
 
 mod carriage;
 mod line_views;
 mod outcome;
 mod plans;
+mod runs;
+mod worlds;
 
-pub use carriage::{carried_from, carried_on, carried_through_all, made_files, packets_at_client};
+pub use carriage::{
+    carried_from, carried_on, carried_through_all, made_files, packets_at_client, sound_connections,
+};
 pub use line_views::{same_views, whole_views};
 pub use outcome::{FromState, Outcome};
 pub use plans::accepted_plans;
+pub use runs::carried_through_runs;
+pub use worlds::{one_line_file, same_leaving, same_places, two_worlds};
