@@ -1,7 +1,5 @@
 // The pipe of an entry of a plan.
-ghost use Rattle.std.specs.Prelude.{◌≡◌, ◌<◌, ◌≤◌, ℕ, List, None, Some, IfOk, length, slice_get};
-ghost use Rattle.otn_base.specs.LineSlots.{LineSlots, slots_of};
-ghost use Rattle.otn_base.specs.declared.limits.TheConstants.{MOST_SLOTS};
+ghost use Rattle.std.specs.Prelude.{◌≡◌, ◌<◌, ℕ, None, Some, IfOk, length, slice_get};
 ghost use Rattle.maintenance_signals.specs.declared.signal.Signal.{Signal};
 ghost use Rattle.plan_file.specs.Answer.{fault_in};
 ghost use Rattle.plan_file.specs.declared.connection.Connection.{Connection};

@@ -1,5 +1,5 @@
 // The bytes of one turn.
-ghost use Rattle.std.specs.Prelude.{◌≡◌, ◌≢◌, ◌≤◌, ◌+◌, ◌*◌, ℕ, List, [], ◌∷◌, Option, IfOk, IsTrue, length, take, true};
+ghost use Rattle.std.specs.Prelude.{◌≡◌, ◌≢◌, ◌≤◌, ◌+◌, ◌*◌, ℕ, List, [], ◌∷◌, Option, IfOk, IsTrue, length, take};
 ghost use Rattle.maintenance_signals.specs.Given.{HasGiven};
 ghost use Rattle.maintenance_signals.specs.Stream.{signal_byte, signal_bytes};
 ghost use Rattle.maintenance_signals.specs.declared.signal.Signal.{Signal};
@@ -124,6 +124,7 @@ fn fill_front<P: Source>(
     count: usize,
 )
     requires { count ≤ length into.old }
+    ensures size { length into.new ≡ length into.old }
     ensures fills { (first : InView) (taken gone : List ℕ) → ClientStands first (in_view P.Source place.old) taken gone (lines_view lines.old) framer.old
         → Fills first (in_view P.Source place.new) taken gone (take count into.new) (lines_view lines.old) (lines_view lines.new) framer.old framer.new }
     ensures over { framer.old.stream.answer ≢ Line.Packet → lines.new ≡ lines.old }

@@ -14,6 +14,8 @@ mod giving;
 mod pipe;
 mod receiver;
 mod taking;
+#[cfg(test)]
+mod tests;
 
 pub use device_model::FromState;
 pub use pipe::Pipe;

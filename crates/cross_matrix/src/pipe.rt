@@ -1,6 +1,6 @@
 // The pipe of a connection. What its input brings in a turn is kept beside what it brought in the turn before, which goes
 // to the output: so the two parts may be used in any order within a turn, and `fence` turns the sides.
-ghost use Rattle.std.specs.Prelude.{◌≡◌, ◌<◌, ◌≤◌, ◌+◌, ◌⊎◌, ℕ, suc, Bool, true, false, List, [], ◌∷◌, ◌++◌, Option, IsSome, IsTrue, option_map};
+ghost use Rattle.std.specs.Prelude.{◌≡◌, ◌<◌, ◌≤◌, ◌+◌, ℕ, suc, Bool, true, false, List, [], ◌∷◌, ◌++◌, Option, IsSome, IsTrue, option_map};
 ghost use Rattle.otn_base.specs.LineSlots.{LineSlots, slots_of};
 ghost use Rattle.otn_base.specs.declared.limits.TheConstants.{LINE_COLUMNS as COLUMNS, ROWS};
 ghost use Rattle.odu_client.specs.ClientInput.{ClientInput, packets_begun, is_spent, bad_line, emitted_before};
