@@ -6,8 +6,7 @@ ghost use Rattle.device_model.specs.SoundPlans.{AcceptedPlansAreSound};
 /// line's kind, as many at one end as at the other; its client ends are at clients of the device. Its pace is
 /// within what its slots hold. Only a connection with a client retires. No two connections come from one
 /// client, and no two go to one; no two that go to one line have a slot or a tributary port of it in the same
-/// turn. Whatever runs a plan needs no more of its rules. No layer calls it yet: the node, which is to come,
-/// rests on it.
+/// turn. Whatever runs a plan needs no more of its rules.
 pub fn accepted_plans()
     ensures { AcceptedPlansAreSound }
 {}
