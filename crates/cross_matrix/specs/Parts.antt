@@ -1,10 +1,11 @@
 -- The parts of a connection: the one that takes from its input, and the one that gives to its output.
-use Rattle.std.specs.Prelude.{◌≡◌, ⊤, ℕ, suc, Bool, true, false, if◌then◌else◌, List, ◌++◌, length, IsSome}
+use Rattle.std.specs.Prelude.{◌≡◌, ◌≢◌, ⊤, ℕ, suc, Bool, true, false, if◌then◌else◌, List, ◌++◌, length, IsSome}
 use Rattle.maintenance_signals.specs.Given.{HasGiven}
 use Rattle.odu_client.specs.ClientInput.{ClientInput, input_of, input_emits, emitted_before}
 use Rattle.odu_client.specs.Framing.{ClientStands, MayDie}
 use Rattle.otn_ports.specs.Views.{InView, OutView}
 use Rattle.packet_text.specs.LinesStand.{LinesView, lines_view, MayBe}
+use Rattle.packet_text.specs.declared.line.Line.TheVariants.{Packet}
 use Rattle.plan_file.specs.declared.connection.Connection.{Connection}
 use Rattle.plan_file.specs.declared.connection.FromEnd.{FromEnd}
 use Rattle.plan_file.specs.declared.connection.FromEnd.TheVariants as from_end
@@ -72,6 +73,12 @@ IsOfClient (taking.Signal stream) = ⊥
 abbrev pub IsToClient : GivingPart → Type 0
 IsToClient (giving.Line source) = ⊥
 IsToClient (giving.Client receiver) = ⊤
+
+-- no packet is left of a client's text: its end was seen, a bad line, or that its place died
+abbrev pub IsTextOver : TakingPart → Type 0
+IsTextOver (taking.Line sink) = ⊥
+IsTextOver (taking.Client client) = client.framer.stream.answer ≢ Packet
+IsTextOver (taking.Signal stream) = ⊥
 
 -- ---- where the parts stand
 

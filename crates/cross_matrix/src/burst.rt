@@ -97,6 +97,7 @@ impl Burst {
         ensures fills { (first : InView) (taken gone : List ℕ) → ClientStands first (in_view P.Source place.old) taken gone (lines_view lines.old) framer.old
             → Fills first (in_view P.Source place.new) taken gone self.new.bytes (lines_view lines.old) (lines_view lines.new) framer.old framer.new }
         ensures over { framer.old.stream.answer ≢ Line.Packet → lines.new ≡ lines.old }
+        ensures quiet { framer.old.stream.answer ≢ Line.Packet → place.new ≡ place.old }
         ensures room_stays { self.new.room ≡ self.old.room }
     {
         fill_front(framer, lines, place, &mut self.buffer, count);
@@ -128,6 +129,7 @@ fn fill_front<P: Source>(
     ensures fills { (first : InView) (taken gone : List ℕ) → ClientStands first (in_view P.Source place.old) taken gone (lines_view lines.old) framer.old
         → Fills first (in_view P.Source place.new) taken gone (take count into.new) (lines_view lines.old) (lines_view lines.new) framer.old framer.new }
     ensures over { framer.old.stream.answer ≢ Line.Packet → lines.new ≡ lines.old }
+    ensures quiet { framer.old.stream.answer ≢ Line.Packet → place.new ≡ place.old }
 {
     framer.fill(lines, place, &mut into[..count]);
 }

@@ -16,7 +16,7 @@ ghost use Rattle.tributary_model.specs.Places.{Taken, View, tributary_of, byte_a
 ghost use Rattle.tributary_model.specs.Puts.{WasPut, IsSourcePlace};
 ghost use Rattle.device_model.specs.Entries.{first_turn};
 ghost use Rattle.device_model.specs.Through.{OwnInput, of_line, of_client, got_by, state_in};
-ghost use Rattle.cross_matrix.specs.Parts.{OnSink, OnSource, IsOfClient, IsToClient, frames_taken, frames_filled, turns_taken, ClientInStands, ClientOutStands, MayShow, IsInputOf, IsBegun, IsReceived, IsOver};
+ghost use Rattle.cross_matrix.specs.Parts.{OnSink, OnSource, IsOfClient, IsTextOver, IsToClient, frames_taken, frames_filled, turns_taken, ClientInStands, ClientOutStands, MayShow, IsInputOf, IsBegun, IsReceived, IsOver};
 ghost use Rattle.cross_matrix.specs.Pipes.{PipeView, IsPipeOf, PipeStands, ClientTook};
 
 use crate::FromState;
@@ -107,6 +107,9 @@ impl Pipe {
         ensures took { (x : Connection) (first : InView) (taken : List ℕ) (j : ℕ) → IsPipeOf x self.old → turn ≡ x.start + j
             → ClientInStands x first (in_view P.Source place.old) taken j self.old.taking
             → ClientTook x first (in_view P.Source place.new) taken j self.old self.new }
+
+        // once no packet is left of the text, its place is asked nothing more
+        ensures quiet { IsTextOver self.old.taking → place.new ≡ place.old }
         ensures entry { (x : Connection) → IsPipeOf x self.old → IsPipeOf x self.new }
         ensures giving { self.new.giving ≡ self.old.giving }
     {

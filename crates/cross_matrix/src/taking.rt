@@ -13,7 +13,7 @@ ghost use Rattle.trib_sink.specs.Sink.{ended_view};
 ghost use Rattle.tributary_model.specs.Places.{Taken, View, tributary_of};
 ghost use Rattle.device_model.specs.Entries.{first_turn};
 ghost use Rattle.device_model.specs.Through.{OwnInput, of_line, of_client, emits_by, state_by, sink_state};
-ghost use Rattle.cross_matrix.specs.Parts.{OnSink, IsOfClient, TakesFrom, HasSlots, IsInputOf, IsOver, frames_taken, turns_taken, TakingStands, TextStands, ClientInStands, MayShow, TextTook};
+ghost use Rattle.cross_matrix.specs.Parts.{OnSink, IsOfClient, IsTextOver, TakesFrom, HasSlots, IsInputOf, IsOver, frames_taken, turns_taken, TakingStands, TextStands, ClientInStands, MayShow, TextTook};
 
 use crate::FromState;
 use crate::burst::Burst;
@@ -117,6 +117,7 @@ pub(crate) fn take_text<P: Source>(
     requires room { count ≤ came.old.room }
     ensures took { (x : Connection) (first : InView) (taken : List ℕ) (n : ℕ) → count ≡ pace_of x.pace n → ClientInStands x first (in_view P.Source place.old) taken n part.old
         → TextTook x first (in_view P.Source place.new) taken n part.old part.new came.new.bytes }
+    ensures quiet { IsTextOver part.old → place.new ≡ place.old }
     ensures entry { (from : FromEnd) (x : Connection) → TakesFrom from x part.old → TakesFrom from x part.new }
     ensures slots { (m : ℕ) → HasSlots m part.old → HasSlots m part.new }
     ensures room_stays { came.new.room ≡ came.old.room }
