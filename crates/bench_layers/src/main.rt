@@ -3,6 +3,7 @@
 #![tactic(auto)]
 
 mod bits;
+mod client;
 mod gfp;
 mod lanes;
 mod line;
@@ -18,6 +19,7 @@ use std::process::ExitCode;
 
 const USAGE: &str = "\
 usage: bench_layers gfp make|read|make-bytes|read-bytes|idle-make|idle-read|hunt BYTES TIMES
+       bench_layers client frame|align BYTES TIMES
        bench_layers bits crc32|scramble|descramble|parity|mask BYTES TIMES
        bench_layers rows split|join|take|put 8|32 TIMES
        bench_layers several take|put SLOTS TIMES, or take-32|put-32 4 TIMES
@@ -49,6 +51,7 @@ fn serve(rt: &HostRuntime) -> Result<Option<u32>, Memory> {
     };
     match words::word(rt, 1, &mut buffer) {
         Some("gfp") => gfp_layer(rt, size, times),
+        Some("client") => client_layer(rt, size, times),
         Some("bits") => bits_layer(rt, size, times),
         Some("rows") => rows_layer(rt, size, times),
         Some("several") => several_layer(rt, size, times),
@@ -70,6 +73,17 @@ fn gfp_layer(rt: &HostRuntime, size: u32, times: u32) -> Result<Option<u32>, Mem
         Some("idle-make") => Ok(Some(gfp::make_idle(alloc, size, times)?)),
         Some("idle-read") => Ok(Some(gfp::read_idle(alloc, size, times)?)),
         Some("hunt") => Ok(Some(gfp::hunt(alloc, size, times)?)),
+        _ => Ok(None),
+    }
+}
+
+// Client frames.
+fn client_layer(rt: &HostRuntime, size: u32, times: u32) -> Result<Option<u32>, Memory> {
+    let alloc = rt.alloc();
+    let mut buffer = [0; words::LONGEST];
+    match words::word(rt, 2, &mut buffer) {
+        Some("frame") => Ok(Some(client::frame(alloc, size, times)?)),
+        Some("align") => Ok(Some(client::align(alloc, times)?)),
         _ => Ok(None),
     }
 }
