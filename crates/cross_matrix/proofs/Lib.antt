@@ -4,3 +4,4 @@ pub mod PartMoves
 pub mod TurnTotals
 pub mod PipeMoves
 pub mod FitEntries
+pub mod NextFrames

@@ -2,3 +2,4 @@ pub mod Bursts
 pub mod Receiving
 pub mod Parts
 pub mod Pipes
+pub mod InTurn

@@ -1,7 +1,7 @@
 //! The pipes of a node: the parts of each connection, joined. A pipe takes from the connection's input what
 //! a turn brings, and gives to its output what the turn before brought.
 //!
-//! - `pipe`: a connection's pipe.
+//! - `pipe`: a connection's pipe; `in_turn`: its calls for a caller that keeps no count of frames.
 //! - `build`: the pipe of an entry of a plan.
 //! - `taking`, `giving`: its two parts.
 //! - `receiver`: a client's output, from arriving bytes to lines of text.
@@ -11,6 +11,7 @@
 mod build;
 mod burst;
 mod giving;
+mod in_turn;
 mod pipe;
 mod receiver;
 mod taking;

@@ -78,6 +78,20 @@ impl TribSink {
         state_of(self.follower.standing())
     }
 
+    /// Its slots.
+    pub fn slots(&self) -> &Slots
+        ensures { result.now ≡ self.now.slots }
+    {
+        &self.slots
+    }
+
+    /// How many frames of the turn it has taken.
+    pub fn taken(&self) -> u8
+        ensures { result ≡ self.now.taken }
+    {
+        self.taken
+    }
+
     /// Begins anew, as a new sink of the same slots and port.
     pub fn restart(&mut self)
         ensures stands { StandsAfter (tributary_of self.old.slots self.old.port) [] [] self.new }

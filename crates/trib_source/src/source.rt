@@ -1,5 +1,5 @@
 // The source of a tributary.
-ghost use Rattle.std.specs.Prelude.{◌≡◌, ℕ, ◌+◌, ◌-◌, ◌*◌, ◌/◌, ◌%◌, ◌<◌, ◌≤◌, List, [], ◌∷◌, ◌++◌, IfOk, IsSome, length};
+ghost use Rattle.std.specs.Prelude.{◌≡◌, ℕ, ◌+◌, ◌-◌, ◌*◌, ◌/◌, ◌%◌, ◌<◌, ◌≤◌, List, [], ◌∷◌, ◌++◌, IfOk, IsSome, is_some, length};
 ghost use Rattle.otn_base.specs.declared.limits.TheConstants.{GROUPS, LINE_COLUMNS, ROWS};
 ghost use Rattle.otn_base.specs.LineSlots.{slots_of};
 ghost use Rattle.tributary_model.specs.Places.{Tributary, tributary_of, byte_at};
@@ -68,6 +68,27 @@ impl TribSource {
             message: [0; 6],
             filled: 0,
         })
+    }
+
+    /// Its slots.
+    pub fn slots(&self) -> &Slots
+        ensures { result.now ≡ self.now.slots }
+    {
+        &self.slots
+    }
+
+    /// How many frames of the turn were filled.
+    pub fn filled(&self) -> u8
+        ensures { result ≡ self.now.filled }
+    {
+        self.filled
+    }
+
+    /// Whether it has begun a turn since it was new or restarted.
+    pub fn has_begun(&self) -> bool
+        ensures { result ≡ is_some self.now.said }
+    {
+        self.said.is_some()
     }
 
     /// Begins anew, as a new source of the same slots.

@@ -1,0 +1,12 @@
+pub mod Ports
+pub mod Pieces
+pub mod Links
+pub mod NodeView
+pub mod Stands
+pub mod Moves
+pub mod NodeMoves
+pub mod LineFrames
+pub mod Built
+pub mod LinkMoves
+pub mod LineEnds
+pub mod Retiring

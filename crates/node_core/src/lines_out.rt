@@ -1,0 +1,105 @@
+// A piece of an output line.
+ghost use Rattle.std.specs.Prelude.{◌≡◌, ◌<◌, ◌≤◌, ◌+◌, ◌*◌, ◌%◌, ℕ, true, false, length};
+ghost use Rattle.otn_base.specs.LineSlots.{LineSlots, slots_of};
+ghost use Rattle.otn_base.specs.declared.limits.TheConstants.{LINE_FRAME_BYTES as FRAME_BYTES};
+ghost use Rattle.otn_ports.specs.OutPlace.{out_view};
+ghost use Rattle.node_core.specs.Links.{is_on};
+ghost use Rattle.node_core.specs.LineFrames.{PutsOwn, AllotsOwn, LinkByLink, FromBlank, FrameWritten};
+ghost use Rattle.node_core.specs.Moves.{EachLink, GaveFrame, gives_line};
+
+use crate::link::{Link, Target};
+use frame_geometry::Frame;
+use line_side::LineOut;
+use msi_table::SlotMap;
+use otn_base::limits::LINE_COLUMNS;
+use otn_base::{LineKind, Slots};
+use otn_ports::{OutPlaceOf, Sink};
+
+/// One piece of line output `b`: frame `n`, from 0, of turn past + 1, into which each active connection to the line puts its own.
+pub(crate) fn write_line<K: Sink>(
+    line: &mut LineOut,
+    b: u8,
+    past: u32,
+    n: u8,
+    links: &mut Vec<Link>,
+    place: &mut OutPlaceOf<K>,
+)
+    requires frame { n < slots_of line.old.form.kind }
+    ensures { FrameWritten past b n line.old (out_view K.Sink place.old) links.old.items line.new (out_view K.Sink place.new) links.new.items }
+{
+    let kind = line.kind();
+    let map = slot_map(kind, b, past, links);
+    fill_links(b, past, links, line.begin());
+    line.finish(mfas_of(kind, past, n), &map, place);
+}
+
+// Each active connection to line output `b` puts its own into a frame.
+fn fill_links(b: u8, past: u32, links: &mut Vec<Link>, frame: &mut Frame<LINE_COLUMNS>)
+    ensures gave { (n : ℕ) → EachLink (λ link then. GaveFrame (gives_line past b link) n link then) links.old.items links.new.items }
+    ensures puts { LinkByLink (λ link before now. PutsOwn (gives_line past b link) link before now) links.old.items frame.old frame.new }
+    ensures size { length frame.new ≡ FRAME_BYTES }
+{
+    for link in links.iter_mut() {
+        link.fill_frame(b, past, frame);
+    }
+    let _size = frame.as_bytes();
+}
+
+// The tributary ports of the slots of line output `b`, which is of this kind, in turn past + 1.
+fn slot_map(kind: LineKind, b: u8, past: u32, links: &[Link]) -> SlotMap
+    ensures size { length result ≡ slots_of kind }
+    ensures allots { FromBlank (λ link before now. AllotsOwn kind (gives_line past b link) link before now) links.now result }
+{
+    let mut map = SlotMap::new(kind);
+    for link in links {
+        allot_own(kind, b, past, link, &mut map);
+    }
+    map
+}
+
+// The slots of an active connection to the line get its tributary port.
+fn allot_own(kind: LineKind, b: u8, past: u32, link: &Link, map: &mut SlotMap)
+    requires kind { length map.old ≡ slots_of kind }
+    ensures kind { length map.new ≡ slots_of kind }
+    ensures allots { AllotsOwn kind (gives_line past b link.now) link.now map.old map.new }
+{
+    if link.gives_line(b, past) {
+        allot(kind, &link.to, map);
+    }
+}
+
+ghost use Rattle.msi_table.specs.Psi.{IsGiven};
+ghost use Rattle.node_core.specs.declared.link.Target.TheVariants as target;
+
+// The slots of a line end of this kind get its tributary port, if it is one of the line's.
+fn allot(kind: LineKind, to: &Target, map: &mut SlotMap)
+    requires kind { length map.old ≡ slots_of kind }
+    ensures kind { length map.new ≡ slots_of kind }
+    ensures given { (b number : ℕ) (slots : LineSlots) → to.now ≡ target.Line b number slots → slots.kind ≡ kind → 1 ≤ number → number ≤ slots_of kind
+        → IsGiven slots.list number map.old map.new }
+{
+    match to {
+        Target::Line(_, number, slots) => allot_slots(kind, *number, slots, map),
+        Target::Client(_) => {}
+    }
+}
+
+// The same of the slots alone.
+fn allot_slots(kind: LineKind, number: u8, slots: &Slots, map: &mut SlotMap)
+    requires kind { length map.old ≡ slots_of kind }
+    ensures kind { length map.new ≡ slots_of kind }
+    ensures given { slots.now.kind ≡ kind → 1 ≤ number → number ≤ slots_of kind → IsGiven slots.now.list number map.old map.new }
+{
+    if slots.kind() == kind && 1 <= number && number <= kind.slots() {
+        map.free(slots);
+        map.allot(slots, number);
+    }
+}
+
+// The MFAS of frame `n`, from 0, of turn past + 1 of a line of this kind (G.709 clause 15.6.2.2).
+fn mfas_of(kind: LineKind, past: u32, n: u8) -> u8
+    ensures { result ≡ (slots_of kind * past + n) % 256 }
+{
+    let frames = u64::from(kind.slots()) * u64::from(past) + u64::from(n);
+    (frames % 256) as u8
+}
