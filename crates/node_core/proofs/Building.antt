@@ -89,7 +89,7 @@ first_lines_out plan node first new = record {
   used = λ inputs may b line has u. (
     [],
     no_puts plan inputs b (size_of (form_out plan b) * node.past + done_at node (port.LineOut b))
-    (no_frames_yet (size_of (form_out plan b)) node.past (done_at node (port.LineOut b)) new.past (new.fresh.none (index_of (port.LineOut b)))),
+        (no_frames_yet (size_of (form_out plan b)) node.past (done_at node (port.LineOut b)) new.past (new.fresh.none (index_of (port.LineOut b)))),
     new.lines_out.made b line has (line_out_at first b),
   );
   idle = λ b u. refl;

@@ -38,7 +38,7 @@ pub record Took (past n : ℕ) (old new : Link) : Type 0 where
 each_took : (past n : ℕ) (was : InView) (links : List Link) (is : InView) (next_links : List Link) → TakesClient past n was links is next_links → EachLink (Took past n) links next_links
 each_took past n was links is next_links t =
     each_goes (λ link next. SameEntry link next × (next.pipe.giving ≡ link.pipe.giving) × (takes_client past n link ≡ false → next ≡ link)) (Took past n) links next_links
-      (λ link next h. record { same = h.0; giving = h.1; other = h.2 }) t.took
+    (λ link next h. record { same = h.0; giving = h.1; other = h.2 }) t.took
 
 not_taker : (x : Connection) (past n : ℕ) (old : Link) → IsLinkOf x old → is_from_client n (origin_of x.from) ≡ false → takes_client past n old ≡ false
 not_taker x past n old is off = and_none (is_on past old) (is_from_client n old.from) (ap (is_from_client n) is.from ∙ off)
@@ -58,8 +58,8 @@ pipes_in : (plan : Plan) (taken more : Bytes) (old new : NodeView) (n : ℕ) →
     → ((other : PortName) → other ≢ port.ClientIn n → done_at new other ≡ done_at old other) → done_at old (port.ClientIn n) ≡ 0 → done_at new (port.ClientIn n) ≡ 1
     → ((inputs : Inputs) → MayGive plan more new inputs → MayGive plan taken old inputs)
     → ((inputs : Inputs) → MayGive plan more new inputs → (i : ℕ) (x : Connection) (link next : Link) → slice_get plan.connections i ≡ Some x → HasLink old i link → HasLink new i next
-        → x.from ≡ from_end.Client n → IsActive x old.past → PipeStands x (own_input inputs x) (own_turn x old.past) [] false (given_pieces old link.to) link.pipe
-        → PipeStands x (own_input inputs x) (own_turn x old.past) [] true (given_pieces old link.to) next.pipe)
+    → x.from ≡ from_end.Client n → IsActive x old.past → PipeStands x (own_input inputs x) (own_turn x old.past) [] false (given_pieces old link.to) link.pipe
+    → PipeStands x (own_input inputs x) (own_turn x old.past) [] true (given_pieces old link.to) next.pipe)
     → PipesStand plan taken old → PipesStand plan more new
 pipes_in plan taken more old new n p took past same none one earlier mine h = record {
   each = λ inputs may i x link at_i has active.
@@ -76,17 +76,17 @@ pipes_in plan taken more old new n p took past same none one earlier mine h = re
             let before = client_ended plan inputs n old.past (taken_pieces old b.old.from) x.from from in
             let after = client_ended plan inputs n new.past (taken_pieces new link.from) x.from from in
             let had : PipeStands x (own_input inputs x) (own_turn x old.past) [] false (given_pieces old b.old.to) b.old.pipe =
-              pipe_as x (own_input inputs x) (own_turn x old.past) (own_turn x old.past) (frames_by plan inputs x.from old.past (taken_pieces old b.old.from)) [] (ended_by x.from (taken_pieces old b.old.from)) false
-                (given_pieces old b.old.to) (given_pieces old b.old.to) b.old.pipe b.old.pipe refl (sym before.0) (sym (before.1 ∙ ap (λ k. k == 1) was_done)) refl refl stood in
+            pipe_as x (own_input inputs x) (own_turn x old.past) (own_turn x old.past) (frames_by plan inputs x.from old.past (taken_pieces old b.old.from)) [] (ended_by x.from (taken_pieces old b.old.from)) false
+            (given_pieces old b.old.to) (given_pieces old b.old.to) b.old.pipe b.old.pipe refl (sym before.0) (sym (before.1 ∙ ap (λ k. k == 1) was_done)) refl refl stood in
             pipe_as x (own_input inputs x) (own_turn x old.past) (own_turn x new.past) [] (frames_by plan inputs x.from new.past (taken_pieces new link.from)) true (ended_by x.from (taken_pieces new link.from))
-              (given_pieces old b.old.to) (given_pieces new link.to) link.pipe link.pipe turn after.0 (after.1 ∙ ap (λ k. k == 1) now_done) gives refl (mine inputs may i x b.old link at_i b.known has from on had)
+            (given_pieces old b.old.to) (given_pieces new link.to) link.pipe link.pipe turn after.0 (after.1 ∙ ap (λ k. k == 1) now_done) gives refl (mine inputs may i x b.old link at_i b.known has from on had)
         | inr off ↦
             let kept : link ≡ b.old = b.goes.other (not_taker x old.past n b.old is off) in
             let takes : taken_pieces new link.from ≡ taken_pieces old b.old.from = ap (taken_pieces new) b.goes.same.from ∙ taken_but_in n old new same b.old.from (ap (is_from_client n) is.from ∙ off) in
             let frames : frames_by plan inputs x.from new.past (taken_pieces new link.from) ≡ frames_by plan inputs x.from old.past (taken_pieces old b.old.from) = rw (takes, past) refl in
             pipe_as x (own_input inputs x) (own_turn x old.past) (own_turn x new.past) (frames_by plan inputs x.from old.past (taken_pieces old b.old.from)) (frames_by plan inputs x.from new.past (taken_pieces new link.from))
-              (ended_by x.from (taken_pieces old b.old.from)) (ended_by x.from (taken_pieces new link.from)) (given_pieces old b.old.to) (given_pieces new link.to) b.old.pipe link.pipe
-              turn frames (ap (ended_by x.from) takes) gives (ap (λ (l : Link). l.pipe) kept) stood
+            (ended_by x.from (taken_pieces old b.old.from)) (ended_by x.from (taken_pieces new link.from)) (given_pieces old b.old.to) (given_pieces new link.to) b.old.pipe link.pipe
+            turn frames (ap (ended_by x.from) takes) gives (ap (λ (l : Link). l.pipe) kept) stood
       ];
 }
 
@@ -99,9 +99,9 @@ clients_in : (plan : Plan) (first : BaysView) (taken more : Bytes) (old new : No
     → ((other : PortName) → other ≢ port.ClientIn n → done_at new other ≡ done_at old other) → done_at new (port.ClientIn n) ≡ 1 → uses plan (port.ClientIn n) ≡ true
     → ((c : ℕ) → c ≢ n → more.client c ≡ taken.client c) → OnlyClientIn n was is
     → ((i : ℕ) (x : Connection) (link next : Link) → slice_get plan.connections i ≡ Some x → HasLink old i link → HasLink new i next → x.from ≡ from_end.Client n → x.start ≤ old.past + 1
-        → ClientInAt (client_in_at first n) (client_in_at is n) (more.client n) x old.past 1 next)
+    → ClientInAt (client_in_at first n) (client_in_at is n) (more.client n) x old.past 1 next)
     → ((i : ℕ) (x : Connection) → slice_get plan.connections i ≡ Some x → x.from ≡ from_end.Client n → old.past + 1 < x.start
-        → (client_in_at is n ≡ client_in_at first n) × (more.client n ≡ []))
+    → (client_in_at is n ≡ client_in_at first n) × (more.client n ≡ []))
     → ClientsIn plan first taken old was → ClientsIn plan first more new is
 clients_in plan first taken more old new was is n p took past same one used others only mine waits h = record {
   started = λ i c x link at_i has from start.
@@ -115,7 +115,7 @@ clients_in plan first taken more old new was is n p took past same one used othe
         | inr t ↦
             let off : is_from_client n (origin_of x.from) ≡ false = ap (λ e. is_from_client n (origin_of e)) from ∙ t.0 in
             client_at (client_in_at first c) (client_in_at is c) (client_in_at was c) (more.client c) (taken.client c) x old.past new.past (done_at old (port.ClientIn c)) (done_at new (port.ClientIn c)) b.old link
-              (only.client_in c t.1) (others c t.1) past (same (port.ClientIn c) (λ e. t.1 (cc))) (b.goes.other (not_taker x old.past n b.old is_of off)) (h.started i c x b.old at_i b.known from before)
+            (only.client_in c t.1) (others c t.1) past (same (port.ClientIn c) (λ e. t.1 (cc))) (b.goes.other (not_taker x old.past n b.old is_of off)) (h.started i c x b.old at_i b.known from before)
       ];
   waits = λ i c x at_i from later.
       let after : old.past + 1 < x.start = rw past at later in
@@ -133,7 +133,7 @@ clients_in plan first taken more old new was is n p took past same one used othe
 earlier_in : (plan : Plan) (taken more : Bytes) (old new : NodeView) (n : ℕ) → PlanStands plan old → EachLink (Took old.past n) old.links new.links → new.past ≡ old.past → new.lines_in ≡ old.lines_in
     → ((a : ℕ) → more.line a ≡ taken.line a) → ((c : ℕ) → c ≢ n → more.client c ≡ taken.client c) → (inputs : Inputs) → MayGive plan more new inputs
     → ((i : ℕ) (x : Connection) (link next : Link) → slice_get plan.connections i ≡ Some x → HasLink old i link → HasLink new i next → x.from ≡ from_end.Client n
-        → MayShow next.pipe.taking (more.client n) (of_client (inputs.client n)) → MayShow link.pipe.taking (taken.client n) (of_client (inputs.client n)))
+    → MayShow next.pipe.taking (more.client n) (of_client (inputs.client n)) → MayShow link.pipe.taking (taken.client n) (of_client (inputs.client n)))
     → MayGive plan taken old inputs
 earlier_in plan taken more old new n p took past lines_in lines others inputs may mine = record {
   lines = λ a line had used. rw (lines a) at (may.lines a line (ap (λ l. slice_get l a) lines_in ∙ had) used);
@@ -164,7 +164,7 @@ later_in plan first n taken more old new was is r m only took h lines earlier pi
         lines_out = lines_out_same plan first taken more old new was is earlier m.past (λ b. same (port.LineOut b) (λ e. cc)) m.lines_out (λ b. ap (λ l. get_or l b no_output) only.line_out) h.lines_out;
         clients_in = clients;
         clients_out = clients_out_as plan first taken more old new was is (each_goes (Took old.past n) (λ link next. next.pipe.giving ≡ link.pipe.giving) old.links new.links (λ link next t. t.giving) took)
-          earlier m.past (λ c. same (port.ClientOut c) (λ e. cc)) (λ c. ap (λ l. get_or l c no_output) only.client_out) h.clients_out;
+            earlier m.past (λ c. same (port.ClientOut c) (λ e. cc)) (λ c. ap (λ l. get_or l c no_output) only.client_out) h.clients_out;
       };
       earlier = earlier;
     }
@@ -189,16 +189,16 @@ none_takes plan first n taken old new was is r m only h none =
     let place : client_in_at is n ≡ client_in_at was n = m.takes.none none in
     let kept : (i : ℕ) (link next : Link) → HasLink old i link → HasLink new i next → next ≡ link = λ i link next had has. (took.each i link next had has).other (none i link had) in
     let earlier : (inputs : Inputs) → MayGive plan taken new inputs → MayGive plan taken old inputs = λ inputs may.
-      earlier_in plan taken taken old new n p took m.past m.lines_in (λ a. refl) (λ c differ. refl) inputs may (λ i x link next at_i had has from now. rw (kept i link next had has) at now) in
+    earlier_in plan taken taken old new n p took m.past m.lines_in (λ a. refl) (λ c differ. refl) inputs may (λ i x link next at_i had has from now. rw (kept i link next had has) at now) in
     later_in plan first n taken taken old new was is r m only took h (λ a. refl) earlier
-      (pipes_in plan taken taken old new n p took m.past same zero_done one_done earlier
-        (λ inputs may i x link next at_i had has from active stood. absurd (cc (is_taker x old.past n link (p.links i x link at_i had) from active, none i link had))) h.pipes)
-      (clients_in plan first taken taken old new was is n p took m.past same one_done (ready_used plan old (port.ClientIn n) p r) (λ c differ. refl) only
-        (λ i x link next at_i had has from start.
-          let turns : turns_done x old.past 1 ≡ turns_done x old.past (done_at old (port.ClientIn n)) = idle_turns x old.past 1 (done_at old (port.ClientIn n)) (idle_from x old.past n link (p.links i x link at_i had) from (none i link had)) in
-          client_idle (client_in_at first n) (client_in_at is n) (client_in_at was n) (taken.client n) x old.past (done_at old (port.ClientIn n)) 1 link next place turns (kept i link next had has)
-            (h.clients_in.started i n x link at_i had from start))
-        (λ i x at_i from later. let w = h.clients_in.waits i n x at_i from later in (place ∙ w.0, w.1)) h.clients_in)
+    (pipes_in plan taken taken old new n p took m.past same zero_done one_done earlier
+    (λ inputs may i x link next at_i had has from active stood. absurd (cc (is_taker x old.past n link (p.links i x link at_i had) from active, none i link had))) h.pipes)
+    (clients_in plan first taken taken old new was is n p took m.past same one_done (ready_used plan old (port.ClientIn n) p r) (λ c differ. refl) only
+    (λ i x link next at_i had has from start.
+    let turns : turns_done x old.past 1 ≡ turns_done x old.past (done_at old (port.ClientIn n)) = idle_turns x old.past 1 (done_at old (port.ClientIn n)) (idle_from x old.past n link (p.links i x link at_i had) from (none i link had)) in
+    client_idle (client_in_at first n) (client_in_at is n) (client_in_at was n) (taken.client n) x old.past (done_at old (port.ClientIn n)) 1 link next place turns (kept i link next had has)
+    (h.clients_in.started i n x link at_i had from start))
+    (λ i x at_i from later. let w = h.clients_in.waits i n x at_i from later in (place ∙ w.0, w.1)) h.clients_in)
   where
     client_idle : (first now was : InView) (taken : List ℕ) (x : Connection) (past k m : ℕ) (old new : Link) → now ≡ was → turns_done x past m ≡ turns_done x past k → new ≡ old
         → ClientInAt first was taken x past k old → ClientInAt first now taken x past m new
@@ -277,7 +277,7 @@ took_of plan first taken old new was is n t p none takes h =
     let here : client_in_at was n ≡ c.was = c.place ∙ ap (λ b. after_retire b c.was) (active_retired t.x old.past t.active) in
     let turns : own_turn t.x old.past ≡ turns_done t.x old.past (done_at old (port.ClientIn n)) = sym (active_turns t.x old.past (done_at old (port.ClientIn n)) t.active ∙ omega arith) in
     takes.one t.i t.link t.next t.had t.has t.takes (only_taker plan old new n t p) t.x (client_in_at first n) (taken.client n) t.is_of
-      (stands_as t.x (client_in_at first n) (client_in_at was n) c.was (taken.client n) (taken.client n) (turns_done t.x old.past (done_at old (port.ClientIn n))) (own_turn t.x old.past) t.link.pipe.taking here refl turns c.stands)
+    (stands_as t.x (client_in_at first n) (client_in_at was n) c.was (taken.client n) (taken.client n) (turns_done t.x old.past (done_at old (port.ClientIn n))) (own_turn t.x old.past) t.link.pipe.taking here refl turns c.stands)
 
 -- the bytes that were taken
 abbrev more_of : (n : ℕ) → (came : List ℕ) → Bytes → Bytes
@@ -312,33 +312,33 @@ one_takes plan first n taken old new was is r m only h some =
     let bytes : more.client n ≡ taken.client n ++ c.more = more_here n c.more taken in
     let others : (d : ℕ) → d ≢ n → more.client d ≡ taken.client d = λ d differ. more_other n d c.more taken differ in
     let earlier : (inputs : Inputs) → MayGive plan more new inputs → MayGive plan taken old inputs = λ inputs may.
-      earlier_in plan taken more old new n p took m.past m.lines_in (λ a. refl) others inputs may (λ i x link next at_i had has from now.
-        let s = one_taker plan old new n t p i x link next at_i had has from in
-        let here : MayShow t.next.pipe.taking (taken.client n ++ c.more) (of_client (inputs.client n)) = rw (s.after, bytes) at now in
-        rw s.before (c.earlier (of_client (inputs.client n)) here)) in
+    earlier_in plan taken more old new n p took m.past m.lines_in (λ a. refl) others inputs may (λ i x link next at_i had has from now.
+    let s = one_taker plan old new n t p i x link next at_i had has from in
+    let here : MayShow t.next.pipe.taking (taken.client n ++ c.more) (of_client (inputs.client n)) = rw (s.after, bytes) at now in
+    rw s.before (c.earlier (of_client (inputs.client n)) here)) in
     let turns : turns_done t.x old.past 1 ≡ suc (own_turn t.x old.past) = active_turns t.x old.past 1 t.active ∙ omega arith in
     later_in plan first n taken more old new was is r m only took h (λ a. refl) earlier
-      (pipes_in plan taken more old new n p took m.past same zero_done one_done earlier
-        (λ inputs may i x link next at_i had has from active stood.
-          let s = one_taker plan old new n t p i x link next at_i had has from in
-          let start : t.x.start ≤ new.past + 1 = by_now t.x.start old.past new.past m.past t.active.start in
-          let show : MayShow t.next.pipe.taking (taken.client n ++ c.more) (own_input inputs t.x) =
-            may_as t.next.pipe.taking (taken.client n ++ c.more) (more.client n) (own_input inputs t.x) (of_client (inputs.client n)) (sym bytes) (ap (own_of inputs) t.from) (may.clients t.i n t.x t.next t.known t.has t.from start) in
-          let had_it : PipeStands t.x (own_input inputs t.x) (own_turn t.x old.past) [] false (given_pieces old t.link.to) t.link.pipe = rw (s.entry, s.before) at stood in
-          rw (s.entry, s.before, s.after) (c.pipe (own_input inputs t.x) [] (given_pieces old t.link.to) show had_it)) h.pipes)
-      (clients_in plan first taken more old new was is n p took m.past same one_done (ready_used plan old (port.ClientIn n) p r) others only
-        (λ i x link next at_i had has from start.
-          let s = one_taker plan old new n t p i x link next at_i had has from in
-          rw (s.entry, s.after) (record {
-            was = client_in_at is n;
-            stands = stands_as t.x (client_in_at first n) (client_in_at is n) (client_in_at is n) (more.client n) (taken.client n ++ c.more) (suc (own_turn t.x old.past)) (turns_done t.x old.past 1) t.next.pipe.taking refl bytes turns c.stands;
-            place = sym (ap (λ b. after_retire b (client_in_at is n)) (active_retired t.x old.past t.active));
-          }))
-        (λ i x at_i from later.
-          let same_i : i ≡ t.i = (sound_plan plan p.accepted).clients_in i t.i n x t.x at_i t.known from t.from in
-          let entry : x ≡ t.x = one_at plan.connections t.i x t.x (rw same_i at at_i) t.known in
-          let early = t.active.start in
-          absurd (omega (arith, ap (λ (y : Connection). y.start) entry))) h.clients_in)
+    (pipes_in plan taken more old new n p took m.past same zero_done one_done earlier
+    (λ inputs may i x link next at_i had has from active stood.
+    let s = one_taker plan old new n t p i x link next at_i had has from in
+    let start : t.x.start ≤ new.past + 1 = by_now t.x.start old.past new.past m.past t.active.start in
+    let show : MayShow t.next.pipe.taking (taken.client n ++ c.more) (own_input inputs t.x) =
+    may_as t.next.pipe.taking (taken.client n ++ c.more) (more.client n) (own_input inputs t.x) (of_client (inputs.client n)) (sym bytes) (ap (own_of inputs) t.from) (may.clients t.i n t.x t.next t.known t.has t.from start) in
+    let had_it : PipeStands t.x (own_input inputs t.x) (own_turn t.x old.past) [] false (given_pieces old t.link.to) t.link.pipe = rw (s.entry, s.before) at stood in
+    rw (s.entry, s.before, s.after) (c.pipe (own_input inputs t.x) [] (given_pieces old t.link.to) show had_it)) h.pipes)
+    (clients_in plan first taken more old new was is n p took m.past same one_done (ready_used plan old (port.ClientIn n) p r) others only
+    (λ i x link next at_i had has from start.
+    let s = one_taker plan old new n t p i x link next at_i had has from in
+    rw (s.entry, s.after) (record {
+      was = client_in_at is n;
+      stands = stands_as t.x (client_in_at first n) (client_in_at is n) (client_in_at is n) (more.client n) (taken.client n ++ c.more) (suc (own_turn t.x old.past)) (turns_done t.x old.past 1) t.next.pipe.taking refl bytes turns c.stands;
+      place = sym (ap (λ b. after_retire b (client_in_at is n)) (active_retired t.x old.past t.active));
+    }))
+    (λ i x at_i from later.
+    let same_i : i ≡ t.i = (sound_plan plan p.accepted).clients_in i t.i n x t.x at_i t.known from t.from in
+    let entry : x ≡ t.x = one_at plan.connections t.i x t.x (rw same_i at at_i) t.known in
+    let early = t.active.start in
+    absurd (omega (arith, ap (λ (y : Connection). y.start) entry))) h.clients_in)
 
 -- ---- a piece of a client input
 

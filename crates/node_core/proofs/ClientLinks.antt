@@ -186,7 +186,7 @@ clients_in_as plan first taken old new was is each past done place h = record {
   started = λ i n x link at_i has from start.
       let b = link_before (λ link next. next.pipe.taking ≡ link.pipe.taking) old.links new.links i link each has in
       rw past (client_in_as (client_in_at first n) (client_in_at is n) (client_in_at was n) (taken.client n) (taken.client n) x old.past (done_at old (port.ClientIn n)) (done_at new (port.ClientIn n)) b.old link
-        (place n) refl (done n) b.goes (h.started i n x b.old at_i b.known from (rw past at start)));
+      (place n) refl (done n) b.goes (h.started i n x b.old at_i b.known from (rw past at start)));
   waits = λ i n x at_i from later. let w = h.waits i n x at_i from (rw past at later) in (place n ∙ w.0, w.1);
   idle = λ n u. place n ∙ h.idle n u;
 }
@@ -199,7 +199,7 @@ clients_out_as plan first taken more old new was is each earlier past done place
   started = λ inputs may i n x link at_i has to start.
       let b = link_before (λ link next. next.pipe.giving ≡ link.pipe.giving) old.links new.links i link each has in
       rw past (client_out_as inputs (client_out_at first n) (client_out_at is n) (client_out_at was n) x old.past (done_at old (port.ClientOut n)) (done_at new (port.ClientOut n)) b.old link
-        (place n) (done n) b.goes (h.started inputs (earlier inputs may) i n x b.old at_i b.known to (rw past at start)));
+      (place n) (done n) b.goes (h.started inputs (earlier inputs may) i n x b.old at_i b.known to (rw past at start)));
   waits = λ i n x at_i to later. place n ∙ h.waits i n x at_i to (rw past at later);
   idle = λ n u. place n ∙ h.idle n u;
 }

@@ -83,11 +83,11 @@ pipes_out plan taken old new n p gave past same earlier h = record {
       let takes : taken_pieces new link.from ≡ taken_pieces old b.old.from = ap (taken_pieces new) b.goes.same.from ∙ taken_but_out n old new same b.old.from in
       let frames : frames_by plan inputs x.from new.past (taken_pieces new link.from) ≡ frames_by plan inputs x.from old.past (taken_pieces old b.old.from) = rw (takes, past) refl in
       let stood = b.goes.stands x (own_input inputs x) (own_turn x old.past) (given_pieces old b.old.to) (frames_by plan inputs x.from old.past (taken_pieces old b.old.from)) (ended_by x.from (taken_pieces old b.old.from))
-        (h.each inputs (earlier inputs may) i x b.old at_i b.known on) in
+      (h.each inputs (earlier inputs may) i x b.old at_i b.known on) in
       let now : PipeStands x (own_input inputs x) (own_turn x new.past) (frames_by plan inputs x.from new.past (taken_pieces new link.from)) (ended_by x.from (taken_pieces new link.from)) (given_pieces old b.old.to) link.pipe =
-        pipe_as x (own_input inputs x) (own_turn x old.past) (own_turn x new.past) (frames_by plan inputs x.from old.past (taken_pieces old b.old.from)) (frames_by plan inputs x.from new.past (taken_pieces new link.from))
-          (ended_by x.from (taken_pieces old b.old.from)) (ended_by x.from (taken_pieces new link.from)) (given_pieces old b.old.to) (given_pieces old b.old.to) link.pipe link.pipe
-          (ap (own_turn x) past) frames (ap (ended_by x.from) takes) refl refl stood in
+      pipe_as x (own_input inputs x) (own_turn x old.past) (own_turn x new.past) (frames_by plan inputs x.from old.past (taken_pieces old b.old.from)) (frames_by plan inputs x.from new.past (taken_pieces new link.from))
+      (ended_by x.from (taken_pieces old b.old.from)) (ended_by x.from (taken_pieces new link.from)) (given_pieces old b.old.to) (given_pieces old b.old.to) link.pipe link.pipe
+      (ap (own_turn x) past) frames (ap (ended_by x.from) takes) refl refl stood in
       elim (to_or_not n x.to) [
         | inl to ↦ pipe_any n x (own_input inputs x) (own_turn x new.past) (frames_by plan inputs x.from new.past (taken_pieces new link.from)) (ended_by x.from (taken_pieces new link.from)) (given_pieces old b.old.to)
             (given_pieces new link.to) link.pipe to now
@@ -106,7 +106,7 @@ clients_out : (plan : Plan) (first : BaysView) (taken : Bytes) (old new : NodeVi
     → ((other : PortName) → other ≢ port.ClientOut n → done_at new other ≡ done_at old other) → done_at new (port.ClientOut n) ≡ 1 → uses plan (port.ClientOut n) ≡ true → OnlyClientOut n was is
     → ((inputs : Inputs) → MayGive plan taken new inputs → MayGive plan taken old inputs)
     → ((inputs : Inputs) → MayGive plan taken new inputs → (i : ℕ) (x : Connection) (link next : Link) → slice_get plan.connections i ≡ Some x → HasLink old i link → HasLink new i next → x.to ≡ to_end.Client n
-        → x.start ≤ old.past + 1 → ClientOutAt inputs (client_out_at first n) (client_out_at is n) x old.past 1 next)
+    → x.start ≤ old.past + 1 → ClientOutAt inputs (client_out_at first n) (client_out_at is n) x old.past 1 next)
     → ((i : ℕ) (x : Connection) → slice_get plan.connections i ≡ Some x → x.to ≡ to_end.Client n → old.past + 1 < x.start → client_out_at is n ≡ client_out_at first n)
     → ClientsOut plan first taken old was → ClientsOut plan first taken new is
 clients_out plan first taken old new was is n p gave past same one used only earlier mine waits h = record {
@@ -121,7 +121,7 @@ clients_out plan first taken old new was is n p gave past same one used only ear
         | inr t ↦
             let off : is_to_client n (target_of x.to) ≡ false = ap (λ e. is_to_client n (target_of e)) to ∙ t.0 in
             rw past (client_at inputs (client_out_at first c) (client_out_at is c) (client_out_at was c) x old.past (done_at old (port.ClientOut c)) (done_at new (port.ClientOut c)) b.old link
-              (only.client_out c t.1) (same (port.ClientOut c) (λ e. t.1 (cc))) (b.goes.other (not_giver x old.past n b.old is_of off)) (h.started inputs (earlier inputs may) i c x b.old at_i b.known to before))
+            (only.client_out c t.1) (same (port.ClientOut c) (λ e. t.1 (cc))) (b.goes.other (not_giver x old.past n b.old is_of off)) (h.started inputs (earlier inputs may) i c x b.old at_i b.known to before))
       ];
   waits = λ i c x at_i to later.
       let after : old.past + 1 < x.start = rw past at later in
@@ -149,7 +149,7 @@ later_out plan first n taken old new was is r m only gave h earlier clients =
         pipes = pipes_out plan taken old new n h.plan_stands gave m.past same earlier h.pipes;
         lines_out = lines_out_same plan first taken taken old new was is earlier m.past (λ b. same (port.LineOut b) (λ e. cc)) m.lines_out (λ b. ap (λ l. get_or l b no_output) only.line_out) h.lines_out;
         clients_in = clients_in_as plan first taken old new was is (each_goes (Gave old.past n) (λ link next. next.pipe.taking ≡ link.pipe.taking) old.links new.links (λ link next t. t.taking) gave)
-          m.past (λ c. same (port.ClientIn c) (λ e. cc)) (λ c. ap (λ l. get_or l c no_input) only.client_in) h.clients_in;
+            m.past (λ c. same (port.ClientIn c) (λ e. cc)) (λ c. ap (λ l. get_or l c no_input) only.client_in) h.clients_in;
         clients_out = clients;
       };
       earlier = earlier;
@@ -179,13 +179,13 @@ none_gives plan first n taken old new was is r m only h none =
     let place : client_out_at is n ≡ client_out_at was n = m.gives.none none in
     let earlier : (inputs : Inputs) → MayGive plan taken new inputs → MayGive plan taken old inputs = earlier_out plan taken old new n gave m.past m.lines_in in
     later_out plan first n taken old new was is r m only gave h earlier
-      (clients_out plan first taken old new was is n p gave m.past same one_done (ready_used plan old (port.ClientOut n) p r) only earlier
-        (λ inputs may i x link next at_i had has to start.
-          let off = none i link had in
-          let turns : turns_done x old.past 1 ≡ turns_done x old.past (done_at old (port.ClientOut n)) = idle_turns x old.past 1 (done_at old (port.ClientOut n)) (idle_to x old.past n link (p.links i x link at_i had) to off) in
-          client_idle inputs (client_out_at first n) (client_out_at is n) (client_out_at was n) x old.past (done_at old (port.ClientOut n)) 1 link next place turns ((gave.each i link next had has).other off)
-            (h.clients_out.started inputs (earlier inputs may) i n x link at_i had to start))
-        (λ i x at_i to later. place ∙ h.clients_out.waits i n x at_i to later) h.clients_out)
+    (clients_out plan first taken old new was is n p gave m.past same one_done (ready_used plan old (port.ClientOut n) p r) only earlier
+    (λ inputs may i x link next at_i had has to start.
+    let off = none i link had in
+    let turns : turns_done x old.past 1 ≡ turns_done x old.past (done_at old (port.ClientOut n)) = idle_turns x old.past 1 (done_at old (port.ClientOut n)) (idle_to x old.past n link (p.links i x link at_i had) to off) in
+    client_idle inputs (client_out_at first n) (client_out_at is n) (client_out_at was n) x old.past (done_at old (port.ClientOut n)) 1 link next place turns ((gave.each i link next had has).other off)
+    (h.clients_out.started inputs (earlier inputs may) i n x link at_i had to start))
+    (λ i x at_i to later. place ∙ h.clients_out.waits i n x at_i to later) h.clients_out)
 
 -- ---- a connection gives
 
@@ -254,8 +254,8 @@ given_to plan first taken old new was is n t p none gives pipes h inputs may =
     let here : client_out_at was n ≡ c.was = c.place ∙ ap (λ b. out_after_retire b c.was) (active_retired t.x old.past t.active) in
     let turns : own_turn t.x old.past ≡ turns_done t.x old.past (done_at old (port.ClientOut n)) = sym (active_turns t.x old.past (done_at old (port.ClientOut n)) t.active ∙ omega arith) in
     gives.one t.i t.link t.next t.had t.has t.gives (only_giver plan old new n t p) t.x (own_input inputs t.x) (client_out_at first n) (given_pieces old t.link.to) (frames_by plan inputs t.x.from old.past (taken_pieces old t.link.from))
-      (ended_by t.x.from (taken_pieces old t.link.from)) (pipes.each inputs may t.i t.x t.link t.known t.had t.active)
-      (stands_as t.x (own_input inputs t.x) (client_out_at first n) (client_out_at was n) c.was (turns_done t.x old.past (done_at old (port.ClientOut n))) (own_turn t.x old.past) t.link.pipe.giving here turns c.stands)
+    (ended_by t.x.from (taken_pieces old t.link.from)) (pipes.each inputs may t.i t.x t.link t.known t.had t.active)
+    (stands_as t.x (own_input inputs t.x) (client_out_at first n) (client_out_at was n) c.was (turns_done t.x old.past (done_at old (port.ClientOut n))) (own_turn t.x old.past) t.link.pipe.giving here turns c.stands)
 
 one_gives : (plan : Plan) (first : BaysView) (n : ℕ) (taken : Bytes) (old new : NodeView) (was is : BaysView) → IsReady old (port.ClientOut n) → ClientOutMove n old (client_out_at was n) new (client_out_at is n)
     → OnlyClientOut n was is → StandsAt plan first taken old was → HasSome (gives_client old.past n) old.links → Later plan first taken old new is
@@ -268,20 +268,20 @@ one_gives plan first n taken old new was is r m only h some =
     let t = giver plan old new n p gave some in
     let earlier : (inputs : Inputs) → MayGive plan taken new inputs → MayGive plan taken old inputs = earlier_out plan taken old new n gave m.past m.lines_in in
     later_out plan first n taken old new was is r m only gave h earlier
-      (clients_out plan first taken old new was is n p gave m.past same one_done (ready_used plan old (port.ClientOut n) p r) only earlier
-        (λ inputs may i x link next at_i had has to start.
-          let s = one_giver plan old new n t p i x next at_i has to in
-          rw (s.entry, s.after) (record {
-            was = client_out_at is n;
-            stands = stands_as t.x (own_input inputs t.x) (client_out_at first n) (client_out_at is n) (client_out_at is n) (own_turn t.x old.past + 1) (turns_done t.x old.past 1) t.next.pipe.giving refl
-              (active_turns t.x old.past 1 t.active) (given_to plan first taken old new was is n t p zero_done m.gives h.pipes h.clients_out inputs (earlier inputs may));
-            place = sym (ap (λ b. out_after_retire b (client_out_at is n)) (active_retired t.x old.past t.active));
-          }))
-        (λ i x at_i to later.
-          let same_i : i ≡ t.i = (sound_plan plan p.accepted).clients_out i t.i n x t.x at_i t.known to t.to in
-          let entry : x ≡ t.x = one_at plan.connections t.i x t.x (rw same_i at at_i) t.known in
-          let early = t.active.start in
-          absurd (omega (arith, ap (λ (y : Connection). y.start) entry))) h.clients_out)
+    (clients_out plan first taken old new was is n p gave m.past same one_done (ready_used plan old (port.ClientOut n) p r) only earlier
+    (λ inputs may i x link next at_i had has to start.
+    let s = one_giver plan old new n t p i x next at_i has to in
+    rw (s.entry, s.after) (record {
+      was = client_out_at is n;
+      stands = stands_as t.x (own_input inputs t.x) (client_out_at first n) (client_out_at is n) (client_out_at is n) (own_turn t.x old.past + 1) (turns_done t.x old.past 1) t.next.pipe.giving refl
+          (active_turns t.x old.past 1 t.active) (given_to plan first taken old new was is n t p zero_done m.gives h.pipes h.clients_out inputs (earlier inputs may));
+      place = sym (ap (λ b. out_after_retire b (client_out_at is n)) (active_retired t.x old.past t.active));
+    }))
+    (λ i x at_i to later.
+    let same_i : i ≡ t.i = (sound_plan plan p.accepted).clients_out i t.i n x t.x at_i t.known to t.to in
+    let entry : x ≡ t.x = one_at plan.connections t.i x t.x (rw same_i at at_i) t.known in
+    let early = t.active.start in
+    absurd (omega (arith, ap (λ (y : Connection). y.start) entry))) h.clients_out)
 
 -- ---- a piece of a client output
 

@@ -50,7 +50,7 @@ pub client_in_starts : (first was is : InView) (taken : List ℕ) (past n : ℕ)
 client_in_starts first was is taken past n x link retires e start stop same none gone h = record {
   was = first;
   stands = subst (λ bytes. ClientInStands x first first bytes (turns_done x (past + 1) 0) link.pipe.taking) (sym none)
-    (subst (λ k. ClientInStands x first first [] k link.pipe.taking) (sym (none_done x (past + 1) start)) h);
+      (subst (λ k. ClientInStands x first first [] k link.pipe.taking) (sym (none_done x (past + 1) start)) h);
   place = place_kept x past retires was is e stop gone ∙ same ∙ sym (ap (λ b. after_retire b first) (not_retired x (past + 1) stop));
 }
 
@@ -59,7 +59,7 @@ pub client_in_goes_on : (first was is : InView) (taken : List ℕ) (past done : 
 client_in_goes_on first was is taken past done x old new retires e start one same gone h = record {
   was = h.was;
   stands = subst (ClientInStands x first h.was taken (turns_done x (past + 1) 0)) (sym same)
-    (subst (λ k. ClientInStands x first h.was taken k old.pipe.taking) (ap (turns_done x past) one ∙ sym (done_next x past start)) h.stands);
+      (subst (λ k. ClientInStands x first h.was taken k old.pipe.taking) (ap (turns_done x past) one ∙ sym (done_next x past start)) h.stands);
   place = place_next x past retires h.was was is e h.place gone;
 }
 
@@ -87,6 +87,6 @@ pub client_out_goes_on : (inputs : Inputs) (first was is : OutView) (past done :
 client_out_goes_on inputs first was is past done x old new retires e start one same gone h = record {
   was = h.was;
   stands = subst (ClientOutStands x (own_input inputs x) first h.was (turns_done x (past + 1) 0)) (sym same)
-    (subst (λ k. ClientOutStands x (own_input inputs x) first h.was k old.pipe.giving) (ap (turns_done x past) one ∙ sym (done_next x past start)) h.stands);
+      (subst (λ k. ClientOutStands x (own_input inputs x) first h.was k old.pipe.giving) (ap (turns_done x past) one ∙ sym (done_next x past start)) h.stands);
   place = out_next x past retires h.was was is e h.place gone;
 }

@@ -125,8 +125,8 @@ fence_lines_in plan first taken old new was is p m retired h = record {
       let place : line_in_at is a ≡ line_in_at was a = ap (λ l. get_or l a no_input) retired.line_in in
       let stood = (h.used a line.0 line.1 u).0 in (
         subst (λ n. LineStands (form_in plan a) (line_in_at first a) (line_in_at is a) (taken.line a) n next) (sym m.past)
-        (subst (λ v. LineStands (form_in plan a) (line_in_at first a) v (taken.line a) (old.past + 1) next) (sym place)
-        (ends.stands (form_in plan a) (line_in_at first a) (line_in_at was a) (taken.line a) old.past stood)),
+            (subst (λ v. LineStands (form_in plan a) (line_in_at first a) v (taken.line a) (old.past + 1) next) (sym place)
+            (ends.stands (form_in plan a) (line_in_at first a) (line_in_at was a) (taken.line a) old.past stood)),
         ends.pieces ∙ sym (m.fresh.none (index_of (port.LineIn a))),
       );
   idle = λ a u. ap (λ l. get_or l a no_input) retired.line_in ∙ h.idle a u;

@@ -22,6 +22,9 @@ pub mod ClientInMoves
 pub mod ClientOutMoves
 pub mod LinkLaws
 pub mod LinkFinds
+pub mod TurnMoves
+pub mod NewParts
+pub mod StepsKept
 pub mod EndLines
 pub mod Emptied
 pub mod ClientPieces

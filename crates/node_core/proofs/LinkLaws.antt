@@ -81,15 +81,15 @@ is_line origin.Signal = false
 
 pub frames_ended : (from : Origin) (a : ℕ) (whole w : Bool) (old new : PipeView) → from ≡ origin.Line a → w ≡ whole → ((x : Connection) → IsPipeOf x old → IsPipeOf x new) → new.giving ≡ old.giving
     → ((x : Connection) (a port : ℕ) (slots : LineSlots) (shows : ℕ → Option View) (j filled : ℕ) (frames : List Taken) → x.from ≡ from_end.Line a port slots
-        → (w ≡ true → length frames ≡ slots_of slots.kind) → PipeStands x (of_line shows) j frames false filled old
-        → ended_view (tributary_of slots port) w frames ≡ shows (first_turn x + j) → PipeStands x (of_line shows) j [] true filled new)
+    → (w ≡ true → length frames ≡ slots_of slots.kind) → PipeStands x (of_line shows) j frames false filled old
+    → ended_view (tributary_of slots port) w frames ≡ shows (first_turn x + j) → PipeStands x (of_line shows) j [] true filled new)
     → EndsFrames from whole old new
 frames_ended from a whole w old new at same entry giving stands = record {
   entry = entry;
   giving = giving;
   line = λ line e. subst (λ b. (x : Connection) (a port : ℕ) (slots : LineSlots) (shows : ℕ → Option View) (j filled : ℕ) (frames : List Taken) → x.from ≡ from_end.Line a port slots
-        → (b ≡ true → length frames ≡ slots_of slots.kind) → PipeStands x (of_line shows) j frames false filled old
-        → ended_view (tributary_of slots port) b frames ≡ shows (first_turn x + j) → PipeStands x (of_line shows) j [] true filled new) same stands;
+      → (b ≡ true → length frames ≡ slots_of slots.kind) → PipeStands x (of_line shows) j frames false filled old
+      → ended_view (tributary_of slots port) b frames ≡ shows (first_turn x + j) → PipeStands x (of_line shows) j [] true filled new) same stands;
   client = λ n e. absurd (true≢false (ap is_line (sym at ∙ e)));
   signal = λ e. absurd (true≢false (ap is_line (sym at ∙ e)));
 }

@@ -1,15 +1,16 @@
 -- What holds of every node holds of a new one, and after the end of a turn.
-use Rattle.std.proofs.Common.{◌≡◌, ◌≢◌, ◌⊎◌, ◌<◌, ◌≤◌, ◌+◌, ℕ, Bool, true, false, None, Some, length, slice_get, get_or, arith, refl, sym, ap, ◌∙◌, inl, inr}
+use Rattle.std.proofs.Common.{◌≡◌, ◌≢◌, ◌⊎◌, ◌<◌, ◌≤◌, ◌+◌, ℕ, Bool, true, false, List, None, Some, length, slice_get, get_or, arith, refl, sym, ap, ◌∙◌, inl, inr}
 use Rattle.std.proofs.lemmas.Bool.Decides.{eqb_tells}
 use Rattle.otn_base.specs.LineSlots.{slots_of}
 use Rattle.otn_base.specs.declared.kind.PortName.{PortName}
 use Rattle.otn_base.specs.declared.kind.PortName.TheVariants as port
-use Rattle.otn_ports.specs.Views.{InView, no_input}
+use Rattle.otn_ports.specs.Views.{InView, no_input, no_output}
+use Rattle.line_side.specs.LineOutput.{LineOutView}
 use Rattle.line_side.specs.LineForm.{LineForm, size_of}
 use Rattle.line_side.specs.LineStands.{LineView}
 use Rattle.plan_file.specs.Answer.{fault_in}
 use Rattle.plan_file.specs.declared.plan.Plan.{Plan}
-use Rattle.device_model.specs.Entries.{form_in}
+use Rattle.device_model.specs.Entries.{form_in, form_out}
 use Rattle.device_model.specs.Moments.{uses, pieces_of}
 use Rattle.device_model.proofs.SoundPlans.{sound_plan}
 use Rattle.node_core.specs.Built.{IsNewNode}
@@ -30,6 +31,13 @@ none_or_all plan a line e = go (uses plan (port.LineIn a)) refl
     go true u = inr (pieces_used plan (port.LineIn a) u ∙ ap slots_of (sym e))
     go false u = inl (pieces_unused plan (port.LineIn a) u)
 
+none_or_all_out : (plan : Plan) (b : ℕ) (line : LineOutView) → line.form ≡ form_out plan b → (pieces_of plan (port.LineOut b) ≡ 0) ⊎ (pieces_of plan (port.LineOut b) ≡ slots_of line.form.kind)
+none_or_all_out plan b line e = go (uses plan (port.LineOut b)) refl
+  where
+    go : (u : Bool) → uses plan (port.LineOut b) ≡ u → (pieces_of plan (port.LineOut b) ≡ 0) ⊎ (pieces_of plan (port.LineOut b) ≡ slots_of line.form.kind)
+    go true u = inr (pieces_used plan (port.LineOut b) u ∙ ap (λ (f : LineForm). slots_of f.kind) (sym e))
+    go false u = inl (pieces_unused plan (port.LineOut b) u)
+
 as_wanted : (wants pieces slots : ℕ) → wants ≡ pieces → (pieces ≡ 0) ⊎ (pieces ≡ slots) → (wants ≡ 0) ⊎ (wants ≡ slots)
 as_wanted wants pieces slots e (inl none) = inl (e ∙ none)
 as_wanted wants pieces slots e (inr all) = inr (e ∙ all)
@@ -46,6 +54,9 @@ first_node plan node accepted new = record {
         pieces = new.lines_in.pieces a line has ∙ sym (new.fresh.none (index_of (port.LineIn a)));
         want = as_wanted (wanted_of node.pieces (port.LineIn a)) (pieces_of plan (port.LineIn a)) (slots_of line.kind) (new.wants (port.LineIn a)) (none_or_all plan a line kind);
       };
+  frames = λ b line has.
+      as_wanted (wanted_of node.pieces (port.LineOut b)) (pieces_of plan (port.LineOut b)) (slots_of line.form.kind) (new.wants (port.LineOut b))
+      (none_or_all_out plan b line (new.lines_out.made b line has no_output).is_form);
   most = λ name. omega (arith, new.fresh.none (index_of name));
 }
 
@@ -89,5 +100,6 @@ fence_node old new going m h = record {
         | inl t ↦ idle_count old new a line.0 next m line.1 has t.1 (h.most (port.LineIn a)) count
         | inr t ↦ used_count old new a line.0 next m line.1 has t.1 count
       ];
+  frames = λ b line has. rw (same_wants old new m (port.LineOut b)) (h.frames b line (sym (ap (λ (l : List LineOutView). slice_get l b) m.lines_out) ∙ has));
   most = λ name. omega (arith, m.fresh.none (index_of name));
 }

@@ -48,7 +48,7 @@ shut_all plan pieces name accepted w h used =
 -- ---- from one moment to the next
 
 -- no more are done than there are, after one piece more
-most_counted : (name : PortName) (old new : PiecesView) → is_open old name ≡ true → IsCounted name old new → ((other : PortName) → done_of old other ≤ wanted_of old other) → (other : PortName)
+pub most_counted : (name : PortName) (old new : PiecesView) → is_open old name ≡ true → IsCounted name old new → ((other : PortName) → done_of old other ≤ wanted_of old other) → (other : PortName)
     → done_of new other ≤ wanted_of new other
 most_counted name old new h c most other =
     let is = opened old name h in

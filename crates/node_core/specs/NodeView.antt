@@ -63,11 +63,12 @@ pub record LineCount (wants done : ℕ) (line : LineView) : Type 0 where
   pub pieces : line.pieces ≡ done
   pub want : (wants ≡ 0) ⊎ (wants ≡ slots_of line.kind)
 
--- what holds of every node
+-- What holds of every node. Each output line has no piece, or as many as its multiframe has frames.
 pub record IsNode (node : NodeView) : Type 0 where
   pub turns : node.turns ≤ MOST_TURNS
   pub few : node.past ≤ node.turns
   pub lines_in : length node.lines_in ≡ LINES
   pub lines_out : length node.lines_out ≡ LINES
   pub counts : (a : ℕ) (line : LineView) → HasLineIn node a line → LineCount (wanted_of node.pieces (port.LineIn a)) (done_at node (port.LineIn a)) line
+  pub frames : (b : ℕ) (line : LineOutView) → HasLineOut node b line → (wanted_of node.pieces (port.LineOut b) ≡ 0) ⊎ (wanted_of node.pieces (port.LineOut b) ≡ slots_of line.form.kind)
   pub most : (name : PortName) → done_at node name ≤ wanted_of node.pieces name

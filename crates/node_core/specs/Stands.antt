@@ -96,13 +96,13 @@ pub record LinesIn (plan : Plan) (first : BaysView) (taken : Bytes) (node : Node
 pub record PipesStand (plan : Plan) (taken : Bytes) (node : NodeView) : Type 0 where
   pub each : (inputs : Inputs) → MayGive plan taken node inputs → (i : ℕ) (x : Connection) (link : Link) → slice_get plan.connections i ≡ Some x → HasLink node i link → IsActive x node.past
       → PipeStands x (own_input inputs x) (own_turn x node.past) (frames_by plan inputs x.from node.past (taken_pieces node link.from)) (ended_by x.from (taken_pieces node link.from))
-          (given_pieces node link.to) link.pipe
+      (given_pieces node link.to) link.pipe
 
 -- of each output line that is used the first so many frames were made, and were due to its place
 pub record LinesOut (plan : Plan) (first : BaysView) (taken : Bytes) (node : NodeView) (now : BaysView) : Type 0 where
   pub used : (inputs : Inputs) → MayGive plan taken node inputs → (b : ℕ) (line : LineOutView) → HasLineOut node b line → uses plan (port.LineOut b) ≡ true
       → (puts : List FramePut) × AreFramesOf plan inputs b (size_of (form_out plan b) * node.past + done_at node (port.LineOut b)) puts
-          × LineMade b (form_out plan b) (line_out_at first b) (line_out_at now b) puts line
+      × LineMade b (form_out plan b) (line_out_at first b) (line_out_at now b) puts line
   pub idle : (b : ℕ) → uses plan (port.LineOut b) ≡ false → line_out_at now b ≡ line_out_at first b
 
 -- each client input has given what its turns want, from the start of its connection on; it was retired where its connection says so

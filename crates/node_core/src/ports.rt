@@ -59,8 +59,8 @@ pub(crate) fn kind_by(otu3: &[u8], line: u8) -> LineKind
     }
 }
 
-// Whether the number is in the list.
-fn has_number(list: &[u8], number: u8) -> bool
+/// Whether the number is in the list.
+pub(crate) fn has_number(list: &[u8], number: u8) -> bool
     ensures { result ≡ list_any (λ n. n == number) list.now }
 {
     for n in list {

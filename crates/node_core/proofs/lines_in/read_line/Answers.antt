@@ -22,7 +22,7 @@ returns g c =
     let line = c.piece.new.self in
     let on : line.member ≡ true = sym c.piece.ensures.member ∙ c.if-not-piece.false in
     let given = subst (λ (frame : List ℕ). EachLink (λ link then. TookFrame (takes_line c.args.past c.args.a link) (record { frame = frame; expected = c.expected.result }) link then) c.args.links.now.items c.hand_out.new.links.items)
-        c.frame.ensures.hand c.hand_out.ensures in
+    c.frame.ensures.hand c.hand_out.ensures in
     record {
       stands = λ form first taken t h. c.piece.ensures.stands form first taken t h;
       pieces = c.piece.ensures.pieces;

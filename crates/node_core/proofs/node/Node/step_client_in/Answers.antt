@@ -1,0 +1,42 @@
+use Rattle.std.proofs.Common.{◌≡◌, true, refl, sym, subst}
+use Rattle.otn_base.specs.declared.kind.PortName.TheVariants as port
+use Rattle.otn_ports.specs.InPlace.{in_view}
+use Rattle.node_core.specs.NodeMoves.{ClientInMove}
+use Rattle.node_core.specs.NodeView.{NodeView, is_ready}
+use Rattle.node_core.proofs.Later.{ready_open}
+use Rattle.node_core.proofs.StepsKept.{client_kept}
+use Rattle.node_core.proofs.node.Node.step_client_in.Goals as goal
+
+pub count-requires : goal.count-requires
+count-requires g c =
+    let v = c.self.inside in
+    let node : NodeView = record { turns = v.turns; past = v.past; pieces = v.pieces; lines_in = v.lines_in.items; lines_out = v.lines_out.items; links = v.links.items } in
+    let same : node ≡ c.args.self.now = c.self.view_is in
+    let is : is_ready node (port.ClientIn c.args.n) ≡ true = subst (λ (n : NodeView). is_ready n (port.ClientIn c.args.n) ≡ true) (sym same) c.requires in
+    ready_open node (port.ClientIn c.args.n) is
+
+pub invariant_of-self : goal.invariant_of-self
+invariant_of-self g c =
+    let v = c.self.inside in
+    let node : NodeView = record { turns = v.turns; past = v.past; pieces = v.pieces; lines_in = v.lines_in.items; lines_out = v.lines_out.items; links = v.links.items } in
+    let same : node ≡ c.args.self.now = c.self.view_is in
+    let is : is_ready node (port.ClientIn c.args.n) ≡ true = subst (λ (n : NodeView). is_ready n (port.ClientIn c.args.n) ≡ true) (sym same) c.requires in
+    let next : NodeView = record { turns = v.turns; past = v.past; pieces = c.count.new.self; lines_in = v.lines_in.items; lines_out = v.lines_out.items; links = c.take_client.new.links.items } in
+    client_kept (port.ClientIn c.args.n) node c.count.new.self c.take_client.new.links.items c.self.invariant is (λ a e. cc) c.count.ensures
+
+pub returns : goal.returns
+returns g c =
+    let v = c.self.inside in
+    let node : NodeView = record { turns = v.turns; past = v.past; pieces = v.pieces; lines_in = v.lines_in.items; lines_out = v.lines_out.items; links = v.links.items } in
+    let same : node ≡ c.args.self.now = c.self.view_is in
+    let is : is_ready node (port.ClientIn c.args.n) ≡ true = subst (λ (n : NodeView). is_ready n (port.ClientIn c.args.n) ≡ true) (sym same) c.requires in
+    let next : NodeView = record { turns = v.turns; past = v.past; pieces = c.count.new.self; lines_in = v.lines_in.items; lines_out = v.lines_out.items; links = c.take_client.new.links.items } in
+    let move : ClientInMove c.args.n node (in_view g.P.Source c.args.place.now) next (in_view g.P.Source c.take_client.new.place) = record {
+      turns = refl;
+      past = refl;
+      counted = c.count.ensures;
+      lines_in = refl;
+      lines_out = refl;
+      takes = c.take_client.ensures;
+    } in
+    subst (λ (n : NodeView). ClientInMove c.args.n n (in_view g.P.Source c.args.place.now) next (in_view g.P.Source c.take_client.new.place)) same move

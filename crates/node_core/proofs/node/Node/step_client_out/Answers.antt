@@ -1,0 +1,42 @@
+use Rattle.std.proofs.Common.{◌≡◌, true, refl, sym, subst}
+use Rattle.otn_base.specs.declared.kind.PortName.TheVariants as port
+use Rattle.otn_ports.specs.OutPlace.{out_view}
+use Rattle.node_core.specs.NodeMoves.{ClientOutMove}
+use Rattle.node_core.specs.NodeView.{NodeView, is_ready}
+use Rattle.node_core.proofs.Later.{ready_open}
+use Rattle.node_core.proofs.StepsKept.{client_kept}
+use Rattle.node_core.proofs.node.Node.step_client_out.Goals as goal
+
+pub count-requires : goal.count-requires
+count-requires g c =
+    let v = c.self.inside in
+    let node : NodeView = record { turns = v.turns; past = v.past; pieces = v.pieces; lines_in = v.lines_in.items; lines_out = v.lines_out.items; links = v.links.items } in
+    let same : node ≡ c.args.self.now = c.self.view_is in
+    let is : is_ready node (port.ClientOut c.args.n) ≡ true = subst (λ (n : NodeView). is_ready n (port.ClientOut c.args.n) ≡ true) (sym same) c.requires in
+    ready_open node (port.ClientOut c.args.n) is
+
+pub invariant_of-self : goal.invariant_of-self
+invariant_of-self g c =
+    let v = c.self.inside in
+    let node : NodeView = record { turns = v.turns; past = v.past; pieces = v.pieces; lines_in = v.lines_in.items; lines_out = v.lines_out.items; links = v.links.items } in
+    let same : node ≡ c.args.self.now = c.self.view_is in
+    let is : is_ready node (port.ClientOut c.args.n) ≡ true = subst (λ (n : NodeView). is_ready n (port.ClientOut c.args.n) ≡ true) (sym same) c.requires in
+    let next : NodeView = record { turns = v.turns; past = v.past; pieces = c.count.new.self; lines_in = v.lines_in.items; lines_out = v.lines_out.items; links = c.give_client.new.links.items } in
+    client_kept (port.ClientOut c.args.n) node c.count.new.self c.give_client.new.links.items c.self.invariant is (λ a e. cc) c.count.ensures
+
+pub returns : goal.returns
+returns g c =
+    let v = c.self.inside in
+    let node : NodeView = record { turns = v.turns; past = v.past; pieces = v.pieces; lines_in = v.lines_in.items; lines_out = v.lines_out.items; links = v.links.items } in
+    let same : node ≡ c.args.self.now = c.self.view_is in
+    let is : is_ready node (port.ClientOut c.args.n) ≡ true = subst (λ (n : NodeView). is_ready n (port.ClientOut c.args.n) ≡ true) (sym same) c.requires in
+    let next : NodeView = record { turns = v.turns; past = v.past; pieces = c.count.new.self; lines_in = v.lines_in.items; lines_out = v.lines_out.items; links = c.give_client.new.links.items } in
+    let move : ClientOutMove c.args.n node (out_view g.K.Sink c.args.place.now) next (out_view g.K.Sink c.give_client.new.place) = record {
+      turns = refl;
+      past = refl;
+      counted = c.count.ensures;
+      lines_in = refl;
+      lines_out = refl;
+      gives = c.give_client.ensures;
+    } in
+    subst (λ (n : NodeView). ClientOutMove c.args.n n (out_view g.K.Sink c.args.place.now) next (out_view g.K.Sink c.give_client.new.place)) same move

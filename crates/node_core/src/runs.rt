@@ -1,0 +1,35 @@
+// A whole run, in the order that a chooser says.
+ghost use Rattle.std.specs.Prelude.{◌≡◌, ◌≤◌, ◌+◌, ℕ};
+ghost use Rattle.otn_ports.specs.Bytes.{raised};
+ghost use Rattle.otn_ports.specs.Racks.{bays_view};
+ghost use Rattle.otn_ports.specs.Views.{BaysView};
+ghost use Rattle.plan_file.specs.declared.plan.Plan.{Plan};
+ghost use Rattle.node_core.specs.Stands.{Bytes, StandsAt, Later};
+ghost use Rattle.node_core.specs.NodeView.{left_of};
+
+use crate::Node;
+use otn_ports::{Chooser, Rack, Sink, Source};
+
+/// Steps the ready port that the chooser says, its answer taken modulo their number, while one is ready; then ends the turn; until
+/// the node is finished.
+pub fn carry<P: Source, K: Sink, C: Chooser>(
+    node: &mut Node,
+    bays: &mut Rack<P, K>,
+    chooser: &mut C,
+)
+    ensures stands { (plan : Plan) (first : BaysView) (taken : Bytes) → StandsAt plan first taken node.old (bays_view P.Source K.Sink bays.old)
+        → Later plan first taken node.old node.new (bays_view P.Source K.Sink bays.new) }
+    ensures finished { node.new.turns ≤ node.new.past }
+    ensures turns { node.new.turns ≡ node.old.turns }
+    ensures asked { C.asked chooser.new ≡ raised (C.asked chooser.old) (left_of node.old) }
+{
+    while !node.finished() {
+        let count = node.ready_count();
+        if count == 0 {
+            node.fence(bays);
+        } else {
+            let port = node.nth_ready(chooser.pick(count) % count);
+            node.step(port, bays);
+        }
+    }
+}
