@@ -10,3 +10,5 @@ pub mod Built
 pub mod LinkMoves
 pub mod LineEnds
 pub mod Retiring
+pub mod RunLeft
+pub mod Settling
