@@ -15,3 +15,4 @@ pub mod Runs
 pub mod SlotReport
 pub mod SlotRuns
 pub mod Words
+pub mod PlanReading

@@ -1,15 +1,15 @@
 // The command `check`: whether the plan is one, and how large.
-ghost use Rattle.std.specs.Prelude.{◌≡◌, IfOk, vec_len, string_bytes};
+ghost use Rattle.std.specs.Prelude.{◌≡◌, IfOk, string_bytes};
 ghost use Rattle.otn_ports.specs.PortViews.{source_view, sink_view, SinkLater};
 ghost use Rattle.line_tool.specs.Ends.{check_status};
 ghost use Rattle.line_tool.specs.PlanCheck.{CheckRun, CountsBy, PlanTold, plan_text};
 ghost use Rattle.line_tool.specs.Runs.{IsRefusal};
 
 use crate::Status;
+use crate::plan_text::{Planned, read_plan};
 use otn_base::Memory;
-use otn_base::limits::MOST_PLAN_BYTES;
-use otn_ports::{Reading, Sink, Source, Written, read_whole, write_whole};
-use plan_file::{NoPlan, Plan, PlanError};
+use otn_ports::{Sink, Source, Written, write_whole};
+use plan_file::{Plan, PlanError};
 use std::alloc::{AllocError, Global};
 
 /// How `check` ended, once it had its memory.
@@ -48,23 +48,11 @@ pub(crate) fn check_plan<P: Source, K: Sink>(
     ensures run { CheckRun (source_view P.Source plan.old) (source_view P.Source plan.new) (sink_view K.Sink report.old) (sink_view K.Sink report.new) (check_status result) }
     ensures refused { IsRefusal (check_status result) → report.new ≡ report.old }
 {
-    let mut text = plan_buffer(alloc)?;
-    let (reading, came) = read_whole(plan, &mut text);
-    if reading == Reading::Lost {
-        return Ok(Checked::PlanFault);
+    match read_plan(alloc, plan)? {
+        Planned::Accepted(plan) => tell_plan(alloc, &plan, report),
+        Planned::Refused(error, place) => Ok(Checked::Refused(error, place)),
+        Planned::Fault => Ok(Checked::PlanFault),
     }
-    match Plan::read(alloc, &text[..came]) {
-        Ok(plan) => tell_plan(alloc, &plan, report),
-        Err(NoPlan::Refused(error, place)) => Ok(Checked::Refused(error, place)),
-        Err(NoPlan::Memory) => Err(Memory),
-    }
-}
-
-// Takes room for the longest plan and one byte more.
-fn plan_buffer(alloc: Global) -> Result<Vec<u8>, AllocError>
-    ensures { IfOk result (λ buffer. vec_len buffer ≡ 1048577) }
-{
-    vec![in alloc; 0; MOST_PLAN_BYTES + 1]
 }
 
 // Writes how large an accepted plan is.

@@ -4,6 +4,7 @@
 //! - `status`: how it ended.
 //! - `ended`: how a command over a line ended.
 //! - `words`: the words of the commands.
+//! - `plan_text`: the plan of a command, read of its source.
 //! - `check`: whether a plan is one.
 //! - `slot`: the payload bytes of one tributary slot of a line.
 //! - `pull`, `tap`: what the sink of a tributary on a line emits, turn by turn.
@@ -15,6 +16,7 @@ mod beyond;
 mod check;
 mod ended;
 mod laws;
+mod plan_text;
 mod pull;
 mod slot;
 mod status;

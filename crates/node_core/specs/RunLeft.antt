@@ -1,5 +1,5 @@
 -- What a run of a plan leaves, from its places as they were first to how they are last. No node is named here.
-use Rattle.std.specs.Prelude.{◌≡◌, ◌×◌, ℕ, suc, min, Bool, true, false, List, [], ◌++◌, length}
+use Rattle.std.specs.Prelude.{◌≡◌, ℕ, suc, min, Bool, true, false, List, [], ◌++◌, length}
 use Rattle.std.specs.List.{Contains}
 use Rattle.otn_base.specs.declared.kind.PortName.{PortName}
 use Rattle.otn_base.specs.declared.kind.PortName.TheVariants as port
