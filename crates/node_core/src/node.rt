@@ -32,12 +32,12 @@ use std::marker::Model;
 /// A node that carries a plan: in turn past + 1, of which each port has done some of its pieces.
 #[derive(Drop)]
 pub struct Node {
-    turns: u32,
-    past: u32,
-    pieces: Pieces,
-    lines_in: Vec<LineIn>,
-    lines_out: Vec<LineOut>,
-    links: Vec<Link>,
+    pub(crate) turns: u32,
+    pub(crate) past: u32,
+    pub(crate) pieces: Pieces,
+    pub(crate) lines_in: Vec<LineIn>,
+    pub(crate) lines_out: Vec<LineOut>,
+    pub(crate) links: Vec<Link>,
 }
 
 impl Model for Node {
