@@ -100,7 +100,7 @@ pub record LinesStand (first now : InView) (taken : List ℕ) (packets : List (L
   pub over : view.ended ≡ true → now.state ≡ Live → HasEnded now.left
   pub alive : view.answer ≢ Lost → now.state ≡ first.state
   pub ended : view.answer ≡ End → view.ended ≡ true
-  pub lost : view.answer ≡ Lost → (view.ended ≡ false) × (now.state ≡ Dead)
+  pub lost : view.answer ≡ Lost → (view.ended ≡ false) × (now.state ≡ Dead) × (first.state ≡ Live)
   pub goes : view.answer ≡ Packet → GoesOn taken packets view
   pub told : (text : List ℕ) → MayBe view taken text → Told view.answer packets (packets_of text)
   pub shown : (n : ℕ) → view.answer ≡ Bad n → view.ended ≡ false → shows_bad taken ≡ true
