@@ -1,11 +1,13 @@
 // The calls of a pipe for a caller that keeps no count of its frames: each does nothing where the pipe has had its part of the
 // turn, or has no such part.
-ghost use Rattle.std.specs.Prelude.{◌≡◌, ◌<◌, ◌≤◌, ◌+◌, ℕ, suc, Bool, true, false, ◌&&◌, ◌==◌, if◌then◌else◌, List, [], ◌∷◌, ◌++◌, Option, length, nat_le, nat_lt, is_some};
+ghost use Rattle.std.specs.Prelude.{◌≡◌, ◌<◌, ◌≤◌, ◌+◌, ℕ, suc, Bool, true, false, ◌&&◌, ◌==◌, if◌then◌else◌, List, [], ◌∷◌, ◌++◌, Option, length, nat_le, nat_lt, is_some, option_map};
+ghost use Rattle.odu_client.specs.ClientInput.{ClientInput, packets_begun, is_spent, bad_line, emitted_before};
 ghost use Rattle.otn_base.specs.LineSlots.{LineSlots, slots_of};
 ghost use Rattle.otn_base.specs.declared.limits.TheConstants.{LINE_COLUMNS as COLUMNS, ROWS};
 ghost use Rattle.otn_ports.specs.InPlace.{in_view};
 ghost use Rattle.otn_ports.specs.OutPlace.{out_view};
 ghost use Rattle.otn_ports.specs.Views.{InView, OutView};
+ghost use Rattle.packet_text.specs.LinesStand.{stopped};
 ghost use Rattle.plan_file.specs.declared.connection.Connection.{Connection};
 ghost use Rattle.plan_file.specs.declared.connection.FromEnd.TheVariants as from_end;
 ghost use Rattle.plan_file.specs.declared.connection.ToEnd.TheVariants as to_end;
@@ -13,9 +15,9 @@ ghost use Rattle.trib_sink.specs.Sink.{ended_view};
 ghost use Rattle.tributary_model.specs.Places.{Taken, View, tributary_of, byte_at};
 ghost use Rattle.tributary_model.specs.Puts.{WasPut, IsSourcePlace};
 ghost use Rattle.device_model.specs.Entries.{first_turn};
-ghost use Rattle.device_model.specs.Through.{OwnInput, of_line, got_by};
+ghost use Rattle.device_model.specs.Through.{OwnInput, of_line, of_client, got_by};
 ghost use Rattle.cross_matrix.specs.InTurn.{some_if, next_taken, may_end, next_filled, is_of_client, is_to_client};
-ghost use Rattle.cross_matrix.specs.Parts.{IsOfClient, IsToClient, ClientInStands, ClientOutStands, IsOver};
+ghost use Rattle.cross_matrix.specs.Parts.{IsOfClient, IsToClient, ClientInStands, ClientOutStands, MayShow, IsOver, IsReceived};
 ghost use Rattle.cross_matrix.specs.Pipes.{IsPipeOf, PipeStands, ClientTook};
 
 use crate::Pipe;
@@ -109,6 +111,30 @@ impl Pipe {
         }
     }
 
+    /// The numbers of the connection's client input, as `client_in` tells them: none where it has no such input.
+    pub fn text_counts(&self) -> (u64, bool, Option<u64>)
+        ensures { (x : Connection) (first now : InView) (taken : List ℕ) (n : ℕ) (input : ClientInput) → ClientInStands x first now taken n self.now.taking
+            → MayShow self.now.taking taken (of_client input)
+            → result ≡ (stopped (packets_begun input.packets x.fcs (emitted_before x.pace n)), is_spent input x.fcs (emitted_before x.pace n), option_map stopped (bad_line input x.fcs (emitted_before x.pace n))) }
+    {
+        if self.takes_text() {
+            self.client_in()
+        } else {
+            (0, false, None)
+        }
+    }
+
+    /// The numbers of the connection's client output, as `client_out` tells them: none where it has no such output.
+    pub fn output_counts(&self) -> (u64, u64)
+        ensures { IsToClient self.now.giving → IsReceived self.now.giving result }
+    {
+        if self.gives_text() {
+            self.client_out()
+        } else {
+            (0, 0)
+        }
+    }
+
     // Whether turn `turn` is the first of the connection or a later one.
     fn has_started(&self, turn: u32) -> bool
         ensures { result ≡ nat_le self.now.start turn }
@@ -121,6 +147,13 @@ impl Pipe {
         ensures { result ≡ (nat_le self.now.start turn && is_of_client self.now.taking) }
     {
         self.start <= turn && matches!(self.taking, TakingPart::Client(_))
+    }
+
+    // Whether it takes from a client.
+    fn takes_text(&self) -> bool
+        ensures { result ≡ is_of_client self.now.taking }
+    {
+        matches!(self.taking, TakingPart::Client(_))
     }
 
     // Whether it gives to a client.
