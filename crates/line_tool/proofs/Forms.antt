@@ -1,10 +1,11 @@
 -- Words are the form of one command.
 use Rattle.std.proofs.Common.{◌≡◌, ◌+◌, ◌∙◌, ℕ, List, [], ◌∷◌, refl, sym, ap, arith, drop}
+use Rattle.std.specs.Str.Parse.{digits_value}
 use Rattle.otn_base.specs.LineSlots.{LineSlots}
 use Rattle.otn_base.specs.declared.line_kind.LineKind.{LineKind}
 use Rattle.line_tool.specs.Words.{IsForm, slots_text}
 use Rattle.line_tool.specs.declared.words.Command.{Command}
-use Rattle.line_tool.specs.declared.words.Command.TheVariants.{Slot, Pull, Check}
+use Rattle.line_tool.specs.declared.words.Command.TheVariants.{Slot, Pull, Check, Run, RunOrdered}
 
 -- a text is that of one list of slots
 same_slots : (a b : List ℕ) → slots_text a ≡ slots_text b → a ≡ b
@@ -34,6 +35,11 @@ same_slot words a b h k =
     let e : (48 + a) ≡ (48 + b) = cc (h.0, k.0) in
     omega (arith, e)
 
+same_order : (words : List (List ℕ)) (a b : ℕ) → IsForm words (RunOrdered a) → IsForm words (RunOrdered b) → a ≡ b
+same_order words a b h k =
+    let text : h.0 ≡ k.0 = cc (h.1, k.1) in
+    sym h.2.2 ∙ ap (digits_value 10) text ∙ k.2.2
+
 pub one_form : (words : List (List ℕ)) (a b : Command) → IsForm words a → IsForm words b → a ≡ b
 one_form words (Slot a) (Slot b) h k = ap Slot (same_slot words a b h k)
 one_form words (Slot a) (Pull n others) h k = absurd (cc (h.0, k.0))
@@ -48,3 +54,19 @@ one_form words (Pull port slots) Check h k = absurd (cc (h.0, k))
 one_form words Check (Slot b) h k = absurd (cc (h, k.0))
 one_form words Check (Pull n others) h k = absurd (cc (h, k.0))
 one_form words Check Check h k = refl
+one_form words (Slot a) Run h k = absurd (cc (h.0, k))
+one_form words (Slot a) (RunOrdered n) h k = absurd (cc (h.0, k.1))
+one_form words (Pull port slots) Run h k = absurd (cc (h.0, k))
+one_form words (Pull port slots) (RunOrdered n) h k = absurd (cc (h.0, k.1))
+one_form words Check Run h k = absurd (cc (h, k))
+one_form words Check (RunOrdered n) h k = absurd (cc (h, k.1))
+one_form words Run (Slot b) h k = absurd (cc (h, k.0))
+one_form words Run (Pull n others) h k = absurd (cc (h, k.0))
+one_form words Run Check h k = absurd (cc (h, k))
+one_form words Run Run h k = refl
+one_form words Run (RunOrdered n) h k = absurd (cc (h, k.1))
+one_form words (RunOrdered a) (Slot b) h k = absurd (cc (h.1, k.0))
+one_form words (RunOrdered a) (Pull n others) h k = absurd (cc (h.1, k.0))
+one_form words (RunOrdered a) Check h k = absurd (cc (h.1, k))
+one_form words (RunOrdered a) Run h k = absurd (cc (h.1, k))
+one_form words (RunOrdered a) (RunOrdered b) h k = ap RunOrdered (same_order words a b h k)

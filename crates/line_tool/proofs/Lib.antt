@@ -2,6 +2,7 @@ pub mod Answered
 pub mod Forms
 pub mod LineFrames
 pub mod Lives
+pub mod NumberOrder
 pub mod PlanChecks
 pub mod PullCarried
 pub mod PullDamaged
@@ -22,4 +23,3 @@ pub mod TapPieces
 pub mod TapTurns
 pub mod TurnFrames
 pub mod TwoWorlds
-pub mod WordLists

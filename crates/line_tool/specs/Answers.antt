@@ -9,13 +9,14 @@ use Rattle.line_tool.specs.Device.{Device, line_zero}
 use Rattle.line_tool.specs.PlanCheck.{CheckRun, CountsBy}
 use Rattle.line_tool.specs.PullReport.{LeavesBytes, bytes_taken, pull_report, tributary}
 use Rattle.line_tool.specs.PullRuns.{MayFollow, StoppedInTurn}
+use Rattle.line_tool.specs.RunAnswers.{RunAnswers}
 use Rattle.line_tool.specs.Runs.{Reports, HasRest, IsLineAnswer}
 use Rattle.line_tool.specs.SlotReport.{slot_report, most_taken}
 use Rattle.line_tool.specs.SlotRuns.{StoppedInFrame}
 use Rattle.line_tool.specs.declared.status.Status.{Status}
 use Rattle.line_tool.specs.declared.status.Status.TheVariants.{Unfinished, ReportFault, Cut, Memory}
 use Rattle.line_tool.specs.declared.words.Command.{Command}
-use Rattle.line_tool.specs.declared.words.Command.TheVariants.{Slot, Pull, Check}
+use Rattle.line_tool.specs.declared.words.Command.TheVariants.{Slot, Pull, Check, Run, RunOrdered}
 
 -- ---- a command over line input 0, by what it is to have done once there was memory
 
@@ -83,14 +84,20 @@ abbrev pub Answers : Command → (old new : Device) → Status → Type 0
 Answers (Slot slot) old new status = LineAnswers (SlotRan slot) old new status
 Answers (Pull port slots) old new status = LineAnswers (PullRan (tributary port slots.list)) old new status
 Answers Check old new status = CheckAnswers old new status
+Answers Run old new status = RunAnswers old new status
+Answers (RunOrdered number) old new status = RunAnswers old new status
 
 -- the commands that leave the plan's source alone, and those that leave the places alone
 abbrev pub LeavesPlan : Command → Type 0
 LeavesPlan (Slot slot) = Unit {0}
 LeavesPlan (Pull port slots) = Unit {0}
 LeavesPlan Check = ⊥
+LeavesPlan Run = ⊥
+LeavesPlan (RunOrdered number) = ⊥
 
 abbrev pub LeavesBays : Command → Type 0
 LeavesBays (Slot slot) = ⊥
 LeavesBays (Pull port slots) = ⊥
 LeavesBays Check = Unit {0}
+LeavesBays Run = ⊥
+LeavesBays (RunOrdered number) = ⊥

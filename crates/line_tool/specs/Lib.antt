@@ -5,12 +5,14 @@ pub mod Codes
 pub mod Device
 pub mod Ends
 pub mod Gains
+pub mod NumberOrder
 pub mod PlanCheck
 pub mod PullCarried
 pub mod PullDamaged
 pub mod PullReport
 pub mod PullRuns
 pub mod PullTurn
+pub mod RunAnswers
 pub mod Runs
 pub mod SlotReport
 pub mod SlotRuns

@@ -1,11 +1,13 @@
 -- The words of the commands.
-use Rattle.std.specs.Prelude.{◌≡◌, ◌+◌, ◌≤◌, ℕ, List, [], ◌∷◌, map, codes, string_bytes, String}
+use Rattle.std.specs.Prelude.{◌≡◌, ◌+◌, ◌<◌, ◌≤◌, ◌^◌, ℕ, List, [], ◌∷◌, length, map, codes, string_bytes, String}
+use Rattle.std.specs.Str.Parse.{IsNumeral, digits_value}
 use Rattle.std.specs.declared.alloc.Global.{Global}
 use Rattle.otn_base.specs.SlotList.{IsSlotList}
 use Rattle.otn_base.specs.declared.limits.TheConstants.{OTU2_SLOTS}
 use Rattle.otn_base.specs.declared.line_kind.LineKind.TheVariants.{Otu2}
+use Rattle.line_tool.specs.declared.words.TheConstants.{NUMBER_DIGITS}
 use Rattle.line_tool.specs.declared.words.Command.{Command}
-use Rattle.line_tool.specs.declared.words.Command.TheVariants.{Slot, Pull, Check}
+use Rattle.line_tool.specs.declared.words.Command.TheVariants.{Slot, Pull, Check, Run, RunOrdered}
 
 -- the bytes of each word
 abbrev pub texts : List (String Global) → List (List ℕ)
@@ -21,12 +23,18 @@ slots_text [] = []
 slots_text (slot ∷ []) = digit slot
 slots_text (slot ∷ next ∷ slots) = (48 + slot) ∷ 44 ∷ slots_text (next ∷ slots)
 
+-- the text of a number: its value in decimal digits, of which there are 1 to 20, with zeros in front allowed; it has 64 bits at most
+abbrev pub IsNumberText : List ℕ → ℕ → Type 0
+IsNumberText text number = IsNumeral 10 text × (length text ≤ NUMBER_DIGITS) × (digits_value 10 text ≡ number) × (number < 2 ^ 64)
+
 -- the form of the words of each command; lines are OTU2 lines
 abbrev pub IsForm : List (List ℕ) → Command → Type 0
 IsForm words (Slot slot) = (words ≡ codes "slot" ∷ digit slot ∷ []) × (1 ≤ slot) × (slot ≤ OTU2_SLOTS)
 IsForm words (Pull port slots) =
     (words ≡ codes "pull" ∷ digit port ∷ slots_text slots.list ∷ []) × (1 ≤ port) × (port ≤ OTU2_SLOTS) × (slots.kind ≡ Otu2) × IsSlotList OTU2_SLOTS slots.list
 IsForm words Check = words ≡ codes "check" ∷ []
+IsForm words Run = words ≡ codes "run" ∷ []
+IsForm words (RunOrdered number) = (text : List ℕ) × (words ≡ codes "run" ∷ codes "--order" ∷ text ∷ []) × IsNumberText text number
 
 -- words that are the form of no command
 abbrev pub IsNoForm : List (List ℕ) → Type 0

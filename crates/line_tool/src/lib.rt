@@ -5,6 +5,7 @@
 //! - `ended`: how a command over a line ended.
 //! - `words`: the words of the commands.
 //! - `plan_text`: the plan of a command, read of its source.
+//! - `number_chooser`: the choices that the number of `run --order N` settles.
 //! - `check`: whether a plan is one.
 //! - `slot`: the payload bytes of one tributary slot of a line.
 //! - `pull`, `tap`: what the sink of a tributary on a line emits, turn by turn.
@@ -16,6 +17,7 @@ mod beyond;
 mod check;
 mod ended;
 mod laws;
+mod number_chooser;
 mod plan_text;
 mod pull;
 mod slot;
@@ -28,9 +30,10 @@ pub use laws::{
     check_of_text, forms_are_apart, pull_of_carried, pull_of_given, pull_of_one_damaged,
     pull_two_worlds, slot_of_given, slot_two_worlds, without_faults,
 };
+pub use number_chooser::NumberChooser;
 pub use status::Status;
 pub use top::run;
-pub use words::{Command, command_of};
+pub use words::{Command, command_of, order_of};
 
 #[cfg(test)]
 mod tests;

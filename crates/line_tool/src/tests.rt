@@ -1,7 +1,9 @@
 // Whole runs over ports in memory.
 mod check;
+mod number_chooser;
 mod pull;
 mod slot;
+mod words;
 
 use crate::{Status, run};
 use otn_base::Memory;

@@ -68,6 +68,15 @@ pub fn run<P: Source, K: Sink, C: Chooser, I: Source, O: Sink>(
             status_of(write_pull(alloc, port, &slots, tapped, report))
         }
         Some(Command::Check) => status_of_check(check_plan(alloc, plan, report)),
+        Some(Command::Run) => not_yet(),
+        Some(Command::RunOrdered(_)) => not_yet(),
         None => Status::Words,
     }
+}
+
+// The answer of a command that has no body yet.
+fn not_yet() -> Status
+    ensures { result ≡ Status.Memory }
+{
+    Status::Memory
 }

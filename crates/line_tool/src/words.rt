@@ -2,7 +2,7 @@
 ghost use Rattle.std.specs.Prelude.{◌≡◌, ℕ, List, ◌+◌, ◌≤◌, ◌∷◌, [], ◌++◌, IfSome, IfNone, codes, length};
 ghost use Rattle.otn_base.specs.SlotList.{IsSlotList};
 ghost use Rattle.otn_base.specs.declared.limits.TheConstants.{OTU2_SLOTS};
-ghost use Rattle.line_tool.specs.Words.{IsForm, IsNoForm, texts, digit, slots_text};
+ghost use Rattle.line_tool.specs.Words.{IsForm, IsNoForm, IsNumberText, texts, digit, slots_text};
 
 use arrayvec::ArrayVec;
 use otn_base::limits::OTU2_SLOTS;
@@ -17,7 +17,14 @@ pub enum Command {
     Pull(u8, Slots),
     /// `check`: whether the plan is one, and how large.
     Check,
+    /// `run`: the plan carried over the places.
+    Run,
+    /// `run --order N`: the same, in the order that the number N, of 64 bits, settles.
+    RunOrdered(u64),
 }
+
+/// The most digits of a number among the words.
+const NUMBER_DIGITS: usize = 20;
 
 /// The command whose form these words are. None where they are no command.
 pub fn command_of(words: &[String]) -> Option<Command>
@@ -25,12 +32,55 @@ pub fn command_of(words: &[String]) -> Option<Command>
     ensures no_form { IfNone result (IsNoForm (texts words.now)) }
 {
     match words {
-        [name, slot] if name.as_str() == "slot" => slot_command(slot.as_str()),
-        [name, port, slots] if name.as_str() == "pull" => pull_command(
-            port.as_str(),
-            slots.as_str(),
-        ),
-        [name] if name.as_str() == "check" => Some(Command::Check),
+        [name] => command_alone(name.as_str()),
+        [name, word] => command_with_one(name.as_str(), word.as_str()),
+        [name, word, other] => command_with_two(name.as_str(), word.as_str(), other.as_str()),
+        _ => None,
+    }
+}
+
+/// The number N where the words are `run --order N`, and None where they are not.
+pub fn order_of(words: &[String]) -> Option<u64>
+    ensures order { IfSome result (λ number. IsForm (texts words.now) (Command.RunOrdered number)) }
+    ensures none { IfNone result ((number : ℕ) → IsForm (texts words.now) (Command.RunOrdered number) → ⊥) }
+{
+    match command_of(words)? {
+        Command::RunOrdered(number) => Some(number),
+        _ => None,
+    }
+}
+
+// The command of one word.
+fn command_alone(name: &str) -> Option<Command>
+    ensures form { IfSome result (IsForm (name.now ∷ [])) }
+    ensures no_form { IfNone result (IsNoForm (name.now ∷ [])) }
+{
+    match name {
+        "check" => Some(Command::Check),
+        "run" => Some(Command::Run),
+        _ => None,
+    }
+}
+
+// The command of a name and one word.
+fn command_with_one(name: &str, word: &str) -> Option<Command>
+    ensures form { IfSome result (IsForm (name.now ∷ word.now ∷ [])) }
+    ensures no_form { IfNone result (IsNoForm (name.now ∷ word.now ∷ [])) }
+{
+    match name {
+        "slot" => slot_command(word),
+        _ => None,
+    }
+}
+
+// The command of a name and two words.
+fn command_with_two(name: &str, word: &str, other: &str) -> Option<Command>
+    ensures form { IfSome result (IsForm (name.now ∷ word.now ∷ other.now ∷ [])) }
+    ensures no_form { IfNone result (IsNoForm (name.now ∷ word.now ∷ other.now ∷ [])) }
+{
+    match name {
+        "pull" => pull_command(word, other),
+        "run" => run_command(word, other),
         _ => None,
     }
 }
@@ -50,6 +100,31 @@ fn pull_command(port: &str, slots: &str) -> Option<Command>
 {
     let port = one_digit(port.as_bytes())?;
     Some(Command::Pull(port, slot_digits(slots.as_bytes())?))
+}
+
+// The command `run` with these words after it.
+fn run_command(option: &str, number: &str) -> Option<Command>
+    ensures form { IfSome result (IsForm (codes "run" ∷ option.now ∷ number.now ∷ [])) }
+    ensures no_form { IfNone result (IsNoForm (codes "run" ∷ option.now ∷ number.now ∷ [])) }
+{
+    match option {
+        "--order" => Some(Command::RunOrdered(order_number(number)?)),
+        _ => None,
+    }
+}
+
+// The number that these digits write: 1 to 20 of them, with no sign, and a value of 64 bits.
+fn order_number(text: &str) -> Option<u64>
+    ensures number { IfSome result (IsNumberText text.now) }
+    ensures none { IfNone result ((number : ℕ) → IsNumberText text.now number → ⊥) }
+{
+    if text.len() > NUMBER_DIGITS {
+        return None;
+    }
+    match text.as_bytes() {
+        [b'+', ..] => None,
+        _ => text.parse().ok(),
+    }
 }
 
 // The number, 1 to 8, that this text is the digit of.

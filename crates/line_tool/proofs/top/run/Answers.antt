@@ -68,3 +68,11 @@ returns-in-Some-Check-clause-stays g c =
 
 pub returns-in-None-clause-stays : goal.returns-in-None-clause-stays
 returns-in-None-clause-stays g c = nothing_stays g.P.Source g.K.Sink g.I.Source g.O.Sink c.args.plan.now c.args.bays.now c.args.report.now
+
+-- ---- `run`, which does nothing yet
+
+pub returns-in-Some-Run-clause-stays : goal.returns-in-Some-Run-clause-stays
+returns-in-Some-Run-clause-stays g c = nothing_stays g.P.Source g.K.Sink g.I.Source g.O.Sink c.args.plan.now c.args.bays.now c.args.report.now
+
+pub returns-in-Some-RunOrdered-clause-stays : goal.returns-in-Some-RunOrdered-clause-stays
+returns-in-Some-RunOrdered-clause-stays g c = nothing_stays g.P.Source g.K.Sink g.I.Source g.O.Sink c.args.plan.now c.args.bays.now c.args.report.now
