@@ -15,7 +15,7 @@ use Rattle.otn_ports.specs.declared.source.Source as source
 use Rattle.tributary_model.specs.Places.{Tributary}
 use Rattle.line_tool.specs.Answers.{LineAnswers, PullRan, SlotRan}
 use Rattle.otn_ports.specs.PortViews.{SinkLater, sink_view, source_view}
-use Rattle.line_tool.specs.Device.{Device, Stays, device, line_zero}
+use Rattle.line_tool.specs.Device.{Device, OnlyLine, Stays, device, line_zero}
 use Rattle.line_tool.specs.Ends.{ReportAfter, line_status}
 use Rattle.line_tool.specs.PlanCheck.{CheckRun, CountsBy}
 use Rattle.line_tool.specs.PullRuns.{PullRun}
@@ -58,17 +58,17 @@ line_counts (Ok Cut) old new same report = record { fault = λ e. absurd (cc); c
 
 line_answers : (Ran : (old new : Device) → Status → Type 0) (result : Result Ended NoMemory) (old new : Device) → IfErr result (λ _. new ≡ old)
     → IfOk result (λ ended. Ran old new (line_status (Ok ended))) → CountsBy status.ReportFault (line_status result) old.report.faults new.report.faults
-    → LineAnswers Ran old new (line_status result)
-line_answers Ran (Err memory) old new same run counts = record { answer = tt; counts = counts; memory = λ _. same; ran = λ no. absurd (no refl) }
-line_answers Ran (Ok Done) old new same run counts = record { answer = tt; counts = counts; memory = λ e. absurd (cc); ran = λ _. run }
-line_answers Ran (Ok Unfinished) old new same run counts = record { answer = tt; counts = counts; memory = λ e. absurd (cc); ran = λ _. run }
-line_answers Ran (Ok ReportFault) old new same run counts = record { answer = tt; counts = counts; memory = λ e. absurd (cc); ran = λ _. run }
-line_answers Ran (Ok Cut) old new same run counts = record { answer = tt; counts = counts; memory = λ e. absurd (cc); ran = λ _. run }
+    → OnlyLine old new → LineAnswers Ran old new (line_status result)
+line_answers Ran (Err memory) old new same run counts alone = record { answer = tt; counts = counts; alone = alone; memory = λ _. same; ran = λ no. absurd (no refl) }
+line_answers Ran (Ok Done) old new same run counts alone = record { answer = tt; counts = counts; alone = alone; memory = λ e. absurd (cc); ran = λ _. run }
+line_answers Ran (Ok Unfinished) old new same run counts alone = record { answer = tt; counts = counts; alone = alone; memory = λ e. absurd (cc); ran = λ _. run }
+line_answers Ran (Ok ReportFault) old new same run counts alone = record { answer = tt; counts = counts; alone = alone; memory = λ e. absurd (cc); ran = λ _. run }
+line_answers Ran (Ok Cut) old new same run counts alone = record { answer = tt; counts = counts; alone = alone; memory = λ e. absurd (cc); ran = λ _. run }
 
 slot_answers : (result : Result Ended NoMemory) (slot : ℕ) (old new : Device) → IfErr result (λ _. new ≡ old)
     → IfOk result (λ ended. SlotRun slot (line_zero old) (line_zero new) old.report.got new.report.got ended) → IfOk result (λ ended. ReportAfter (Some ended) old.report new.report)
-    → LineAnswers (SlotRan slot) old new (line_status result)
-slot_answers result slot old new same run report = line_answers (SlotRan slot) result old new same (ran result run) (line_counts result old new same report)
+    → OnlyLine old new → LineAnswers (SlotRan slot) old new (line_status result)
+slot_answers result slot old new same run report alone = line_answers (SlotRan slot) result old new same (ran result run) (line_counts result old new same report) alone
   where
     ran : (result : Result Ended NoMemory) → IfOk result (λ ended. SlotRun slot (line_zero old) (line_zero new) old.report.got new.report.got ended)
         → IfOk result (λ ended. SlotRan slot old new (line_status (Ok ended)))
@@ -77,8 +77,8 @@ slot_answers result slot old new same run report = line_answers (SlotRan slot) r
 
 pull_answers : (result : Result Ended NoMemory) (own : Tributary) (old new : Device) → IfErr result (λ _. new ≡ old)
     → IfOk result (λ ended. PullRun own (line_zero old) (line_zero new) old.report.got new.report.got ended) → IfOk result (λ ended. ReportAfter (Some ended) old.report new.report)
-    → LineAnswers (PullRan own) old new (line_status result)
-pull_answers result own old new same run report = line_answers (PullRan own) result old new same (ran result run) (line_counts result old new same report)
+    → OnlyLine old new → LineAnswers (PullRan own) old new (line_status result)
+pull_answers result own old new same run report alone = line_answers (PullRan own) result old new same (ran result run) (line_counts result old new same report) alone
   where
     ran : (result : Result Ended NoMemory) → IfOk result (λ ended. PullRun own (line_zero old) (line_zero new) old.report.got new.report.got ended)
         → IfOk result (λ ended. PullRan own old new (line_status (Ok ended)))
@@ -102,6 +102,37 @@ same_if : {P K I O : Type 0} (p : source.Ghosts P) (k : sink.Ghosts K) (i : sour
 same_if p k i o plan rack x y report new (Err memory) there same = same_device p k i o plan rack x y report new there same
 same_if p k i o plan rack x y report new (Ok ended) there same = tt
 
+-- what was taken of the line
+line_gave : {I : Type 0} (i : source.Ghosts I) (x y : InPlaceOf I) (result : Result Ended NoMemory) → IfErr result (λ _. y ≡ x)
+    → IfOk result (λ ended. (taken : List ℕ) × Gave (in_view i x) taken (in_view i y)) → (taken : List ℕ) × Gave (in_view i x) taken (in_view i y)
+line_gave i x y (Ok ended) same gave = gave
+line_gave i x y (Err memory) same gave = ([], subst (λ place. Gave (in_view i x) [] (in_view i place)) (sym same) (gave_none (in_view i x)))
+
+pub slot_gave : (result : Result Ended NoMemory) (slot : ℕ) {I : Type 0} (i : source.Ghosts I) (x y : InPlaceOf I) (old new : Option (List ℕ))
+    → IfOk result (λ ended. SlotRun slot (in_view i x) (in_view i y) old new ended) → IfOk result (λ ended. (taken : List ℕ) × Gave (in_view i x) taken (in_view i y))
+slot_gave (Ok ended) slot i x y old new run = (run.taken, run.gave)
+slot_gave (Err memory) slot i x y old new run = tt
+
+pub pull_gave : (result : Result Ended NoMemory) (own : Tributary) {I : Type 0} (i : source.Ghosts I) (x y : InPlaceOf I) (old new : Option (List ℕ))
+    → IfOk result (λ ended. PullRun own (in_view i x) (in_view i y) old new ended) → IfOk result (λ ended. (taken : List ℕ) × Gave (in_view i x) taken (in_view i y))
+pull_gave (Ok ended) own i x y old new run = (run.taken, run.gave)
+pull_gave (Err memory) own i x y old new run = tt
+
+-- no other place was asked
+only_line : {P K I O : Type 0} (p : source.Ghosts P) (k : sink.Ghosts K) (i : source.Ghosts I) (o : sink.Ghosts O) (plan : P) (rack : Rack I O) (x y : InPlaceOf I) (report new : K)
+    (result : Result Ended NoMemory) → slice_get (line_ins rack) 0 ≡ Some x → IfErr result (λ _. (y ≡ x) × (new ≡ report))
+    → IfOk result (λ ended. (taken : List ℕ) × Gave (in_view i x) taken (in_view i y)) → OnlyLine (device p k i o plan rack report) (after_line p k i o plan rack y new)
+only_line p k i o plan rack x y report new result there memory gave = record {
+  line =
+      subst (λ first. (taken : List ℕ) × Gave first taken (line_in_at (bays_view i o (with_line_in rack 0 y)) 0)) (sym (line_in_seen i o rack 0 x there))
+      (subst (λ now. (taken : List ℕ) × Gave (in_view i x) taken now) (sym (line_in_set i o rack 0 x y there)) (line_gave i x y result (first result memory) gave));
+  only = only_line_in i o rack 0 y;
+}
+  where
+    first : (result : Result Ended NoMemory) → IfErr result (λ _. (y ≡ x) × (new ≡ report)) → IfErr result (λ _. y ≡ x)
+    first (Err memory) same = same.0
+    first (Ok ended) same = tt
+
 pub slot_answered : {P K I O : Type 0} (p : source.Ghosts P) (k : sink.Ghosts K) (i : source.Ghosts I) (o : sink.Ghosts O) (plan : P) (rack : Rack I O) (x y : InPlaceOf I) (report new : K)
     (result : Result Ended NoMemory) (slot : ℕ) → slice_get (line_ins rack) 0 ≡ Some x → IfErr result (λ _. (y ≡ x) × (new ≡ report))
     → IfOk result (λ ended. SlotRun slot (in_view i x) (in_view i y) (k.got report) (k.got new) ended) → IfOk result (λ ended. ReportAfter (Some ended) (sink_view k report) (sink_view k new))
@@ -111,6 +142,7 @@ slot_answered p k i o plan rack x y report new result slot there memory run afte
     (subst (λ first. IfOk result (λ ended. SlotRun slot first (line_in_at (bays_view i o (with_line_in rack 0 y)) 0) (k.got report) (k.got new) ended)) (sym (line_in_seen i o rack 0 x there))
     (subst (λ now. IfOk result (λ ended. SlotRun slot (in_view i x) now (k.got report) (k.got new) ended)) (sym (line_in_set i o rack 0 x y there)) run))
     after
+    (only_line p k i o plan rack x y report new result there memory (slot_gave result slot i x y (k.got report) (k.got new) run))
 
 pub pull_answered : {P K I O : Type 0} (p : source.Ghosts P) (k : sink.Ghosts K) (i : source.Ghosts I) (o : sink.Ghosts O) (plan : P) (rack : Rack I O) (x y : InPlaceOf I) (report new : K)
     (result : Result Ended NoMemory) (own : Tributary) → slice_get (line_ins rack) 0 ≡ Some x → IfErr result (λ _. (y ≡ x) × (new ≡ report))
@@ -121,6 +153,7 @@ pull_answered p k i o plan rack x y report new result own there memory run after
     (subst (λ first. IfOk result (λ ended. PullRun own first (line_in_at (bays_view i o (with_line_in rack 0 y)) 0) (k.got report) (k.got new) ended)) (sym (line_in_seen i o rack 0 x there))
     (subst (λ now. IfOk result (λ ended. PullRun own (in_view i x) now (k.got report) (k.got new) ended)) (sym (line_in_set i o rack 0 x y there)) run))
     after
+    (only_line p k i o plan rack x y report new result there memory (pull_gave result own i x y (k.got report) (k.got new) run))
 
 -- after an answer that comes before anything was done, all places and the report are as they were
 pub refused_line : {P K O : Type 0} (rack : Rack P O) (x y : InPlaceOf P) (report new : K) (result : Result Ended NoMemory) → slice_get (line_ins rack) 0 ≡ Some x
@@ -136,42 +169,17 @@ report_later : {K : Type 0} (k : sink.Ghosts K) (report new : K) (result : Resul
 report_later k report new (Ok ended) same after = after.later
 report_later k report new (Err memory) same after = subst (λ r. SinkLater (sink_view k report) (sink_view k r)) (sym same) (sink_later_none (sink_view k report))
 
--- what was taken of the line
-line_gave : {I : Type 0} (i : source.Ghosts I) (x y : InPlaceOf I) (result : Result Ended NoMemory) → IfErr result (λ _. y ≡ x)
-    → IfOk result (λ ended. (taken : List ℕ) × Gave (in_view i x) taken (in_view i y)) → (taken : List ℕ) × Gave (in_view i x) taken (in_view i y)
-line_gave i x y (Ok ended) same gave = gave
-line_gave i x y (Err memory) same gave = ([], subst (λ place. Gave (in_view i x) [] (in_view i place)) (sym same) (gave_none (in_view i x)))
-
 pub line_stays : {P K I O : Type 0} (p : source.Ghosts P) (k : sink.Ghosts K) (i : source.Ghosts I) (o : sink.Ghosts O) (plan : P) (rack : Rack I O) (x y : InPlaceOf I) (report new : K)
-    (result : Result Ended NoMemory) → slice_get (line_ins rack) 0 ≡ Some x → IfErr result (λ _. (y ≡ x) × (new ≡ report))
-    → IfOk result (λ ended. (taken : List ℕ) × Gave (in_view i x) taken (in_view i y)) → IfOk result (λ ended. ReportAfter (Some ended) (sink_view k report) (sink_view k new))
+    (result : Result Ended NoMemory) → IfErr result (λ _. (y ≡ x) × (new ≡ report)) → IfOk result (λ ended. ReportAfter (Some ended) (sink_view k report) (sink_view k new))
     → Stays (device p k i o plan rack report) (after_line p k i o plan rack y new)
-line_stays p k i o plan rack x y report new result there memory gave after = record {
+line_stays p k i o plan rack x y report new result memory after = record {
   plan = source_later_none (source_view p plan);
   report = report_later k report new result (second result memory) after;
-  line =
-      subst (λ first. (taken : List ℕ) × Gave first taken (line_in_at (bays_view i o (with_line_in rack 0 y)) 0)) (sym (line_in_seen i o rack 0 x there))
-      (subst (λ now. (taken : List ℕ) × Gave (in_view i x) taken now) (sym (line_in_set i o rack 0 x y there)) (line_gave i x y result (first result memory) gave));
-  only = only_line_in i o rack 0 y;
 }
   where
-    first : (result : Result Ended NoMemory) → IfErr result (λ _. (y ≡ x) × (new ≡ report)) → IfErr result (λ _. y ≡ x)
-    first (Err memory) same = same.0
-    first (Ok ended) same = tt
-
     second : (result : Result Ended NoMemory) → IfErr result (λ _. (y ≡ x) × (new ≡ report)) → IfErr result (λ _. new ≡ report)
     second (Err memory) same = same.1
     second (Ok ended) same = tt
-
-pub slot_gave : (result : Result Ended NoMemory) (slot : ℕ) {I : Type 0} (i : source.Ghosts I) (x y : InPlaceOf I) (old new : Option (List ℕ))
-    → IfOk result (λ ended. SlotRun slot (in_view i x) (in_view i y) old new ended) → IfOk result (λ ended. (taken : List ℕ) × Gave (in_view i x) taken (in_view i y))
-slot_gave (Ok ended) slot i x y old new run = (run.taken, run.gave)
-slot_gave (Err memory) slot i x y old new run = tt
-
-pub pull_gave : (result : Result Ended NoMemory) (own : Tributary) {I : Type 0} (i : source.Ghosts I) (x y : InPlaceOf I) (old new : Option (List ℕ))
-    → IfOk result (λ ended. PullRun own (in_view i x) (in_view i y) old new ended) → IfOk result (λ ended. (taken : List ℕ) × Gave (in_view i x) taken (in_view i y))
-pull_gave (Ok ended) own i x y old new run = (run.taken, run.gave)
-pull_gave (Err memory) own i x y old new run = tt
 
 -- ---- `check`
 
@@ -182,8 +190,6 @@ pub check_stays : {P K I O : Type 0} (p : source.Ghosts P) (k : sink.Ghosts K) (
 check_stays p k i o plan now rack report new answer run = record {
   plan = run.plan;
   report = run.report;
-  line = ([], gave_none (line_in_at (bays_view i o rack) 0));
-  only = record { line_in = λ m other. refl; line_out = refl; client_in = refl; client_out = refl };
 }
 
 -- nothing was done
@@ -192,6 +198,4 @@ pub nothing_stays : {P K I O : Type 0} (p : source.Ghosts P) (k : sink.Ghosts K)
 nothing_stays p k i o plan rack report = record {
   plan = source_later_none (source_view p plan);
   report = sink_later_none (sink_view k report);
-  line = ([], gave_none (line_in_at (bays_view i o rack) 0));
-  only = record { line_in = λ m other. refl; line_out = refl; client_in = refl; client_out = refl };
 }

@@ -5,7 +5,7 @@ use Rattle.otn_ports.specs.Given.{Gave}
 use Rattle.otn_ports.specs.Reads.{HasEnded}
 use Rattle.otn_ports.specs.Views.{Live, Dead}
 use Rattle.tributary_model.specs.Places.{Tributary}
-use Rattle.line_tool.specs.Device.{Device, line_zero}
+use Rattle.line_tool.specs.Device.{Device, OnlyLine, line_zero}
 use Rattle.line_tool.specs.PlanCheck.{CheckRun, CountsBy}
 use Rattle.line_tool.specs.PullReport.{LeavesBytes, bytes_taken, pull_report, tributary}
 use Rattle.line_tool.specs.PullRuns.{MayFollow, StoppedInTurn}
@@ -26,6 +26,8 @@ pub record LineAnswers (Ran : (old new : Device) → Status → Type 0) (old new
   -- failed was tried again and then went well
   pub counts : CountsBy ReportFault status old.report.faults new.report.faults
   pub memory : status ≡ Memory → new ≡ old
+  -- no other place was asked
+  pub alone : OnlyLine old new
   pub ran : status ≢ Memory → Ran old new status
 
 -- ---- `slot K`: the slot's payload bytes of each whole frame of line input 0
@@ -78,16 +80,16 @@ pub record PullRan (own : Tributary) (old new : Device) (status : Status) : Type
 abbrev pub CheckAnswers : (old new : Device) → Status → Type 0
 CheckAnswers old new status = CheckRun old.plan new.plan old.report new.report status
 
--- ---- each command
+-- ---- each command, with how often the chooser had been asked before it and after it
 
-abbrev pub Answers : Command → (old new : Device) → Status → Type 0
-Answers (Slot slot) old new status = LineAnswers (SlotRan slot) old new status
-Answers (Pull port slots) old new status = LineAnswers (PullRan (tributary port slots.list)) old new status
-Answers Check old new status = CheckAnswers old new status
-Answers Run old new status = RunAnswers old new status
-Answers (RunOrdered number) old new status = RunAnswers old new status
+abbrev pub Answers : Command → (old new : Device) → (asked asked_now : ℕ) → Status → Type 0
+Answers (Slot slot) old new asked asked_now status = LineAnswers (SlotRan slot) old new status
+Answers (Pull port slots) old new asked asked_now status = LineAnswers (PullRan (tributary port slots.list)) old new status
+Answers Check old new asked asked_now status = CheckAnswers old new status
+Answers Run old new asked asked_now status = RunAnswers old new asked asked_now status
+Answers (RunOrdered number) old new asked asked_now status = RunAnswers old new asked asked_now status
 
--- the commands that leave the plan's source alone, and those that leave the places alone
+-- the commands that leave the plan's source alone, those that leave the places alone, and those that leave the chooser alone
 abbrev pub LeavesPlan : Command → Type 0
 LeavesPlan (Slot slot) = Unit {0}
 LeavesPlan (Pull port slots) = Unit {0}
@@ -101,3 +103,10 @@ LeavesBays (Pull port slots) = ⊥
 LeavesBays Check = Unit {0}
 LeavesBays Run = ⊥
 LeavesBays (RunOrdered number) = ⊥
+
+abbrev pub LeavesChooser : Command → Type 0
+LeavesChooser (Slot slot) = Unit {0}
+LeavesChooser (Pull port slots) = Unit {0}
+LeavesChooser Check = Unit {0}
+LeavesChooser Run = ⊥
+LeavesChooser (RunOrdered number) = ⊥

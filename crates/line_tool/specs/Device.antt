@@ -22,11 +22,13 @@ device p k i o plan bays report = record { plan = source_view p plan; bays = bay
 abbrev pub line_zero : Device → InView
 line_zero d = line_in_at d.bays 0
 
--- What stays, whatever the command and its answer: the plan's source and the report are boxed and tell as before, and their counts
--- did not fall; all places but line input 0 are seen as they were. That one gave these bytes, or none, and dies only where its port's
--- count of faults rose or stands at its end.
+-- What stays, whatever the command and its answer: the plan's source and the report are boxed and tell as before, and their counts did not fall.
 pub record Stays (old new : Device) : Type 0 where
   pub plan : SourceLater old.plan new.plan
   pub report : SinkLater old.report new.report
+
+-- No place but line input 0 was asked: all others are seen as they were. That one gave these bytes, or none, and dies only where its port's
+-- count of faults rose or stands at its end.
+pub record OnlyLine (old new : Device) : Type 0 where
   pub line : (taken : List ℕ) × Gave (line_zero old) taken (line_zero new)
   pub only : OnlyLineIn 0 old.bays new.bays

@@ -18,3 +18,4 @@ pub mod SlotReport
 pub mod SlotRuns
 pub mod Words
 pub mod PlanReading
+pub mod PlanRuns

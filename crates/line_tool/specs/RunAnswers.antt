@@ -1,5 +1,61 @@
--- What `run` answers for, over all that the top call is handed, as it was and as it is: nothing yet.
+-- What the command `run` answers for: the plan that was read, and what carrying it left.
+use Rattle.std.specs.Prelude.{◌≡◌, ◌≢◌, ◌≤◌, ◌⊎◌, ℕ, List, Ok, Err, length}
+use Rattle.otn_ports.specs.Bytes.{before, raised}
+use Rattle.otn_ports.specs.PortViews.{SinkView, SinkLater, SourceView, SourceLater}
+use Rattle.plan_file.specs.Answer.{plan_of_text}
+use Rattle.plan_file.specs.declared.error.NoPlan.TheVariants.{Refused}
+use Rattle.plan_file.specs.declared.plan.Plan.{Plan}
+use Rattle.device_model.specs.Moments.{over_ports, pieces_of}
+use Rattle.device_model.specs.Report.{Numbers, report_text}
+use Rattle.device_model.specs.declared.outcome.Outcome.{Outcome}
+use Rattle.device_model.specs.declared.outcome.Outcome.TheVariants as outcome
+use Rattle.node_core.specs.RunLeft.{Takings, RunLeft}
 use Rattle.line_tool.specs.Device.{Device}
+use Rattle.line_tool.specs.PlanCheck.{CountsBy, WasRead}
+use Rattle.line_tool.specs.Runs.{Reports}
 use Rattle.line_tool.specs.declared.status.Status.{Status}
+use Rattle.line_tool.specs.declared.status.Status.TheVariants as status
 
-pub record RunAnswers (old new : Device) (status : Status) : Type 0 where
+-- the answer of each outcome
+abbrev pub outcome_status : Outcome → Status
+outcome_status outcome.Done = status.Done
+outcome_status outcome.Unfinished = status.Unfinished
+outcome_status outcome.Cut = status.Cut
+
+-- how many pieces the ports that a plan uses have in all its turns
+abbrev pub pieces_in_all : Plan → ℕ
+pieces_in_all plan = over_ports (pieces_of plan) * plan.turns
+
+-- A plan was carried: the places are as such a run leaves them, with these numbers; its report was written, whole, or a part of it from the
+-- front where a write failed; the answer is by its outcome, but where a write failed; and the chooser was asked once for each piece.
+pub record PlanRan (plan : Plan) (old new : Device) (asked asked_now : ℕ) (status : Status) : Type 0 where
+  pub takings : Takings
+  pub numbers : Numbers
+  pub left : RunLeft plan old.bays new.bays takings numbers
+  pub wrote : Reports status old.report.got new.report.got (report_text plan numbers new.bays)
+  pub answer : status ≢ status.ReportFault → status ≡ outcome_status numbers.outcome
+  pub asked_each : asked_now ≡ raised asked (pieces_in_all plan)
+
+-- what is answered to the text of a plan: a plan that was carried, or the first rule that it breaks
+abbrev pub TextRan : Status → (text : List ℕ) → (old new : Device) → (asked asked_now : ℕ) → Type 0
+TextRan status.Done text old new asked now = (plan : Plan) × (plan_of_text text ≡ Ok plan) × PlanRan plan old new asked now status.Done
+TextRan status.Unfinished text old new asked now = (plan : Plan) × (plan_of_text text ≡ Ok plan) × PlanRan plan old new asked now status.Unfinished
+TextRan status.Cut text old new asked now = (plan : Plan) × (plan_of_text text ≡ Ok plan) × PlanRan plan old new asked now status.Cut
+TextRan status.ReportFault text old new asked now = (plan : Plan) × (plan_of_text text ≡ Ok plan) × PlanRan plan old new asked now status.ReportFault
+TextRan (status.Plan error place) text old new asked now = plan_of_text text ≡ Err (Refused error place)
+TextRan status.PlanFault text old new asked now = Unit {0}
+TextRan status.Memory text old new asked now = Unit {0}
+TextRan status.Words text old new asked now = ⊥
+
+-- `run` from all that it was handed, and how often the chooser had been asked, to how they are
+pub record RunAnswers (old new : Device) (asked asked_now : ℕ) (status : Status) : Type 0 where
+  -- this text was read of the plan, of a byte more than the longest plan has at most
+  pub text : List ℕ
+  pub read : old.plan.left ≡ before text new.plan.left
+  pub most : length text ≤ 1048577
+  pub all : WasRead status text new.plan.left
+  -- and answered for
+  pub ran : TextRan status text old new asked asked_now
+  -- each of the two counts of faults rose or stands at its end exactly with its own answer, and else is as it was
+  pub plan_counts : CountsBy status.PlanFault status old.plan.faults new.plan.faults
+  pub report_counts : CountsBy status.ReportFault status old.report.faults new.report.faults

@@ -7,6 +7,7 @@
 //! - `plan_text`: the plan of a command, read of its source.
 //! - `number_chooser`: the choices that the number of `run --order N` settles.
 //! - `check`: whether a plan is one.
+//! - `plan_run`: a plan is carried over the places, and reported; `report`: the report as text.
 //! - `slot`: the payload bytes of one tributary slot of a line.
 //! - `pull`, `tap`: what the sink of a tributary on a line emits, turn by turn.
 //! - `beyond`: whether a line has more than a command reads.
@@ -18,8 +19,10 @@ mod check;
 mod ended;
 mod laws;
 mod number_chooser;
+mod plan_run;
 mod plan_text;
 mod pull;
+mod report;
 mod slot;
 mod status;
 mod tap;

@@ -1,6 +1,6 @@
 // The top call of the program.
 ghost use Rattle.std.specs.Prelude.{◌≡◌, ◌≢◌, ◌↔◌};
-ghost use Rattle.line_tool.specs.Answers.{Answers, LeavesBays, LeavesPlan};
+ghost use Rattle.line_tool.specs.Answers.{Answers, LeavesBays, LeavesChooser, LeavesPlan};
 ghost use Rattle.line_tool.specs.Device.{Stays, device};
 ghost use Rattle.line_tool.specs.Runs.{IsRefusal};
 ghost use Rattle.line_tool.specs.Words.{IsForm, IsNoForm, texts};
@@ -8,6 +8,7 @@ ghost use Rattle.line_tool.specs.declared.words.Command.{Command};
 
 use crate::check::{check_plan, status_of_check};
 use crate::ended::status_of;
+use crate::plan_run::{run_plan, status_of_run};
 use crate::pull::write_pull;
 use crate::slot::write_slot;
 use crate::words::command_of;
@@ -16,7 +17,7 @@ use otn_ports::{Chooser, Rack, Sink, Source};
 use std::alloc::Global;
 
 /// Does all that the program does: the command that the words say, over these places, with its output
-/// to the report. The chooser is not used by any command yet.
+/// to the report.
 ///
 /// `slot K` writes the 1,904 payload bytes of tributary slot K, 1 to 8, row by row (G.709 clause 19.1), of
 /// each whole frame that line input 0 gives, in order, of 131,072 frames at most; after that many it asks
@@ -25,6 +26,9 @@ use std::alloc::Global;
 /// 16,384 turns at most; where by then the line has not ended, no read came to its end and it is not dead, it asks for one
 /// byte more. A write of the report that fails ends either at once, with ReportFault.
 /// `check` reads the plan, and writes `plan connections N turns T` where it is accepted.
+/// `run` and `run --order N` read the plan, and where it is accepted carry it over the places, turn by turn, serving the ports that are ready
+/// in an order that the chooser says; then they write the report. A write of the report that fails ends them with ReportFault; else the
+/// answer is Cut where a place that the plan uses is dead, Unfinished where a line has more or a client is not spent, and Done.
 ///
 /// `Answers` says, of each command, what it took, what it wrote and why it ended, of all that it was
 /// handed: `device` before and after. What follows from it for the bytes that the line gave, and for
@@ -41,22 +45,21 @@ pub fn run<P: Source, K: Sink, C: Chooser, I: Source, O: Sink>(
     // The words say the command: Words is the answer exactly where they are the form of none, and then nothing was asked.
     ensures words { (result ≡ Status.Words) ↔ IsNoForm (texts words.now) }
     ensures form { result ≢ Status.Words → (command : Command) × IsForm (texts words.now) command }
-    ensures idle { result ≡ Status.Words → (plan.new ≡ plan.old) × (bays.new ≡ bays.old) × (report.new ≡ report.old) }
+    ensures idle { result ≡ Status.Words → (plan.new ≡ plan.old) × (bays.new ≡ bays.old) × (report.new ≡ report.old) × (chooser.new ≡ chooser.old) }
 
-    // The command is answered for, by LineAnswers or CheckAnswers, over all that was handed in, before and after.
+    // The command is answered for, by LineAnswers, CheckAnswers or RunAnswers, over all that was handed in, before and after.
     ensures answers { (command : Command) → IsForm (texts words.now) command
         → Answers command (device P.Source K.Sink I.Source O.Sink plan.old bays.old report.old)
-        (device P.Source K.Sink I.Source O.Sink plan.new bays.new report.new) result }
+        (device P.Source K.Sink I.Source O.Sink plan.new bays.new report.new) (C.asked chooser.old) (C.asked chooser.new) result }
 
-    // Before anything was done: after Words, PlanFault, Plan and Memory all places and the report are as they were.
-    ensures refused { IsRefusal result → (bays.new ≡ bays.old) × (report.new ≡ report.old) }
+    // Before anything was done: after Words, PlanFault, Plan and Memory all places, the report and the chooser are as they were.
+    ensures refused { IsRefusal result → (bays.new ≡ bays.old) × (report.new ≡ report.old) × (chooser.new ≡ chooser.old) }
 
     // What stays.
     ensures stays { Stays (device P.Source K.Sink I.Source O.Sink plan.old bays.old report.old)
         (device P.Source K.Sink I.Source O.Sink plan.new bays.new report.new) }
     ensures alone { (command : Command) → IsForm (texts words.now) command
-        → (LeavesPlan command → plan.new ≡ plan.old) × (LeavesBays command → bays.new ≡ bays.old) }
-    ensures unused { chooser.new ≡ chooser.old }
+        → (LeavesPlan command → plan.new ≡ plan.old) × (LeavesBays command → bays.new ≡ bays.old) × (LeavesChooser command → chooser.new ≡ chooser.old) }
 {
     match command_of(words) {
         Some(Command::Slot(slot)) => {
@@ -68,15 +71,10 @@ pub fn run<P: Source, K: Sink, C: Chooser, I: Source, O: Sink>(
             status_of(write_pull(alloc, port, &slots, tapped, report))
         }
         Some(Command::Check) => status_of_check(check_plan(alloc, plan, report)),
-        Some(Command::Run) => not_yet(),
-        Some(Command::RunOrdered(_)) => not_yet(),
+        Some(Command::Run) => status_of_run(run_plan(alloc, plan, bays, chooser, report)),
+        Some(Command::RunOrdered(_)) => {
+            status_of_run(run_plan(alloc, plan, bays, chooser, report))
+        }
         None => Status::Words,
     }
-}
-
-// The answer of a command that has no body yet.
-fn not_yet() -> Status
-    ensures { result ≡ Status.Memory }
-{
-    Status::Memory
 }

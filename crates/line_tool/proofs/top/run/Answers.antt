@@ -4,10 +4,11 @@ use Rattle.line_tool.specs.Answers.{Answers}
 use Rattle.line_tool.specs.Device.{device}
 use Rattle.line_tool.specs.Ends.{check_status}
 use Rattle.line_tool.specs.PullReport.{tributary}
+use Rattle.line_tool.specs.RunAnswers.{RunAnswers}
 use Rattle.line_tool.specs.Runs.{IsRefusal}
 use Rattle.line_tool.specs.Words.{texts}
-use Rattle.line_tool.specs.declared.words.Command.TheVariants.{Slot, Pull}
-use Rattle.line_tool.proofs.Answered.{check_stays, line_stays, nothing_stays, pull_answered, pull_gave, refused_line, slot_answered, slot_gave}
+use Rattle.line_tool.specs.declared.words.Command.TheVariants.{Slot, Pull, Run, RunOrdered}
+use Rattle.line_tool.proofs.Answered.{check_stays, line_stays, nothing_stays, pull_answered, refused_line, slot_answered}
 use Rattle.line_tool.proofs.Forms.{one_form}
 use Rattle.line_tool.proofs.top.run.Goals as goal
 
@@ -19,20 +20,19 @@ returns-in-Some-Slot-clause-answers g c = λ command form.
     let old = device g.P.Source g.K.Sink g.I.Source g.O.Sink c.args.plan.now c.args.bays.now c.args.report.now in
     let run = slot_answered g.P.Source g.K.Sink g.I.Source g.O.Sink c.args.plan.now c.args.bays.now c.line_in_mut-line.result.now c.write_slot.new.line c.args.report.now c.write_slot.new.report
     c.write_slot.result c.in-Some-Slot.slot c.line_in_mut-line.ensures.value c.write_slot.ensures.memory c.write_slot.ensures.run c.write_slot.ensures.report in
-    subst (λ k. Answers k old (device g.P.Source g.K.Sink g.I.Source g.O.Sink c.args.plan.now (with_line_in c.args.bays.now 0 c.write_slot.new.line) c.write_slot.new.report) c.status_of.result) (one_form (texts c.args.words.now) (Slot c.in-Some-Slot.slot) command mine form)
-    (subst (λ answer. Answers (Slot c.in-Some-Slot.slot) old (device g.P.Source g.K.Sink g.I.Source g.O.Sink c.args.plan.now (with_line_in c.args.bays.now 0 c.write_slot.new.line) c.write_slot.new.report) answer) (sym c.status_of.ensures) run)
+    subst (λ k. Answers k old (device g.P.Source g.K.Sink g.I.Source g.O.Sink c.args.plan.now (with_line_in c.args.bays.now 0 c.write_slot.new.line) c.write_slot.new.report) (g.C.Chooser.asked c.args.chooser.now) (g.C.Chooser.asked c.args.chooser.now) c.status_of.result) (one_form (texts c.args.words.now) (Slot c.in-Some-Slot.slot) command mine form)
+    (subst (λ answer. Answers (Slot c.in-Some-Slot.slot) old (device g.P.Source g.K.Sink g.I.Source g.O.Sink c.args.plan.now (with_line_in c.args.bays.now 0 c.write_slot.new.line) c.write_slot.new.report) (g.C.Chooser.asked c.args.chooser.now) (g.C.Chooser.asked c.args.chooser.now) answer) (sym c.status_of.ensures) run)
 
 pub returns-in-Some-Slot-clause-refused : goal.returns-in-Some-Slot-clause-refused
 returns-in-Some-Slot-clause-refused g c = λ refusal.
-    refused_line c.args.bays.now c.line_in_mut-line.result.now c.write_slot.new.line c.args.report.now c.write_slot.new.report
-    c.write_slot.result c.line_in_mut-line.ensures.value c.write_slot.ensures.memory (subst IsRefusal c.status_of.ensures refusal)
+    let same = refused_line c.args.bays.now c.line_in_mut-line.result.now c.write_slot.new.line c.args.report.now c.write_slot.new.report
+    c.write_slot.result c.line_in_mut-line.ensures.value c.write_slot.ensures.memory (subst IsRefusal c.status_of.ensures refusal) in
+    (same.0, same.1, refl)
 
 pub returns-in-Some-Slot-clause-stays : goal.returns-in-Some-Slot-clause-stays
 returns-in-Some-Slot-clause-stays g c =
     line_stays g.P.Source g.K.Sink g.I.Source g.O.Sink c.args.plan.now c.args.bays.now c.line_in_mut-line.result.now c.write_slot.new.line c.args.report.now c.write_slot.new.report
-    c.write_slot.result c.line_in_mut-line.ensures.value c.write_slot.ensures.memory
-    (slot_gave c.write_slot.result c.in-Some-Slot.slot g.I.Source c.line_in_mut-line.result.now c.write_slot.new.line (g.K.Sink.got c.args.report.now) (g.K.Sink.got c.write_slot.new.report) c.write_slot.ensures.run)
-    c.write_slot.ensures.report
+    c.write_slot.result c.write_slot.ensures.memory c.write_slot.ensures.report
 
 -- ---- `pull`
 
@@ -42,25 +42,24 @@ returns-in-Some-Pull-clause-answers g c = λ command form.
     let old = device g.P.Source g.K.Sink g.I.Source g.O.Sink c.args.plan.now c.args.bays.now c.args.report.now in
     let run = pull_answered g.P.Source g.K.Sink g.I.Source g.O.Sink c.args.plan.now c.args.bays.now c.line_in_mut-tapped.result.now c.write_pull.new.line c.args.report.now c.write_pull.new.report
     c.write_pull.result (tributary c.in-Some-Pull.port c.in-Some-Pull.slots.list) c.line_in_mut-tapped.ensures.value c.write_pull.ensures.memory c.write_pull.ensures.run c.write_pull.ensures.report in
-    subst (λ k. Answers k old (device g.P.Source g.K.Sink g.I.Source g.O.Sink c.args.plan.now (with_line_in c.args.bays.now 0 c.write_pull.new.line) c.write_pull.new.report) c.status_of-in-Some-Pull.result) (one_form (texts c.args.words.now) (Pull c.in-Some-Pull.port c.in-Some-Pull.slots) command mine form)
-    (subst (λ answer. Answers (Pull c.in-Some-Pull.port c.in-Some-Pull.slots) old (device g.P.Source g.K.Sink g.I.Source g.O.Sink c.args.plan.now (with_line_in c.args.bays.now 0 c.write_pull.new.line) c.write_pull.new.report) answer) (sym c.status_of-in-Some-Pull.ensures) run)
+    subst (λ k. Answers k old (device g.P.Source g.K.Sink g.I.Source g.O.Sink c.args.plan.now (with_line_in c.args.bays.now 0 c.write_pull.new.line) c.write_pull.new.report) (g.C.Chooser.asked c.args.chooser.now) (g.C.Chooser.asked c.args.chooser.now) c.status_of-in-Some-Pull.result) (one_form (texts c.args.words.now) (Pull c.in-Some-Pull.port c.in-Some-Pull.slots) command mine form)
+    (subst (λ answer. Answers (Pull c.in-Some-Pull.port c.in-Some-Pull.slots) old (device g.P.Source g.K.Sink g.I.Source g.O.Sink c.args.plan.now (with_line_in c.args.bays.now 0 c.write_pull.new.line) c.write_pull.new.report) (g.C.Chooser.asked c.args.chooser.now) (g.C.Chooser.asked c.args.chooser.now) answer) (sym c.status_of-in-Some-Pull.ensures) run)
 
 pub returns-in-Some-Pull-clause-refused : goal.returns-in-Some-Pull-clause-refused
 returns-in-Some-Pull-clause-refused g c = λ refusal.
-    refused_line c.args.bays.now c.line_in_mut-tapped.result.now c.write_pull.new.line c.args.report.now c.write_pull.new.report
-    c.write_pull.result c.line_in_mut-tapped.ensures.value c.write_pull.ensures.memory (subst IsRefusal c.status_of-in-Some-Pull.ensures refusal)
+    let same = refused_line c.args.bays.now c.line_in_mut-tapped.result.now c.write_pull.new.line c.args.report.now c.write_pull.new.report
+    c.write_pull.result c.line_in_mut-tapped.ensures.value c.write_pull.ensures.memory (subst IsRefusal c.status_of-in-Some-Pull.ensures refusal) in
+    (same.0, same.1, refl)
 
 pub returns-in-Some-Pull-clause-stays : goal.returns-in-Some-Pull-clause-stays
 returns-in-Some-Pull-clause-stays g c =
     line_stays g.P.Source g.K.Sink g.I.Source g.O.Sink c.args.plan.now c.args.bays.now c.line_in_mut-tapped.result.now c.write_pull.new.line c.args.report.now c.write_pull.new.report
-    c.write_pull.result c.line_in_mut-tapped.ensures.value c.write_pull.ensures.memory
-    (pull_gave c.write_pull.result (tributary c.in-Some-Pull.port c.in-Some-Pull.slots.list) g.I.Source c.line_in_mut-tapped.result.now c.write_pull.new.line (g.K.Sink.got c.args.report.now) (g.K.Sink.got c.write_pull.new.report) c.write_pull.ensures.run)
-    c.write_pull.ensures.report
+    c.write_pull.result c.write_pull.ensures.memory c.write_pull.ensures.report
 
 -- ---- `check`, and no command
 
 pub returns-in-Some-Check-clause-refused : goal.returns-in-Some-Check-clause-refused
-returns-in-Some-Check-clause-refused g c = λ refusal. (refl, c.check_plan.ensures.refused (subst IsRefusal c.status_of_check.ensures refusal))
+returns-in-Some-Check-clause-refused g c = λ refusal. (refl, c.check_plan.ensures.refused (subst IsRefusal c.status_of_check.ensures refusal), refl)
 
 pub returns-in-Some-Check-clause-stays : goal.returns-in-Some-Check-clause-stays
 returns-in-Some-Check-clause-stays g c =
@@ -69,10 +68,32 @@ returns-in-Some-Check-clause-stays g c =
 pub returns-in-None-clause-stays : goal.returns-in-None-clause-stays
 returns-in-None-clause-stays g c = nothing_stays g.P.Source g.K.Sink g.I.Source g.O.Sink c.args.plan.now c.args.bays.now c.args.report.now
 
--- ---- `run`, which does nothing yet
+-- ---- `run`, in any order
+
+pub returns-in-Some-Run-clause-answers : goal.returns-in-Some-Run-clause-answers
+returns-in-Some-Run-clause-answers g c = λ command form.
+    let mine = rw c.in-Some-Run.field-0-is at c.in-Some-Run.ensures.form in
+    let old = device g.P.Source g.K.Sink g.I.Source g.O.Sink c.args.plan.now c.args.bays.now c.args.report.now in
+    let new = device g.P.Source g.K.Sink g.I.Source g.O.Sink c.run_plan.new.plan c.run_plan.new.bays c.run_plan.new.report in
+    subst (λ k. Answers k old new (g.C.Chooser.asked c.args.chooser.now) (g.C.Chooser.asked c.run_plan.new.chooser) c.status_of_run.result) (one_form (texts c.args.words.now) Run command mine form)
+    (subst (λ answer. RunAnswers old new (g.C.Chooser.asked c.args.chooser.now) (g.C.Chooser.asked c.run_plan.new.chooser) answer) (sym c.status_of_run.ensures) c.run_plan.ensures.ran)
+
+pub returns-in-Some-Run-clause-refused : goal.returns-in-Some-Run-clause-refused
+returns-in-Some-Run-clause-refused g c = λ refusal. c.run_plan.ensures.refused (subst IsRefusal c.status_of_run.ensures refusal)
 
 pub returns-in-Some-Run-clause-stays : goal.returns-in-Some-Run-clause-stays
-returns-in-Some-Run-clause-stays g c = nothing_stays g.P.Source g.K.Sink g.I.Source g.O.Sink c.args.plan.now c.args.bays.now c.args.report.now
+returns-in-Some-Run-clause-stays g c = c.run_plan.ensures.stays
+
+pub returns-in-Some-RunOrdered-clause-answers : goal.returns-in-Some-RunOrdered-clause-answers
+returns-in-Some-RunOrdered-clause-answers g c = λ command form.
+    let mine = rw c.in-Some-RunOrdered.field-0-is at c.in-Some-RunOrdered.ensures.form in
+    let old = device g.P.Source g.K.Sink g.I.Source g.O.Sink c.args.plan.now c.args.bays.now c.args.report.now in
+    let new = device g.P.Source g.K.Sink g.I.Source g.O.Sink c.run_plan-in-Some-RunOrdered.new.plan c.run_plan-in-Some-RunOrdered.new.bays c.run_plan-in-Some-RunOrdered.new.report in
+    subst (λ k. Answers k old new (g.C.Chooser.asked c.args.chooser.now) (g.C.Chooser.asked c.run_plan-in-Some-RunOrdered.new.chooser) c.status_of_run-in-Some-RunOrdered.result) (one_form (texts c.args.words.now) (RunOrdered c.in-Some-RunOrdered.field-0) command mine form)
+    (subst (λ answer. RunAnswers old new (g.C.Chooser.asked c.args.chooser.now) (g.C.Chooser.asked c.run_plan-in-Some-RunOrdered.new.chooser) answer) (sym c.status_of_run-in-Some-RunOrdered.ensures) c.run_plan-in-Some-RunOrdered.ensures.ran)
+
+pub returns-in-Some-RunOrdered-clause-refused : goal.returns-in-Some-RunOrdered-clause-refused
+returns-in-Some-RunOrdered-clause-refused g c = λ refusal. c.run_plan-in-Some-RunOrdered.ensures.refused (subst IsRefusal c.status_of_run-in-Some-RunOrdered.ensures refusal)
 
 pub returns-in-Some-RunOrdered-clause-stays : goal.returns-in-Some-RunOrdered-clause-stays
-returns-in-Some-RunOrdered-clause-stays g c = nothing_stays g.P.Source g.K.Sink g.I.Source g.O.Sink c.args.plan.now c.args.bays.now c.args.report.now
+returns-in-Some-RunOrdered-clause-stays g c = c.run_plan-in-Some-RunOrdered.ensures.stays
