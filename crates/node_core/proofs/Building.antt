@@ -69,13 +69,18 @@ first_pipe inputs x link new start =
     let now : new.made.start ≡ 0 + 1 = (let e = new.is.start in let least = new.is.first in omega arith) in
     new.starts.stands now x (own_input inputs x) new.is (input_kind inputs x.from)
 
-first_pipes : (plan : Plan) (node : NodeView) → IsNewNode plan node → PipesStand plan no_bytes node
-first_pipes plan node new = record {
+-- a plan has a turn, which a new node has not done
+not_past : (plan : Plan) (node : NodeView) → fault_in plan ≡ None → IsNewNode plan node → node.turns ≤ node.past → ⊥
+not_past plan node accepted new over = let some = (sound_plan plan accepted).turns_least in omega (arith, new.past, new.turns)
+
+first_pipes : (plan : Plan) (node : NodeView) → fault_in plan ≡ None → IsNewNode plan node → PipesStand plan no_bytes node
+first_pipes plan node accepted new = record {
   each = λ inputs may i x link at has active.
       let start : x.start ≤ 1 = (let a = active.start in let past = new.past in omega arith) in
       let zeroth : 0 ≡ own_turn x node.past = (let past = new.past in omega arith) in
       at_start plan inputs x node.past (own_turn x node.past) (taken_pieces node link.from) (given_pieces node link.to) link.pipe (none_taken plan node new link.from) (none_given plan node new link.to)
       (subst (λ j. PipeStands x (own_input inputs x) j [] false 0 link.pipe) zeroth (first_pipe inputs x link (new.links.each i x link at has) start));
+  last = λ over inputs may i x link at has stop. absurd (not_past plan node accepted new over);
 }
 
 no_frames_yet : (size past done : ℕ) → past ≡ 0 → done ≡ 0 → 0 ≡ size * past + done
@@ -144,7 +149,7 @@ pub first_moment : (plan : Plan) (node : NodeView) → fault_in plan ≡ None �
 first_moment plan node accepted new first = record {
   plan_stands = first_plan plan node accepted new;
   lines_in = first_lines_in plan node first new;
-  pipes = first_pipes plan node new;
+  pipes = first_pipes plan node accepted new;
   lines_out = first_lines_out plan node first new;
   clients_in = first_clients_in plan node first accepted new;
   clients_out = first_clients_out plan node first accepted new;

@@ -174,6 +174,19 @@ pipe_next plan first taken old new was inputs p m done lines pipes may i x link 
       (pipe_goes_on plan first taken old new was inputs p m done lines pipes may i x link at t before))
 ]
 
+-- the pipe of one whose last turn this was
+pipe_last : (plan : Plan) (first : BaysView) (taken : Bytes) (old new : NodeView) (was : BaysView) (inputs : Inputs) → PlanStands plan old → (m : FenceMove old new)
+    → ((name : PortName) → uses plan name ≡ true → done_at old name ≡ pieces_by plan name) → LinesIn plan first taken old was → PipesStand plan taken old → MayGive plan taken old inputs
+    → (i : ℕ) (x : Connection) (link : Link) → slice_get plan.connections i ≡ Some x → (t : Turned old m.wholes i x link) → x.stop ≡ old.past + 1
+    → PipeStands x (own_input inputs x) (own_turn x (old.past + 1)) [] false 0 link.pipe
+pipe_last plan first taken old new was inputs p m done lines pipes may i x link at t stop =
+    let start : x.start ≤ old.past + 1 = (let span = ((sound_plan plan p.accepted).entries i x at).span in omega arith) in
+    let same : link ≡ t.turns.between = not_started old m.wholes i x link t (λ e. absurd (omega arith)) in
+    let before : IsActive x old.past = record { start = start; stop = omega arith } in
+    subst (λ j. PipeStands x (own_input inputs x) j [] false 0 link.pipe) (own_next x old.past t.was.first start)
+    (subst (λ (l : Link). PipeStands x (own_input inputs x) (suc (own_turn x old.past)) [] false 0 l.pipe) (sym same)
+    (pipe_goes_on plan first taken old new was inputs p m done lines pipes may i x link at t before))
+
 fence_pipes : (plan : Plan) (first : BaysView) (taken : Bytes) (old new : NodeView) (was : BaysView) → PlanStands plan old → FenceMove old new
     → ((name : PortName) → uses plan name ≡ true → done_at old name ≡ pieces_by plan name) → LinesIn plan first taken old was → PipesStand plan taken old → PipesStand plan taken new
 fence_pipes plan first taken old new was p m done lines pipes = record {
@@ -183,6 +196,9 @@ fence_pipes plan first taken old new was p m done lines pipes = record {
       let next = pipe_next plan first taken old new was inputs p m done lines pipes (fence_earlier old new plan taken p m inputs may) i x link at t on in
       at_start plan inputs x new.past (own_turn x new.past) (taken_pieces new link.from) (given_pieces new link.to) link.pipe (no_taken old new m link.from) (no_given old new m link.to)
       (subst (λ n. PipeStands x (own_input inputs x) (own_turn x n) [] false 0 link.pipe) (sym m.past) next);
+  last = λ over inputs may i x link at has stop.
+      subst (λ n. PipeStands x (own_input inputs x) (own_turn x n) [] false 0 link.pipe) (sym m.past)
+      (pipe_last plan first taken old new was inputs p m done lines pipes (fence_earlier old new plan taken p m inputs may) i x link at (turned plan old new p m i x link at has) (stop ∙ m.past));
 }
 
 -- ---- lines out

@@ -28,3 +28,4 @@ pub mod StepsKept
 pub mod EndLines
 pub mod Emptied
 pub mod ClientPieces
+pub mod NodeReads

@@ -34,7 +34,7 @@ use Rattle.node_core.specs.declared.link.Link.{Link}
 use Rattle.node_core.specs.declared.link.Target.{Target}
 use Rattle.node_core.specs.declared.link.Target.TheVariants as target
 use Rattle.node_core.proofs.PieceCounts.{done_more, done_same}
-use Rattle.node_core.proofs.Parts.{and_none, one_at, each_goes, link_before, Kept, on_active, IsReady, ready, ready_used, ready_less, plan_counted, lines_out_same, clients_in_same, clients_out_same, clients_may}
+use Rattle.node_core.proofs.Parts.{and_none, not_over, one_at, each_goes, link_before, Kept, on_active, IsReady, ready, ready_used, ready_less, plan_counted, lines_out_same, clients_in_same, clients_out_same, clients_may}
 
 -- ---- the frames that pieces came to
 
@@ -217,6 +217,7 @@ line_in_pipes plan first was is a taken old new p r m counted ps kept h = record
       let from : link.from ≡ origin_of x.from = b.goes.same.from ∙ of_x.from in
       let given : given_pieces new link.to ≡ given_pieces old b.old.to = ap (given_pieces new) b.goes.same.to ∙ given_same a old new same b.old.to in
       rw (m.past, from, given) after;
+  last = λ over inputs may i x link at_i has stop. absurd (not_over old new r.going m.turns m.past over);
 }
 
 -- ---- the moment

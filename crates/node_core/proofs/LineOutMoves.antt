@@ -32,7 +32,7 @@ use Rattle.node_core.specs.declared.link.Origin.{Origin}
 use Rattle.node_core.specs.declared.link.Origin.TheVariants as origin
 use Rattle.node_core.specs.declared.link.Target.TheVariants as target
 use Rattle.node_core.proofs.PieceCounts.{done_more, done_same}
-use Rattle.node_core.proofs.Parts.{and_none, one_at, each_goes, link_before, Kept, on_active, IsReady, ready, ready_used, ready_less, plan_counted, lines_in_same, clients_in_same, clients_out_same, clients_may}
+use Rattle.node_core.proofs.Parts.{and_none, not_over, one_at, each_goes, link_before, Kept, on_active, IsReady, ready, ready_used, ready_less, plan_counted, lines_in_same, clients_in_same, clients_out_same, clients_may}
 
 -- ---- connections that give nothing to the line
 
@@ -112,6 +112,7 @@ line_out_pipes plan was is b taken old new p r m kept h = record {
       let to : link.to ≡ target_of x.to = before.goes.same.to ∙ of_x.to in
       let from : taken_pieces new link.from ≡ taken_pieces old before.old.from = ap (taken_pieces new) before.goes.same.from ∙ taken_same b old new same before.old.from in
       rw (m.past, to, from) after;
+  last = λ over inputs may i x link at_i has stop. absurd (not_over old new r.going m.turns m.past over);
 }
 
 -- ---- the frame

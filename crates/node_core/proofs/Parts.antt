@@ -112,6 +112,10 @@ ready node name h =
     let open_is = opened node.pieces name (and_right (nat_lt node.past node.turns) (is_open node.pieces name) h) in
     record { going = grind (arith, nat_tests); within = open_is.within; wants = open_is.wants }
 
+-- so the node is not past its last turn, before a piece and after it
+pub not_over : (old new : NodeView) → old.past < old.turns → new.turns ≡ old.turns → new.past ≡ old.past → new.turns ≤ new.past → ⊥
+not_over old new going turns past over = omega arith
+
 -- the plan uses it
 pub ready_used : (plan : Plan) (node : NodeView) (name : PortName) → PlanStands plan node → IsReady node name → uses plan name ≡ true
 ready_used plan node name p r = go (uses plan name) refl

@@ -36,6 +36,10 @@ pub record IsLinkOf (x : Connection) (link : Link) : Type 0 where
 abbrev pub is_on : (past : ℕ) → Link → Bool
 is_on past link = nat_le link.start (past + 1) && nat_le (past + 1) link.stop
 
+-- it was active in the last turn that is done
+abbrev pub was_on : (past : ℕ) → Link → Bool
+was_on past link = nat_le 1 past && (nat_le link.start past && nat_le past link.stop)
+
 -- all but its pipe is as it was
 pub record SameEntry (old new : Link) : Type 0 where
   pub from : new.from ≡ old.from

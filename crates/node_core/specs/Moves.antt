@@ -59,6 +59,13 @@ abbrev pub is_to_client : (n : ℕ) → Target → Bool
 is_to_client n (target.Line line number slots) = false
 is_to_client n (target.Client client) = client == n
 
+-- it comes from client n; or goes to it, whether it is active or not
+abbrev pub has_client_in : (n : ℕ) → Link → Bool
+has_client_in n link = is_from_client n link.from
+
+abbrev pub has_client_out : (n : ℕ) → Link → Bool
+has_client_out n link = is_to_client n link.to
+
 -- it is active in turn past + 1, and comes from line a, or client n; or goes to line b, or client n
 abbrev pub takes_line : (past a : ℕ) → Link → Bool
 takes_line past a link = is_on past link && is_from_line a link.from

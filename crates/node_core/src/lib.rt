@@ -6,6 +6,7 @@
 //! - `pieces`, `ports`: how many pieces each port has in a turn, and how many are done.
 //! - `link`: a connection of the node, with its pipe.
 //! - `lines_in`, `lines_out`, `clients`: a piece of each kind of port.
+//! - `reads`: what a node tells of its ports and its connections.
 //! - `turn`: the end of a turn; `retire`: client places at the stop of their connection.
 #![tactic(auto)]
 
@@ -17,6 +18,7 @@ mod link;
 mod node;
 mod pieces;
 mod ports;
+mod reads;
 mod retire;
 mod runs;
 mod turn;

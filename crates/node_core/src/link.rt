@@ -1,17 +1,21 @@
 // A connection of a node: which ports it joins, in which turns, and its pipe.
-ghost use Rattle.std.specs.Prelude.{◌≡◌, ◌<◌, ◌≤◌, ◌+◌, ◌&&◌, ◌==◌, ◌^◌, ℕ, Bool, true, false, None, Some, IfOk, length, slice_get, get_or};
+ghost use Rattle.std.specs.Prelude.{◌≡◌, ◌<◌, ◌≤◌, ◌+◌, ◌&&◌, ◌==◌, ◌^◌, ℕ, Bool, true, false, None, Some, IfOk, length, slice_get, get_or, is_some, List, Option};
 ghost use Rattle.otn_ports.specs.InPlace.{in_view};
 ghost use Rattle.otn_ports.specs.OutPlace.{out_view};
 ghost use Rattle.plan_file.specs.Answer.{fault_in};
 ghost use Rattle.plan_file.specs.declared.connection.Connection.{Connection};
+ghost use Rattle.tributary_model.specs.Places.{Taken};
+ghost use Rattle.device_model.specs.Through.{OwnInput, state_in};
+ghost use Rattle.cross_matrix.specs.Parts.{turns_taken};
+ghost use Rattle.cross_matrix.specs.Pipes.{PipeStands};
 ghost use Rattle.node_core.specs.LineFrames.{PutsOwn};
-ghost use Rattle.node_core.specs.Links.{IsLinkOf, is_on, origin_of, target_of};
-ghost use Rattle.node_core.specs.Moves.{TookFrame, GaveFrame, Fences, is_from_line, is_from_client, is_to_line, is_to_client, takes_line, takes_client, gives_line, gives_client};
+ghost use Rattle.node_core.specs.Links.{IsLinkOf, is_on, was_on, origin_of, target_of};
+ghost use Rattle.node_core.specs.Moves.{TookFrame, GaveFrame, Fences, is_from_line, is_from_client, is_to_line, is_to_client, has_client_in, has_client_out, takes_line, takes_client, gives_line, gives_client};
 ghost use Rattle.node_core.specs.LinkMoves.{TookText, GaveText, EndsFrames, EndsPipe};
 ghost use Rattle.node_core.specs.NodeMoves.{Starts, whole_for, ends_here};
 
 use cross_matrix::Pipe;
-use device_model::accepted_plans;
+use device_model::{FromState, accepted_plans};
 use frame_geometry::Frame;
 use otn_base::limits::LINE_COLUMNS;
 use otn_base::{Memory, Slots};
@@ -72,6 +76,20 @@ impl Link {
         ensures fits { result ≡ true → past + 1 < 2 ^ 32 }
     {
         self.start.saturating_sub(1) <= past && past < self.stop
+    }
+
+    /// Whether it comes from client input `n`, active or not.
+    pub(crate) fn has_client_in(&self, n: u8) -> bool
+        ensures { result ≡ has_client_in n self.now }
+    {
+        comes_from_client(n, self.from)
+    }
+
+    /// Whether it goes to client output `n`, active or not.
+    pub(crate) fn has_client_out(&self, n: u8) -> bool
+        ensures { result ≡ has_client_out n self.now }
+    {
+        goes_to_client(n, &self.to)
     }
 
     /// Whether it is active in turn past + 1, and comes from line input `a`.
@@ -144,6 +162,26 @@ impl Link {
         if self.is_on(past) {
             end_pipe(self.from, &mut self.pipe, past, wholes);
         }
+    }
+
+    /// What it comes from is after the last turn that is done, if it was active in that.
+    pub(crate) fn last_state(&self, past: u32) -> Option<FromState>
+        ensures active { is_some result ≡ was_on past self.now }
+        ensures state { was_on past self.now ≡ true → (x : Connection) (input : OwnInput) (j filled : ℕ) (frames : List Taken) (ended : Bool) → PipeStands x input j frames ended filled self.now.pipe
+            → result ≡ Some (state_in x input (turns_taken j ended)) }
+    {
+        if self.was_on(past) {
+            Some(self.pipe.from_state())
+        } else {
+            None
+        }
+    }
+
+    // Whether it was active in the last turn that is done.
+    fn was_on(&self, past: u32) -> bool
+        ensures { result ≡ was_on past self.now }
+    {
+        1 <= past && self.start <= past && past <= self.stop
     }
 
     /// Begins, if its first turn is turn past + 1.

@@ -1,0 +1,19 @@
+use Rattle.std.proofs.Common.{◌≡◌, ◌<◌, ◌≤◌, ◌∙◌, Some, length, sym, ap, subst, arith}
+use Rattle.node_core.specs.LinkMoves.{FirstOf}
+use Rattle.node_core.specs.Moves.{has_client_in}
+use Rattle.node_core.proofs.LinkFinds.{found_here, none_next, none_at_all}
+use Rattle.node_core.proofs.reads.link_from_client.Goals as goal
+
+pub loop-link-preserved : goal.loop-link-preserved
+loop-link-preserved c = record {
+  at = (let at = c.loop-link.invariant.at in omega arith);
+  none = none_next (has_client_in c.args.n) c.args.links.now c.loop-link.link-index c.link-item.result (let test = c.loop-link-test.true in omega arith) c.link-item.is
+      (sym c.has_client_in.ensures ∙ c.if-has_client_in.false) c.loop-link.invariant.none;
+}
+
+pub returns-then-has_client_in : goal.returns-then-has_client_in
+returns-then-has_client_in c = subst (λ i. FirstOf (has_client_in c.args.n) c.args.links.now (Some i)) (sym c.loop-link.invariant.at)
+    (found_here (has_client_in c.args.n) c.args.links.now c.loop-link.link-index c.link-item.result (let test = c.loop-link-test.true in omega arith) c.link-item.is (sym c.has_client_in.ensures ∙ c.if-has_client_in.true))
+
+pub returns : goal.returns
+returns c = none_at_all (has_client_in c.args.n) c.args.links.now c.loop-link.link-index (let test = c.loop-link-test.false in omega arith) c.loop-link.invariant.none
