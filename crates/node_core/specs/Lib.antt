@@ -12,3 +12,4 @@ pub mod LineEnds
 pub mod Retiring
 pub mod RunLeft
 pub mod Settling
+pub mod RunNumbers

@@ -7,6 +7,7 @@
 //! - `link`: a connection of the node, with its pipe.
 //! - `lines_in`, `lines_out`, `clients`: a piece of each kind of port.
 //! - `reads`: what a node tells of its ports and its connections.
+//! - `numbers`: the numbers of a settled run, for its report.
 //! - `turn`: the end of a turn; `retire`: client places at the stop of their connection.
 #![tactic(auto)]
 
@@ -16,6 +17,7 @@ mod lines_in;
 mod lines_out;
 mod link;
 mod node;
+mod numbers;
 mod pieces;
 mod ports;
 mod reads;
@@ -25,4 +27,6 @@ mod turn;
 
 pub use device_model::{FromState, Outcome};
 pub use node::Node;
+pub use numbers::{ClientInCounts, ClientOutCounts, RunNumbers};
+pub use ports::uses;
 pub use runs::carry;

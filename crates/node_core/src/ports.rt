@@ -2,7 +2,7 @@
 ghost use Rattle.std.specs.Prelude.{◌≡◌, ◌<◌, ◌≤◌, ◌+◌, ◌==◌, nat_lt, if◌then◌else◌};
 ghost use Rattle.std.specs.List.{list_any};
 ghost use Rattle.device_model.specs.Entries.{is_from_line, is_from_client, is_to_line, is_to_client, kind_by};
-ghost use Rattle.device_model.specs.Moments.{touches, pieces_by, pieces_of};
+ghost use Rattle.device_model.specs.Moments.{touches, uses, pieces_by, pieces_of};
 ghost use Rattle.node_core.specs.Ports.{index_of, port_at};
 
 use otn_base::{LineKind, PortName};
@@ -76,7 +76,7 @@ pub(crate) fn has_number(list: &[u8], number: u8) -> bool
 pub(crate) fn pieces_of(plan: &Plan, name: PortName) -> u8
     ensures { result ≡ pieces_of plan.now name }
 {
-    if is_touched(name, plan.connections.as_slice()) {
+    if uses(plan, name) {
         pieces_by(plan, name)
     } else {
         0
@@ -95,7 +95,14 @@ fn pieces_by(plan: &Plan, name: PortName) -> u8
     }
 }
 
-// Whether one of the connections comes from the port or goes to it.
+/// Whether some connection of the plan comes from the port or goes to it.
+pub fn uses(plan: &Plan, name: PortName) -> bool
+    ensures { result ≡ uses plan.now name }
+{
+    is_touched(name, plan.connections.as_slice())
+}
+
+// Whether one of the connections does.
 fn is_touched(name: PortName, connections: &[Connection]) -> bool
     ensures { result ≡ list_any (touches name) connections.now }
 {
