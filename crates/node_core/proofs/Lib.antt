@@ -29,3 +29,4 @@ pub mod EndLines
 pub mod Emptied
 pub mod ClientPieces
 pub mod NodeReads
+pub mod Told

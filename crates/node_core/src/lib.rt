@@ -6,8 +6,7 @@
 //! - `pieces`, `ports`: how many pieces each port has in a turn, and how many are done.
 //! - `link`: a connection of the node, with its pipe.
 //! - `lines_in`, `lines_out`, `clients`: a piece of each kind of port.
-//! - `reads`: what a node tells of its ports and its connections.
-//! - `numbers`: the numbers of a settled run, for its report.
+//! - `reads`: what a node tells of its ports and its connections; `tally`: all of it together, as the `numbers` of a run for its report.
 //! - `turn`: the end of a turn; `retire`: client places at the stop of their connection.
 #![tactic(auto)]
 
@@ -23,6 +22,7 @@ mod ports;
 mod reads;
 mod retire;
 mod runs;
+mod tally;
 mod turn;
 
 pub use device_model::{FromState, Outcome};
