@@ -16,6 +16,7 @@ pub struct NumberChooser {
 
 impl NumberChooser {
     /// One that was never asked.
+    #[tactic(auto, using(crate::proofs::NumberOrder::generator_first))]
     pub fn new(number: u64) -> NumberChooser
         ensures asked { number_chooser_asked result ≡ 0 }
         ensures words { HasGivenWords number 0 result }
@@ -33,6 +34,7 @@ impl Chooser for NumberChooser {
     ghost asked = { number_chooser_asked };
 
     // Each answer is the next word of the number's generator, whatever the count of what is ready.
+    #[tactic(auto, using(crate::proofs::NumberOrder::generator_next))]
     fn pick(&mut self, _n: u32) -> u32
         ensures asked { number_chooser_asked self.new ≡ raised (number_chooser_asked self.old) 1 }
         ensures word { (number given : ℕ) → HasGivenWords number given self.old → result ≡ order_word number given }
