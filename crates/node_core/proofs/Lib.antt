@@ -30,3 +30,4 @@ pub mod Emptied
 pub mod ClientPieces
 pub mod NodeReads
 pub mod Told
+pub mod PlanPieces
