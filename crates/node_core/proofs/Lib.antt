@@ -31,3 +31,8 @@ pub mod ClientPieces
 pub mod NodeReads
 pub mod Told
 pub mod PlanPieces
+pub mod SettledLines
+pub mod SettledClients
+pub mod Settled
+pub mod Asked
+pub mod RunsLeft

@@ -64,7 +64,7 @@ or_false : (b : Bool) → (b || false) ≡ b
 or_false true = refl
 or_false false = refl
 
-abbrev some_passes : (ends passes : Link → Bool) → List Link → Bool
+abbrev pub some_passes : (ends passes : Link → Bool) → List Link → Bool
 some_passes ends passes links = list_any (λ link. ends link && passes link) links
 
 none_passes : (ends passes : Link → Bool) (links : List Link) → ((i : ℕ) (link : Link) → slice_get links i ≡ Some link → passes link ≡ false) → some_passes ends passes links ≡ false
@@ -81,7 +81,7 @@ fails true h = sym (h refl)
 zero_or : (i : ℕ) → suc i ≡ 0 → false ≡ true
 zero_or i e = absurd (omega arith)
 
-one_passes : (ends passes : Link → Bool) (links : List Link) (i : ℕ) (link : Link) → slice_get links i ≡ Some link → passes link ≡ true
+pub one_passes : (ends passes : Link → Bool) (links : List Link) (i : ℕ) (link : Link) → slice_get links i ≡ Some link → passes link ≡ true
     → ((j : ℕ) (other : Link) → slice_get links j ≡ Some other → passes other ≡ true → j ≡ i) → some_passes ends passes links ≡ ends link
 one_passes ends passes [] i link at is alone = absurd (cc)
 one_passes ends passes (x ∷ links) zero link at is alone =
@@ -122,7 +122,7 @@ same_to : (n : ℕ) (to : ToEnd) → is_to_client n (target_of to) ≡ goes_to n
 same_to n (to_end.Line b number slots) = refl
 same_to n (to_end.Client m) = refl
 
-is_client : (n : ℕ) (from : FromEnd) → comes_from n from ≡ true → from ≡ from_end.Client n
+pub is_client : (n : ℕ) (from : FromEnd) → comes_from n from ≡ true → from ≡ from_end.Client n
 is_client n (from_end.Line a number slots) h = absurd (cc)
 is_client n (from_end.Client m) h = let e : m ≡ n = grind (arith, nat_tests) in ap from_end.Client e
 is_client n (from_end.Signal s) h = absurd (cc)
@@ -135,7 +135,7 @@ is_client_out n (to_end.Client m) h = let e : m ≡ n = grind (arith, nat_tests)
 pub entry_at : (plan : Plan) (node : NodeView) (i : ℕ) (link : Link) → PlanStands plan node → HasLink node i link → (x : Connection) × ((slice_get plan.connections i ≡ Some x) × IsLinkOf x link)
 entry_at plan node i link p at = let x = known_at node.links plan.connections i link p.count at in (x.0, (x.1, p.links i x.0 link x.1 at))
 
-from_as : (n : ℕ) (x : Connection) (link : Link) → IsLinkOf x link → is_from_client n link.from ≡ comes_from n x.from
+pub from_as : (n : ℕ) (x : Connection) (link : Link) → IsLinkOf x link → is_from_client n link.from ≡ comes_from n x.from
 from_as n x link is = ap (is_from_client n) is.from ∙ same_from n x.from
 
 to_as : (n : ℕ) (x : Connection) (link : Link) → IsLinkOf x link → is_to_client n link.to ≡ goes_to n x.to

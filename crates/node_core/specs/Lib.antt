@@ -13,3 +13,4 @@ pub mod Retiring
 pub mod RunLeft
 pub mod Settling
 pub mod RunNumbers
+pub mod Asking

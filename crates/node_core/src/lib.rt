@@ -8,6 +8,7 @@
 //! - `lines_in`, `lines_out`, `clients`: a piece of each kind of port.
 //! - `reads`: what a node tells of its ports and its connections; `tally`: all of it together, as the `numbers` of a run for its report.
 //! - `turn`: the end of a turn; `retire`: client places at the stop of their connection.
+//! - `settle`: the end of a run.
 #![tactic(auto)]
 
 mod build;
@@ -23,6 +24,7 @@ mod reads;
 mod retire;
 mod runs;
 mod tally;
+mod settle;
 mod turn;
 
 pub use device_model::{FromState, Outcome};

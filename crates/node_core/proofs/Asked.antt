@@ -1,0 +1,147 @@
+-- The lines of a node are asked for a byte, one after the other.
+use Rattle.std.proofs.Common.{◌≡◌, ◌≢◌, ◌⊎◌, inl, inr, ◌<◌, ◌≤◌, ◌+◌, ◌∙◌, ◌==◌, ◌||◌, ℕ, zero, suc, Bool, true, false, if◌then◌else◌, List, [], length, Some, slice_get, get_or, refl, sym, ap, subst, arith}
+use Rattle.std.proofs.lemmas.Bool.Decides.{eqb_tells}
+use Rattle.std.specs.Prelude.{not}
+use Rattle.std.proofs.lemmas.Option.{same_Some, slice_get_within, slice_get-get_or}
+use Rattle.otn_base.specs.declared.kind.PortName.{PortName}
+use Rattle.otn_base.specs.declared.limits.TheConstants.{LINES}
+use Rattle.otn_ports.specs.InPlace.{in_view}
+use Rattle.otn_ports.specs.OnePlace.{OnlyLineIn}
+use Rattle.otn_ports.specs.Racks.{bays_view, line_ins, with_line_in}
+use Rattle.otn_ports.specs.Views.{InView, BaysView, line_in_at}
+use Rattle.otn_ports.specs.declared.bays.Rack.{Rack}
+use Rattle.otn_ports.specs.declared.in_place.InPlaceOf.{InPlaceOf}
+use Rattle.otn_ports.specs.declared.sink.Sink as sink
+use Rattle.otn_ports.specs.declared.source.Source as source
+use Rattle.otn_ports.proofs.BaysLaws.{line_in_seen, line_in_set, only_line_in}
+use Rattle.line_side.specs.LineStands.{LineView}
+use Rattle.node_core.specs.Asking.{has_come, ByteAsked, ByteAnswer, LinesAsked, LinesAnswer, asks_line, is_cut, CutAnswer, OpenAnswer, OpenLink, OpensAnswer, SaysSpent}
+use Rattle.node_core.specs.Pieces.{PiecesView}
+use Rattle.node_core.specs.Ports.{index_of, port_at}
+use Rattle.node_core.specs.declared.link.Link.{Link}
+use Rattle.node_core.specs.declared.link.Origin.TheVariants as origin
+use Rattle.node_core.proofs.PortNumbers.{port_at_index}
+
+-- ---- lines
+
+-- no line was asked yet
+pub none_asked : (pieces : PiecesView) (lines : List LineView) (was : BaysView) → LinesAnswer 0 pieces lines was was false
+none_asked pieces lines was = record {
+  asked = record { came = λ a. []; each = λ a line less. absurd (omega arith); rest = λ a le. (refl, refl); line_out = refl; client_in = refl; client_out = refl };
+  some = λ e. absurd (cc);
+  none = λ e a. refl;
+}
+
+-- line a was asked, and no other place
+ask_next : (a : ℕ) (pieces : PiecesView) (lines : List LineView) (line : LineView) (was mid is : BaysView) (more answer : Bool) → slice_get lines a ≡ Some line → OnlyLineIn a mid is
+    → ByteAnswer (asks_line pieces a line) (line_in_at mid a) (line_in_at is a) answer → LinesAnswer a pieces lines was mid more → LinesAnswer (a + 1) pieces lines was is (more || answer)
+ask_next a pieces lines line was mid is more answer known only h before = record {
+  asked = record {
+    came = came;
+    each = λ m other less at. each m other at (eqb_tells m a) less;
+    rest = λ m le. let less : m ≢ a = (λ e. absurd (omega (arith, le, e))) in (only.line_in m less ∙ (before.asked.rest m (omega (arith, le))).0, other_came m less ∙ (before.asked.rest m (omega (arith, le))).1);
+    line_out = only.line_out ∙ before.asked.line_out;
+    client_in = only.client_in ∙ before.asked.client_in;
+    client_out = only.client_out ∙ before.asked.client_out;
+  };
+  some = λ e. some more refl e;
+  none = λ e m. none m (eqb_tells m a) (or_parts more answer e);
+}
+  where
+    came : ℕ → List ℕ
+    came m = if m == a then h.came else before.asked.came m
+
+    here_came : came a ≡ h.came
+    here_came = elim (eqb_tells a a) [ inl t ↦ ap (λ b. if b then h.came else before.asked.came a) t.0 | inr t ↦ absurd (t.1 refl) ]
+
+    other_came : (m : ℕ) → m ≢ a → came m ≡ before.asked.came m
+    other_came m d = elim (eqb_tells m a) [ inl t ↦ absurd (d t.1) | inr t ↦ ap (λ b. if b then h.came else before.asked.came m) t.0 ]
+
+    here : line_in_at mid a ≡ line_in_at was a
+    here = (before.asked.rest a (omega arith)).0
+
+    asked : ByteAsked (asks_line pieces a line) (line_in_at was a) (line_in_at is a) (came a)
+    asked = subst (ByteAsked (asks_line pieces a line) (line_in_at was a) (line_in_at is a)) (sym here_came) (subst (λ v. ByteAsked (asks_line pieces a line) v (line_in_at is a) h.came) here h.asked)
+
+    each : (m : ℕ) (other : LineView) → slice_get lines m ≡ Some other → (((m == a) ≡ true) × (m ≡ a)) ⊎ (((m == a) ≡ false) × (m ≢ a)) → m < a + 1
+        → ByteAsked (asks_line pieces m other) (line_in_at was m) (line_in_at is m) (came m)
+    each m other at (inl t) less =
+        let same : line ≡ other = same_Some line other (sym known ∙ ap (slice_get lines) (sym t.1) ∙ at) in
+        subst (λ k. ByteAsked (asks_line pieces k other) (line_in_at was k) (line_in_at is k) (came k)) (sym t.1)
+        (subst (λ l. ByteAsked (asks_line pieces a l) (line_in_at was a) (line_in_at is a) (came a)) same asked)
+    each m other at (inr t) less =
+        let lower : m < a = let d = t.1 in omega (arith, d, less) in
+        subst (ByteAsked (asks_line pieces m other) (line_in_at was m) (line_in_at is m)) (sym (other_came m t.1))
+        (subst (λ v. ByteAsked (asks_line pieces m other) (line_in_at was m) v (before.asked.came m)) (sym (only.line_in m t.1)) (before.asked.each m other lower at))
+
+    or_parts : (b c : Bool) → (b || c) ≡ false → (b ≡ false) × (c ≡ false)
+    or_parts true c e = absurd (cc)
+    or_parts false c e = (refl, e)
+
+    some : (b : Bool) → more ≡ b → (b || answer) ≡ true → (m : ℕ) × (m < a + 1) × (has_come (came m) ≡ true)
+    some true e t =
+        let s = before.some e in
+        let lower = s.1 in
+        (s.0, omega (arith, lower), ap has_come (other_came s.0 (λ same. absurd (omega (arith, lower, same)))) ∙ s.2)
+    some false e t = (a, omega arith, ap has_come here_came ∙ sym h.tells ∙ t)
+
+    none : (m : ℕ) → (((m == a) ≡ true) × (m ≡ a)) ⊎ (((m == a) ≡ false) × (m ≢ a)) → (more ≡ false) × (answer ≡ false) → has_come (came m) ≡ false
+    none m (inl t) p = ap (λ k. has_come (came k)) t.1 ∙ ap has_come here_came ∙ sym h.tells ∙ p.1
+    none m (inr t) p = ap has_come (other_came m t.1) ∙ before.none p.0 m
+
+pub asked_next : {P K : Type 0} (p : source.Ghosts P) (k : sink.Ghosts K) (rack : Rack P K) (x y : InPlaceOf P) (a : ℕ) (pieces : PiecesView) (lines : List LineView) (line : LineView) (was : BaysView) (asks more answer : Bool)
+    → slice_get lines a ≡ Some line → slice_get (line_ins rack) a ≡ Some x → asks ≡ asks_line pieces a line → ByteAnswer asks (in_view p x) (in_view p y) answer
+    → LinesAnswer a pieces lines was (bays_view p k rack) more → LinesAnswer (a + 1) pieces lines was (bays_view p k (with_line_in rack a y)) (more || answer)
+asked_next p k rack x y a pieces lines line was asks more answer known at asks_is h before =
+    let seen = line_in_seen p k rack a x at in
+    let set = line_in_set p k rack a x y at in
+    ask_next a pieces lines line was (bays_view p k rack) (bays_view p k (with_line_in rack a y)) more answer known (only_line_in p k rack a y)
+    (subst (λ (v : InView). ByteAnswer (asks_line pieces a line) v (line_in_at (bays_view p k (with_line_in rack a y)) a) answer) (sym seen)
+    (subst (λ (v : InView). ByteAnswer (asks_line pieces a line) (in_view p x) v answer) (sym set) (subst (λ b. ByteAnswer b (in_view p x) (in_view p y) answer) asks_is h)))
+    before
+
+-- ---- places
+
+pub none_cut : (pieces : PiecesView) (bays : BaysView) (n : ℕ) → 40 ≤ n → ((i : ℕ) → i < n → is_cut pieces bays (port_at i) ≡ false) → CutAnswer pieces bays false
+none_cut pieces bays n most before = record {
+  some = λ e. absurd (cc);
+  none = λ e name less. ap (is_cut pieces bays) (sym (port_at_index name less)) ∙ before (index_of name) (omega (arith, less, most));
+}
+
+pub cut_next : (pieces : PiecesView) (bays : BaysView) (n : ℕ) → is_cut pieces bays (port_at n) ≡ false → ((i : ℕ) → i < n → is_cut pieces bays (port_at i) ≡ false)
+    → (i : ℕ) → i < n + 1 → is_cut pieces bays (port_at i) ≡ false
+cut_next pieces bays n alive before i less = elim (eqb_tells i n) [
+  | inl t ↦ ap (λ k. is_cut pieces bays (port_at k)) t.1 ∙ alive
+  | inr t ↦ let d = t.1 in before i (omega (arith, d, less))
+]
+
+pub some_cut : (pieces : PiecesView) (bays : BaysView) (name : PortName) → is_cut pieces bays name ≡ true → CutAnswer pieces bays true
+some_cut pieces bays name cut = record { some = λ e. (name, cut); none = λ e. absurd (cc) }
+
+-- ---- clients
+
+pub none_open : (links : List Link) (i : ℕ) → length links ≤ i → ((k n : ℕ) (link : Link) → k < i → slice_get links k ≡ Some link → link.from ≡ origin.Client n → SaysSpent link true) → OpensAnswer links false
+none_open links i most before = record { some = λ e. absurd (cc); none = λ e k n link at from. before k n link (let within = slice_get_within links k link at in omega (arith, within, most)) at from }
+
+pub some_open : (links : List Link) (i : ℕ) (d : Link) (answer : Bool) → i < length links → d ≡ get_or links i d → answer ≡ true → OpenAnswer d answer → OpensAnswer links true
+some_open links i d answer less at is h = record {
+  some = λ e. let c = h.from is in record { i = i; link = d; known = slice_get-get_or links i d less ∙ ap Some (sym at); n = c.0; from = c.1; unspent = subst (λ b. SaysSpent d (not b)) is (h.client c.0 c.1) };
+  none = λ e. absurd (cc);
+}
+
+pub next_open : (links : List Link) (i : ℕ) (d : Link) (answer : Bool) → i < length links → d ≡ get_or links i d → answer ≡ false → OpenAnswer d answer
+    → ((k n : ℕ) (link : Link) → k < i → slice_get links k ≡ Some link → link.from ≡ origin.Client n → SaysSpent link true)
+    → (k n : ℕ) (link : Link) → k < i + 1 → slice_get links k ≡ Some link → link.from ≡ origin.Client n → SaysSpent link true
+next_open links i d answer less at is h before k n link lower known from = elim (eqb_tells k i) [
+  | inl t ↦
+      let same : d ≡ link = same_Some d link (ap Some at ∙ sym (slice_get-get_or links i d less) ∙ ap (slice_get links) (sym t.1) ∙ known) in
+      subst (λ l. SaysSpent l true) same (subst (λ b. SaysSpent d (not b)) is (h.client n (ap (λ (l : Link). l.from) same ∙ from)))
+  | inr t ↦ let d = t.1 in before k n link (omega (arith, d, lower)) known from
+]
+
+double_not : (b : Bool) → not (not b) ≡ b
+double_not true = refl
+double_not false = refl
+
+pub open_answer : (link : Link) (m : ℕ) (says : Bool) → link.from ≡ origin.Client m → SaysSpent link says → OpenAnswer link (not says)
+open_answer link m says from h = record { client = λ n e. subst (SaysSpent link) (sym (double_not says)) h; from = λ e. (m, from) }

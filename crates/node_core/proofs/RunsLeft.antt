@@ -1,0 +1,46 @@
+-- What a run of a plan leaves, by a node past its last turn that was settled.
+use Rattle.std.proofs.Common.{◌≡◌, ◌≤◌, ◌∙◌, ℕ, true, sym, ap, subst}
+use Rattle.otn_base.specs.declared.kind.PortName.TheVariants as port
+use Rattle.otn_base.specs.declared.limits.TheConstants.{LINES}
+use Rattle.otn_ports.specs.Views.{BaysView, line_in_at}
+use Rattle.line_side.specs.LineStands.{LineView}
+use Rattle.line_side.specs.Reader.{rest_of}
+use Rattle.plan_file.specs.declared.plan.Plan.{Plan}
+use Rattle.device_model.specs.Entries.{form_in}
+use Rattle.device_model.specs.Moments.{uses}
+use Rattle.device_model.specs.Numbers.{Went, AreNumbers, line_ending}
+use Rattle.device_model.specs.Outcomes.{place_state, IsOutcome}
+use Rattle.device_model.specs.Report.{Numbers}
+use Rattle.device_model.specs.Through.{Inputs}
+use Rattle.device_model.specs.declared.outcome.Outcome.{Outcome}
+use Rattle.node_core.specs.Asking.{LinesAsked}
+use Rattle.node_core.specs.NodeView.{NodeView, HasLineIn}
+use Rattle.node_core.specs.RunLeft.{OutputsLeft, RunLeft}
+use Rattle.node_core.specs.Settling.{Settled, OutputsStand}
+use Rattle.node_core.specs.Stands.{Bytes, MayGive, StandsAt}
+use Rattle.node_core.proofs.Settled.{turns_past, used_line_at}
+use Rattle.node_core.proofs.SettledLines.{rest_settled}
+
+-- the bytes after the last whole frame of a line that is used are counted as its place and the turns of the plan have it in the end
+pub rest_at_end : (plan : Plan) (first was last : BaysView) (taken : Bytes) (node : NodeView) (inputs : Inputs) (a : ℕ) (line : LineView) → node.turns ≤ node.past → StandsAt plan first taken node was
+    → LinesAsked LINES node.pieces node.lines_in was last → MayGive plan taken node inputs → uses plan (port.LineIn a) ≡ true → HasLineIn node a line
+    → rest_of line.reader.ending (inputs.line a) ≡ rest_of (line_ending (place_state last (port.LineIn a)) (form_in plan a) (inputs.line a) plan.turns) (inputs.line a)
+rest_at_end plan first was last taken node inputs a line over st asked may used has =
+    let u = used_line_at plan first was last taken node a line over st asked used has in
+    rest_settled (form_in plan a) (line_in_at first a) (line_in_at was a) (line_in_at last a) (taken.line a) (asked.came a) (inputs.line a) node.past line u.stands u.none u.asked (may.lines a line has used)
+    ∙ ap (λ t. rest_of (line_ending (place_state last (port.LineIn a)) (form_in plan a) (inputs.line a) t) (inputs.line a)) (turns_past plan node st.plan_stands over)
+
+-- With what went to its outputs, and the numbers that it tells, a node that was settled so leaves what a run leaves.
+pub run_left : (plan : Plan) (first last : BaysView) (taken : Bytes) (node : NodeView) (outcome : Outcome) (numbers : Numbers) → (settled : Settled plan first taken node last outcome) → numbers.outcome ≡ outcome
+    → ((inputs : Inputs) → MayGive plan taken node inputs → OutputsStand plan first taken node last inputs)
+    → ((inputs : Inputs) (went : Went) → MayGive plan taken node inputs → OutputsLeft plan inputs first went last → IsOutcome plan inputs last numbers.outcome → AreNumbers plan inputs went first last numbers)
+    → RunLeft plan first last settled.takings numbers
+run_left plan first last taken node outcome numbers settled same outputs are = record {
+  line_in = settled.line_in;
+  client_in = settled.client_in;
+  idle = settled.idle;
+  of_inputs = λ inputs may.
+      let s = settled.of_inputs inputs may in
+      let o = outputs inputs s.may in
+      record { took = s.took; went = o.went; outputs = o.outputs; numbers_are = are inputs o.went s.may o.outputs (subst (IsOutcome plan inputs last) (sym same) s.outcome_is) };
+}

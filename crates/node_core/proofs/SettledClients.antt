@@ -1,0 +1,227 @@
+-- What the end of a run makes of a client input: what was taken of it, and what its text may turn out to be.
+use Rattle.std.proofs.Common.{◌≡◌, ◌≢◌, ◌⊎◌, inl, inr, ◌<◌, ◌≤◌, ◌+◌, ◌-◌, ◌∙◌, ◌&&◌, min, ℕ, zero, suc, Bool, true, false, List, [], ◌∷◌, ◌++◌, Some, slice_get, refl, sym, ap, subst, append_assoc, append-nil, arith}
+use Rattle.std.specs.Prelude.{not, nat_le, if◌then◌else◌}
+use Rattle.std.proofs.lemmas.Bool.{and_parts, eq-eqb}
+use Rattle.std.proofs.lemmas.Bool.Decides.{nat_tests}
+use Rattle.otn_ports.specs.Given.{Lives}
+use Rattle.otn_ports.specs.Reads.{HasEnded}
+use Rattle.otn_ports.specs.Views.{State, Empty, Live, Dead, InView}
+use Rattle.otn_ports.proofs.GivenLaws.{dead_not_live, empty_not_live}
+use Rattle.packet_text.specs.TextLines.{full_lines, text_of_dead}
+use Rattle.packet_text.specs.LinesStand.{LinesView, LinesStand, lines_view, may_be}
+use Rattle.packet_text.specs.declared.line.Line.{Line}
+use Rattle.packet_text.specs.declared.line.Line.TheVariants.{Packet, End, Bad, Lost}
+use Rattle.packet_text.proofs.Texts.{full_lines-front}
+use Rattle.odu_client.specs.ClientInput.{ClientInput, input_given}
+use Rattle.odu_client.specs.Framing.{MayDie}
+use Rattle.plan_file.specs.declared.connection.Connection.{Connection}
+use Rattle.plan_file.specs.declared.connection.FromEnd.TheVariants as from_end
+use Rattle.plan_file.specs.declared.plan.Plan.{Plan}
+use Rattle.device_model.specs.Entries.{first_turn, is_from_client as comes_from}
+use Rattle.device_model.specs.Inputs.{has_died}
+use Rattle.device_model.specs.Moments.{turns_done, is_retired}
+use Rattle.device_model.specs.Through.{of_client}
+use Rattle.device_model.proofs.SoundPlans.{sound_plan}
+use Rattle.cross_matrix.specs.Parts.{ClientInStands, MayShow}
+use Rattle.cross_matrix.specs.declared.taking.TakingPart.{TakingPart}
+use Rattle.cross_matrix.specs.declared.taking.TakingPart.TheVariants as taking
+use Rattle.node_core.specs.Asking.{is_dead}
+use Rattle.node_core.specs.Moves.{is_from_client}
+use Rattle.node_core.specs.NodeView.{NodeView, HasLink}
+use Rattle.node_core.specs.RunLeft.{MayFollow, InputLeft}
+use Rattle.node_core.specs.Stands.{PlanStands, after_retire}
+use Rattle.node_core.specs.declared.link.Link.{Link}
+use Rattle.node_core.proofs.Retired.{entry_at, from_as, is_client, some_passes, one_passes}
+
+-- ---- where more may stand
+
+abbrev is_live : State → Bool
+is_live Empty = false
+is_live Live = true
+is_live Dead = false
+
+-- the text has not ended
+abbrev pub goes_on : TakingPart → Bool
+goes_on (taking.Line sink) = false
+goes_on (taking.Client client) = not (lines_view client.lines).ended
+goes_on (taking.Signal stream) = false
+
+-- more of client n may stand behind what was taken: its place was live and did not die, and its text has not ended
+abbrev pub more_of : (n : ℕ) → List Link → (first last : InView) → Bool
+more_of n links first last = is_live first.state && (not (is_dead last.state) && some_passes (λ link. goes_on link.pipe.taking) (λ link. is_from_client n link.from) links)
+
+abbrev more_in : (first was : State) → (goes : Bool) → Bool
+more_in first was goes = is_live first && (not (is_dead was) && goes)
+
+-- the connection of a client alone tells of it
+pub goes_on_of : (plan : Plan) (node : NodeView) (i n : ℕ) (x : Connection) (link : Link) → PlanStands plan node → slice_get plan.connections i ≡ Some x → HasLink node i link → x.from ≡ from_end.Client n
+    → some_passes (λ l. goes_on l.pipe.taking) (λ l. is_from_client n l.from) node.links ≡ goes_on link.pipe.taking
+goes_on_of plan node i n x link p at has from =
+    let is = p.links i x link at has in
+    let here : is_from_client n link.from ≡ true = from_as n x link is ∙ ap (comes_from n) from ∙ eq-eqb n n refl in
+    one_passes (λ l. goes_on l.pipe.taking) (λ l. is_from_client n l.from) node.links i link has here (λ j other there t.
+    let e = entry_at plan node j other p there in
+    (sound_plan plan p.accepted).clients_in j i n e.0 x e.1.0 at (is_client n e.0.from (sym (from_as n e.0 other e.1.1) ∙ t)) from)
+
+-- ---- a place that was emptied
+
+pub dead_kept : (r : Bool) (v : InView) (s : State) → v.state ≡ s → is_dead (after_retire r v).state ≡ is_dead v.state
+dead_kept false v s e = refl
+dead_kept true v Live e = rw e refl
+dead_kept true v Empty e = rw e refl
+dead_kept true v Dead e = rw e refl
+
+died_kept : (r : Bool) (v : InView) (first s : State) → v.state ≡ s → has_died first (after_retire r v).state ≡ has_died first v.state
+died_kept false v first s e = refl
+died_kept true v Live Live e = rw e refl
+died_kept true v Live Empty e = rw e refl
+died_kept true v Live Dead e = rw e refl
+died_kept true v Empty s e = refl
+died_kept true v Dead s e = refl
+
+-- ---- the place of a text
+
+live_where : (first was : State) (f g : ℕ) (goes : Bool) → Lives first was f g → more_in first was goes ≡ true → was ≡ Live
+live_where Live Live f g goes h e = refl
+live_where Live Dead f g goes h e = absurd (cc)
+live_where Live Empty f g goes (inl (same, n)) e = same
+live_where Live Empty f g goes (inr (l, d, k)) e = absurd (cc)
+live_where Empty was f g goes h e = absurd (cc)
+live_where Dead was f g goes h e = absurd (cc)
+
+over_where : (first was : State) (f g : ℕ) (goes : Bool) → Lives first was f g → more_in first was goes ≡ false → was ≡ Live → goes ≡ false
+over_where Live Live f g goes h e live = e
+over_where Live Dead f g goes h e live = absurd (cc)
+over_where Live Empty f g goes h e live = absurd (cc)
+over_where Empty Live f g goes (inl (same, n)) e live = absurd (cc)
+over_where Empty Live f g goes (inr (l, d, k)) e live = absurd (cc)
+over_where Empty Empty f g goes h e live = absurd (cc)
+over_where Empty Dead f g goes h e live = absurd (cc)
+over_where Dead Live f g goes (inl (same, n)) e live = absurd (cc)
+over_where Dead Live f g goes (inr (l, d, k)) e live = absurd (cc)
+over_where Dead Empty f g goes h e live = absurd (cc)
+over_where Dead Dead f g goes h e live = absurd (cc)
+
+not_goes : (b : Bool) → not b ≡ false → b ≡ true
+not_goes true e = refl
+not_goes false e = absurd (cc)
+
+-- what was taken of it, and whether more may stand behind that
+pub text_left : (x : Connection) (first was : InView) (taken : List ℕ) (k : ℕ) (part : TakingPart) (more : Bool) → ClientInStands x first was taken k part
+    → more ≡ more_in first.state was.state (goes_on part) → InputLeft first was taken more
+text_left x first was taken k (taking.Client client) more h e =
+    let lines = h.stands.text.stands in record {
+      gave = lines.gave;
+      live = λ m. live_where first.state was.state first.faults was.faults (goes_on (taking.Client client)) lines.gave.state (sym e ∙ m);
+      over = λ m live. lines.over (not_goes (lines_view client.lines).ended (over_where first.state was.state first.faults was.faults (goes_on (taking.Client client)) lines.gave.state (sym e ∙ m) live)) live;
+    }
+text_left x first was taken k (taking.Line sink) more h e = absurd h
+text_left x first was taken k (taking.Signal stream) more h e = absurd h
+
+-- ---- the text
+
+among : (ended : Bool) (a : Line) (taken given rest : List ℕ) → given ≡ taken ++ rest → (ended ≡ true → rest ≡ []) → (a ≡ End → ended ≡ true) → a ≢ Lost → may_be ended a taken given
+among true a taken given rest parts none end alive = parts ∙ ap (λ bytes. taken ++ bytes) (none refl) ∙ append-nil taken
+among false Packet taken given rest parts none end alive =
+    let f = full_lines-front taken in
+    record { rest = f.rest ++ rest; parts = parts ∙ ap (λ bytes. bytes ++ rest) f.parts ∙ append_assoc (full_lines taken) f.rest rest }
+among false (Bad n) taken given rest parts none end alive = record { rest = rest; parts = parts }
+among false End taken given rest parts none end alive = absurd (let e = end refl in cc)
+among false Lost taken given rest parts none end alive = absurd (alive refl)
+
+dead_text : (ended : Bool) (a : Line) (taken given : List ℕ) → ended ≡ false → a ≡ Lost → given ≡ taken → may_be ended a taken (text_of_dead given)
+dead_text ended a taken given e f g = rw (e, f, g) refl
+
+same_alive : (s : State) → has_died s s ≡ false
+same_alive Live = refl
+same_alive Empty = refl
+same_alive Dead = refl
+
+is_lost : (a : Line) → (a ≡ Lost) ⊎ (a ≢ Lost)
+is_lost Lost = inl refl
+is_lost Packet = inr (λ e. cc)
+is_lost End = inr (λ e. cc)
+is_lost (Bad n) = inr (λ e. cc)
+
+end_not_lost : End ≢ Lost
+end_not_lost e = cc
+
+-- none follows once the end was seen, or the place died
+none_ended : (first was : State) (goes : Bool) → goes ≡ false → more_in first was goes ≡ false
+none_ended Live Live goes e = e
+none_ended Live Dead goes e = refl
+none_ended Live Empty goes e = e
+none_ended Empty was goes e = refl
+none_ended Dead was goes e = refl
+
+none_dead : (first was : State) (goes : Bool) → was ≡ Dead → more_in first was goes ≡ false
+none_dead Live Live goes e = absurd (cc)
+none_dead Live Dead goes e = refl
+none_dead Live Empty goes e = absurd (cc)
+none_dead Empty was goes e = refl
+none_dead Dead was goes e = refl
+
+-- whether it died, as its lines tell it
+dies : (first was : InView) (taken : List ℕ) (packets : List (List ℕ)) (view : LinesView) → LinesStand first was taken packets view → MayDie view.answer (has_died first.state was.state)
+dies first was taken packets view h = record {
+  ended = λ e. ap (has_died first.state) (h.alive (λ l. end_not_lost (sym e ∙ l))) ∙ same_alive first.state;
+  lost = λ e. (let l = h.lost e in rw (l.1, l.2) refl);
+}
+
+text_among : (first was : InView) (taken raw rest : List ℕ) (packets : List (List ℕ)) (view : LinesView) → LinesStand first was taken packets view → raw ≡ taken ++ rest
+    → (more_in first.state was.state (not view.ended) ≡ false → rest ≡ []) → may_be view.ended view.answer taken (if has_died first.state was.state then text_of_dead raw else raw)
+text_among first was taken raw rest packets view h parts over = by_answer (is_lost view.answer)
+  where
+    by_answer : (view.answer ≡ Lost) ⊎ (view.answer ≢ Lost) → may_be view.ended view.answer taken (if has_died first.state was.state then text_of_dead raw else raw)
+    by_answer (inl lost) =
+        let l = h.lost lost in
+        let died : has_died first.state was.state ≡ true = (dies first was taken packets view h).lost lost in
+        let same : raw ≡ taken = parts ∙ ap (λ bytes. taken ++ bytes) (over (none_dead first.state was.state (not view.ended) l.1)) ∙ append-nil taken in
+        subst (λ d. may_be view.ended view.answer taken (if d then text_of_dead raw else raw)) (sym died) (dead_text view.ended view.answer taken raw l.0 lost same)
+    by_answer (inr alive) =
+        let lives : has_died first.state was.state ≡ false = ap (has_died first.state) (h.alive alive) ∙ same_alive first.state in
+        subst (λ d. may_be view.ended view.answer taken (if d then text_of_dead raw else raw)) (sym lives)
+        (among view.ended view.answer taken raw rest parts (λ e. over (none_ended first.state was.state (not view.ended) (ap not e))) h.ended alive)
+
+-- what a client may turn out to be at the end its lines may tell
+pub text_may : (x : Connection) (first was : InView) (taken raw : List ℕ) (k : ℕ) (part : TakingPart) (more : Bool) (input : ClientInput) → ClientInStands x first was taken k part
+    → more ≡ more_in first.state was.state (goes_on part) → MayFollow more taken raw → input ≡ input_given (has_died first.state was.state) raw → MayShow part taken (of_client input)
+text_may x first was taken raw k (taking.Client client) more input h e may is =
+    let lines = h.stands.text.stands in record {
+      died = has_died first.state was.state;
+      text = if has_died first.state was.state then text_of_dead raw else raw;
+      may = text_among first was taken raw may.rest h.stands.packets (lines_view client.lines) lines may.parts (λ m. may.over (e ∙ m));
+      die = dies first was taken h.stands.packets (lines_view client.lines) lines;
+      is = is;
+    }
+text_may x first was taken raw k (taking.Line sink) more input h e may is = absurd h
+text_may x first was taken raw k (taking.Signal stream) more input h e may is = absurd h
+
+-- ---- the end of a connection
+
+-- all its turns are done
+pub all_done : (x : Connection) (past k : ℕ) → x.stop ≤ past → turns_done x past k ≡ x.stop - first_turn x
+all_done x past k most = go (nat_le x.start (past + 1)) (nat_le (past + 1) x.stop) refl
+  where
+    go : (a b : Bool) → nat_le (past + 1) x.stop ≡ b → min past x.stop - (x.start - 1) + (if a && b then k else 0) ≡ x.stop - (x.start - 1)
+    go true true e = absurd (let h : past + 1 ≤ x.stop = grind (arith, nat_tests) in omega arith)
+    go true false e = omega arith
+    go false b e = omega arith
+
+pub retires_at_end : (x : Connection) (past : ℕ) → x.stop ≤ past → is_retired x past ≡ x.retire
+retires_at_end x past most = let over : nat_le x.stop past ≡ true = grind (arith, nat_tests) in ap (λ b. x.retire && b) over ∙ and_true x.retire
+  where
+    and_true : (b : Bool) → (b && true) ≡ b
+    and_true true = refl
+    and_true false = refl
+
+-- the place as it was left, for what it was before
+pub more_before : (n : ℕ) (links : List Link) (first was last : InView) (r : Bool) (part : TakingPart) → last ≡ after_retire r was
+    → some_passes (λ link. goes_on link.pipe.taking) (λ link. is_from_client n link.from) links ≡ goes_on part → more_of n links first last ≡ more_in first.state was.state (goes_on part)
+more_before n links first was last r part place goes =
+    ap (λ (b : Bool). is_live first.state && (not (is_dead last.state) && b)) goes
+    ∙ ap (λ (v : InView). is_live first.state && (not (is_dead v.state) && goes_on part)) place
+    ∙ ap (λ (b : Bool). is_live first.state && (not b && goes_on part)) (dead_kept r was was.state refl)
+
+pub died_before : (first was last : InView) (r : Bool) → last ≡ after_retire r was → has_died first.state last.state ≡ has_died first.state was.state
+died_before first was last r place = ap (λ (v : InView). has_died first.state v.state) place ∙ died_kept r was first.state was.state refl

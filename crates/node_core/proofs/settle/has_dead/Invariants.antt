@@ -1,0 +1,8 @@
+use Rattle.std.proofs.Common.{◌≡◌, ◌<◌, ℕ, false}
+use Rattle.otn_ports.specs.Racks.{bays_view}
+use Rattle.node_core.specs.Asking.{is_cut}
+use Rattle.node_core.specs.Ports.{port_at}
+use Rattle.node_core.proofs.settle.has_dead.Given as goal
+
+abbrev pub invariant-loop-i : goal.invariant-loop-i
+invariant-loop-i g l = (k : ℕ) → k < l.i → is_cut l.pieces (bays_view g.P.Source g.K.Sink l.bays) (port_at k) ≡ false

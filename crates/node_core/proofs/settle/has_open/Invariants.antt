@@ -1,0 +1,8 @@
+use Rattle.std.proofs.Common.{◌≡◌, ◌<◌, ℕ, true, Some, slice_get}
+use Rattle.node_core.specs.Asking.{SaysSpent}
+use Rattle.node_core.specs.declared.link.Link.{Link}
+use Rattle.node_core.specs.declared.link.Origin.TheVariants as origin
+use Rattle.node_core.proofs.settle.has_open.Given as goal
+
+abbrev pub invariant-loop-link : goal.invariant-loop-link
+invariant-loop-link l = (k n : ℕ) (link : Link) → k < l.link-index → slice_get l.links k ≡ Some link → link.from ≡ origin.Client n → SaysSpent link true
