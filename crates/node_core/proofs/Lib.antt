@@ -36,3 +36,4 @@ pub mod SettledClients
 pub mod Settled
 pub mod Asked
 pub mod RunsLeft
+pub mod OutputsLeft

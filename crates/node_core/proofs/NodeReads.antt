@@ -1,12 +1,12 @@
 -- What a node tells of its ports and its connections, in words of its plan.
-use Rattle.std.proofs.Common.{◌≡◌, ◌<◌, ◌≤◌, ◌+◌, ◌-◌, ◌==◌, ◌&&◌, ℕ, min, nat_le, Bool, true, false, List, [], Option, Some, None, length, slice_get, arith, refl, sym, ap, subst, ◌∙◌, inl, inr}
+use Rattle.std.proofs.Common.{◌≡◌, ◌<◌, ◌≤◌, ◌+◌, ◌-◌, ◌&&◌, ℕ, min, nat_le, Bool, true, false, List, [], Option, Some, None, length, slice_get, arith, refl, sym, ap, subst, ◌∙◌, inl, inr}
 use Rattle.std.specs.Prelude.{is_some, if◌then◌else◌, option_map}
 use Rattle.std.specs.List.{Contains}
 use Rattle.std.proofs.lemmas.Bool.{eq-eqb}
 use Rattle.std.proofs.lemmas.Bool.Decides.{nat_tests, eqb_tells}
 use Rattle.std.proofs.lemmas.Option.{slice_get_within, slice_get_read}
 use Rattle.otn_base.specs.declared.kind.PortName.TheVariants as port
-use Rattle.otn_ports.specs.Views.{InView, BaysView, line_in_at, client_in_at}
+use Rattle.otn_ports.specs.Views.{InView, line_in_at, client_in_at}
 use Rattle.line_side.specs.LineNumbers.{numbers_of}
 use Rattle.line_side.specs.LineOutput.{LineOutView}
 use Rattle.line_side.specs.LineStands.{LineView, InEachTurn}
@@ -20,7 +20,7 @@ use Rattle.plan_file.specs.declared.plan.Plan.{Plan}
 use Rattle.tributary_model.specs.Places.{Taken}
 use Rattle.device_model.specs.Entries.{first_turn, form_in, own_turn}
 use Rattle.device_model.specs.Moments.{turns_done}
-use Rattle.device_model.specs.Numbers.{client_numbers, last_state}
+use Rattle.device_model.specs.Numbers.{client_numbers}
 use Rattle.device_model.specs.Report.{ClientInNumbers}
 use Rattle.device_model.specs.Through.{OwnInput, of_client, own_input, state_in}
 use Rattle.device_model.specs.declared.outcome.FromState.{FromState}
@@ -192,7 +192,7 @@ state_told node i link state has some told = λ plan first taken now inputs x h 
       | inl t ↦
           let stop : x.stop ≡ node.past = t.1 ∙ sym end.past in
           let on : was_on node.past link ≡ true = on_last node.past link (let first = end.first in let span = end.span in omega arith)
-              (let start = is.start in let span = end.span in omega arith) (let last = is.stop in omega arith) in
+          (let start = is.start in let span = end.span in omega arith) (let last = is.stop in omega arith) in
           let turns : own_turn x node.past ≡ plan.turns - first_turn x = ap (λ k. k - first_turn x) end.past in
           told on x (own_input inputs x) (own_turn x node.past) 0 [] false (h.pipes.last over inputs may i x link at_i has stop)
           ∙ ap (λ k. Some (state_in x (own_input inputs x) k)) turns ∙ ap (λ b. if b then Some (state_in x (own_input inputs x) (plan.turns - first_turn x)) else None) (sym t.0)

@@ -1,4 +1,4 @@
-use Rattle.std.proofs.Common.{◌≡◌, ◌<◌, Some, length, slice_get, refl, arith, sym, subst, ◌∙◌}
+use Rattle.std.proofs.Common.{◌≡◌, ◌<◌, Some, length, slice_get, refl, arith, subst}
 use Rattle.std.proofs.lemmas.Option.{slice_get_read}
 use Rattle.node_core.specs.NodeView.{NodeView}
 use Rattle.node_core.specs.Settling.{IsLineCounts}
