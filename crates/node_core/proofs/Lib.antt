@@ -37,3 +37,4 @@ pub mod Settled
 pub mod Asked
 pub mod RunsLeft
 pub mod OutputsLeft
+pub mod NumbersLeft
