@@ -15,6 +15,7 @@ pub mod PullWorlds
 pub mod PutBack
 pub mod Reports
 pub mod Rows
+pub mod RunReports
 pub mod SlotLoop
 pub mod SlotSteps
 pub mod SlotTable

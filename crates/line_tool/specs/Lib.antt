@@ -13,6 +13,7 @@ pub mod PullReport
 pub mod PullRuns
 pub mod PullTurn
 pub mod RunAnswers
+pub mod RunReport
 pub mod Runs
 pub mod SlotReport
 pub mod SlotRuns

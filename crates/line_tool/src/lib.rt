@@ -7,9 +7,10 @@
 //! - `plan_text`: the plan of a command, read of its source.
 //! - `number_chooser`: the choices that the number of `run --order N` settles.
 //! - `check`: whether a plan is one.
-//! - `plan_run`: a plan is carried over the places, and reported; `report`: the report as text.
+//! - `plan_run`: a plan is carried over the places, and reported.
 //! - `slot`: the payload bytes of one tributary slot of a line.
 //! - `pull`, `tap`: what the sink of a tributary on a line emits, turn by turn.
+//! - `report`, `report_lines`, `report_words`: the report of a run, as text.
 //! - `beyond`: whether a line has more than a command reads.
 //! - `laws`: what no call shows by itself: that nothing else on a line changes a report.
 #![tactic(auto)]
@@ -23,6 +24,8 @@ mod plan_run;
 mod plan_text;
 mod pull;
 mod report;
+mod report_lines;
+mod report_words;
 mod slot;
 mod status;
 mod tap;

@@ -2,6 +2,7 @@
 mod check;
 mod number_chooser;
 mod pull;
+mod report;
 mod slot;
 mod words;
 

@@ -1,0 +1,59 @@
+// The words of the report of a run.
+ghost use Rattle.std.specs.Prelude.{◌≡◌, ◌≤◌, length};
+ghost use Rattle.otn_ports.specs.InPlace.{in_view};
+ghost use Rattle.otn_ports.specs.OutPlace.{out_view};
+ghost use Rattle.device_model.specs.Report.{state_word, from_word, outcome_word};
+
+use node_core::{FromState, Outcome};
+use otn_ports::{InPlaceOf, OutPlaceOf, Sink, Source};
+
+/// How a place for an input stands.
+pub(crate) fn in_word<I: Source>(place: &InPlaceOf<I>) -> &'static str
+    ensures word { result.now ≡ state_word (in_view I.Source place.now).state }
+    ensures short { length result.now ≤ 5 }
+{
+    match place {
+        InPlaceOf::Empty => "empty",
+        InPlaceOf::Live(..) => "live",
+        InPlaceOf::Dead(..) => "dead",
+    }
+}
+
+/// How a place for an output stands.
+pub(crate) fn out_word<O: Sink>(place: &OutPlaceOf<O>) -> &'static str
+    ensures word { result.now ≡ state_word (out_view O.Sink place.now).state }
+    ensures short { length result.now ≤ 5 }
+{
+    match place {
+        OutPlaceOf::Empty => "empty",
+        OutPlaceOf::Live(..) => "live",
+        OutPlaceOf::Dead(..) => "dead",
+    }
+}
+
+/// What the from end of a connection was in the last turn, where it was active in that.
+pub(crate) fn from_word(from: Option<FromState>) -> &'static str
+    ensures word { result.now ≡ from_word from }
+    ensures short { length result.now ≤ 7 }
+{
+    match from {
+        None => "off",
+        Some(FromState::Client) => "client",
+        Some(FromState::Signal) => "signal",
+        Some(FromState::Waiting) => "waiting",
+        Some(FromState::Up) => "up",
+        Some(FromState::Down) => "down",
+    }
+}
+
+/// How the run ended.
+pub(crate) fn outcome_word(outcome: Outcome) -> &'static str
+    ensures word { result.now ≡ outcome_word outcome }
+    ensures short { length result.now ≤ 10 }
+{
+    match outcome {
+        Outcome::Done => "done",
+        Outcome::Unfinished => "unfinished",
+        Outcome::Cut => "cut",
+    }
+}
