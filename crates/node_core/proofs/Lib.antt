@@ -38,3 +38,4 @@ pub mod Asked
 pub mod RunsLeft
 pub mod OutputsLeft
 pub mod NumbersLeft
+pub mod WholeRuns

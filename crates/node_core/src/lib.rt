@@ -1,14 +1,14 @@
-//! A node: a state machine that carries a plan, stepped port by port in any order. How a run is settled, and the
-//! numbers of its report, are not there yet.
+//! A node: a state machine that carries a plan, stepped port by port in any order, settled at the end, and asked for the numbers of
+//! its report.
 //!
 //! - `node`: the node; `runs`: a whole run of it, in an order that a chooser says.
 //! - `build`: its parts before turn 1 of a plan.
 //! - `pieces`, `ports`: how many pieces each port has in a turn, and how many are done.
 //! - `link`: a connection of the node, with its pipe.
 //! - `lines_in`, `lines_out`, `clients`: a piece of each kind of port.
-//! - `reads`: what a node tells of its ports and its connections; `tally`: all of it together, as the `numbers` of a run for its report.
 //! - `turn`: the end of a turn; `retire`: client places at the stop of their connection.
-//! - `settle`: the end of a run.
+//! - `settle`: the end of a run; `reads`: what a node tells of its ports and its connections; `tally`: all of it together, as the
+//!   `numbers` of a run for its report.
 #![tactic(auto)]
 
 mod build;
@@ -23,8 +23,8 @@ mod ports;
 mod reads;
 mod retire;
 mod runs;
-mod tally;
 mod settle;
+mod tally;
 mod turn;
 
 pub use device_model::{FromState, Outcome};

@@ -1,9 +1,13 @@
 // The numbers of all ports of a node that is past its last turn.
-ghost use Rattle.std.specs.Prelude.{◌≡◌, ◌<◌, ℕ, None, get_or, length};
+ghost use Rattle.std.specs.Prelude.{◌≡◌, ◌≤◌, ◌<◌, ℕ, None, get_or, length};
 ghost use Rattle.otn_base.specs.declared.limits.TheConstants.{CLIENTS as CLIENT_PORTS, LINES as LINE_PORTS, MOST_CONNECTIONS as CONNECTIONS};
+ghost use Rattle.otn_ports.specs.Views.{BaysView};
 ghost use Rattle.plan_file.specs.declared.plan.Plan.{Plan};
+ghost use Rattle.node_core.specs.Asking.{LinesAsked};
+ghost use Rattle.node_core.specs.RunLeft.{Takings, RunLeft};
 ghost use Rattle.node_core.specs.RunNumbers.{client_in_numbers, client_out_numbers, no_client_in, no_client_out, no_counts, numbers_of_run};
-ghost use Rattle.node_core.specs.Settling.{IsLineCounts, IsFrameCount, IsClientInCount, IsClientOutCount, IsLastState, ToldBy};
+ghost use Rattle.node_core.specs.Settling.{IsLineCounts, IsFrameCount, IsClientInCount, IsClientOutCount, IsLastState, Settled, ToldBy};
+ghost use Rattle.node_core.specs.Stands.{Bytes, StandsAt};
 
 use crate::numbers::{ClientInCounts, ClientOutCounts, RunNumbers};
 use crate::{FromState, Node, Outcome};
@@ -15,6 +19,11 @@ impl Node {
     pub fn numbers(&self, outcome: Outcome) -> RunNumbers
         ensures told { (plan : Plan) → ToldBy plan self.now (numbers_of_run result) }
         ensures outcome { (numbers_of_run result).outcome ≡ outcome }
+
+        // a node past its last turn that was settled with this outcome leaves what a run of its plan leaves, with these numbers
+        ensures left { (plan : Plan) (first was last : BaysView) (taken : Bytes) → StandsAt plan first taken self.now was → self.now.turns ≤ self.now.past
+            → Settled plan first taken self.now last outcome → LinesAsked LINE_PORTS self.now.pieces self.now.lines_in was last
+            → (takings : Takings) × RunLeft plan first last takings (numbers_of_run result) }
     {
         let _turns = self.turns;
         let lines_in = self.lines_in_told();
