@@ -1,5 +1,5 @@
 // The command `run`: a plan is carried over the places, and reported.
-ghost use Rattle.std.specs.Prelude.{◌≡◌, IfErr, IfOk, None, vec_len};
+ghost use Rattle.std.specs.Prelude.{◌≡◌, IfErr, IfOk, None};
 ghost use Rattle.otn_ports.specs.Bytes.{raised};
 ghost use Rattle.otn_ports.specs.PortViews.{sink_view};
 ghost use Rattle.otn_ports.specs.Racks.{bays_view};
@@ -17,12 +17,13 @@ ghost use Rattle.line_tool.specs.Runs.{IsRefusal};
 
 use crate::Status;
 use crate::plan_text::{Planned, read_plan};
-use crate::report::{MOST_REPORT_BYTES, write_report};
+use crate::report::put_report;
+use arrayvec::ArrayString;
 use node_core::{Node, Outcome, RunNumbers, carry};
 use otn_base::Memory;
 use otn_ports::{Chooser, Rack, Sink, Source, Written, write_whole};
 use plan_file::{Plan, PlanError};
-use std::alloc::{AllocError, Global};
+use std::alloc::Global;
 
 /// How `run` ended, once it had its memory.
 #[derive(Clone, Copy, Debug, PartialEq, Eq)]
@@ -93,21 +94,14 @@ fn carry_plan<K: Sink, C: Chooser, I: Source, O: Sink>(
     ensures ran { IfOk result (PlanCarried plan.now (bays_view I.Source O.Sink bays.old) (bays_view I.Source O.Sink bays.new) (sink_view K.Sink report.old) (sink_view K.Sink report.new)
         (C.asked chooser.old) (C.asked chooser.new)) }
 {
-    let mut room = report_room(alloc)?;
+    let mut text = ArrayString::new();
     let mut node = Node::build(alloc, plan)?;
     let numbers = carry_node(&mut node, bays, chooser);
-    let count = write_report(plan, &numbers, bays, &mut room);
-    match write_whole(report, &room[..count]) {
+    put_report(&mut text, plan, &numbers, bays);
+    match write_whole(report, text.as_bytes()) {
         Written::Whole => Ok(Ran::Carried(numbers.outcome)),
         Written::Lost => Ok(Ran::ReportFault),
     }
-}
-
-// Takes room for the longest report.
-fn report_room(alloc: Global) -> Result<Vec<u8>, AllocError>
-    ensures { IfOk result (λ room. vec_len room ≡ 8192) }
-{
-    vec![in alloc; 0; MOST_REPORT_BYTES]
 }
 
 // Carries a node through all its turns, settles it, and tells its numbers.
