@@ -12,7 +12,7 @@ use Rattle.node_core.specs.NodeView.{NodeView}
 use Rattle.node_core.specs.RunLeft.{MayBeInputs, RunLeft, RunOf}
 use Rattle.node_core.specs.Settling.{Settled, ToldBy}
 use Rattle.node_core.specs.Stands.{Bytes, StandsAt}
-use Rattle.node_core.proofs.NumbersLeft.{outputs_told}
+use Rattle.node_core.proofs.NumbersLeft.{RestsLeft, outputs_told}
 use Rattle.node_core.proofs.RunsLeft.{rest_at_end}
 
 pub run_told : (plan : Plan) (first was last : BaysView) (taken : Bytes) (node : NodeView) (outcome : Outcome) (numbers : Numbers) → length node.lines_in ≡ LINES → length node.lines_out ≡ LINES
@@ -28,6 +28,6 @@ run_told plan first was last taken node outcome numbers lines_in lines_out h ove
     of_inputs : (inputs : Inputs) → MayBeInputs plan first last settled.takings inputs → RunOf plan first last settled.takings numbers inputs
     of_inputs inputs may =
         let s = settled.of_inputs inputs may in
-        let rests = λ a line has used. rest_at_end plan first was last taken node inputs a line over h asked s.may used has in
+        let rests : RestsLeft plan node last inputs = λ a line has used. rest_at_end plan first was last taken node inputs a line over h asked s.may used has in
         let o = outputs_told plan first taken node was last inputs numbers lines_in lines_out h over s.may told rests (subst (IsOutcome plan inputs last) (sym same) s.outcome_is) asked.line_out asked.client_out in
         record { took = s.took; went = o.went; outputs = o.outputs; numbers_are = o.numbers_are }
