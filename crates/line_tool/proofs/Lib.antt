@@ -24,3 +24,4 @@ pub mod TapPieces
 pub mod TapTurns
 pub mod TurnFrames
 pub mod TwoWorlds
+pub mod CarriedPlans

@@ -1,5 +1,5 @@
 -- What the command `run` answers for: the plan that was read, and what carrying it left.
-use Rattle.std.specs.Prelude.{◌≡◌, ◌≢◌, ◌≤◌, ◌⊎◌, ℕ, List, Ok, Err, length}
+use Rattle.std.specs.Prelude.{◌≡◌, ◌≢◌, ◌≤◌, ◌*◌, ℕ, List, Ok, Err, length}
 use Rattle.otn_ports.specs.Bytes.{before, raised}
 use Rattle.otn_ports.specs.PortViews.{SinkView, SinkLater, SourceView, SourceLater}
 use Rattle.plan_file.specs.Answer.{plan_of_text}
@@ -28,12 +28,12 @@ pieces_in_all plan = over_ports (pieces_of plan) * plan.turns
 
 -- A plan was carried: the places are as such a run leaves them, with these numbers; its report was written, whole, or a part of it from the
 -- front where a write failed; the answer is by its outcome, but where a write failed; and the chooser was asked once for each piece.
-pub record PlanRan (plan : Plan) (old new : Device) (asked asked_now : ℕ) (status : Status) : Type 0 where
+pub record PlanRan (plan : Plan) (old new : Device) (asked asked_now : ℕ) (reply : Status) : Type 0 where
   pub takings : Takings
   pub numbers : Numbers
   pub left : RunLeft plan old.bays new.bays takings numbers
-  pub wrote : Reports status old.report.got new.report.got (report_text plan numbers new.bays)
-  pub answer : status ≢ status.ReportFault → status ≡ outcome_status numbers.outcome
+  pub wrote : Reports reply old.report.got new.report.got (report_text plan numbers new.bays)
+  pub answer : reply ≢ status.ReportFault → reply ≡ outcome_status numbers.outcome
   pub asked_each : asked_now ≡ raised asked (pieces_in_all plan)
 
 -- what is answered to the text of a plan: a plan that was carried, or the first rule that it breaks
@@ -48,14 +48,14 @@ TextRan status.Memory text old new asked now = Unit {0}
 TextRan status.Words text old new asked now = ⊥
 
 -- `run` from all that it was handed, and how often the chooser had been asked, to how they are
-pub record RunAnswers (old new : Device) (asked asked_now : ℕ) (status : Status) : Type 0 where
+pub record RunAnswers (old new : Device) (asked asked_now : ℕ) (reply : Status) : Type 0 where
   -- this text was read of the plan, of a byte more than the longest plan has at most
   pub text : List ℕ
   pub read : old.plan.left ≡ before text new.plan.left
   pub most : length text ≤ 1048577
-  pub all : WasRead status text new.plan.left
+  pub all : WasRead reply text new.plan.left
   -- and answered for
-  pub ran : TextRan status text old new asked asked_now
+  pub ran : TextRan reply text old new asked asked_now
   -- each of the two counts of faults rose or stands at its end exactly with its own answer, and else is as it was
-  pub plan_counts : CountsBy status.PlanFault status old.plan.faults new.plan.faults
-  pub report_counts : CountsBy status.ReportFault status old.report.faults new.report.faults
+  pub plan_counts : CountsBy status.PlanFault reply old.plan.faults new.plan.faults
+  pub report_counts : CountsBy status.ReportFault reply old.report.faults new.report.faults

@@ -1,10 +1,15 @@
--- The pieces that are left to a node are those of the moment of its plan.
-use Rattle.std.proofs.Common.{◌≡◌, ◌<◌, ◌≤◌, ◌-◌, ◌*◌, ◌+◌, Bool, true, false, nat_lt, arith, refl, sym, ap, ◌∙◌}
+-- The pieces that are left to a node are those of the moment of its plan; to a new one, all of its plan.
+use Rattle.std.proofs.Common.{◌≡◌, ◌<◌, ◌≤◌, ◌-◌, ◌*◌, ◌+◌, ℕ, Bool, true, false, nat_lt, List, [], ◌∷◌, map, sum, arith, refl, sym, ap, ◌∙◌}
 use Rattle.std.proofs.lemmas.Bool.Decides.{nat_tests}
+use Rattle.std.specs.List.{range_with_len}
+use Rattle.otn_base.specs.declared.kind.PortName.{PortName}
+use Rattle.otn_base.specs.declared.kind.PortName.TheVariants as port
+use Rattle.otn_base.specs.declared.limits.TheConstants.{CLIENTS, LINES}
 use Rattle.plan_file.specs.declared.plan.Plan.{Plan}
-use Rattle.device_model.specs.Moments.{pieces_left}
+use Rattle.device_model.specs.Moments.{over_ports, pieces_left, pieces_of}
 use Rattle.node_core.specs.NodeView.{NodeView, left_of, done_at}
-use Rattle.node_core.specs.Pieces.{left_now, in_a_turn}
+use Rattle.node_core.specs.Ports.{index_of}
+use Rattle.node_core.specs.Pieces.{left_now, in_a_turn, IsFresh}
 use Rattle.node_core.specs.Stands.{PlanStands}
 use Rattle.node_core.proofs.Later as later
 use Rattle.node_core.proofs.PiecesLeft.{left_moment, left_over}
@@ -23,3 +28,29 @@ left_pieces plan node stands = by_turn (nat_lt node.past node.turns) refl
         let over : node.turns ≤ node.past = grind (arith, nat_tests) in
         let same = stands.turns in
         later.left_over node over ∙ sym (left_over plan node.pieces node.past (omega arith))
+
+-- ---- of a node of which no piece is done
+
+sum_of_none : (f : ℕ → ℕ) (xs : List ℕ) → ((n : ℕ) → f n ≡ 0) → sum (map f xs) ≡ 0
+sum_of_none f [] h = refl
+sum_of_none f (x ∷ xs) h = let rest = sum_of_none f xs h in let here = h x in rw (here, rest) refl
+
+none_over_ports : (count : PortName → ℕ) → ((name : PortName) → count name ≡ 0) → over_ports count ≡ 0
+unfolding over_ports
+none_over_ports count h =
+    let a = sum_of_none (λ n. count (port.LineIn n)) (range_with_len 0 LINES) (λ n. h (port.LineIn n)) in
+    let b = sum_of_none (λ n. count (port.LineOut n)) (range_with_len 0 LINES) (λ n. h (port.LineOut n)) in
+    let c = sum_of_none (λ n. count (port.ClientIn n)) (range_with_len 0 CLIENTS) (λ n. h (port.ClientIn n)) in
+    let d = sum_of_none (λ n. count (port.ClientOut n)) (range_with_len 0 CLIENTS) (λ n. h (port.ClientOut n)) in
+    rw (a, b, c, d) refl
+
+nothing_less : (count turns : ℕ) → count * (turns - 0) - 0 ≡ count * turns
+nothing_less count turns = let same : turns - 0 ≡ turns = omega arith in rw same (omega arith)
+
+pub all_left : (plan : Plan) (node : NodeView) → PlanStands plan node → node.past ≡ 0 → IsFresh node.pieces → left_of node ≡ over_ports (pieces_of plan) * plan.turns
+all_left plan node stands first fresh =
+    let none : over_ports (done_at node) ≡ 0 = none_over_ports (done_at node) (λ name. fresh.none (index_of name)) in
+    left_pieces plan node stands
+    ∙ ap (λ past. over_ports (pieces_of plan) * (plan.turns - past) - over_ports (done_at node)) first
+    ∙ ap (λ done. over_ports (pieces_of plan) * (plan.turns - 0) - done) none
+    ∙ nothing_less (over_ports (pieces_of plan)) plan.turns

@@ -1,5 +1,5 @@
 // The node: a state machine, stepped port by port.
-ghost use Rattle.std.specs.Prelude.{◌≡◌, ◌≤◌, ◌<◌, ◌+◌, ◌↔◌, ◌&&◌, nat_lt, ℕ, true, false, None, IfOk, IsTrue};
+ghost use Rattle.std.specs.Prelude.{◌≡◌, ◌≤◌, ◌<◌, ◌+◌, ◌*◌, ◌↔◌, ◌&&◌, nat_lt, ℕ, true, false, None, IfOk, IsTrue};
 ghost use Rattle.otn_base.specs.declared.kind.PortName.{PortName};
 ghost use Rattle.otn_base.specs.declared.kind.PortName.TheVariants.{LineIn as line-in, LineOut as line-out, ClientIn as client-in, ClientOut as client-out};
 ghost use Rattle.otn_ports.specs.InPlace.{in_view};
@@ -9,7 +9,8 @@ ghost use Rattle.otn_ports.specs.Views.{BaysView};
 ghost use Rattle.plan_file.specs.Answer.{fault_in};
 ghost use Rattle.plan_file.specs.declared.plan.Plan.{Plan};
 ghost use Rattle.node_core.specs.NodeMoves.{LineInMove, LineOutMove, ClientInMove, ClientOutMove, FenceMove, RetiredBy};
-ghost use Rattle.node_core.specs.NodeView.{NodeView, is_ready, ready_number};
+ghost use Rattle.device_model.specs.Moments.{over_ports, pieces_of};
+ghost use Rattle.node_core.specs.NodeView.{NodeView, is_ready, left_of, ready_number};
 ghost use Rattle.node_core.specs.Pieces.{open_count, IsNth, IsCounted};
 ghost use Rattle.node_core.specs.Stands.{Bytes, StandsAt, Later, no_bytes};
 ghost use Rattle.node_core.specs.Moves.{OnlyPort};
@@ -59,6 +60,7 @@ impl Node {
         ensures stands { IfOk result (λ node. (first : BaysView) → StandsAt plan.now first no_bytes node first) }
         ensures turns { IfOk result (λ node. node.turns ≡ plan.now.turns) }
         ensures past { IfOk result (λ node. node.past ≡ 0) }
+        ensures left { IfOk result (λ node. left_of node ≡ over_ports (pieces_of plan.now) * plan.now.turns) }
     {
         let pieces = Pieces::of_plan(alloc, plan)?;
         let lines_in = new_lines_in(alloc, plan)?;

@@ -1,8 +1,10 @@
-use Rattle.std.proofs.Common.{◌≡◌, refl}
+use Rattle.std.proofs.Common.{◌≡◌, [], refl}
 use Rattle.node_core.specs.Built.{IsNewNode}
 use Rattle.node_core.specs.NodeView.{NodeView}
 use Rattle.node_core.proofs.Building.{first_moment}
 use Rattle.node_core.proofs.NodesKept.{first_node}
+use Rattle.node_core.proofs.PlanPieces.{all_left}
+use Rattle.otn_ports.specs.Views.{BaysView}
 use Rattle.node_core.proofs.node.Node.build.Goals as goal
 
 pub returns-clause-stands : goal.returns-clause-stands
@@ -32,3 +34,9 @@ invariant_of-result c =
       links = c.in_ok-links.ensures;
     } in
     first_node c.args.plan.now node c.requires.accepted new
+
+pub returns-clause-left : goal.returns-clause-left
+returns-clause-left c =
+    let node : NodeView = record { turns = c.args.plan.now.turns; past = 0; pieces = c.in_ok-pieces.pieces; lines_in = c.in_ok-lines_in.lines_in.items; lines_out = c.in_ok-lines_out.lines_out.items; links = c.in_ok-links.links.items } in
+    let none : BaysView = record { line_in = []; line_out = []; client_in = []; client_out = [] } in
+    all_left c.args.plan.now node (returns-clause-stands c none).plan_stands refl c.in_ok-pieces.ensures.fresh
