@@ -25,6 +25,8 @@ mod retire;
 mod runs;
 mod settle;
 mod tally;
+#[cfg(test)]
+mod tests;
 mod turn;
 
 pub use device_model::{FromState, Outcome};
