@@ -39,3 +39,5 @@ pub mod RunsLeft
 pub mod OutputsLeft
 pub mod NumbersLeft
 pub mod WholeRuns
+pub mod GivenRuns
+pub mod RunsAlike

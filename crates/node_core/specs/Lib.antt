@@ -14,3 +14,5 @@ pub mod RunLeft
 pub mod Settling
 pub mod RunNumbers
 pub mod Asking
+pub mod GivenRuns
+pub mod RunsAlike

@@ -10,10 +10,12 @@
 //! - `turn`: the end of a turn; `retire`: client places at the stop of their connection.
 //! - `settle`: the end of a run; `reads`: what a node tells of its ports and its connections; `tally`: all of it together, as the
 //!   `numbers` of a run for its report.
+//! - `laws`: what follows of what a run leaves, of runs of what was given, of two worlds, and of what a connection carries.
 #![tactic(auto)]
 
 mod build;
 mod clients;
+mod laws;
 mod lines_in;
 mod lines_out;
 mod link;
@@ -32,6 +34,7 @@ mod settle_tests;
 mod turn;
 
 pub use device_model::{FromState, Outcome};
+pub use laws::{run_of_given, runs_agree};
 pub use node::Node;
 pub use numbers::{ClientInCounts, ClientOutCounts, RunNumbers};
 pub use ports::uses;

@@ -1,0 +1,261 @@
+-- What left on a connection that two runs share is the same, as far as both have gone.
+use Rattle.std.proofs.Common.{◌≡◌, ◌≢◌, ◌<◌, ◌≤◌, ◌+◌, ◌-◌, ◌*◌, ◌/◌, inl, inr, min, ℕ, Bool, true, false, List, [], ◌∷◌, ◌++◌, Some, length, take, drop, slice_get, nat_le, ◌&&◌, if◌then◌else◌, refl, sym, ap, ◌∙◌, subst, arith, append-nil, length-drop, mul_comm}
+use Rattle.std.specs.List.{Contains, concat}
+use Rattle.std.proofs.lemmas.Nat.{mul-add-lt}
+use Rattle.std.proofs.lemmas.List.{take-append-le, drop-append-le}
+use Rattle.std.proofs.lemmas.Option.{slice_get_read}
+use Rattle.otn_base.specs.LineSlots.{LineSlots, slots_of}
+use Rattle.otn_ports.specs.Given.{Lives}
+use Rattle.otn_ports.specs.Retiring.{retired_out_as}
+use Rattle.otn_ports.specs.Views.{State, Live, Dead, OutView, line_out_at, client_out_at}
+use Rattle.line_side.specs.LineFile.{frame_at, whole_frames}
+use Rattle.line_side.specs.LineForm.{size_of, through_mask}
+use Rattle.line_side.proofs.Masks.{length_through}
+use Rattle.plan_file.specs.declared.connection.Connection.{Connection}
+use Rattle.plan_file.specs.declared.connection.FromEnd.TheVariants as from_end
+use Rattle.plan_file.specs.declared.connection.ToEnd.TheVariants as to_end
+use Rattle.tributary_model.specs.Places.{byte_at}
+use Rattle.device_model.specs.Entries.{first_turn, form_out}
+use Rattle.device_model.specs.Moments.{turns_done, client_due}
+use Rattle.device_model.specs.Numbers.{client_numbers, output_numbers, last_state}
+use Rattle.device_model.specs.SoundPlans.{IsSoundEntry}
+use Rattle.device_model.specs.Through.{own_input, arrived_by, text_by}
+use Rattle.device_model.specs.TwoWorlds.{SameInput, AgreeOnEnd, HasFrame, HaveFrame, HaveSameByte, Run, written}
+use Rattle.device_model.proofs.MadeFrames.{made_whole}
+use Rattle.device_model.proofs.OwnBytes.{writes_the_same}
+use Rattle.device_model.proofs.WorldInputs.{gives_the_same_input, leaves_the_same, reports_the_same, sound_of}
+use Rattle.node_core.specs.RunLeft.{LineOutLeft, ClientOutLeft}
+use Rattle.node_core.specs.RunsAlike.{World, IsWorld, ShareOne, IsFrontOfOther, HasLived, BothLived, HasPlace, LeftAlike, state_of_client, went_out}
+use Rattle.node_core.specs.Stands.{out_after_retire}
+use Rattle.node_core.proofs.UsedPorts.{to_line_used}
+
+-- ---- two texts of one
+
+one_front : (xs r ys s : List ℕ) → xs ++ r ≡ ys ++ s → IsFrontOfOther xs ys
+one_front [] r ys s e = inl (ys, refl)
+one_front (x ∷ xs) r [] s e = inr (x ∷ xs, refl)
+one_front (x ∷ xs) r (y ∷ ys) s e =
+    let head : x ≡ y = cc in
+    let tail : xs ++ r ≡ ys ++ s = cc in
+    elim (one_front xs r ys s tail) as (λ h. IsFrontOfOther (x ∷ xs) (y ∷ ys)) [
+      | inl t ↦ inl (t.0, ap (λ l. x ∷ l) t.1 ∙ ap (λ a. a ∷ ys) head)
+      | inr t ↦ inr (t.0, ap (λ l. y ∷ l) t.1 ∙ ap (λ a. a ∷ xs) (sym head))
+    ]
+
+all_of : (went rest due : List ℕ) → went ++ rest ≡ due → rest ≡ [] → went ≡ due
+all_of went rest due parts none = sym (append-nil went) ∙ sym (ap (λ r. went ++ r) none) ∙ parts
+
+-- ---- a place that has lived
+
+lived_on : (first was : OutView) → Lives first.state was.state first.faults was.faults → first.state ≡ Live → was.state ≢ Dead → was.state ≡ Live
+lived_on first was (inl same) live not = same.0 ∙ live
+lived_on first was (inr died) live not = absurd (not died.1)
+
+dead_stays : (retires : Bool) (was : OutView) → was.state ≡ Dead → (out_after_retire retires was).state ≡ Dead
+dead_stays false was dead = dead
+dead_stays true was dead = ap (λ s. (retired_out_as s was).state) dead ∙ dead
+
+-- ---- what went to a client
+
+sound_in : (world : World) (x : Connection) → IsWorld world → Contains world.plan.connections x → IsSoundEntry world.plan x
+sound_in world x is has = sound_of world.plan x is.accepted has
+
+-- its turns, when all turns of its plan are done
+no_piece : (b : Bool) → ◌≡◌ {A = ℕ} (if b then 0 else 0) 0
+no_piece true = refl
+no_piece false = refl
+
+all_turns : (x : Connection) (turns : ℕ) → x.stop ≤ turns → turns_done x turns 0 ≡ x.stop - first_turn x
+all_turns x turns most =
+    let low : min turns x.stop ≡ x.stop = omega arith in
+    let none = no_piece (nat_le x.start (turns + 1) && nat_le (turns + 1) x.stop) in
+    ap (λ n. min turns x.stop - first_turn x + n) none ∙ ap (λ n. n - first_turn x + 0) low ∙ omega arith
+
+client_left : (world : World) (x : Connection) (n : ℕ) (is : IsWorld world) → Contains world.plan.connections x → x.to ≡ to_end.Client n
+    → ClientOutLeft world.plan world.inputs x (client_out_at world.first n) ((went_out world is).client n) (client_out_at world.last n)
+client_left world x n is has to = (is.left.of_inputs world.inputs is.may_be).outputs.client x n has to
+
+text_in : (world : World) (x : Connection) (is : IsWorld world) → Contains world.plan.connections x
+    → client_due x (own_input world.inputs x) world.plan.turns 0 ≡ text_by x (own_input world.inputs x) (x.stop - first_turn x)
+text_in world x is has = ap (text_by x (own_input world.inputs x)) (all_turns x world.plan.turns (sound_in world x is has).stop)
+
+text_lived : (world : World) (x : Connection) (n : ℕ) (is : IsWorld world) → Contains world.plan.connections x → x.to ≡ to_end.Client n
+    → HasLived (client_out_at world.first n).state (client_out_at world.last n).state → (went_out world is).client n ≡ client_due x (own_input world.inputs x) world.plan.turns 0
+text_lived world x n is has to lived =
+    let l = client_left world x n is has to in
+    let not : l.was.state ≢ Dead = λ dead. lived.is (ap (λ v. v.state) l.place ∙ dead_stays x.retire l.was dead) in
+    all_of ((went_out world is).client n) l.left.rest (client_due x (own_input world.inputs x) world.plan.turns 0) l.left.parts
+    (l.left.whole (lived_on (client_out_at world.first n) l.was l.left.gained.state lived.was not))
+
+-- ---- what went to a line
+
+line_left : (world : World) (x : Connection) (b number : ℕ) (slots : LineSlots) (is : IsWorld world) → Contains world.plan.connections x → x.to ≡ to_end.Line b number slots
+    → LineOutLeft world.plan world.inputs b (line_out_at world.first b) ((went_out world is).line b) (line_out_at world.last b)
+line_left world x b number slots is has to =
+    let at = slice_get_read world.plan.connections (length world.plan.connections) has.0 x refl has.1 (sym has.2) in
+    (is.left.of_inputs world.inputs is.may_be).outputs.line b (to_line_used world.plan has.0 b number slots x at to)
+
+-- a frame that is whole in the front of a file is that of the file
+front_frame : (xs ys : List ℕ) (f : ℕ) → f < whole_frames xs → frame_at xs f ≡ frame_at (xs ++ ys) f
+unfolding frame_at
+front_frame xs ys f less =
+    let room : 16320 * f + 16320 ≤ length xs = omega arith in
+    let rest : 16320 ≤ length (drop (16320 * f) xs) = omega (arith, length-drop (16320 * f) xs) in
+    sym (ap (take 16320) (drop-append-le (16320 * f) xs ys (omega arith)) ∙ take-append-le 16320 (drop (16320 * f) xs) ys rest)
+
+run_at : (world : World) (b : ℕ) (went : List ℕ) → LineOutLeft world.plan world.inputs b (line_out_at world.first b) went (line_out_at world.last b) → Run
+run_at world b went l = record { plan = world.plan; inputs = world.inputs; frames = l.is_due.frames }
+
+-- a whole frame of what went is that of the file
+went_frame : (world : World) (b f : ℕ) (went : List ℕ) (l : LineOutLeft world.plan world.inputs b (line_out_at world.first b) went (line_out_at world.last b)) → f < whole_frames went
+    → frame_at went f ≡ frame_at (written (run_at world b went l) b) f
+unfolding run_at
+went_frame world b f went l less = front_frame went l.left.rest f less ∙ ap (λ bytes. frame_at bytes f) (l.left.parts ∙ l.is_due.bytes)
+
+frame_made : (past n size turns : ℕ) → past < turns → n < size → size * past + n < size * turns + 0
+frame_made past n size turns p l =
+    let h = mul-add-lt past size n turns p l in
+    omega (arith, mul_comm size past)
+
+-- frame n of the turn is one of the file
+has_frame : (world : World) (x : Connection) (b number past n row column : ℕ) (slots : LineSlots) (went : List ℕ) → IsWorld world → Contains world.plan.connections x → HasPlace x b number past n row column slots
+    → (l : LineOutLeft world.plan world.inputs b (line_out_at world.first b) went (line_out_at world.last b)) → HasFrame (run_at world b went l) x b number past n slots
+unfolding run_at
+has_frame world x b number past n row column slots went is has place l =
+    let sound = sound_in world x is has in
+    let same : slots_of slots.kind ≡ size_of (form_out world.plan b) = ap slots_of (sound.to_line b number slots place.to).kind in
+    let stop = sound.stop in
+    let active = place.active.stop in
+    let frame = place.frame in
+    record {
+      accepted = is.accepted;
+      sends = record { is_of = has; to = place.to; active = place.active };
+      count = size_of (form_out world.plan b) * world.plan.turns + 0;
+      file = l.is_due.file;
+      made = frame_made past n (size_of (form_out world.plan b)) world.plan.turns (omega arith) (omega arith);
+    }
+
+-- where the line has lived all frames of the plan's turns went whole
+line_lived : (world : World) (b : ℕ) (went : List ℕ) (l : LineOutLeft world.plan world.inputs b (line_out_at world.first b) went (line_out_at world.last b))
+    → HasLived (line_out_at world.first b).state (line_out_at world.last b).state → whole_frames went ≡ size_of (form_out world.plan b) * world.plan.turns + 0
+line_lived world b went l lived =
+    let live = lived_on (line_out_at world.first b) (line_out_at world.last b) l.left.gained.state lived.was lived.is in
+    let all : went ≡ through_mask (form_out world.plan b).scrambled (concat l.is_due.frames) = all_of went l.left.rest l.due l.left.parts (l.left.whole live) ∙ l.is_due.bytes in
+    ap whole_frames all ∙ ap (λ n. n / 16320) (length_through (form_out world.plan b).scrambled (concat l.is_due.frames))
+    ∙ made_whole world.plan world.inputs b (size_of (form_out world.plan b) * world.plan.turns + 0) l.is_due.frames l.is_due.file
+
+went_whole : (world : World) (x : Connection) (b number past n row column : ℕ) (slots : LineSlots) (went : List ℕ) → IsWorld world → Contains world.plan.connections x → HasPlace x b number past n row column slots
+    → LineOutLeft world.plan world.inputs b (line_out_at world.first b) went (line_out_at world.last b)
+    → HasLived (line_out_at world.first b).state (line_out_at world.last b).state → slots_of slots.kind * past + n < whole_frames went
+went_whole world x b number past n row column slots went is has place l lived =
+    let sound = sound_in world x is has in
+    let same : slots_of slots.kind ≡ size_of (form_out world.plan b) = ap slots_of (sound.to_line b number slots place.to).kind in
+    let stop = sound.stop in
+    let active = place.active.stop in
+    let frame = place.frame in
+    let whole = line_lived world b went l lived in
+    let made = frame_made past n (size_of (form_out world.plan b)) world.plan.turns (omega arith) (omega arith) in
+    let size = ap (λ s. s * past + n) same in
+    omega arith
+
+-- ---- both
+
+share_input : (one other : World) (x : Connection) → IsWorld one → ShareOne one other x → SameInput (own_input one.inputs x) (own_input other.inputs x)
+share_input one other x first share = gives_the_same_input one.plan x one.inputs other.inputs first.accepted share.first share.agree
+
+same_due : (one other : World) (x : Connection) → IsWorld one → IsWorld other → ShareOne one other x
+    → client_due x (own_input one.inputs x) one.plan.turns 0 ≡ client_due x (own_input other.inputs x) other.plan.turns 0
+same_due one other x first second share =
+    let same = leaves_the_same x (own_input one.inputs x) (own_input other.inputs x) (x.stop - first_turn x) (share_input one other x first share) in
+    text_in one x first share.first ∙ same.text ∙ sym (text_in other x second share.second)
+
+same_text : (one other : World) (x : Connection) (first : IsWorld one) (second : IsWorld other) → ShareOne one other x → (n : ℕ) → x.to ≡ to_end.Client n
+    → IsFrontOfOther ((went_out one first).client n) ((went_out other second).client n)
+same_text one other x first second share n to =
+    let l = client_left one x n first share.first to in
+    let r = client_left other x n second share.second to in
+    one_front ((went_out one first).client n) l.left.rest ((went_out other second).client n) r.left.rest (l.left.parts ∙ same_due one other x first second share ∙ sym r.left.parts)
+
+same_whole : (one other : World) (x : Connection) (first : IsWorld one) (second : IsWorld other) → ShareOne one other x → (n : ℕ) → x.to ≡ to_end.Client n
+    → BothLived one other (state_of_client n) → (went_out one first).client n ≡ (went_out other second).client n
+same_whole one other x first second share n to lived =
+    text_lived one x n first share.first to lived.first ∙ same_due one other x first second share ∙ sym (text_lived other x n second share.second to lived.second)
+
+same_bytes : (one other : World) (x : Connection) (b number past n row column : ℕ) (slots : LineSlots) (went others : List ℕ)
+    (l : LineOutLeft one.plan one.inputs b (line_out_at one.first b) went (line_out_at one.last b)) (r : LineOutLeft other.plan other.inputs b (line_out_at other.first b) others (line_out_at other.last b))
+    → HaveFrame (run_at one b went l) (run_at other b others r) x b number past n row column slots → SameInput (own_input one.inputs x) (own_input other.inputs x)
+    → (form_out one.plan b).scrambled ≡ (form_out other.plan b).scrambled → HaveSameByte (written (run_at one b went l) b) (written (run_at other b others r) b) (slots_of slots.kind * past + n) row column
+unfolding run_at
+same_bytes one other x b number past n row column slots went others l r have same mask =
+    writes_the_same (run_at one b went l) (run_at other b others r) x b number past n row column slots have same mask
+
+same_places : (one other : World) (x : Connection) (first : IsWorld one) (second : IsWorld other) → ShareOne one other x → (b number past n row column : ℕ) (slots : LineSlots)
+    → HasPlace x b number past n row column slots → (form_out one.plan b).scrambled ≡ (form_out other.plan b).scrambled
+    → slots_of slots.kind * past + n < whole_frames ((went_out one first).line b) → slots_of slots.kind * past + n < whole_frames ((went_out other second).line b)
+    → HaveSameByte ((went_out one first).line b) ((went_out other second).line b) (slots_of slots.kind * past + n) row column
+same_places one other x first second share b number past n row column slots place mask went others =
+    let f = slots_of slots.kind * past + n in
+    let l = line_left one x b number slots first share.first place.to in
+    let r = line_left other x b number slots second share.second place.to in
+    let have : HaveFrame (run_at one b ((went_out one first).line b) l) (run_at other b ((went_out other second).line b) r) x b number past n row column slots = record {
+      first = has_frame one x b number past n row column slots ((went_out one first).line b) first share.first place l;
+      second = has_frame other x b number past n row column slots ((went_out other second).line b) second share.second place r;
+      frame = place.frame;
+      own = place.own;
+    } in
+    ap (λ frame. byte_at frame row column) (went_frame one b f ((went_out one first).line b) l went)
+    ∙ same_bytes one other x b number past n row column slots ((went_out one first).line b) ((went_out other second).line b) l r have (share_input one other x first share) mask
+    ∙ sym (ap (λ frame. byte_at frame row column) (went_frame other b f ((went_out other second).line b) r others))
+
+-- ---- numbers
+
+same_output : {was is : State} {arrived others went sent : List ℕ} → was ≡ is → arrived ≡ others → went ≡ sent → output_numbers was arrived went ≡ output_numbers is others sent
+same_output {was} {is} {arrived} {others} {went} {sent} a b c =
+    ap (λ s. output_numbers s arrived went) a ∙ ap (λ l. output_numbers is l went) b ∙ ap (output_numbers is others) c
+
+same_client_in : (one other : World) (x : Connection) (first : IsWorld one) (second : IsWorld other) → ShareOne one other x → (n : ℕ) → x.from ≡ from_end.Client n → one.numbers.client_in n ≡ other.numbers.client_in n
+same_client_in one other x first second share n from =
+    let a = (first.left.of_inputs one.inputs first.may_be).numbers_are.client_in x n share.first from in
+    let b = (second.left.of_inputs other.inputs second.may_be).numbers_are.client_in x n share.second from in
+    let agree : AgreeOnEnd (from_end.Client n) one.inputs other.inputs = subst (λ e. AgreeOnEnd e one.inputs other.inputs) from share.agree in
+    let same : one.inputs.client n ≡ other.inputs.client n = agree in
+    a ∙ ap (client_numbers x) same ∙ sym b
+
+arrived_in : (world : World) (x : Connection) (is : IsWorld world) → Contains world.plan.connections x
+    → arrived_by x (own_input world.inputs x) (turns_done x world.plan.turns 0) ≡ arrived_by x (own_input world.inputs x) (x.stop - first_turn x)
+arrived_in world x is has = ap (arrived_by x (own_input world.inputs x)) (all_turns x world.plan.turns (sound_in world x is has).stop)
+
+same_client_out : (one other : World) (x : Connection) (first : IsWorld one) (second : IsWorld other) → ShareOne one other x → (n : ℕ) → x.to ≡ to_end.Client n
+    → BothLived one other (state_of_client n) → one.numbers.client_out n ≡ other.numbers.client_out n
+same_client_out one other x first second share n to lived =
+    let a = (first.left.of_inputs one.inputs first.may_be).numbers_are.client_out x n share.first to in
+    let b = (second.left.of_inputs other.inputs second.may_be).numbers_are.client_out x n share.second to in
+    let same = leaves_the_same x (own_input one.inputs x) (own_input other.inputs x) (x.stop - first_turn x) (share_input one other x first share) in
+    let arrived = arrived_in one x first share.first ∙ same.arrived ∙ sym (arrived_in other x second share.second) in
+    let went = same_whole one other x first second share n to lived in
+    let state : (client_out_at one.first n).state ≡ (client_out_at other.first n).state = lived.first.was ∙ sym lived.second.was in
+    a ∙ same_output state arrived went ∙ sym b
+
+same_from : (one other : World) (x : Connection) (first : IsWorld one) (second : IsWorld other) → ShareOne one other x → (i j : ℕ) → slice_get one.plan.connections i ≡ Some x
+    → slice_get other.plan.connections j ≡ Some x → one.plan.turns ≡ other.plan.turns → one.numbers.from i ≡ other.numbers.from j
+same_from one other x first second share i j at there turns =
+    let a = (first.left.of_inputs one.inputs first.may_be).numbers_are.from i x at in
+    let b = (second.left.of_inputs other.inputs second.may_be).numbers_are.from j x there in
+    a ∙ reports_the_same x (own_input one.inputs x) (own_input other.inputs x) one.plan.turns (share_input one other x first share)
+    ∙ ap (λ t. last_state t x (own_input other.inputs x)) turns ∙ sym b
+
+-- ---- all of it
+
+pub left_alike : (one other : World) (x : Connection) (first : IsWorld one) (second : IsWorld other) → ShareOne one other x → LeftAlike one other (went_out one first) (went_out other second) x
+left_alike one other x first second share = record {
+  text = same_text one other x first second share;
+  whole_text = same_whole one other x first second share;
+  places = same_places one other x first second share;
+  all_places = λ b number past n row column slots place mask lived.
+      same_places one other x first second share b number past n row column slots place mask
+      (went_whole one x b number past n row column slots ((went_out one first).line b) first share.first place (line_left one x b number slots first share.first place.to) lived.first)
+      (went_whole other x b number past n row column slots ((went_out other second).line b) second share.second place (line_left other x b number slots second share.second place.to) lived.second);
+  client_in = same_client_in one other x first second share;
+  client_out = same_client_out one other x first second share;
+  from = same_from one other x first second share;
+}
