@@ -25,7 +25,7 @@ use Rattle.node_core.specs.Stands.{after_retire}
 -- ---- the connection of a port
 
 -- a test that some element passes
-some_passes : (test : Connection → Bool) (xs : List Connection) → list_any test xs ≡ true → (x : Connection) × Contains xs x × (test x ≡ true)
+pub some_passes : (test : Connection → Bool) (xs : List Connection) → list_any test xs ≡ true → (x : Connection) × Contains xs x × (test x ≡ true)
 some_passes test [] h = absurd (cc)
 some_passes test (y ∷ ys) h = go (test y) refl (some_passes test ys)
   where

@@ -41,3 +41,5 @@ pub mod NumbersLeft
 pub mod WholeRuns
 pub mod GivenRuns
 pub mod RunsAlike
+pub mod FaultlessRuns
+pub mod RunsThrough

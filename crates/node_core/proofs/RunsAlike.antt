@@ -42,22 +42,22 @@ one_front (x ∷ xs) r (y ∷ ys) s e =
       | inr t ↦ inr (t.0, ap (λ l. y ∷ l) t.1 ∙ ap (λ a. a ∷ xs) (sym head))
     ]
 
-all_of : (went rest due : List ℕ) → went ++ rest ≡ due → rest ≡ [] → went ≡ due
+pub all_of : (went rest due : List ℕ) → went ++ rest ≡ due → rest ≡ [] → went ≡ due
 all_of went rest due parts none = sym (append-nil went) ∙ sym (ap (λ r. went ++ r) none) ∙ parts
 
 -- ---- a place that has lived
 
-lived_on : (first was : OutView) → Lives first.state was.state first.faults was.faults → first.state ≡ Live → was.state ≢ Dead → was.state ≡ Live
+pub lived_on : (first was : OutView) → Lives first.state was.state first.faults was.faults → first.state ≡ Live → was.state ≢ Dead → was.state ≡ Live
 lived_on first was (inl same) live not = same.0 ∙ live
 lived_on first was (inr died) live not = absurd (not died.1)
 
-dead_stays : (retires : Bool) (was : OutView) → was.state ≡ Dead → (out_after_retire retires was).state ≡ Dead
+pub dead_stays : (retires : Bool) (was : OutView) → was.state ≡ Dead → (out_after_retire retires was).state ≡ Dead
 dead_stays false was dead = dead
 dead_stays true was dead = ap (λ s. (retired_out_as s was).state) dead ∙ dead
 
 -- ---- what went to a client
 
-sound_in : (world : World) (x : Connection) → IsWorld world → Contains world.plan.connections x → IsSoundEntry world.plan x
+pub sound_in : (world : World) (x : Connection) → IsWorld world → Contains world.plan.connections x → IsSoundEntry world.plan x
 sound_in world x is has = sound_of world.plan x is.accepted has
 
 -- its turns, when all turns of its plan are done
@@ -65,21 +65,21 @@ no_piece : (b : Bool) → ◌≡◌ {A = ℕ} (if b then 0 else 0) 0
 no_piece true = refl
 no_piece false = refl
 
-all_turns : (x : Connection) (turns : ℕ) → x.stop ≤ turns → turns_done x turns 0 ≡ x.stop - first_turn x
+pub all_turns : (x : Connection) (turns : ℕ) → x.stop ≤ turns → turns_done x turns 0 ≡ x.stop - first_turn x
 all_turns x turns most =
     let low : min turns x.stop ≡ x.stop = omega arith in
     let none = no_piece (nat_le x.start (turns + 1) && nat_le (turns + 1) x.stop) in
     ap (λ n. min turns x.stop - first_turn x + n) none ∙ ap (λ n. n - first_turn x + 0) low ∙ omega arith
 
-client_left : (world : World) (x : Connection) (n : ℕ) (is : IsWorld world) → Contains world.plan.connections x → x.to ≡ to_end.Client n
+pub client_left : (world : World) (x : Connection) (n : ℕ) (is : IsWorld world) → Contains world.plan.connections x → x.to ≡ to_end.Client n
     → ClientOutLeft world.plan world.inputs x (client_out_at world.first n) ((went_out world is).client n) (client_out_at world.last n)
 client_left world x n is has to = (is.left.of_inputs world.inputs is.may_be).outputs.client x n has to
 
-text_in : (world : World) (x : Connection) (is : IsWorld world) → Contains world.plan.connections x
+pub text_in : (world : World) (x : Connection) (is : IsWorld world) → Contains world.plan.connections x
     → client_due x (own_input world.inputs x) world.plan.turns 0 ≡ text_by x (own_input world.inputs x) (x.stop - first_turn x)
 text_in world x is has = ap (text_by x (own_input world.inputs x)) (all_turns x world.plan.turns (sound_in world x is has).stop)
 
-text_lived : (world : World) (x : Connection) (n : ℕ) (is : IsWorld world) → Contains world.plan.connections x → x.to ≡ to_end.Client n
+pub text_lived : (world : World) (x : Connection) (n : ℕ) (is : IsWorld world) → Contains world.plan.connections x → x.to ≡ to_end.Client n
     → HasLived (client_out_at world.first n).state (client_out_at world.last n).state → (went_out world is).client n ≡ client_due x (own_input world.inputs x) world.plan.turns 0
 text_lived world x n is has to lived =
     let l = client_left world x n is has to in
@@ -89,7 +89,7 @@ text_lived world x n is has to lived =
 
 -- ---- what went to a line
 
-line_left : (world : World) (x : Connection) (b number : ℕ) (slots : LineSlots) (is : IsWorld world) → Contains world.plan.connections x → x.to ≡ to_end.Line b number slots
+pub line_left : (world : World) (x : Connection) (b number : ℕ) (slots : LineSlots) (is : IsWorld world) → Contains world.plan.connections x → x.to ≡ to_end.Line b number slots
     → LineOutLeft world.plan world.inputs b (line_out_at world.first b) ((went_out world is).line b) (line_out_at world.last b)
 line_left world x b number slots is has to =
     let at = slice_get_read world.plan.connections (length world.plan.connections) has.0 x refl has.1 (sym has.2) in
@@ -136,7 +136,7 @@ has_frame world x b number past n row column slots went is has place l =
     }
 
 -- where the line has lived all frames of the plan's turns went whole
-line_lived : (world : World) (b : ℕ) (went : List ℕ) (l : LineOutLeft world.plan world.inputs b (line_out_at world.first b) went (line_out_at world.last b))
+pub line_lived : (world : World) (b : ℕ) (went : List ℕ) (l : LineOutLeft world.plan world.inputs b (line_out_at world.first b) went (line_out_at world.last b))
     → HasLived (line_out_at world.first b).state (line_out_at world.last b).state → whole_frames went ≡ size_of (form_out world.plan b) * world.plan.turns + 0
 line_lived world b went l lived =
     let live = lived_on (line_out_at world.first b) (line_out_at world.last b) l.left.gained.state lived.was lived.is in

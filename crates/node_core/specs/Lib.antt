@@ -16,3 +16,5 @@ pub mod RunNumbers
 pub mod Asking
 pub mod GivenRuns
 pub mod RunsAlike
+pub mod FaultlessRuns
+pub mod RunsThrough

@@ -1,6 +1,8 @@
 // The laws of what a run leaves, each the contract of a function.
+ghost use Rattle.node_core.specs.FaultlessRuns.{FaultlessRunsEndByInputs};
 ghost use Rattle.node_core.specs.GivenRuns.{IsRunOfGiven};
 ghost use Rattle.node_core.specs.RunsAlike.{RunsAgree};
+ghost use Rattle.node_core.specs.RunsThrough.{OutputsAreThrough, RunsCarry};
 
 /// A run whose inputs tell their bytes: each place of an input that the plan uses gave some bytes, so these
 /// are the lines and the packets that it carried. All that is said of a run's outputs and numbers for any
@@ -15,4 +17,25 @@ pub fn run_of_given()
 /// and faults are free.
 pub fn runs_agree()
     ensures { RunsAgree }
+{}
+
+/// A run in which no place that the plan uses was dead, and no port's count of faults rose or stands at its
+/// end, is not cut: it is unfinished exactly where a line has more than its turns want, or a client is not
+/// spent, and else it is done.
+pub fn faultless_runs()
+    ensures { FaultlessRunsEndByInputs }
+{}
+
+/// What went to the output of a connection is what is put through it by its own entry and its own input: a
+/// client's text, a line's file; a part of that from the front, and all where its place has lived. No order
+/// in which the ports got their turn is named.
+pub fn outputs_through()
+    ensures { OutputsAreThrough }
+{}
+
+/// Intact carriage in a run: where its line carries a client's bytes, the output line carries them, three
+/// turns later; of a client or a signal it carries the stream, a turn later; and at a client exactly the
+/// packets are written whose GFP frames lie whole in the frames that came whole.
+pub fn runs_carry()
+    ensures { RunsCarry }
 {}

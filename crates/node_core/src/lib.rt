@@ -34,7 +34,7 @@ mod settle_tests;
 mod turn;
 
 pub use device_model::{FromState, Outcome};
-pub use laws::{run_of_given, runs_agree};
+pub use laws::{faultless_runs, outputs_through, run_of_given, runs_agree, runs_carry};
 pub use node::Node;
 pub use numbers::{ClientInCounts, ClientOutCounts, RunNumbers};
 pub use ports::uses;
