@@ -1,6 +1,5 @@
 //! A node: a state machine that carries a plan, stepped port by port in any order, settled at the end, and asked for the numbers of
 //! its report.
-//! A node: a state machine that carries a plan, stepped port by port in any order, and settled after its last turn.
 //!
 //! - `node`: the node; `runs`: a whole run of it, in an order that a chooser says.
 //! - `build`: its parts before turn 1 of a plan.
@@ -27,10 +26,11 @@ mod reads;
 mod retire;
 mod runs;
 mod settle;
+#[cfg(test)]
+mod settle_tests;
 mod tally;
 #[cfg(test)]
 mod tests;
-mod settle_tests;
 mod turn;
 
 pub use device_model::{FromState, Outcome};
