@@ -6,8 +6,11 @@ ghost use Rattle.std.specs.Prelude.{◌≤◌, IfSome, length};
 
 use line_tool::{Status, run};
 use otn_base::Memory;
-use otn_base::limits::LINES;
-use otn_ports::{Bays, FileSource, FirstReady, InPlace, InPort, Source, StdoutSink};
+use otn_base::limits::{CLIENTS, LINES};
+use otn_ports::{
+    Bays, Chooser, FileSink, FileSource, FirstReady, InPlace, InPort, OutPlace, OutPort, Rack,
+    Sink, Source, StdoutSink,
+};
 use std::alloc::{AllocError, Global};
 use std::env::FillError;
 use std::io::ErrorKind;
@@ -22,11 +25,13 @@ usage: otn slot K           the payload bytes of tributary slot K, 1 to 8, of ea
        otn pull PORT K,K    what the sink of tributary port PORT, 1 to 8, on the tributary slots K, 1 to 8
                             and rising, with commas between them, emits in each turn of line-0.in
        otn check            whether plan.toml is a plan, and of how many connections and turns
+       otn run              carries plan.toml, and reports what came of it
        otn --help
        otn --version
 
 It reads the files of the current folder and writes to standard output; of a line 131,072 frames at most
-(slot), or 16,384 turns of one multiframe each (pull). It ends with
+(slot), or 16,384 turns of one multiframe each (pull). What it carries comes from line-0.in to line-3.in
+and client-00.in to client-15.in, and goes to the files with .out in their place. It ends with
 0 done  1 unfinished  2 words  3 plan refused  4 plan fault  5 report fault  6 cut  7 memory
 ";
 
@@ -55,9 +60,8 @@ fn complain(rt: &HostRuntime, status: Status) -> io::Result<()> {
     }
 }
 
-// Answers `--help` and `--version`, and hands all other words to the top call.
+// Answers `--help` and `--version`, and hands all other words on.
 fn serve(rt: &HostRuntime) -> Result<Status, Memory> {
-    let alloc = rt.alloc();
     let words = words(rt)?;
     if let [word] = words.as_slice() {
         if let Some(text) = page(word.as_str()) {
@@ -65,34 +69,70 @@ fn serve(rt: &HostRuntime) -> Result<Status, Memory> {
             return Ok(Status::Done);
         }
     }
+    over_files(rt, &words)
+}
+
+// Opens the inputs of the current folder, makes its outputs where the words are those of a run, and answers the words
+// over them. Each box is made here, where no port is in the signature.
+fn over_files(rt: &HostRuntime, words: &[String]) -> Result<Status, Memory> {
+    let alloc = rt.alloc();
     let mut bays = Bays::new(alloc)?;
     for n in 0..LINES as u8 {
-        if let Some(source) = line_file(rt, n)? {
+        if let Some(source) = input_file(rt, &format!(in alloc; "line-{n}.in")?) {
             let port: Box<dyn Source> = Box::new(alloc, source)?;
             bays.set_line_in(n, InPlace::Live(InPort::Boxed(port), 0));
         }
     }
-    let mut plan = FileSource::of(fs::open(rt, "plan.toml").ok());
-    let mut report = StdoutSink::of(rt.stdout());
-    let mut chooser = FirstReady::new();
-    Ok(run(
-        alloc,
-        &words,
-        &mut plan,
-        &mut bays,
-        &mut chooser,
-        &mut report,
-    ))
+    for n in 0..CLIENTS as u8 {
+        if let Some(source) = input_file(rt, &format!(in alloc; "client-{n:02}.in")?) {
+            let port: Box<dyn Source> = Box::new(alloc, source)?;
+            bays.set_client_in(n, InPlace::Live(InPort::Boxed(port), 0));
+        }
+    }
+    if makes_outputs(words) {
+        for n in 0..LINES as u8 {
+            let sink = output_file(rt, &format!(in alloc; "line-{n}.out")?);
+            let port: Box<dyn Sink> = Box::new(alloc, sink)?;
+            bays.set_line_out(n, OutPlace::Live(OutPort::Boxed(port), 0));
+        }
+        for n in 0..CLIENTS as u8 {
+            let sink = output_file(rt, &format!(in alloc; "client-{n:02}.out")?);
+            let port: Box<dyn Sink> = Box::new(alloc, sink)?;
+            bays.set_client_out(n, OutPlace::Live(OutPort::Boxed(port), 0));
+        }
+    }
+    Ok(answer(rt, words, &mut bays, &mut FirstReady::new()))
 }
 
-// The file of line input `n`: None where there is none. One that cannot be opened fails at its first read.
-fn line_file(rt: &HostRuntime, n: u8) -> Result<Option<FileSource>, AllocError> {
-    let path = format!(in rt.alloc(); "line-{n}.in")?;
+// Answers the words over these places, the file of the plan and standard output.
+fn answer<I: Source, O: Sink, C: Chooser>(
+    rt: &HostRuntime,
+    words: &[String],
+    bays: &mut Rack<I, O>,
+    chooser: &mut C,
+) -> Status {
+    let mut plan = FileSource::of(fs::open(rt, "plan.toml").ok());
+    let mut report = StdoutSink::of(rt.stdout());
+    run(rt.alloc(), words, &mut plan, bays, chooser, &mut report)
+}
+
+// The file of an input: None where there is none. One that cannot be opened fails at its first read.
+fn input_file(rt: &HostRuntime, path: &String) -> Option<FileSource> {
     match fs::open(rt, path.as_str()) {
-        Ok(file) => Ok(Some(FileSource::of(Some(file)))),
-        Err(error) if error.kind() == ErrorKind::NotFound => Ok(None),
-        Err(_) => Ok(Some(FileSource::of(None))),
+        Ok(file) => Some(FileSource::of(Some(file))),
+        Err(error) if error.kind() == ErrorKind::NotFound => None,
+        Err(_) => Some(FileSource::of(None)),
     }
+}
+
+// The file of an output, made empty. One that cannot be made fails at its first write.
+fn output_file(rt: &HostRuntime, path: &String) -> FileSink {
+    FileSink::of(fs::create(rt, path.as_str()).ok())
+}
+
+// Whether the words are those of a run, or begin as they do: then the outputs are made.
+fn makes_outputs(words: &[String]) -> bool {
+    matches!(words.first(), Some(word) if word.as_str() == "run")
 }
 
 // The pages that are no command.
