@@ -1,0 +1,116 @@
+// The places of a trial, filled with what the files of the folder say.
+use crate::listing::{Fate, Port, fate_of};
+use crate::ports::{InputPort, OutputPort};
+use crate::traces::Traces;
+use otn_base::Memory;
+use otn_base::limits::{CLIENTS, LINE_FRAME_BYTES, LINES, MOST_DELIVERED};
+use otn_ports::{InPlaceOf, ListedSink, ListedSource, OutPlaceOf, Rack};
+use std::alloc::{AllocError, Global};
+use std::io::ErrorKind;
+use std::{fs, io};
+
+/// All places of a trial.
+pub type Places = Rack<InputPort, OutputPort>;
+
+/// Bytes of text that are written at once at most: a packet in hex, and its line's end.
+pub const MOST_TEXT: usize = 2 * MOST_DELIVERED + 1;
+
+/// All places. An input is empty where it has no file; each output is live.
+pub fn fill(
+    rt: &HostRuntime,
+    fates: &[Fate],
+    lines: &mut Traces,
+    clients: &mut Traces,
+) -> io::Result<Places> {
+    let alloc = rt.alloc();
+    let mut places = Rack::new(alloc).map_err(no_memory)?;
+    for n in 0..LINES as u8 {
+        let path = format!(in alloc; "line-{n}.in")?;
+        let fate = fate_of(fates, Port::LineIn(n));
+        places.set_line_in(n, input(rt, &path, fate, lines)?);
+        let fate = fate_of(fates, Port::LineOut(n));
+        places.set_line_out(n, output(alloc, fate, LINE_FRAME_BYTES, lines)?);
+    }
+    for n in 0..CLIENTS as u8 {
+        let path = format!(in alloc; "client-{n:02}.in")?;
+        let fate = fate_of(fates, Port::ClientIn(n));
+        places.set_client_in(n, input(rt, &path, fate, clients)?);
+        let fate = fate_of(fates, Port::ClientOut(n));
+        places.set_client_out(n, output(alloc, fate, MOST_TEXT, clients)?);
+    }
+    Ok(places)
+}
+
+// The next input, with this file.
+fn input(
+    rt: &HostRuntime,
+    path: &String,
+    fate: Option<&Fate>,
+    traces: &mut Traces,
+) -> io::Result<InPlaceOf<InputPort>> {
+    let alloc = rt.alloc();
+    let given = traces.next_given(alloc)?;
+    match fs::read(rt, path.as_str()) {
+        Ok(bytes) => {
+            let source = source(alloc, bytes, fate)?;
+            Ok(InPlaceOf::Live(InputPort::new(source, given), 0))
+        }
+        Err(error) if error.kind() == ErrorKind::NotFound => Ok(InPlaceOf::Empty),
+        Err(error) => Err(error),
+    }
+}
+
+// The next output, to which so many bytes are written at once at most.
+fn output(
+    alloc: Global,
+    fate: Option<&Fate>,
+    most: usize,
+    traces: &mut Traces,
+) -> io::Result<OutPlaceOf<OutputPort>> {
+    let sink = sink(alloc, fate, most)?;
+    Ok(OutPlaceOf::Live(OutputPort::new(sink, traces.next_got(alloc)?), 0))
+}
+
+/// A source of these bytes, with this fate.
+pub fn source(
+    alloc: Global,
+    bytes: Vec<u8>,
+    fate: Option<&Fate>,
+) -> Result<ListedSource, AllocError> {
+    match fate {
+        Some(fate) => {
+            let most = fate.most.unwrap_or(usize::MAX).max(1);
+            Ok(ListedSource::new(bytes, fate.failing.clone()?, most))
+        }
+        None => Ok(ListedSource::new(bytes, Vec::new(alloc), usize::MAX)),
+    }
+}
+
+/// A sink with this fate, to which so many bytes are written at once at most. Its room is the listed one, or else enough up
+/// to the first call that fails, the last one that is made. None where nothing is listed.
+pub fn sink(alloc: Global, fate: Option<&Fate>, most: usize) -> io::Result<Option<ListedSink>> {
+    let Some(fate) = fate else {
+        return Ok(None);
+    };
+    let room = match (fate.room, first_failing(&fate.failing)) {
+        (Some(room), _) => room,
+        (None, Some(call)) => most.saturating_mul(call as usize),
+        (None, None) => return Ok(None),
+    };
+    let sink = ListedSink::with_room(alloc, room, fate.failing.clone()?).map_err(no_memory)?;
+    Ok(Some(sink))
+}
+
+// The least of these numbers.
+fn first_failing(failing: &[u32]) -> Option<u32> {
+    let mut first = None;
+    for &call in failing {
+        first = Some(call.min(first.unwrap_or(call)));
+    }
+    first
+}
+
+// Want of memory as an error of the system.
+fn no_memory(_memory: Memory) -> io::Error {
+    io::Error::from(ErrorKind::OutOfMemory)
+}
