@@ -34,10 +34,13 @@ pub fn fate_of(fates: &[Fate], port: Port) -> Option<&Fate> {
     None
 }
 
-/// What the lines of this text say, or None where one says nothing of a port.
+/// What the lines of this text say, or None where one says nothing of a port and is not empty.
 pub fn fates(alloc: Global, text: &str) -> Result<Option<Vec<Fate>>, AllocError> {
     let mut fates = Vec::new(alloc);
     for line in text.lines() {
+        if line.is_empty() {
+            continue;
+        }
         let Some(fate) = fate_in(alloc, line)? else {
             return Ok(None);
         };
