@@ -15,11 +15,11 @@ mod ports;
 mod traces;
 mod words;
 
-use line_tool::{Status, run};
+use line_tool::{NumberChooser, Status, order_of, run};
 use listing::{Fate, Port, fate_of, fates};
-use otn_ports::{FirstReady, ListedSource, StdoutSink, write_whole};
+use otn_ports::{Chooser, FirstReady, ListedSource, StdoutSink, write_whole};
 use outcome::{states, write_outputs};
-use places::{MOST_TEXT, fill, sink, source};
+use places::{MOST_TEXT, Places, fill, sink, source};
 use ports::{Got, OutputPort};
 use std::io::ErrorKind;
 use std::process::ExitCode;
@@ -50,24 +50,37 @@ fn serve(rt: &HostRuntime) -> io::Result<Status> {
     let fates = listed(rt)?;
     let (mut lines, mut clients) = (Traces::new(alloc), Traces::new(alloc));
     let mut places = fill(rt, &fates, &mut lines, &mut clients)?;
-    let mut plan = plan(rt, fate_of(&fates, Port::Plan))?;
     let written = no_bytes(alloc)?;
     let sink = sink(alloc, fate_of(&fates, Port::Report), MOST_TEXT)?;
     let mut report = OutputPort::new(sink, written.clone()?);
-    let mut chooser = FirstReady::new();
-    let status = run(
-        alloc,
-        &words,
-        &mut plan,
-        &mut places,
-        &mut chooser,
-        &mut report,
-    );
+    let status = match order_of(&words) {
+        Some(number) => {
+            let mut chooser = NumberChooser::new(number);
+            answer(rt, &words, &fates, &mut places, &mut chooser, &mut report)?
+        }
+        None => {
+            let mut chooser = FirstReady::new();
+            answer(rt, &words, &fates, &mut places, &mut chooser, &mut report)?
+        }
+    };
     let states = states(alloc, &places, &lines, &clients)?;
     fs::write(rt, "places.txt", states.as_str())?;
     write_outputs(rt, &lines, &clients)?;
     print(rt, &written)?;
     Ok(status)
+}
+
+// Answers the words over these places, with the plan of its file.
+fn answer<C: Chooser>(
+    rt: &HostRuntime,
+    words: &[String],
+    fates: &[Fate],
+    places: &mut Places,
+    chooser: &mut C,
+    report: &mut OutputPort,
+) -> io::Result<Status> {
+    let mut plan = plan(rt, fate_of(fates, Port::Plan))?;
+    Ok(run(rt.alloc(), words, &mut plan, places, chooser, report))
 }
 
 // What befalls the ports: nothing where there is no file `ports.txt`.

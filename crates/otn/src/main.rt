@@ -4,7 +4,7 @@
 
 ghost use Rattle.std.specs.Prelude.{◌≤◌, IfSome, length};
 
-use line_tool::{Status, run};
+use line_tool::{NumberChooser, Status, order_of, run};
 use otn_base::Memory;
 use otn_base::limits::{CLIENTS, LINES};
 use otn_ports::{
@@ -26,6 +26,7 @@ usage: otn slot K           the payload bytes of tributary slot K, 1 to 8, of ea
                             and rising, with commas between them, emits in each turn of line-0.in
        otn check            whether plan.toml is a plan, and of how many connections and turns
        otn run              carries plan.toml, and reports what came of it
+       otn run --order N    the same, with the ports taken in an order drawn from the number N
        otn --help
        otn --version
 
@@ -101,7 +102,10 @@ fn over_files(rt: &HostRuntime, words: &[String]) -> Result<Status, Memory> {
             bays.set_client_out(n, OutPlace::Live(OutPort::Boxed(port), 0));
         }
     }
-    Ok(answer(rt, words, &mut bays, &mut FirstReady::new()))
+    Ok(match order_of(words) {
+        Some(number) => answer(rt, words, &mut bays, &mut NumberChooser::new(number)),
+        None => answer(rt, words, &mut bays, &mut FirstReady::new()),
+    })
 }
 
 // Answers the words over these places, the file of the plan and standard output.
