@@ -1,15 +1,22 @@
 -- What `check` answers to the text of a source that tells it.
-use Rattle.std.proofs.Common.{◌≡◌, ◌≢◌, ◌<◌, ◌+◌, ◌∙◌, ◌⊎◌, ℕ, false, List, [], ◌++◌, Option, Some, None, length, nat_le, refl, sym, ap, subst, inl, inr, arith, append-nil, length-append}
+use Rattle.std.proofs.Common.{◌≡◌, ◌≢◌, ◌<◌, ◌+◌, ◌∙◌, ◌⊎◌, ℕ, false, List, [], ◌++◌, Option, Some, None, Result, Ok, Err, length, nat_le, refl, sym, ap, subst, inl, inr, arith, append-nil, length-append}
 use Rattle.std.specs.Prelude.{unwrap_or}
 use Rattle.std.proofs.lemmas.Bool.Decides.{nat_tests}
 use Rattle.otn_ports.specs.Bytes.{before}
 use Rattle.plan_file.specs.Answer.{plan_of_text, plan_of_table, table_of_text}
+use Rattle.otn_base.specs.declared.memory.Memory.{Memory as NoMemory}
 use Rattle.plan_file.specs.declared.error.PlanError.{PlanError}
+use Rattle.plan_file.specs.declared.plan.Plan.{Plan}
 use Rattle.line_tool.specs.Answers.{CheckAnswers}
-use Rattle.otn_ports.specs.PortViews.{SourceView, SinkView}
+use Rattle.otn_ports.specs.PortViews.{SourceView, SinkView, SinkLater}
 use Rattle.line_tool.specs.Device.{Device}
-use Rattle.line_tool.specs.PlanCheck.{CheckRun, CheckEnds, IsAll}
+use Rattle.line_tool.specs.Ends.{check_status}
+use Rattle.line_tool.specs.PlanCheck.{CheckRun, CheckEnds, CountsBy, IsAll, PlanTold, WasRead}
+use Rattle.line_tool.specs.PlanReading.{PlanReading}
 use Rattle.line_tool.specs.Runs.{IsRefusal, IsWell}
+use Rattle.line_tool.specs.declared.check.Checked.{Checked}
+use Rattle.line_tool.specs.declared.check.Checked.TheVariants as checked
+use Rattle.line_tool.specs.declared.plan_text.Planned.TheVariants as planned
 use Rattle.line_tool.specs.declared.status.Status.{Status}
 use Rattle.line_tool.specs.declared.status.Status.TheVariants as status
 
@@ -76,3 +83,45 @@ check_complete status.PlanFault old new h report plan = absurd (plan (h.plan_cou
 check_complete status.Words old new h report plan = absurd h.ends
 check_complete status.Cut old new h report plan = absurd h.ends
 check_complete status.Unfinished old new h report plan = absurd h.ends
+
+-- ---- of a plan that is accepted
+
+told_ends : (plan : Plan) (text : List ℕ) (answer : Result Checked NoMemory) (old new : Option (List ℕ)) → plan_of_text text ≡ Ok plan → PlanTold (check_status answer) plan old new → CheckEnds (check_status answer) text old new
+told_ends plan text (Ok checked.Told) old new says told = (plan, (says, told))
+told_ends plan text (Ok checked.ReportFault) old new says told = (plan, (says, told))
+told_ends plan text (Ok (checked.Refused error place)) old new says told = absurd told
+told_ends plan text (Ok checked.PlanFault) old new says told = absurd told
+told_ends plan text (Err memory) old new says told = told
+
+told_read : (plan : Plan) (text : List ℕ) (left : Option (List ℕ)) (answer : Result Checked NoMemory) (old new : Option (List ℕ)) → PlanTold (check_status answer) plan old new → IsAll text left
+    → WasRead (check_status answer) text left
+told_read plan text left (Ok checked.Told) old new told all = all
+told_read plan text left (Ok checked.ReportFault) old new told all = all
+told_read plan text left (Ok (checked.Refused error place)) old new told all = all
+told_read plan text left (Ok checked.PlanFault) old new told all = absurd told
+told_read plan text left (Err memory) old new told all = inr all
+
+never_plan_fault : (plan : Plan) (answer : Result Checked NoMemory) (old new : Option (List ℕ)) → PlanTold (check_status answer) plan old new → check_status answer ≢ status.PlanFault
+never_plan_fault plan (Ok checked.Told) old new told e = cc
+never_plan_fault plan (Ok checked.ReportFault) old new told e = cc
+never_plan_fault plan (Ok (checked.Refused error place)) old new told e = cc
+never_plan_fault plan (Ok checked.PlanFault) old new told e = absurd told
+never_plan_fault plan (Err memory) old new told e = cc
+
+-- it is told, whole or in part, or there was no memory for that
+pub accepted_check : (plan : Plan) (had has : SourceView) (old new : SinkView) (answer : Result Checked NoMemory) → PlanReading (Ok (planned.Accepted plan)) had has → PlanTold (check_status answer) plan old.got new.got
+    → SinkLater old new → CountsBy status.ReportFault (check_status answer) old.faults new.faults → CheckRun had has old new (check_status answer)
+accepted_check plan had has old new answer r told later counts = record {
+  text = r.text;
+  read = r.read;
+  most = r.most;
+  all = told_read plan r.text has.left answer old.got new.got told r.all;
+  ends = told_ends plan r.text answer old.got new.got r.says.0 told;
+  plan = r.later;
+  plan_counts = record { fault = λ e. absurd (never_plan_fault plan answer old.got new.got told e); calm = λ _. r.counts.calm done_is_none };
+  report = later;
+  report_counts = counts;
+}
+  where
+    done_is_none : status.Done ≢ status.PlanFault
+    done_is_none e = cc

@@ -72,7 +72,7 @@ pub fn run<P: Source, K: Sink, C: Chooser, I: Source, O: Sink>(
         }
         Some(Command::Check) => status_of_check(check_plan(alloc, plan, report)),
         Some(Command::Run) => status_of_run(run_plan(alloc, plan, bays, chooser, report)),
-        Some(Command::RunOrdered(_)) => {
+        Some(Command::RunOrdered(_number)) => {
             status_of_run(run_plan(alloc, plan, bays, chooser, report))
         }
         None => Status::Words,

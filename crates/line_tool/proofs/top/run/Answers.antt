@@ -89,7 +89,7 @@ returns-in-Some-RunOrdered-clause-answers g c = λ command form.
     let mine = rw c.in-Some-RunOrdered.field-0-is at c.in-Some-RunOrdered.ensures.form in
     let old = device g.P.Source g.K.Sink g.I.Source g.O.Sink c.args.plan.now c.args.bays.now c.args.report.now in
     let new = device g.P.Source g.K.Sink g.I.Source g.O.Sink c.run_plan-in-Some-RunOrdered.new.plan c.run_plan-in-Some-RunOrdered.new.bays c.run_plan-in-Some-RunOrdered.new.report in
-    subst (λ k. Answers k old new (g.C.Chooser.asked c.args.chooser.now) (g.C.Chooser.asked c.run_plan-in-Some-RunOrdered.new.chooser) c.status_of_run-in-Some-RunOrdered.result) (one_form (texts c.args.words.now) (RunOrdered c.in-Some-RunOrdered.field-0) command mine form)
+    subst (λ k. Answers k old new (g.C.Chooser.asked c.args.chooser.now) (g.C.Chooser.asked c.run_plan-in-Some-RunOrdered.new.chooser) c.status_of_run-in-Some-RunOrdered.result) (one_form (texts c.args.words.now) (RunOrdered c.in-Some-RunOrdered._number) command mine form)
     (subst (λ answer. RunAnswers old new (g.C.Chooser.asked c.args.chooser.now) (g.C.Chooser.asked c.run_plan-in-Some-RunOrdered.new.chooser) answer) (sym c.status_of_run-in-Some-RunOrdered.ensures) c.run_plan-in-Some-RunOrdered.ensures.ran)
 
 pub returns-in-Some-RunOrdered-clause-refused : goal.returns-in-Some-RunOrdered-clause-refused
