@@ -8,12 +8,18 @@ use Rattle.device_model.specs.Inputs.{AreInputs}
 use Rattle.device_model.specs.Moments.{uses}
 use Rattle.device_model.specs.Report.{Numbers}
 use Rattle.device_model.specs.Through.{Inputs}
-use Rattle.node_core.specs.RunLeft.{Takings, RunLeft, RunOf}
+use Rattle.node_core.specs.RunLeft.{Takings, MayBeInputs, RunLeft, RunOf}
 
 -- each input line and each client that the plan reads has bytes that its place gave
 pub record HasGiven (plan : Plan) (first last : BaysView) : Type 0 where
   pub line : (a : ℕ) → uses plan (port.LineIn a) ≡ true → (given : List ℕ) × IsGiven (line_in_at first a) (line_in_at last a) given
   pub client : (n : ℕ) → uses plan (port.ClientIn n) ≡ true → (given : List ℕ) × IsGiven (client_in_at first n) (client_in_at last n) given
+
+-- Where they tell them, the inputs of a run may be what they gave.
+abbrev pub GivenMayBeInputs : Type 0
+GivenMayBeInputs = (plan : Plan) (first last : BaysView) (takings : Takings) (numbers : Numbers) (inputs : Inputs)
+    → RunLeft plan first last takings numbers → HasGiven plan first last → AreInputs plan first last inputs
+    → MayBeInputs plan first last takings inputs
 
 -- A run whose inputs tell their bytes is that of what they gave.
 abbrev pub IsRunOfGiven : Type 0

@@ -1,6 +1,6 @@
 // The laws of what a run leaves, each the contract of a function.
 ghost use Rattle.node_core.specs.FaultlessRuns.{FaultlessRunsEndByInputs};
-ghost use Rattle.node_core.specs.GivenRuns.{IsRunOfGiven};
+ghost use Rattle.node_core.specs.GivenRuns.{GivenMayBeInputs, IsRunOfGiven};
 ghost use Rattle.node_core.specs.RunsAlike.{RunsAgree};
 ghost use Rattle.node_core.specs.RunsThrough.{OutputsAreThrough, RunsCarry};
 
@@ -8,7 +8,8 @@ ghost use Rattle.node_core.specs.RunsThrough.{OutputsAreThrough, RunsCarry};
 /// are the lines and the packets that it carried. All that is said of a run's outputs and numbers for any
 /// inputs that it may have had is then said of them.
 pub fn run_of_given()
-    ensures { IsRunOfGiven }
+    ensures inputs { GivenMayBeInputs }
+    ensures run { IsRunOfGiven }
 {}
 
 /// Two worlds: two runs of accepted plans have the same entry, and their inputs agree on what it comes from.
