@@ -25,3 +25,5 @@ pub mod TapTurns
 pub mod TurnFrames
 pub mod TwoWorlds
 pub mod CarriedPlans
+pub mod RunLaws
+pub mod RunCalls

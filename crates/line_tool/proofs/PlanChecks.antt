@@ -28,7 +28,7 @@ too_long text long =
     rw no_room refl
 
 -- the answer to all that came is that to the whole text
-same_plan : (text came : List ℕ) (has : Option (List ℕ)) → Some text ≡ before came has → IsAll came has → plan_of_text came ≡ plan_of_text text
+pub same_plan : (text came : List ℕ) (has : Option (List ℕ)) → Some text ≡ before came has → IsAll came has → plan_of_text came ≡ plan_of_text text
 same_plan text came None e all = absurd (cc)
 same_plan text came (Some rest) e (inl ended) =
     let whole : text ≡ came ++ rest = ap (λ t. unwrap_or t []) e in

@@ -20,3 +20,5 @@ pub mod SlotRuns
 pub mod Words
 pub mod PlanReading
 pub mod PlanRuns
+pub mod RunLaws
+pub mod Headline

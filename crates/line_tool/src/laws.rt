@@ -8,11 +8,13 @@ ghost use Rattle.device_model.specs.Agreements.{AgreeOnTributary};
 ghost use Rattle.line_tool.specs.Agreements.{AgreeOnSlot};
 ghost use Rattle.line_tool.specs.Answers.{CheckAnswers, LineAnswers, PullRan, SlotRan};
 ghost use Rattle.line_tool.specs.Device.{Device, line_zero};
+ghost use Rattle.line_tool.specs.Headline.{IsCarried, IsIsolated, IsThrough, RunCarries};
 ghost use Rattle.line_tool.specs.PlanCheck.{CheckEnds};
 ghost use Rattle.line_tool.specs.PullCarried.{BeginsWithWhatIsCarried, IsTheWholeGroups, HasWhatIsCarriedAfterDamage};
 ghost use Rattle.line_tool.specs.PullDamaged.{WritesAsIfRepeated};
 ghost use Rattle.line_tool.specs.PullReport.{LeavesBytes, bytes_taken, pull_report, tributary};
 ghost use Rattle.line_tool.specs.PullRuns.{StoppedInTurn};
+ghost use Rattle.line_tool.specs.RunLaws.{RunAnswersForItsText, RunEndsByInputs, RunIsComplete};
 ghost use Rattle.line_tool.specs.Runs.{HasRest, IsWell, Reports};
 ghost use Rattle.line_tool.specs.SlotReport.{most_taken, slot_report};
 ghost use Rattle.line_tool.specs.SlotRuns.{StoppedInFrame};
@@ -72,7 +74,8 @@ pub fn check_of_text()
 {}
 
 /// Where no count of faults rose or stands at its end, and the line was not dead, a command is Done or Unfinished, `check` Done or
-/// Plan; or there was no memory.
+/// Plan; or there was no memory. So is `run`, of the places that its plan uses, or Plan (`run`): Unfinished exactly where a line has more
+/// than its turns want, or a client is not spent (`ends`).
 pub fn without_faults()
     ensures slot { (slot : ℕ) (old new : Device) (answer : Status) → LineAnswers (SlotRan slot) old new answer
         → IsWell old.report.faults new.report.faults → IsWell (line_zero old).faults (line_zero new).faults → (line_zero old).state ≢ Dead
@@ -83,6 +86,25 @@ pub fn without_faults()
     ensures check { (old new : Device) (answer : Status) → CheckAnswers old new answer
         → IsWell old.report.faults new.report.faults → IsWell old.plan.faults new.plan.faults
         → (answer ≡ Status.Done) ⊎ ((error : PlanError) × (place : ℕ) × (answer ≡ Status.Plan error place)) ⊎ (answer ≡ Status.Memory) }
+    ensures run { RunIsComplete }
+    ensures ends { RunEndsByInputs }
+{}
+
+/// `run`, by the whole text of a source that tells it.
+pub fn run_of_text()
+    ensures { RunAnswersForItsText }
+{}
+
+/// The headline, of each connection of a plan that `run` carried (`runs`: after Done, Unfinished, Cut and ReportFault), by what its
+/// inputs may have been. No connection touches another (`isolated`): of two calls whose plans have one entry, and whose inputs agree on
+/// what it comes from, what went to its output agrees as far as both have gone, and wholly where its place has lived in both. What went is
+/// what its own entry and its own input put through it (`through`). Where its bytes come unharmed they leave the same (`carried`): on a
+/// line three turns later, and of packets exactly those that came whole.
+pub fn headline()
+    ensures runs { RunCarries }
+    ensures isolated { IsIsolated }
+    ensures through { IsThrough }
+    ensures carried { IsCarried }
 {}
 
 /// Two worlds: lines that have as many whole frames, and the same bytes in a slot's payload columns, give

@@ -12,7 +12,7 @@
 //! - `pull`, `tap`: what the sink of a tributary on a line emits, turn by turn.
 //! - `report`, `report_lines`, `report_words`: the report of a run, as text.
 //! - `beyond`: whether a line has more than a command reads.
-//! - `laws`: what no call shows by itself: that nothing else on a line changes a report.
+//! - `laws`: what no call shows by itself: that nothing else on a line changes a report, and the headline of a plan that is run.
 #![tactic(auto)]
 
 mod beyond;
@@ -33,8 +33,8 @@ mod top;
 mod words;
 
 pub use laws::{
-    check_of_text, forms_are_apart, pull_of_carried, pull_of_given, pull_of_one_damaged,
-    pull_two_worlds, slot_of_given, slot_two_worlds, without_faults,
+    check_of_text, forms_are_apart, headline, pull_of_carried, pull_of_given, pull_of_one_damaged,
+    pull_two_worlds, run_of_text, slot_of_given, slot_two_worlds, without_faults,
 };
 pub use number_chooser::NumberChooser;
 pub use status::Status;

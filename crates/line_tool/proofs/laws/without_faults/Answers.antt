@@ -1,5 +1,6 @@
 use Rattle.line_tool.proofs.PlanChecks.{check_complete}
 use Rattle.line_tool.proofs.PullTable.{pull_complete}
+use Rattle.line_tool.proofs.RunLaws.{run_complete, run_ends}
 use Rattle.line_tool.proofs.SlotTable.{slot_complete}
 use Rattle.line_tool.proofs.laws.without_faults.Goals as goal
 
@@ -11,3 +12,9 @@ returns-clause-pull c = λ own old new answer. pull_complete answer own old new
 
 pub returns-clause-check : goal.returns-clause-check
 returns-clause-check c = λ old new answer. check_complete answer old new
+
+pub returns-clause-run : goal.returns-clause-run
+returns-clause-run c = λ old new asked now reply. run_complete reply old new asked now
+
+pub returns-clause-ends : goal.returns-clause-ends
+returns-clause-ends c = run_ends
