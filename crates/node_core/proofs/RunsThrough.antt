@@ -1,11 +1,12 @@
 -- What went to the outputs of a run is what its connections put through, and carries what they carried.
-use Rattle.std.proofs.Common.{◌≡◌, ◌≢◌, ◌<◌, ◌≤◌, ◌+◌, ◌-◌, ◌*◌, ℕ, Bool, List, ◌∷◌, length, refl, sym, ap, ◌∙◌, subst, arith}
+use Rattle.std.proofs.Common.{true, false, ◌≡◌, ◌≢◌, ◌<◌, ◌≤◌, ◌+◌, ◌-◌, ◌*◌, ℕ, Bool, List, ◌∷◌, length, refl, sym, ap, ◌∙◌, subst, arith}
 use Rattle.std.specs.List.{Contains, concat}
 use Rattle.std.proofs.Math.Nat.{mul-le-mul_left}
 use Rattle.std.proofs.lemmas.Option.{slice_get_read}
 use Rattle.std.specs.Prelude.{slice_get, Some}
 use Rattle.otn_base.specs.LineSlots.{LineSlots}
-use Rattle.otn_ports.specs.Views.{Dead, line_out_at, client_out_at}
+use Rattle.otn_ports.specs.Retiring.{retired_out_as}
+use Rattle.otn_ports.specs.Views.{State, Empty, Live, Dead, OutView, line_out_at, client_out_at}
 use Rattle.packet_text.specs.PacketText.{hex_text}
 use Rattle.line_side.specs.LineForm.{size_of, through_mask}
 use Rattle.line_side.proofs.LineFiles.{twice}
@@ -30,14 +31,25 @@ use Rattle.device_model.proofs.Delivery.{delivers_its_packets}
 use Rattle.device_model.proofs.GotStreams.{gets_the_stream, gets_the_signal}
 use Rattle.device_model.proofs.SoundPlans.{sound_plan}
 use Rattle.node_core.specs.RunLeft.{LineOutLeft}
+use Rattle.node_core.specs.Stands.{out_after_retire}
 use Rattle.node_core.specs.RunsAlike.{World, IsWorld, state_of_line, state_of_client, went_out}
 use Rattle.node_core.specs.RunsThrough.{LivedIn, IsFrontOf, FileWent, LeftThrough, read_of, CarriedOn, CarriedIn}
 use Rattle.node_core.proofs.RunsAlike.{all_of, lived_on, sound_in, client_left, text_in, text_lived, line_left, dead_stays}
 
 -- ---- outputs
 
+-- a place that is not empty behind its connection's stop is as it was before
+kept_by : (was : OutView) (state : State) → was.state ≡ state → (retired_out_as state was).state ≢ Empty → retired_out_as state was ≡ was
+kept_by was Live e some = absurd (some refl)
+kept_by was Empty e some = refl
+kept_by was Dead e some = refl
+
+kept_out : (retires : Bool) (was last : OutView) → last ≡ out_after_retire retires was → last.state ≢ Empty → last ≡ was
+kept_out false was last place some = place
+kept_out true was last place some = place ∙ kept_by was was.state refl (λ e. some (ap (λ v. v.state) place ∙ e))
+
 client_front : (world : World) (x : Connection) (n : ℕ) (is : IsWorld world) → Contains world.plan.connections x → x.to ≡ to_end.Client n
-    → IsFrontOf world (state_of_client n) (text_by x (own_input world.inputs x) (x.stop - first_turn x)) ((went_out world is).client n)
+    → IsFrontOf (client_out_at world.first n) (client_out_at world.last n) (text_by x (own_input world.inputs x) (x.stop - first_turn x)) ((went_out world is).client n)
 client_front world x n is has to =
     let l = client_left world x n is has to in
     record {
@@ -46,6 +58,8 @@ client_front world x n is has to =
       whole = λ lived.
           let not : l.was.state ≢ Dead = λ dead. lived.is (ap (λ v. v.state) l.place ∙ dead_stays x.retire l.was dead) in
           l.left.whole (lived_on (client_out_at world.first n) l.was l.left.gained.state lived.was not);
+      idle = λ not. (l.left.gained.idle not).1;
+      got = λ live some. ap (λ v. v.got) (kept_out x.retire l.was (client_out_at world.last n) l.place some) ∙ l.left.gained.sends.got;
     }
 
 no_more : (n : ℕ) → n + 0 ≡ n
@@ -59,6 +73,8 @@ line_front world b went l = record {
     rest = l.left.rest;
     parts = l.left.parts ∙ l.is_due.bytes;
     whole = λ lived. l.left.whole (lived_on (line_out_at world.first b) (line_out_at world.last b) l.left.gained.state lived.was lived.is);
+    idle = λ not. (l.left.gained.idle not).1;
+    got = λ live some. l.left.gained.sends.got;
   };
 }
 

@@ -1,8 +1,9 @@
 -- What a plan that was run puts through each of its connections, from its own input to the output that it goes to.
-use Rattle.std.specs.Prelude.{◌≡◌, ℕ, ◌+◌, ◌-◌, ◌*◌, ◌<◌, ◌≤◌, Bool, List, [], ◌∷◌, ◌++◌}
+use Rattle.std.specs.Prelude.{◌≡◌, ◌≢◌, ℕ, ◌+◌, ◌-◌, ◌*◌, ◌<◌, ◌≤◌, Bool, List, [], ◌∷◌, ◌++◌}
 use Rattle.std.specs.List.{concat, Contains}
 use Rattle.otn_base.specs.LineSlots.{LineSlots}
-use Rattle.otn_ports.specs.Views.{State, BaysView}
+use Rattle.otn_ports.specs.Bytes.{after}
+use Rattle.otn_ports.specs.Views.{State, Empty, Live, OutView, BaysView, line_out_at, client_out_at}
 use Rattle.packet_text.specs.PacketText.{hex_text}
 use Rattle.line_side.specs.LineForm.{size_of, through_mask}
 use Rattle.maintenance_signals.specs.Stream.{signal_bytes}
@@ -30,21 +31,24 @@ use Rattle.node_core.specs.RunsAlike.{World, IsWorld, HasLived, went_out, state_
 abbrev pub LivedIn : World → (place : BaysView → State) → Type 0
 LivedIn world place = HasLived (place world.first) (place world.last)
 
--- a part of this, from the front, went to an output; all of it where its place has lived
-pub record IsFrontOf (world : World) (place : BaysView → State) (all went : List ℕ) : Type 0 where
+-- A part of this, from the front, went to an output place; all of it where the place has lived, and nothing where it was not live. By that what
+-- its port got grew, where it is still in its place.
+pub record IsFrontOf (first last : OutView) (all went : List ℕ) : Type 0 where
   pub rest : List ℕ
   pub parts : went ++ rest ≡ all
-  pub whole : LivedIn world place → rest ≡ []
+  pub whole : HasLived first.state last.state → rest ≡ []
+  pub idle : first.state ≢ Live → went ≡ []
+  pub got : first.state ≡ Live → last.state ≢ Empty → last.got ≡ after first.got went
 
 -- so much of the file of a line
 pub record FileWent (world : World) (b : ℕ) (went : List ℕ) : Type 0 where
   pub frames : List (List ℕ)
   pub file : IsLineFile world.plan world.inputs b (size_of (form_out world.plan b) * world.plan.turns) frames
-  pub front : IsFrontOf world (state_of_line b) (through_mask (form_out world.plan b).scrambled (concat frames)) went
+  pub front : IsFrontOf (line_out_at world.first b) (line_out_at world.last b) (through_mask (form_out world.plan b).scrambled (concat frames)) went
 
 -- To a client of the connection its text, of all that it gets in its own turns; to a line of it the line's file.
 pub record LeftThrough (world : World) (went : Went) (x : Connection) : Type 0 where
-  pub client : (n : ℕ) → x.to ≡ to_end.Client n → IsFrontOf world (state_of_client n) (text_by x (own_input world.inputs x) (x.stop - first_turn x)) (went.client n)
+  pub client : (n : ℕ) → x.to ≡ to_end.Client n → IsFrontOf (client_out_at world.first n) (client_out_at world.last n) (text_by x (own_input world.inputs x) (x.stop - first_turn x)) (went.client n)
   pub line : (b port : ℕ) (slots : LineSlots) → x.to ≡ to_end.Line b port slots → FileWent world b (went.line b)
 
 -- So it is of each connection of a plan that was run.
