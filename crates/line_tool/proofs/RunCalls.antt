@@ -10,6 +10,7 @@ use Rattle.plan_file.proofs.Sounds.{accepted_without_fault}
 use Rattle.device_model.specs.Inputs.{AreInputs}
 use Rattle.device_model.specs.Through.{Inputs}
 use Rattle.node_core.specs.GivenRuns.{HasGiven}
+use Rattle.node_core.specs.RunLeft.{MayBeInputs}
 use Rattle.node_core.specs.RunsAlike.{IsWorld, ShareOne, LeftAlike}
 use Rattle.node_core.specs.RunsThrough.{LeftThrough, CarriedIn}
 use Rattle.node_core.proofs.GivenRuns.{given_inputs}
@@ -38,14 +39,14 @@ is_world call has = record { accepted = accepted_plan call.text call.plan has.is
 -- ---- what was carried
 
 carried_plan : (text : List ℕ) (plan : Plan) (old new : Device) (asked now : ℕ) (reply : Status) → plan_of_text text ≡ Ok plan → PlanRan plan old new asked now reply
-    → (planned : Plan) × ((inputs : Inputs) → HasGiven planned old.bays new.bays → AreInputs planned old.bays new.bays inputs
-    → HasCarried (record { text = text; plan = planned; old = old; new = new; asked = asked; asked_now = now; reply = reply; inputs = inputs }))
+    → (planned : Plan) × (ran : PlanRan planned old new asked now reply) × (plan_of_text text ≡ Ok planned)
+    × ((inputs : Inputs) → HasGiven planned old.bays new.bays → AreInputs planned old.bays new.bays inputs → MayBeInputs planned old.bays new.bays ran.takings inputs)
 carried_plan text plan old new asked now reply is ran =
-    (plan, λ inputs has are. record { is_plan = is; ran = ran; may_be = given_inputs plan old.bays new.bays ran.takings ran.numbers inputs ran.left has are })
+    (plan, ran, is, λ inputs has are. given_inputs plan old.bays new.bays ran.takings ran.numbers inputs ran.left has are)
 
 pub run_carries : (reply : Status) (old new : Device) (asked now : ℕ) → (answers : RunAnswers old new asked now reply) → CarriesPlan reply
-    → (plan : Plan) × ((inputs : Inputs) → HasGiven plan old.bays new.bays → AreInputs plan old.bays new.bays inputs
-    → HasCarried (record { text = answers.text; plan = plan; old = old; new = new; asked = asked; asked_now = now; reply = reply; inputs = inputs }))
+    → (plan : Plan) × (ran : PlanRan plan old new asked now reply) × (plan_of_text answers.text ≡ Ok plan)
+    × ((inputs : Inputs) → HasGiven plan old.bays new.bays → AreInputs plan old.bays new.bays inputs → MayBeInputs plan old.bays new.bays ran.takings inputs)
 run_carries status.Done old new asked now h is = carried_plan h.text h.ran.0 old new asked now status.Done h.ran.1 h.ran.2
 run_carries status.Unfinished old new asked now h is = carried_plan h.text h.ran.0 old new asked now status.Unfinished h.ran.1 h.ran.2
 run_carries status.Cut old new asked now h is = carried_plan h.text h.ran.0 old new asked now status.Cut h.ran.1 h.ran.2

@@ -47,11 +47,11 @@ CarriesPlan status.PlanFault = ⊥
 CarriesPlan (status.Plan error place) = ⊥
 CarriesPlan status.Memory = ⊥
 
--- After these `run` has carried a plan: where its inputs tell their bytes, with what they gave.
+-- After these `run` has carried the plan of the text that was read, and where the inputs tell their bytes, they may be what they gave.
 abbrev pub RunCarries : Type 0
 RunCarries = (old new : Device) (asked now : ℕ) (reply : Status) → (answers : RunAnswers old new asked now reply) → CarriesPlan reply
-    → (plan : Plan) × ((inputs : Inputs) → HasGiven plan old.bays new.bays → AreInputs plan old.bays new.bays inputs
-    → HasCarried (record { text = answers.text; plan = plan; old = old; new = new; asked = asked; asked_now = now; reply = reply; inputs = inputs }))
+    → (plan : Plan) × (ran : PlanRan plan old new asked now reply) × (plan_of_text answers.text ≡ Ok plan)
+    × ((inputs : Inputs) → HasGiven plan old.bays new.bays → AreInputs plan old.bays new.bays inputs → MayBeInputs plan old.bays new.bays ran.takings inputs)
 
 -- ---- what they left
 

@@ -95,11 +95,11 @@ pub fn run_of_text()
     ensures { RunAnswersForItsText }
 {}
 
-/// The headline, of each connection of a plan that `run` carried (`runs`: after Done, Unfinished, Cut and ReportFault), by what its
-/// inputs may have been. No connection touches another (`isolated`): of two calls whose plans have one entry, and whose inputs agree on
-/// what it comes from, what went to its output agrees as far as both have gone, and wholly where its place has lived in both. What went is
-/// what its own entry and its own input put through it (`through`). Where its bytes come unharmed they leave the same (`carried`): on a
-/// line three turns later, and of packets exactly those that came whole.
+/// The headline, of each connection of a plan that `run` carried (`runs`: after Done, Unfinished, Cut and ReportFault), whatever its inputs
+/// may have been, and where they tell, with what they gave. No connection touches another (`isolated`): of two calls whose plans have one
+/// entry, and whose inputs agree on what it comes from, what went to its output agrees as far as both have gone, and wholly where its place
+/// has lived in both. What went is what its own entry and its own input put through it (`through`). Where its bytes come unharmed they leave
+/// the same (`carried`): on a line three turns later, and of packets exactly those that came whole.
 pub fn headline()
     ensures runs { RunCarries }
     ensures isolated { IsIsolated }
