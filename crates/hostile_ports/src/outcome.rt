@@ -28,7 +28,7 @@ fn write_output(rt: &HostRuntime, path: &String, got: &Got) -> io::Result<()> {
 }
 
 /// A line for each input place that is not empty or gave something, and for each output place that is dead or got
-/// something: its state, and how many bytes that were.
+/// something: its state, and how many bytes that were. Where there is none, an empty line.
 pub fn states(
     alloc: Global,
     places: &Places,
@@ -51,6 +51,9 @@ pub fn states(
     for n in 0..CLIENTS {
         let state = output_state(places.client_out(n as u8));
         push_output(alloc, &mut text, "client-out", n, state, clients.sent(n))?;
+    }
+    if text.is_empty() {
+        text.push('\n')?;
     }
     Ok(text)
 }
