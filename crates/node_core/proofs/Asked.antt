@@ -1,10 +1,9 @@
 -- The lines of a node are asked for a byte, one after the other.
-use Rattle.std.proofs.Common.{◌≡◌, ◌≢◌, ◌⊎◌, inl, inr, ◌<◌, ◌≤◌, ◌+◌, ◌∙◌, ◌==◌, ◌||◌, ℕ, zero, suc, Bool, true, false, if◌then◌else◌, List, [], length, Some, slice_get, get_or, refl, sym, ap, subst, arith}
+use Rattle.std.proofs.Common.{◌≡◌, ◌≢◌, ◌⊎◌, inl, inr, ◌<◌, ◌≤◌, ◌+◌, ◌∙◌, ◌==◌, ◌||◌, ℕ, Bool, true, false, if◌then◌else◌, List, [], length, Some, slice_get, get_or, refl, sym, ap, subst, arith}
 use Rattle.std.proofs.lemmas.Bool.Decides.{eqb_tells}
 use Rattle.std.specs.Prelude.{not}
 use Rattle.std.proofs.lemmas.Option.{same_Some, slice_get_within, slice_get-get_or}
 use Rattle.otn_base.specs.declared.kind.PortName.{PortName}
-use Rattle.otn_base.specs.declared.limits.TheConstants.{LINES}
 use Rattle.otn_ports.specs.InPlace.{in_view}
 use Rattle.otn_ports.specs.OnePlace.{OnlyLineIn}
 use Rattle.otn_ports.specs.Racks.{bays_view, line_ins, with_line_in}
@@ -15,7 +14,7 @@ use Rattle.otn_ports.specs.declared.sink.Sink as sink
 use Rattle.otn_ports.specs.declared.source.Source as source
 use Rattle.otn_ports.proofs.BaysLaws.{line_in_seen, line_in_set, only_line_in}
 use Rattle.line_side.specs.LineStands.{LineView}
-use Rattle.node_core.specs.Asking.{has_come, ByteAsked, ByteAnswer, LinesAsked, LinesAnswer, asks_line, is_cut, CutAnswer, OpenAnswer, OpenLink, OpensAnswer, SaysSpent}
+use Rattle.node_core.specs.Asking.{has_come, ByteAsked, ByteAnswer, LinesAnswer, asks_line, is_cut, CutAnswer, OpenAnswer, OpensAnswer, SaysSpent}
 use Rattle.node_core.specs.Pieces.{PiecesView}
 use Rattle.node_core.specs.Ports.{index_of, port_at}
 use Rattle.node_core.specs.declared.link.Link.{Link}

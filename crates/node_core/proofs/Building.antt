@@ -1,17 +1,15 @@
 -- A node before turn 1 of a plan stands at its first moment.
-use Rattle.std.proofs.Common.{◌≡◌, ◌<◌, ◌≤◌, ◌+◌, ◌-◌, ◌*◌, ℕ, false, None, List, [], Some, length, slice_get, arith, refl, sym, ap, subst, ◌∙◌}
-use Rattle.otn_base.specs.declared.kind.PortName.{PortName}
+use Rattle.std.proofs.Common.{◌≡◌, ◌≤◌, ◌+◌, ◌*◌, ℕ, false, None, [], arith, refl, sym, ap, subst, ◌∙◌}
 use Rattle.otn_base.specs.declared.kind.PortName.TheVariants as port
 use Rattle.otn_ports.specs.Views.{InView, OutView, BaysView, line_in_at, line_out_at, client_in_at, client_out_at}
 use Rattle.line_side.specs.LineForm.{size_of}
-use Rattle.line_side.specs.LineOutput.{FramePut}
 use Rattle.line_side.specs.LineStands.{LineStands}
 use Rattle.plan_file.specs.Answer.{fault_in}
 use Rattle.plan_file.specs.declared.connection.Connection.{Connection}
 use Rattle.plan_file.specs.declared.connection.FromEnd.TheVariants as from_end
 use Rattle.plan_file.specs.declared.connection.ToEnd.TheVariants as to_end
 use Rattle.plan_file.specs.declared.plan.Plan.{Plan}
-use Rattle.device_model.specs.Entries.{form_in, form_out, own_turn, IsActive}
+use Rattle.device_model.specs.Entries.{form_in, form_out, own_turn}
 use Rattle.device_model.specs.LineFiles.{AreFramesOf}
 use Rattle.device_model.specs.Moments.{turns_done}
 use Rattle.device_model.specs.Through.{Inputs, own_input}
@@ -19,10 +17,9 @@ use Rattle.device_model.proofs.SoundPlans.{sound_plan}
 use Rattle.cross_matrix.specs.Parts.{ClientInStands, ClientOutStands}
 use Rattle.cross_matrix.specs.Pipes.{PipeStands}
 use Rattle.node_core.specs.Built.{IsNewLink, IsNewNode}
-use Rattle.node_core.specs.Links.{IsLinkOf}
-use Rattle.node_core.specs.NodeView.{NodeView, HasLineIn, HasLineOut, HasLink, done_at, taken_pieces, given_pieces}
+use Rattle.node_core.specs.NodeView.{NodeView, done_at, taken_pieces, given_pieces}
 use Rattle.node_core.specs.Ports.{index_of}
-use Rattle.node_core.specs.Stands.{Bytes, PlanStands, LinesIn, PipesStand, LinesOut, ClientInAt, ClientsIn, ClientOutAt, ClientsOut, StandsAt, no_bytes, after_retire, out_after_retire}
+use Rattle.node_core.specs.Stands.{PlanStands, LinesIn, PipesStand, LinesOut, ClientInAt, ClientsIn, ClientOutAt, ClientsOut, StandsAt, no_bytes, after_retire, out_after_retire}
 use Rattle.node_core.specs.declared.link.Link.{Link}
 use Rattle.node_core.specs.declared.link.Origin.{Origin}
 use Rattle.node_core.specs.declared.link.Origin.TheVariants as origin

@@ -1,8 +1,8 @@
 -- What follows of a link and its entry, and links that a call leaves as they were.
-use Rattle.std.proofs.Common.{◌≡◌, ◌≤◌, ◌+◌, ◌-◌, ◌∙◌, ◌&&◌, ℕ, suc, Bool, true, false, List, [], ◌∷◌, ◌++◌, length, Option, refl, sym, ap, subst, arith, true≢false}
+use Rattle.std.proofs.Common.{◌≡◌, ◌≤◌, ◌+◌, ◌∙◌, ◌&&◌, ℕ, Bool, true, false, List, [], length, Option, refl, sym, ap, subst, arith, true≢false}
 use Rattle.std.specs.Prelude.{nat_le}
 use Rattle.std.proofs.lemmas.Bool.Decides.{nat_tests}
-use Rattle.otn_ports.specs.Views.{InView, OutView}
+use Rattle.otn_ports.specs.Views.{InView}
 use Rattle.plan_file.specs.declared.connection.Connection.{Connection}
 use Rattle.otn_base.specs.LineSlots.{LineSlots, slots_of}
 use Rattle.plan_file.specs.declared.connection.FromEnd.TheVariants as from_end
@@ -17,7 +17,7 @@ use Rattle.cross_matrix.specs.declared.taking.TakingPart.{TakingPart}
 use Rattle.cross_matrix.specs.declared.taking.TakingPart.TheVariants as taking
 use Rattle.cross_matrix.specs.declared.giving.GivingPart.{GivingPart}
 use Rattle.cross_matrix.specs.declared.giving.GivingPart.TheVariants as giving
-use Rattle.node_core.specs.LinkMoves.{TookText, GaveText, EndsFrames}
+use Rattle.node_core.specs.LinkMoves.{TookText, EndsFrames}
 use Rattle.node_core.specs.declared.link.Origin.{Origin}
 use Rattle.node_core.specs.declared.link.Origin.TheVariants as origin
 use Rattle.node_core.specs.Links.{IsLinkOf, SameEntry, is_on}

@@ -1,12 +1,12 @@
 -- What holds of every node holds of a new one, and after the end of a turn.
-use Rattle.std.proofs.Common.{◌≡◌, ◌≢◌, ◌⊎◌, ◌<◌, ◌≤◌, ◌+◌, ℕ, Bool, true, false, List, None, Some, length, slice_get, get_or, arith, refl, sym, ap, ◌∙◌, inl, inr}
+use Rattle.std.proofs.Common.{◌≡◌, ◌≢◌, ◌⊎◌, ◌<◌, ◌≤◌, ℕ, Bool, true, false, List, None, Some, length, slice_get, get_or, arith, refl, sym, ap, ◌∙◌, inl, inr}
 use Rattle.std.proofs.lemmas.Bool.Decides.{eqb_tells}
 use Rattle.otn_base.specs.LineSlots.{slots_of}
 use Rattle.otn_base.specs.declared.kind.PortName.{PortName}
 use Rattle.otn_base.specs.declared.kind.PortName.TheVariants as port
-use Rattle.otn_ports.specs.Views.{InView, no_input, no_output}
+use Rattle.otn_ports.specs.Views.{no_input, no_output}
 use Rattle.line_side.specs.LineOutput.{LineOutView}
-use Rattle.line_side.specs.LineForm.{LineForm, size_of}
+use Rattle.line_side.specs.LineForm.{LineForm}
 use Rattle.line_side.specs.LineStands.{LineView}
 use Rattle.plan_file.specs.Answer.{fault_in}
 use Rattle.plan_file.specs.declared.plan.Plan.{Plan}

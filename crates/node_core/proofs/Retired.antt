@@ -1,8 +1,7 @@
 -- Which places are emptied at the end of a turn.
-use Rattle.std.proofs.Common.{◌≡◌, ◌≢◌, ◌<◌, ◌≤◌, ◌+◌, ℕ, zero, suc, Bool, true, false, ◌&&◌, ◌||◌, ◌==◌, nat_le, List, [], ◌∷◌, Some, length, slice_get, arith, refl, sym, ap, ◌∙◌}
+use Rattle.std.proofs.Common.{◌≡◌, ◌<◌, ◌+◌, ℕ, zero, suc, Bool, true, false, ◌&&◌, ◌||◌, ◌==◌, nat_le, List, [], ◌∷◌, Some, length, slice_get, arith, refl, sym, ap, ◌∙◌}
 use Rattle.std.proofs.lemmas.Bool.{eq-eqb}
 use Rattle.std.proofs.lemmas.Bool.Decides.{nat_tests}
-use Rattle.std.proofs.lemmas.Option.{slice_get_within}
 use Rattle.std.specs.List.{list_any}
 use Rattle.otn_base.specs.declared.kind.PortName.TheVariants as port
 use Rattle.otn_ports.specs.Views.{State, Empty, Live, Dead, InView, OutView}
@@ -14,7 +13,6 @@ use Rattle.plan_file.specs.declared.connection.ToEnd.TheVariants as to_end
 use Rattle.plan_file.specs.declared.plan.Plan.{Plan}
 use Rattle.device_model.specs.Entries.{is_from_client as comes_from, is_to_client as goes_to}
 use Rattle.device_model.specs.Moments.{uses, is_retired}
-use Rattle.device_model.specs.SoundPlans.{IsSoundPlan}
 use Rattle.device_model.proofs.SoundPlans.{sound_plan}
 use Rattle.node_core.specs.Links.{IsLinkOf, origin_of, target_of}
 use Rattle.node_core.specs.Moves.{is_from_client, is_to_client}
@@ -22,10 +20,6 @@ use Rattle.node_core.specs.NodeMoves.{ends_here, retires_in, retires_out}
 use Rattle.node_core.specs.NodeView.{NodeView, HasLink}
 use Rattle.node_core.specs.Stands.{PlanStands, after_retire, out_after_retire}
 use Rattle.node_core.specs.declared.link.Link.{Link}
-use Rattle.node_core.specs.declared.link.Origin.{Origin}
-use Rattle.node_core.specs.declared.link.Origin.TheVariants as origin
-use Rattle.node_core.specs.declared.link.Target.{Target}
-use Rattle.node_core.specs.declared.link.Target.TheVariants as target
 use Rattle.node_core.proofs.UsedPorts.{uses_none}
 
 -- ---- twice

@@ -1,5 +1,5 @@
 -- A node past its last turn, once it is settled.
-use Rattle.std.proofs.Common.{◌≡◌, ◌≢◌, ◌⊎◌, inl, inr, ◌<◌, ◌≤◌, ◌+◌, ◌-◌, ◌∙◌, ◌&&◌, ◌||◌, ℕ, zero, suc, Bool, true, false, List, [], ◌∷◌, ◌++◌, length, Some, slice_get, get_or, refl, sym, ap, subst, arith}
+use Rattle.std.proofs.Common.{◌≡◌, ◌⊎◌, inl, inr, ◌<◌, ◌≤◌, ◌-◌, ◌∙◌, ◌&&◌, ◌||◌, ℕ, suc, Bool, true, false, List, ◌++◌, length, Some, slice_get, get_or, refl, sym, ap, subst, arith}
 use Rattle.std.specs.Prelude.{not, nat_lt, min}
 use Rattle.std.specs.List.{Contains}
 use Rattle.std.proofs.lemmas.Bool.{and_parts, and_from, eq-eqb}
@@ -8,33 +8,27 @@ use Rattle.std.proofs.lemmas.Option.{slice_get_read, slice_get_within, get_or_fr
 use Rattle.otn_base.specs.declared.kind.PortName.{PortName}
 use Rattle.otn_base.specs.declared.kind.PortName.TheVariants as port
 use Rattle.otn_base.specs.declared.limits.TheConstants.{LINES}
-use Rattle.otn_ports.specs.Views.{State, Empty, Live, Dead, BaysView, line_in_at, line_out_at, client_in_at, client_out_at, no_input, no_output}
-use Rattle.line_side.specs.LineForm.{size_of, through_mask}
+use Rattle.otn_ports.specs.Views.{State, Empty, Live, Dead, BaysView, line_in_at, client_in_at, no_input, no_output}
 use Rattle.line_side.specs.LineStands.{LineView, LineStands}
-use Rattle.line_side.specs.MayBe.{MayBe}
 use Rattle.odu_client.specs.ClientInput.{is_spent, emitted_before, input_given}
-use Rattle.plan_file.specs.Answer.{fault_in}
 use Rattle.plan_file.specs.declared.connection.Connection.{Connection}
 use Rattle.plan_file.specs.declared.connection.FromEnd.TheVariants as from_end
 use Rattle.plan_file.specs.declared.plan.Plan.{Plan}
-use Rattle.device_model.specs.Entries.{form_in, first_turn, is_from_client as comes_from}
-use Rattle.device_model.specs.Inputs.{has_died}
-use Rattle.device_model.specs.Moments.{uses, pieces_of, line_taken, turns_done, is_retired}
+use Rattle.device_model.specs.Entries.{form_in, first_turn}
+use Rattle.device_model.specs.Moments.{uses, line_taken, turns_done, is_retired}
 use Rattle.device_model.specs.Outcomes.{place_state, HasDead, HasMore, HasOpen, IsOutcome, emitted_in_all}
 use Rattle.device_model.specs.Through.{Inputs, of_client}
 use Rattle.device_model.specs.SoundPlans.{IsSoundEntry}
-use Rattle.device_model.specs.declared.outcome.Outcome.{Outcome}
-use Rattle.device_model.specs.declared.outcome.Outcome.TheVariants.{Done, Unfinished, Cut}
 use Rattle.device_model.proofs.SoundPlans.{sound_plan}
-use Rattle.cross_matrix.specs.Parts.{ClientInStands, MayShow}
+use Rattle.cross_matrix.specs.Parts.{MayShow}
 use Rattle.node_core.specs.Asking.{has_come, ByteAsked, is_seen, asks_line, LinesAsked, LinesAnswer, is_dead, is_cut, CutAnswer, SaysSpent, OpenLink, OpensAnswer, outcome_by}
-use Rattle.node_core.specs.Links.{IsLinkOf, origin_of}
+use Rattle.node_core.specs.Links.{origin_of}
 use Rattle.node_core.specs.Moves.{is_from_client}
 use Rattle.node_core.specs.NodeView.{NodeView, HasLineIn, HasLink, IsNode, done_at}
 use Rattle.node_core.specs.Pieces.{wanted_of}
 use Rattle.node_core.specs.Ports.{index_of, port_count}
-use Rattle.node_core.specs.RunLeft.{Takings, MayFollow, MayBeInputs, InputLeft, ClientInLeft, SamePlace, TookOf}
-use Rattle.node_core.specs.Settling.{SettledOf, Settled}
+use Rattle.node_core.specs.RunLeft.{Takings, MayBeInputs, ClientInLeft, SamePlace}
+use Rattle.node_core.specs.Settling.{Settled}
 use Rattle.node_core.specs.Stands.{Bytes, MayGive, PlanStands, ClientInAt, StandsAt, after_retire}
 use Rattle.node_core.specs.declared.link.Link.{Link}
 use Rattle.node_core.specs.declared.link.Origin.TheVariants as origin
@@ -43,7 +37,7 @@ use Rattle.node_core.proofs.PortNumbers.{line_in_index}
 use Rattle.node_core.proofs.Retired.{entry_at, from_as, is_client}
 use Rattle.node_core.proofs.UsedPorts.{used_within, used_pieces, from_client_used}
 use Rattle.node_core.proofs.SettledLines.{may_at_end, EndOfLine, end_of_line, line_left}
-use Rattle.node_core.proofs.SettledClients.{goes_on, more_of, goes_on_of, text_left, text_may, all_done, retires_at_end, more_before, died_before}
+use Rattle.node_core.proofs.SettledClients.{more_of, goes_on_of, text_left, text_may, all_done, retires_at_end, more_before, died_before}
 
 -- ---- the plan
 

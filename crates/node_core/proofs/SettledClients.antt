@@ -1,12 +1,10 @@
 -- What the end of a run makes of a client input: what was taken of it, and what its text may turn out to be.
-use Rattle.std.proofs.Common.{◌≡◌, ◌≢◌, ◌⊎◌, inl, inr, ◌<◌, ◌≤◌, ◌+◌, ◌-◌, ◌∙◌, ◌&&◌, min, ℕ, zero, suc, Bool, true, false, List, [], ◌∷◌, ◌++◌, Some, slice_get, refl, sym, ap, subst, append_assoc, append-nil, arith}
+use Rattle.std.proofs.Common.{◌≡◌, ◌≢◌, ◌⊎◌, inl, inr, ◌≤◌, ◌+◌, ◌-◌, ◌∙◌, ◌&&◌, min, ℕ, Bool, true, false, List, [], ◌++◌, Some, slice_get, refl, sym, ap, subst, append_assoc, append-nil, arith}
 use Rattle.std.specs.Prelude.{not, nat_le, if◌then◌else◌}
-use Rattle.std.proofs.lemmas.Bool.{and_parts, eq-eqb}
+use Rattle.std.proofs.lemmas.Bool.{eq-eqb}
 use Rattle.std.proofs.lemmas.Bool.Decides.{nat_tests}
 use Rattle.otn_ports.specs.Given.{Lives}
-use Rattle.otn_ports.specs.Reads.{HasEnded}
 use Rattle.otn_ports.specs.Views.{State, Empty, Live, Dead, InView}
-use Rattle.otn_ports.proofs.GivenLaws.{dead_not_live, empty_not_live}
 use Rattle.packet_text.specs.TextLines.{full_lines, text_of_dead}
 use Rattle.packet_text.specs.LinesStand.{LinesView, LinesStand, lines_view, may_be}
 use Rattle.packet_text.specs.declared.line.Line.{Line}

@@ -1,25 +1,24 @@
 -- What the end of a run makes of an input line: what was taken of it, whether more is there, and how it ended.
-use Rattle.std.proofs.Common.{◌≡◌, ◌≢◌, ◌<◌, ◌≤◌, ◌+◌, ◌*◌, ◌/◌, ◌∙◌, ◌&&◌, ℕ, zero, suc, Bool, true, false, cond, List, [], ◌∷◌, ◌++◌, Option, Some, None, length, min, max, refl, sym, ap, subst, append_assoc, length-append, arith}
-use Rattle.std.specs.Prelude.{nat_le, nat_lt, slice_index, not, if◌then◌else◌}
+use Rattle.std.proofs.Common.{◌≡◌, ◌≢◌, ◌<◌, ◌≤◌, ◌+◌, ◌∙◌, ℕ, zero, suc, Bool, true, false, cond, List, [], ◌∷◌, ◌++◌, Option, Some, None, length, min, max, refl, sym, ap, subst, append_assoc, length-append, arith}
+use Rattle.std.specs.Prelude.{nat_le, nat_lt, slice_index, not}
 use Rattle.std.proofs.lemmas.Bool.Decides.{nat_tests}
 use Rattle.otn_base.specs.LineSlots.{slots_of}
 use Rattle.otn_base.specs.declared.line_kind.LineKind.{LineKind}
 use Rattle.otn_base.specs.declared.line_kind.LineKind.TheVariants.{Otu2, Otu3}
-use Rattle.otn_ports.specs.Given.{Gave}
 use Rattle.otn_ports.specs.Reads.{HasEnded}
 use Rattle.otn_ports.specs.Views.{State, Empty, Live, Dead, InView}
 use Rattle.otn_ports.proofs.GivenLaws.{gave_twice, dead_not_live}
 use Rattle.line_side.specs.LineForm.{LineForm, size_of, through_mask}
-use Rattle.line_side.specs.LineFile.{mfas_of, whole_frames}
+use Rattle.line_side.specs.LineFile.{mfas_of}
 use Rattle.line_side.specs.LineStands.{LineView, LineStands, IsLine}
 use Rattle.line_side.specs.MayBe.{MayBe}
-use Rattle.line_side.specs.Reader.{HasRead, count_of, rest_of}
+use Rattle.line_side.specs.Reader.{rest_of}
 use Rattle.line_side.specs.declared.ending.Ending.{Ending}
 use Rattle.line_side.specs.declared.ending.Ending.TheVariants.{Open, Seen, Died}
 use Rattle.line_side.proofs.Exits.{took_is}
 use Rattle.line_side.proofs.Frames.{length_parts}
 use Rattle.line_side.proofs.Mfas.{length_mfas}
-use Rattle.multiframe.specs.LineTurns.{Lock, Standing, Hunting, Locked, Ended, Outcome, CutShort, Lost, Whole, lock_from, least_start, outcome_of, after_outcome, after_hunt, after_turn, standing, wanted, wanted_in, wanted_from, wanted_so_far, used_in}
+use Rattle.multiframe.specs.LineTurns.{Lock, Standing, Hunting, Locked, Ended, Outcome, CutShort, Lost, Whole, lock_from, least_start, outcome_of, after_outcome, after_hunt, after_turn, standing, wanted, wanted_in, wanted_from, wanted_so_far}
 use Rattle.device_model.specs.Moments.{line_taken}
 use Rattle.device_model.specs.Numbers.{ending_of, line_ending}
 use Rattle.node_core.specs.Asking.{ByteAsked, has_come, is_seen}

@@ -1,12 +1,10 @@
 -- What a node tells port by port it tells of the whole.
-use Rattle.std.proofs.Common.{◌≡◌, ◌<◌, ◌≤◌, ◌+◌, ℕ, None, Some, List, Option, length, slice_get, get_or, slice_set, set, arith, refl, sym, subst, inl, inr, ◌⊎◌}
+use Rattle.std.proofs.Common.{◌≡◌, ◌<◌, ◌+◌, ℕ, None, List, length, get_or, set, arith, inl, inr}
 use Rattle.std.proofs.lemmas.List.{get_or-set_same, get_or-set_other}
 use Rattle.std.proofs.lemmas.Option.{slice_get_within}
 use Rattle.std.proofs.lemmas.Bool.Decides.{eqb_tells}
 use Rattle.line_side.specs.declared.counts.LineCounts.{LineCounts}
 use Rattle.plan_file.specs.declared.plan.Plan.{Plan}
-use Rattle.device_model.specs.Report.{Numbers}
-use Rattle.device_model.specs.declared.outcome.FromState.{FromState}
 use Rattle.device_model.proofs.SoundPlans.{sound_plan}
 use Rattle.node_core.specs.NodeView.{NodeView}
 use Rattle.node_core.specs.RunNumbers.{client_in_numbers, client_out_numbers, no_client_in, no_client_out, no_counts, numbers_of_run}

@@ -1,5 +1,5 @@
 -- What a connection of a node does in a turn, and at its end.
-use Rattle.std.specs.Prelude.{◌≡◌, ◌<◌, ◌≤◌, ◌+◌, ℕ, suc, Bool, true, false, List, [], length, Option, Some, None, slice_get}
+use Rattle.std.specs.Prelude.{◌≡◌, ◌<◌, ◌+◌, ℕ, suc, Bool, true, false, List, [], length, Option, Some, None, slice_get}
 use Rattle.otn_base.specs.LineSlots.{LineSlots, slots_of}
 use Rattle.otn_ports.specs.Views.{InView, OutView}
 use Rattle.maintenance_signals.specs.declared.signal.Signal.{Signal}

@@ -1,12 +1,11 @@
 -- The connections of a node: for each, which ports it joins and in which turns, and its pipe.
-use Rattle.std.specs.Prelude.{◌≡◌, ◌+◌, ◌-◌, ◌≤◌, ℕ, Bool, ◌&&◌, nat_le, List}
-use Rattle.otn_base.specs.LineSlots.{LineSlots}
+use Rattle.std.specs.Prelude.{◌≡◌, ◌+◌, ◌≤◌, ℕ, Bool, ◌&&◌, nat_le}
 use Rattle.plan_file.specs.declared.connection.Connection.{Connection}
 use Rattle.plan_file.specs.declared.connection.FromEnd.{FromEnd}
 use Rattle.plan_file.specs.declared.connection.FromEnd.TheVariants as from_end
 use Rattle.plan_file.specs.declared.connection.ToEnd.{ToEnd}
 use Rattle.plan_file.specs.declared.connection.ToEnd.TheVariants as to_end
-use Rattle.cross_matrix.specs.Pipes.{PipeView, IsPipeOf}
+use Rattle.cross_matrix.specs.Pipes.{IsPipeOf}
 use Rattle.node_core.specs.declared.link.Link.{Link}
 use Rattle.node_core.specs.declared.link.Origin.{Origin}
 use Rattle.node_core.specs.declared.link.Origin.TheVariants as origin

@@ -1,16 +1,14 @@
 -- What a piece of a port, and the end of a turn, do to the parts of a node and to the port's place.
-use Rattle.std.specs.Prelude.{◌≡◌, ◌≢◌, ◌⊎◌, ◌<◌, ◌≤◌, ◌+◌, ◌*◌, ◌%◌, ⊤, ℕ, suc, Bool, true, false, ◌&&◌, ◌==◌, List, [], ◌∷◌, ◌++◌, Some, None, length, slice_get, is_some, get_or, Option}
-use Rattle.std.specs.List.{Contains}
+use Rattle.std.specs.Prelude.{◌≡◌, ◌<◌, ◌+◌, ◌*◌, ◌%◌, ℕ, suc, Bool, true, false, ◌&&◌, ◌==◌, List, [], ◌∷◌, ◌++◌, Some, length, slice_get, is_some, Option}
 use Rattle.otn_base.specs.LineSlots.{LineSlots, slots_of}
 use Rattle.otn_base.specs.declared.kind.PortName.{PortName}
 use Rattle.otn_base.specs.declared.kind.PortName.TheVariants as port
-use Rattle.otn_ports.specs.Given.{Gained}
 use Rattle.otn_ports.specs.OnePlace.{OnlyLineIn, OnlyLineOut, OnlyClientIn, OnlyClientOut}
 use Rattle.otn_ports.specs.Views.{InView, OutView, BaysView}
 use Rattle.line_side.specs.LineFile.{mfas_of}
 use Rattle.line_side.specs.LineForm.{LineForm, size_of}
 use Rattle.line_side.specs.LineOutput.{LineOutView, FramePut, LineMade}
-use Rattle.line_side.specs.LineStands.{LineView, LineStands, PieceStands, OfMember, TurnEnded, members}
+use Rattle.line_side.specs.LineStands.{LineView, LineStands, PieceStands, OfMember}
 use Rattle.line_side.specs.MayBe.{MayBe}
 use Rattle.maintenance_signals.specs.declared.signal.Signal.{Signal}
 use Rattle.multiframe.specs.LineTurns.{multiframe}
@@ -20,14 +18,11 @@ use Rattle.plan_file.specs.declared.connection.ToEnd.TheVariants as to_end
 use Rattle.plan_file.specs.declared.plan.Plan.{Plan}
 use Rattle.trib_sink.specs.Sink.{ended_view}
 use Rattle.tributary_model.specs.Places.{Taken, View, tributary_of}
-use Rattle.device_model.specs.Entries.{first_turn, IsActive, own_turn}
-use Rattle.device_model.specs.LineFiles.{IsFrameOf}
+use Rattle.device_model.specs.Entries.{IsActive, own_turn}
 use Rattle.device_model.specs.Through.{Inputs, OwnInput, of_line, own_input}
-use Rattle.cross_matrix.specs.Parts.{ClientInStands, ClientOutStands, MayShow}
-use Rattle.cross_matrix.specs.Pipes.{PipeView, PipeStands, ClientTook}
+use Rattle.cross_matrix.specs.Parts.{ClientInStands, ClientOutStands}
+use Rattle.cross_matrix.specs.Pipes.{PipeStands, ClientTook}
 use Rattle.node_core.specs.Links.{IsLinkOf, SameEntry, is_on}
-use Rattle.node_core.specs.NodeView.{NodeView, HasLineIn, HasLineOut, HasLink}
-use Rattle.node_core.specs.Pieces.{IsCounted, IsFresh}
 use Rattle.node_core.specs.declared.link.Link.{Link}
 use Rattle.node_core.specs.declared.link.Origin.{Origin}
 use Rattle.node_core.specs.declared.link.Origin.TheVariants as origin

@@ -1,5 +1,5 @@
 -- What a piece of a port, and the end of a turn, do to a node and to the port's place.
-use Rattle.std.specs.Prelude.{◌≡◌, ◌≢◌, ◌+◌, ◌==◌, ◌&&◌, ◌||◌, ℕ, Bool, false, None, List, [], ◌∷◌, length, slice_get, get_or, Option}
+use Rattle.std.specs.Prelude.{◌≡◌, ◌≢◌, ◌+◌, ◌==◌, ◌&&◌, ◌||◌, ℕ, Bool, false, None, List, [], ◌∷◌, length, slice_get, get_or}
 use Rattle.otn_base.specs.declared.kind.PortName.TheVariants as port
 use Rattle.otn_base.specs.declared.limits.TheConstants.{LINES}
 use Rattle.otn_ports.specs.Views.{InView, OutView, BaysView, client_in_at, client_out_at}

@@ -16,10 +16,8 @@ use Rattle.device_model.specs.Entries.{form_in}
 use Rattle.device_model.specs.Inputs.{has_died}
 use Rattle.device_model.specs.Moments.{uses, line_taken, client_due, LineDue}
 use Rattle.device_model.specs.Numbers.{Went, AreNumbers}
-use Rattle.device_model.specs.Outcomes.{IsOutcome}
 use Rattle.device_model.specs.Report.{Numbers}
 use Rattle.device_model.specs.Through.{Inputs, own_input}
-use Rattle.device_model.specs.declared.outcome.Outcome.{Outcome}
 use Rattle.node_core.specs.Stands.{after_retire, out_after_retire}
 
 -- ---- what was taken

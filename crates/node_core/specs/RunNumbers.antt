@@ -1,5 +1,5 @@
 -- The numbers of a settled run, as its report sees them.
-use Rattle.std.specs.Prelude.{ℕ, false, None, get_or}
+use Rattle.std.specs.Prelude.{false, None, get_or}
 use Rattle.line_side.specs.declared.counts.LineCounts.{LineCounts}
 use Rattle.device_model.specs.Report.{ClientInNumbers, ClientOutNumbers, Numbers}
 use Rattle.node_core.specs.declared.numbers.ClientInCounts.{ClientInCounts}

@@ -1,5 +1,5 @@
 -- How a node that is past its last turn is settled.
-use Rattle.std.specs.Prelude.{◌≡◌, ◌≤◌, ℕ, Bool, true, false, List, slice_get, Some, Option}
+use Rattle.std.specs.Prelude.{◌≡◌, ◌≤◌, ℕ, true, false, slice_get, Some, Option}
 use Rattle.std.specs.List.{Contains}
 use Rattle.otn_base.specs.declared.kind.PortName.{PortName}
 use Rattle.otn_base.specs.declared.kind.PortName.TheVariants as port
@@ -22,7 +22,7 @@ use Rattle.device_model.specs.Through.{Inputs, own_input}
 use Rattle.device_model.specs.declared.outcome.FromState.{FromState}
 use Rattle.device_model.specs.declared.outcome.Outcome.{Outcome}
 use Rattle.node_core.specs.NodeView.{NodeView, HasLineIn, HasLineOut, HasLink}
-use Rattle.node_core.specs.RunLeft.{Takings, MayBeInputs, InputLeft, ClientInLeft, SamePlace, TookOf, OutputsLeft, RunLeft}
+use Rattle.node_core.specs.RunLeft.{Takings, MayBeInputs, InputLeft, ClientInLeft, SamePlace, TookOf, OutputsLeft}
 use Rattle.node_core.specs.Stands.{Bytes, MayGive, StandsAt}
 use Rattle.node_core.specs.declared.link.Link.{Link}
 

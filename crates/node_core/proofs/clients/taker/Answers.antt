@@ -1,4 +1,4 @@
-use Rattle.std.proofs.Common.{◌≡◌, ◌<◌, ◌≤◌, ◌∙◌, Some, length, sym, ap, subst, arith}
+use Rattle.std.proofs.Common.{◌∙◌, Some, sym, subst, arith}
 use Rattle.node_core.specs.LinkMoves.{FirstOf}
 use Rattle.node_core.specs.Moves.{takes_client}
 use Rattle.node_core.proofs.LinkFinds.{found_here, none_next, none_at_all}

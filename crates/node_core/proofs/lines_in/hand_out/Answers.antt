@@ -1,4 +1,4 @@
-use Rattle.std.proofs.Common.{◌≡◌, ◌<◌, ◌≤◌, ◌++◌, List, length, take, drop, subst, sym, arith, rules}
+use Rattle.std.proofs.Common.{◌≡◌, ◌<◌, ◌≤◌, ◌++◌, length, take, drop, subst, sym, arith, rules}
 use Rattle.node_core.specs.Moves.{EachLink, TookFrame, takes_line}
 use Rattle.node_core.specs.declared.link.Link.{Link}
 use Rattle.node_core.proofs.LinkSteps.{one_gone, all_gone, put_back}

@@ -1,4 +1,3 @@
-use Rattle.std.proofs.Common.{◌≡◌}
 use Rattle.node_core.specs.Moves.{TookFrame, takes_line}
 use Rattle.node_core.proofs.LinkSteps.{Gone}
 use Rattle.node_core.proofs.lines_in.hand_out.Given as goal

@@ -1,4 +1,4 @@
-use Rattle.std.proofs.Common.{◌≡◌, ◌<◌, ◌≤◌, ◌+◌, ◌++◌, ℕ, List, length, take, drop, subst, sym, arith, rules}
+use Rattle.std.proofs.Common.{◌≡◌, ◌<◌, ◌≤◌, ◌++◌, ℕ, List, length, take, drop, subst, sym, arith, rules}
 use Rattle.node_core.specs.LineFrames.{PutsOwn}
 use Rattle.node_core.specs.Moves.{EachLink, GaveFrame, gives_line}
 use Rattle.node_core.specs.declared.link.Link.{Link}

@@ -1,4 +1,4 @@
-use Rattle.std.proofs.Common.{◌≡◌, ◌∙◌, true, false, [], refl, sym, ap, subst}
+use Rattle.std.proofs.Common.{◌∙◌, true, false, [], refl, sym, ap, subst}
 use Rattle.device_model.specs.Through.{of_line}
 use Rattle.cross_matrix.specs.Parts.{IsOver, IsOfClient, IsToClient}
 use Rattle.cross_matrix.specs.Pipes.{PipeView, PipeStands}

@@ -1,4 +1,4 @@
-use Rattle.std.proofs.Common.{◌≡◌, ◌<◌, ◌+◌, ◌||◌, length, refl, sym, subst, arith}
+use Rattle.std.proofs.Common.{◌<◌, ◌+◌, length, refl, sym, subst, arith}
 use Rattle.std.proofs.lemmas.Option.{slice_get_read}
 use Rattle.otn_ports.specs.Racks.{bays_view, with_line_in}
 use Rattle.node_core.specs.Asking.{LinesAnswer}

@@ -1,4 +1,4 @@
-use Rattle.std.proofs.Common.{◌≡◌, ◌<◌, ◌≤◌, true, false, sym, ◌∙◌, subst, arith}
+use Rattle.std.proofs.Common.{◌≡◌, true, false, sym, ◌∙◌, subst}
 use Rattle.otn_ports.specs.Racks.{bays_view}
 use Rattle.node_core.specs.Asking.{is_cut}
 use Rattle.node_core.proofs.Asked.{none_cut, some_cut, cut_next}

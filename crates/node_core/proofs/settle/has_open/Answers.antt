@@ -1,5 +1,4 @@
-use Rattle.std.proofs.Common.{◌≡◌, ◌<◌, ◌≤◌, length, sym, ◌∙◌, subst, arith}
-use Rattle.node_core.specs.Asking.{OpensAnswer}
+use Rattle.std.proofs.Common.{arith}
 use Rattle.node_core.proofs.Asked.{none_open, some_open, next_open}
 use Rattle.node_core.proofs.settle.has_open.Goals as goal
 

@@ -1,4 +1,3 @@
-use Rattle.std.proofs.Common.{◌≡◌}
 use Rattle.node_core.specs.Moves.{Fences}
 use Rattle.node_core.specs.NodeMoves.{whole_for}
 use Rattle.node_core.proofs.LinkSteps.{Gone}

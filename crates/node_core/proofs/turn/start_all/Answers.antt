@@ -1,4 +1,4 @@
-use Rattle.std.proofs.Common.{◌≡◌, ◌<◌, ◌≤◌, ◌++◌, List, length, take, drop, subst, sym, arith, rules}
+use Rattle.std.proofs.Common.{◌≡◌, ◌<◌, ◌≤◌, ◌++◌, length, take, drop, subst, sym, arith, rules}
 use Rattle.node_core.specs.Moves.{EachLink}
 use Rattle.node_core.specs.NodeMoves.{Starts}
 use Rattle.node_core.specs.declared.link.Link.{Link}

@@ -1,4 +1,4 @@
-use Rattle.std.proofs.Common.{◌≡◌, ◌∙◌, refl, sym, ap}
+use Rattle.std.proofs.Common.{◌∙◌, refl, sym, ap}
 use Rattle.device_model.specs.Entries.{own_turn}
 use Rattle.node_core.specs.Links.{is_on, origin_of}
 use Rattle.node_core.proofs.LinkLaws.{both, own_turn_is, turn_is, takes_text, gives_text}

@@ -1,4 +1,4 @@
-use Rattle.std.proofs.Common.{◌≡◌, ◌∙◌, refl, sym}
+use Rattle.std.proofs.Common.{◌∙◌, refl, sym}
 use Rattle.node_core.specs.Moves.{gives_line}
 use Rattle.node_core.proofs.LinkLaws.{both}
 use Rattle.node_core.proofs.link.Link.fill_frame.Goals as goal

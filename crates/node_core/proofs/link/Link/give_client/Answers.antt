@@ -1,4 +1,4 @@
-use Rattle.std.proofs.Common.{◌≡◌, refl}
+use Rattle.std.proofs.Common.{refl}
 use Rattle.node_core.proofs.link.Link.give_client.Goals as goal
 
 pub returns : goal.returns

@@ -1,4 +1,4 @@
-use Rattle.std.proofs.Common.{◌≡◌, refl}
+use Rattle.std.proofs.Common.{refl}
 use Rattle.device_model.specs.Entries.{own_turn}
 use Rattle.node_core.proofs.LinkLaws.{own_turn_is}
 use Rattle.node_core.proofs.link.Link.take_client.Goals as goal

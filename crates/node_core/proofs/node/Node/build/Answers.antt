@@ -1,4 +1,4 @@
-use Rattle.std.proofs.Common.{◌≡◌, [], refl}
+use Rattle.std.proofs.Common.{[], refl}
 use Rattle.node_core.specs.Built.{IsNewNode}
 use Rattle.node_core.specs.NodeView.{NodeView}
 use Rattle.node_core.proofs.Building.{first_moment}

@@ -1,4 +1,3 @@
-use Rattle.std.proofs.Common.{ap}
 use Rattle.otn_ports.specs.Racks.{bays_view}
 use Rattle.node_core.proofs.Fences.{fence_moves}
 use Rattle.node_core.proofs.node.Node.fence.Goals as goal

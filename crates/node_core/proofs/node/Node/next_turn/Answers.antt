@@ -1,5 +1,4 @@
-use Rattle.std.proofs.Common.{◌≡◌, ◌<◌, ◌+◌, ℕ, Some, false, length, slice_get, refl, sym, ap, subst, arith, ◌∙◌}
-use Rattle.otn_base.specs.declared.kind.PortName.{PortName}
+use Rattle.std.proofs.Common.{◌≡◌, ◌<◌, ◌+◌, length, refl, sym, ap, subst, arith, ◌∙◌}
 use Rattle.node_core.specs.NodeMoves.{FenceMove}
 use Rattle.node_core.specs.NodeView.{NodeView, is_ready}
 use Rattle.node_core.proofs.NodesKept.{fence_node}

@@ -1,5 +1,4 @@
 use Rattle.std.proofs.Common.{◌≡◌, length, refl}
-use Rattle.node_core.specs.RunNumbers.{numbers_of_run}
 use Rattle.node_core.proofs.Told.{all_told}
 use Rattle.node_core.proofs.WholeRuns.{run_told}
 use Rattle.node_core.proofs.node.Node.numbers.Goals as goal

@@ -1,4 +1,4 @@
-use Rattle.std.proofs.Common.{rules, ◌<◌, ◌+◌, ◌∙◌, ℕ, None, length, slice_set, arith}
+use Rattle.std.proofs.Common.{rules, ◌∙◌, None}
 use Rattle.std.proofs.lemmas.List.{length-set}
 use Rattle.node_core.specs.Settling.{IsLastState}
 use Rattle.node_core.proofs.Told.{told_more}

@@ -1,4 +1,4 @@
-use Rattle.std.proofs.Common.{◌≡◌, ◌≢◌, ◌<◌, true, Some, set, length, slice_get, refl, sym, subst, arith}
+use Rattle.std.proofs.Common.{◌≡◌, ◌<◌, true, Some, set, length, slice_get, refl, sym, subst, arith}
 use Rattle.std.proofs.lemmas.Option.{slice_get_read}
 use Rattle.otn_base.specs.declared.kind.PortName.TheVariants as port
 use Rattle.otn_ports.specs.InPlace.{in_view}
