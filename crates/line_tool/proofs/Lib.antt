@@ -1,4 +1,5 @@
 pub mod Answered
+pub mod CarriedBack
 pub mod Forms
 pub mod LineFrames
 pub mod Lives
@@ -22,6 +23,7 @@ pub mod SlotTable
 pub mod SlotTexts
 pub mod TapPieces
 pub mod TapTurns
+pub mod TrialCarried
 pub mod TurnFrames
 pub mod TwoWorlds
 pub mod CarriedPlans

@@ -1,6 +1,7 @@
 pub mod Agreements
 pub mod Answers
 pub mod Beyond
+pub mod CarriedBack
 pub mod Codes
 pub mod Device
 pub mod Ends
@@ -17,6 +18,8 @@ pub mod RunReport
 pub mod Runs
 pub mod SlotReport
 pub mod SlotRuns
+pub mod TrialCarried
+pub mod TrialPlans
 pub mod Words
 pub mod PlanReading
 pub mod PlanRuns

@@ -13,6 +13,7 @@
 //! - `report`, `report_lines`, `report_words`: the report of a run, as text.
 //! - `beyond`: whether a line has more than a command reads.
 //! - `laws`: what no call shows by itself: that nothing else on a line changes a report, and the headline of a plan that is run.
+//! - `trial`: packets of eight clients, through four runs in a row.
 #![tactic(auto)]
 
 mod beyond;
@@ -30,6 +31,7 @@ mod slot;
 mod status;
 mod tap;
 mod top;
+mod trial;
 mod words;
 
 pub use laws::{
@@ -39,6 +41,7 @@ pub use laws::{
 pub use number_chooser::NumberChooser;
 pub use status::Status;
 pub use top::run;
+pub use trial::{all_packets_come_back, come_back};
 pub use words::{Command, command_of, order_of};
 
 #[cfg(test)]

@@ -1,0 +1,4 @@
+// The trial: packets of eight clients, through four runs in a row.
+mod laws;
+
+pub use laws::{all_packets_come_back, come_back};

@@ -1,0 +1,18 @@
+// The laws of the trial: what runs in a row bring back to a client.
+ghost use Rattle.line_tool.specs.CarriedBack.{BringsTheStreamBack, BringsAllPacketsBack};
+ghost use Rattle.line_tool.specs.TrialCarried.{AllPacketsComeBack};
+
+/// A client's packets that a first run takes to a line, that go on from line to line in one run or more, and that a
+/// last run takes to a client, each run of an accepted plan and over the file that the one before made: what arrives
+/// there is the front of the first client's stream, three turns later for each run (`stream`). So all of its packets
+/// arrive, in order, where their frames lie in the client frames that are whole in that (`packets`).
+pub fn come_back()
+    ensures stream { BringsTheStreamBack }
+    ensures packets { BringsAllPacketsBack }
+{}
+
+/// The trial's four runs, each over the file of the one before: all packets of each client, 16 of 1 to 1,500 bytes,
+/// come back to it in order, and their text is what is due to it at the end.
+pub fn all_packets_come_back()
+    ensures { AllPacketsComeBack }
+{}
