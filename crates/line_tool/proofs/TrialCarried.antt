@@ -1,5 +1,5 @@
 -- All packets of the trial come back.
-use Rattle.std.proofs.Common.{◌≡◌, ◌≤◌, ◌<◌, ◌+◌, ◌-◌, ◌*◌, ℕ, true, List, [], ◌∷◌, length, None, refl, sym, ap, ◌∙◌, subst, arith}
+use Rattle.std.proofs.Common.{◌≡◌, ◌≤◌, ◌<◌, ◌+◌, ◌-◌, ◌*◌, ℕ, zero, suc, true, List, [], ◌∷◌, length, None, refl, sym, ap, ◌∙◌, subst, arith}
 use Rattle.std.specs.Prelude.{All}
 use Rattle.std.specs.List.{Contains}
 use Rattle.std.proofs.lemmas.List.Elements.{All-head, All-tail, All-weaker}
@@ -17,24 +17,7 @@ use Rattle.line_tool.specs.CarriedBack.{ComesBack, bytes_back}
 use Rattle.line_tool.specs.TrialCarried.{AreTrialPackets, AreTrialRuns}
 use Rattle.line_tool.specs.TrialPlans.{one_slot, trial_connection, trial_plan}
 use Rattle.line_tool.proofs.CarriedBack.{brings_all_packets_back}
-
--- ---- the plans
-
-pub first_accepted : fault_in (trial_plan 0) ≡ None
-unfolding fault_in
-first_accepted = refl
-
-pub second_accepted : fault_in (trial_plan 1) ≡ None
-unfolding fault_in
-second_accepted = refl
-
-pub third_accepted : fault_in (trial_plan 2) ≡ None
-unfolding fault_in
-third_accepted = refl
-
-pub fourth_accepted : fault_in (trial_plan 3) ≡ None
-unfolding fault_in
-fourth_accepted = refl
+use Rattle.line_tool.proofs.TrialPlans.{first_accepted, second_accepted, third_accepted}
 
 known : (run c : ℕ) → c < 8 → Contains (trial_plan run).connections (trial_connection run c)
 known run c h =
