@@ -24,6 +24,7 @@ pub mod SlotTexts
 pub mod TapPieces
 pub mod TapTurns
 pub mod TrialCarried
+pub mod TrialDraw
 pub mod TrialPlans
 pub mod TurnFrames
 pub mod TwoWorlds

@@ -1,4 +1,5 @@
 // The trial: packets of eight clients, through four runs in a row.
+mod draw;
 mod laws;
 mod plans;
 

@@ -1,0 +1,90 @@
+-- The packets of the trial, one after another.
+use Rattle.std.proofs.Common.{◌≡◌, ◌+◌, ◌%◌, ℕ, zero, suc, List, [], ◌∷◌, ◌++◌, map, refl, sym, ap, ◌∙◌, arith, add-one, append_assoc, append-nil}
+use Rattle.std.specs.List.{range_with_len}
+use Rattle.std.proofs.lemmas.List.FromFn.{map-range_with_len_more}
+use Rattle.hex.specs.Hex.{encode_lower}
+use Rattle.packet_text.specs.PacketText.{packet_line, hex_text}
+use Rattle.rand_pcg.specs.Lcg.{Lcg}
+use Rattle.rand_pcg.specs.Pcg.{pcg32}
+use Rattle.line_tool.specs.NumberOrder.{generator_after, order_word}
+use Rattle.line_tool.specs.TrialDraw.{drawn_size, drawn_packet, behind_packet, drawn_packets, behind_packets, DrawsPacket, DrawsText}
+use Rattle.line_tool.proofs.NumberOrder.{generator_next}
+
+-- ---- the bytes of a packet
+
+abbrev pub drawn_bytes : (number place n : ℕ) → List ℕ
+drawn_bytes number place n = map (λ i. order_word number i % 256) (range_with_len (place + 1) n)
+
+-- behind the word for a packet's size, so many of its bytes were drawn
+pub record DrawsBytes (n : ℕ) (old now : Lcg) (bytes : List ℕ) : Type 0 where
+  pub drawn : (number place : ℕ) → old ≡ generator_after number place → bytes ≡ drawn_bytes number place n
+  pub behind : (number place : ℕ) → old ≡ generator_after number place → now ≡ generator_after number (place + 1 + n)
+
+pub no_byte : (old now : Lcg) (word : ℕ) (bytes : List ℕ) → (word, now) ≡ pcg32 old → bytes ≡ [] → DrawsBytes 0 old now bytes
+no_byte old now word bytes next none = record {
+  drawn = λ number place is. none;
+  behind = λ number place is. ap (λ p. p.1) next ∙ ap (λ g. (pcg32 g).1) is ∙ sym (generator_next number place) ∙ ap (generator_after number) (let e : place + 1 ≡ place + 1 + 0 = omega arith in e);
+}
+
+pub next_byte : (n : ℕ) (old now new : Lcg) (word : ℕ) (bytes more : List ℕ) → DrawsBytes n old now bytes → (word, new) ≡ pcg32 now → more ≡ bytes ++ word % 256 ∷ [] → DrawsBytes (n + 1) old new more
+next_byte n old now new word bytes more before next push = record {
+  drawn = λ number place is.
+      push
+      ∙ ap (λ bs. bs ++ word % 256 ∷ []) (before.drawn number place is)
+      ∙ ap (λ w. drawn_bytes number place n ++ w % 256 ∷ []) (ap (λ p. p.0) next ∙ ap (λ g. (pcg32 g).0) (before.behind number place is))
+      ∙ sym (map-range_with_len_more (λ i. order_word number i % 256) (place + 1) n (place + 1 + n) refl);
+  behind = λ number place is.
+      ap (λ p. p.1) next ∙ ap (λ g. (pcg32 g).1) (before.behind number place is) ∙ sym (generator_next number (place + 1 + n))
+      ∙ ap (generator_after number) (let e : place + 1 + n + 1 ≡ place + 1 + (n + 1) = omega arith in e);
+}
+
+pub all_bytes : (n : ℕ) (old first now : Lcg) (word : ℕ) (bytes : List ℕ) → (word, first) ≡ pcg32 old → n ≡ 1 + word % 1500 → DrawsBytes n old now bytes → DrawsPacket old now bytes
+all_bytes n old first now word bytes next size all = record {
+  drawn = λ number place is. all.drawn number place is ∙ ap (drawn_bytes number place) (sized number place is);
+  behind = λ number place is. all.behind number place is ∙ ap (λ k. generator_after number (place + 1 + k)) (sized number place is);
+}
+  where
+    sized : (number place : ℕ) → old ≡ generator_after number place → n ≡ drawn_size (order_word number place)
+    sized number place is = size ∙ ap (λ w. 1 + w % 1500) (ap (λ p. p.0) next ∙ ap (λ g. (pcg32 g).0) is)
+
+-- ---- the packets of a client
+
+pub no_packet : (old : Lcg) (text : List ℕ) → text ≡ [] → DrawsText 0 old old text
+unfolding drawn_packets behind_packets hex_text
+no_packet old text none = record { drawn = λ number place is. none; behind = λ number place is. is }
+
+drawn_next : (words : ℕ → ℕ) (place n : ℕ) → drawn_packets words place (n + 1) ≡ drawn_packets words place n ++ drawn_packet words (behind_packets words place n) ∷ []
+unfolding drawn_packets
+drawn_next words place n = ap (drawn_packets words place) (add-one n)
+
+behind_next : (words : ℕ → ℕ) (place n : ℕ) → behind_packets words place (n + 1) ≡ behind_packet words (behind_packets words place n)
+unfolding behind_packets
+behind_next words place n = ap (behind_packets words place) (add-one n)
+
+text_behind : (xs ys : List (List ℕ)) → hex_text (xs ++ ys) ≡ hex_text xs ++ hex_text ys
+unfolding hex_text
+text_behind [] ys = refl
+text_behind (x ∷ xs) ys = ap (λ t. packet_line x ++ t) (text_behind xs ys) ∙ sym (append_assoc (packet_line x) (hex_text xs) (hex_text ys))
+
+one_line : (packet : List ℕ) → hex_text (packet ∷ []) ≡ encode_lower packet ++ 10 ∷ []
+unfolding hex_text
+one_line packet = append-nil (packet_line packet)
+
+text_next : (packets : List (List ℕ)) (packet : List ℕ) → hex_text (packets ++ packet ∷ []) ≡ (hex_text packets ++ encode_lower packet) ++ 10 ∷ []
+text_next packets packet =
+    text_behind packets (packet ∷ []) ∙ ap (λ t. hex_text packets ++ t) (one_line packet) ∙ sym (append_assoc (hex_text packets) (encode_lower packet) (10 ∷ []))
+
+pub next_packet : (n : ℕ) (old now new : Lcg) (text packet more : List ℕ) → DrawsText n old now text → DrawsPacket now new packet → more ≡ (text ++ encode_lower packet) ++ 10 ∷ [] → DrawsText (n + 1) old new more
+next_packet n old now new text packet more before drawn push = record {
+  drawn = λ number place is.
+      let words = order_word number in
+      let here = before.behind number place is in
+      push
+      ∙ ap (λ t. (t ++ encode_lower packet) ++ 10 ∷ []) (before.drawn number place is)
+      ∙ ap (λ p. (hex_text (drawn_packets words place n) ++ encode_lower p) ++ 10 ∷ []) (drawn.drawn number (behind_packets words place n) here)
+      ∙ sym (text_next (drawn_packets words place n) (drawn_packet words (behind_packets words place n)))
+      ∙ ap hex_text (sym (drawn_next words place n));
+  behind = λ number place is.
+      let words = order_word number in
+      drawn.behind number (behind_packets words place n) (before.behind number place is) ∙ ap (generator_after number) (sym (behind_next words place n));
+}
