@@ -26,6 +26,8 @@ pub mod TapTurns
 pub mod TrialCarried
 pub mod TrialDraw
 pub mod TrialPlans
+pub mod TrialReport
+pub mod TrialRuns
 pub mod TurnFrames
 pub mod TwoWorlds
 pub mod CarriedPlans

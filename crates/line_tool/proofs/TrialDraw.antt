@@ -1,13 +1,17 @@
 -- The packets of the trial, one after another.
-use Rattle.std.proofs.Common.{◌≡◌, ◌+◌, ◌%◌, ℕ, zero, suc, List, [], ◌∷◌, ◌++◌, map, refl, sym, ap, ◌∙◌, arith, add-one, append_assoc, append-nil}
+use Rattle.std.proofs.Common.{◌≡◌, ◌≤◌, ◌<◌, ◌+◌, ◌%◌, length, length-append, get_or, ℕ, zero, suc, List, [], ◌∷◌, ◌++◌, map, refl, sym, ap, ◌∙◌, arith, add-one, append_assoc, append-nil}
+use Rattle.std.specs.Prelude.{All}
 use Rattle.std.specs.List.{range_with_len}
-use Rattle.std.proofs.lemmas.List.FromFn.{map-range_with_len_more}
-use Rattle.hex.specs.Hex.{encode_lower}
+use Rattle.std.proofs.lemmas.List.Elements.{All-nil, All-push}
+use Rattle.std.proofs.lemmas.List.FromFn.{length-map-range_with_len, map-range_with_len_more}
+use Rattle.hex.specs.Hex.{IsBytes, encode_lower}
+use Rattle.packet_text.specs.Laws.{IsPacket}
 use Rattle.packet_text.specs.PacketText.{packet_line, hex_text}
 use Rattle.rand_pcg.specs.Lcg.{Lcg}
 use Rattle.rand_pcg.specs.Pcg.{pcg32}
 use Rattle.line_tool.specs.NumberOrder.{generator_after, order_word}
-use Rattle.line_tool.specs.TrialDraw.{drawn_size, drawn_packet, behind_packet, drawn_packets, behind_packets, DrawsPacket, DrawsText}
+use Rattle.line_tool.specs.TrialDraw.{drawn_size, drawn_packet, behind_packet, drawn_packets, behind_packets, client_place, packets_of_trial, DrawsPacket, DrawsText}
+use Rattle.line_tool.specs.TrialCarried.{AreTrialPackets}
 use Rattle.line_tool.proofs.NumberOrder.{generator_next}
 
 -- ---- the bytes of a packet
@@ -88,3 +92,54 @@ next_packet n old now new text packet more before drawn push = record {
       let words = order_word number in
       drawn.behind number (behind_packets words place n) (before.behind number place is) ∙ ap (generator_after number) (sym (behind_next words place n));
 }
+
+-- ---- what the packets are
+
+drawn_size_is : (words : ℕ → ℕ) (place : ℕ) → length (drawn_packet words place) ≡ drawn_size (words place)
+drawn_size_is words place = length-map-range_with_len (λ i. words i % 256) (place + 1) (drawn_size (words place))
+
+bytes_are : (words : ℕ → ℕ) (a n : ℕ) → IsBytes (map (λ i. words i % 256) (range_with_len a n))
+bytes_are words a zero i = (let none : 0 < 256 = omega arith in none)
+bytes_are words a (suc n) zero = (let low : words a % 256 < 256 = omega arith in low)
+bytes_are words a (suc n) (suc i) = bytes_are words (a + 1) n i
+
+is_packet : (words : ℕ → ℕ) (place : ℕ) → IsPacket (drawn_packet words place)
+is_packet words place =
+    let size = drawn_size_is words place in
+    let some : words place % 1500 < 1500 = omega arith in
+    record { some = omega arith; most = omega arith; bytes = bytes_are words (place + 1) (drawn_size (words place)) }
+
+are_packets : (words : ℕ → ℕ) (place n : ℕ) → All IsPacket (drawn_packets words place n)
+unfolding drawn_packets
+are_packets words place zero = All-nil IsPacket
+are_packets words place (suc n) = All-push IsPacket (drawn_packets words place n) (drawn_packet words (behind_packets words place n)) (are_packets words place n) (is_packet words (behind_packets words place n))
+
+sized : (words : ℕ → ℕ) (place : ℕ) → (1 ≤ length (drawn_packet words place)) × (length (drawn_packet words place) ≤ 1500)
+sized words place =
+    let size = drawn_size_is words place in
+    let some : words place % 1500 < 1500 = omega arith in
+    (omega arith, omega arith)
+
+are_sized : (words : ℕ → ℕ) (place n : ℕ) → All (λ packet. (1 ≤ length packet) × (length packet ≤ 1500)) (drawn_packets words place n)
+unfolding drawn_packets
+are_sized words place zero = All-nil (λ packet. (1 ≤ length packet) × (length packet ≤ 1500))
+are_sized words place (suc n) =
+    All-push (λ packet. (1 ≤ length packet) × (length packet ≤ 1500)) (drawn_packets words place n) (drawn_packet words (behind_packets words place n)) (are_sized words place n) (sized words (behind_packets words place n))
+
+many_drawn : (words : ℕ → ℕ) (place n : ℕ) → length (drawn_packets words place n) ≡ n
+unfolding drawn_packets
+many_drawn words place zero = refl
+many_drawn words place (suc n) =
+    let before = many_drawn words place n in
+    let all = length-append (drawn_packets words place n) (drawn_packet words (behind_packets words place n) ∷ []) in
+    omega arith
+
+pub trial_is_packets : (number c : ℕ) → All IsPacket (packets_of_trial number c)
+unfolding packets_of_trial
+trial_is_packets number c = are_packets (order_word number) (client_place (order_word number) c) 16
+
+pub trial_packets_are : (number c : ℕ) → AreTrialPackets (packets_of_trial number c)
+unfolding packets_of_trial
+trial_packets_are number c =
+    let words = order_word number in
+    record { many = many_drawn words (client_place words c) 16; sizes = are_sized words (client_place words c) 16 }

@@ -22,7 +22,10 @@ pub mod RunReport
 pub mod Runs
 pub mod SlotReport
 pub mod SlotRuns
+pub mod TrialAnswers
 pub mod TrialCarried
 pub mod TrialDraw
 pub mod TrialPlans
+pub mod TrialReport
+pub mod TrialRuns
 pub mod Words

@@ -1,5 +1,5 @@
 -- The draw of the trial: the packets of its clients, of the words of a generator in their order.
-use Rattle.std.specs.Prelude.{◌≡◌, ℕ, zero, suc, ◌+◌, ◌%◌, List, [], ◌∷◌, ◌++◌, map, length, sum}
+use Rattle.std.specs.Prelude.{◌≡◌, ℕ, zero, suc, ◌+◌, ◌%◌, List, [], ◌∷◌, ◌++◌, map}
 use Rattle.std.specs.List.{range_with_len}
 use Rattle.packet_text.specs.PacketText.{hex_text}
 use Rattle.rand_pcg.specs.Lcg.{Lcg}
@@ -37,10 +37,6 @@ client_place words (suc c) = behind_packets words (client_place words c) trial_p
 -- the packets of client c of the trial of a number
 unfoldable pub packets_of_trial : (number c : ℕ) → List (List ℕ)
 packets_of_trial number c = drawn_packets (order_word number) (client_place (order_word number) c) trial_packets
-
--- the sum of the lengths of packets
-abbrev pub bytes_of : List (List ℕ) → ℕ
-bytes_of packets = sum (map length packets)
 
 -- ---- a generator that gives these words
 

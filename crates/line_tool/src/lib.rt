@@ -41,7 +41,7 @@ pub use laws::{
 pub use number_chooser::NumberChooser;
 pub use status::Status;
 pub use top::run;
-pub use trial::{all_packets_come_back, come_back};
+pub use trial::{all_packets_come_back, come_back, drawn_as_said};
 pub use words::{Command, command_of, order_of};
 
 #[cfg(test)]

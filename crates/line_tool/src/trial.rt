@@ -1,6 +1,57 @@
-// The trial: packets of eight clients, through four runs in a row.
+// The command `trial`: packets of eight clients, through four runs in a row.
+ghost use Rattle.std.specs.Prelude.{◌≡◌, IfErr, IfOk, string_bytes};
+ghost use Rattle.otn_ports.specs.PortViews.{sink_view};
+ghost use Rattle.otn_ports.specs.Racks.{bays_view};
+ghost use Rattle.line_tool.specs.TrialAnswers.{TrialRan};
+
+mod carried;
 mod draw;
 mod laws;
+mod lines;
+mod places;
 mod plans;
 
-pub use laws::{all_packets_come_back, come_back};
+pub use laws::{all_packets_come_back, come_back, drawn_as_said};
+
+use carried::{first_run, last_run, middle_run};
+use lines::{line_of_check, line_of_client};
+use otn_base::Memory;
+use otn_ports::{Chooser, Sink, Written, write_whole};
+use places::{Memories, text_of};
+use std::alloc::Global;
+
+// Clients of the trial.
+const CLIENTS: u8 = 8;
+
+/// Draws packets for eight clients by the number, carries them through four nodes in a row over ports in memory, in an order that the chooser
+/// says, and writes the checks of the three line files and what came back. A place of the trial that died had no room: the answer is `Memory`
+/// then, as it is for want of memory.
+pub(crate) fn write_trial<C: Chooser, K: Sink>(
+    alloc: Global,
+    number: u64,
+    chooser: &mut C,
+    report: &mut K,
+) -> Result<Written, Memory>
+    ensures memory { IfErr result (λ _. report.new ≡ report.old) }
+    ensures ran { IfOk result (λ written. TrialRan number written (sink_view K.Sink report.old) (sink_view K.Sink report.new) (C.asked chooser.old) (C.asked chooser.new)) }
+{
+    let first = first_run(alloc, number, chooser)?;
+    let mut text = line_of_check(alloc, 0, &first)?;
+    let second = middle_run(alloc, 1, first, chooser)?;
+    text.push_str(&line_of_check(alloc, 1, &second)?)?;
+    let third = middle_run(alloc, 2, second, chooser)?;
+    text.push_str(&line_of_check(alloc, 2, &third)?)?;
+    let bays = last_run(alloc, third, chooser)?;
+    text.push_str(&lines_of_clients(alloc, &bays)?)?;
+    Ok(write_whole(report, text.as_bytes()))
+}
+
+// The lines of the clients, by the texts that they got.
+fn lines_of_clients(alloc: Global, bays: &Memories) -> Result<String, Memory> {
+    let mut lines = String::new(alloc);
+    for c in 0..CLIENTS {
+        let text = text_of(bays.client_out(c)).ok_or(Memory)?;
+        lines.push_str(&line_of_client(alloc, c, text)?)?;
+    }
+    Ok(lines)
+}

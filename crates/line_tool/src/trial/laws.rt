@@ -1,6 +1,8 @@
 // The laws of the trial: what runs in a row bring back to a client.
 ghost use Rattle.line_tool.specs.CarriedBack.{BringsTheStreamBack, BringsAllPacketsBack};
-ghost use Rattle.line_tool.specs.TrialCarried.{AllPacketsComeBack};
+ghost use Rattle.std.specs.Prelude.{ℕ};
+ghost use Rattle.line_tool.specs.TrialCarried.{AllPacketsComeBack, AreTrialPackets};
+ghost use Rattle.line_tool.specs.TrialDraw.{packets_of_trial};
 
 /// A client's packets that a first run takes to a line, that go on from line to line in one run or more, and that a
 /// last run takes to a client, each run of an accepted plan and over the file that the one before made: what arrives
@@ -15,4 +17,9 @@ pub fn come_back()
 /// come back to it in order, and their text is what is due to it at the end.
 pub fn all_packets_come_back()
     ensures { AllPacketsComeBack }
+{}
+
+/// Each client of a trial has 16 packets of 1 to 1,500 bytes, whatever the number.
+pub fn drawn_as_said()
+    ensures { (number c : ℕ) → AreTrialPackets (packets_of_trial number c) }
 {}
