@@ -1,5 +1,6 @@
 pub mod Answered
 pub mod CarriedBack
+pub mod CarriedPlans
 pub mod Forms
 pub mod LineFrames
 pub mod Lives
@@ -16,6 +17,8 @@ pub mod PullWorlds
 pub mod PutBack
 pub mod Reports
 pub mod Rows
+pub mod RunCalls
+pub mod RunLaws
 pub mod RunReports
 pub mod SlotLoop
 pub mod SlotSteps
@@ -23,13 +26,12 @@ pub mod SlotTable
 pub mod SlotTexts
 pub mod TapPieces
 pub mod TapTurns
+pub mod TrialAnswers
 pub mod TrialCarried
 pub mod TrialDraw
+pub mod TrialPlaces
 pub mod TrialPlans
 pub mod TrialReport
 pub mod TrialRuns
 pub mod TurnFrames
 pub mod TwoWorlds
-pub mod CarriedPlans
-pub mod RunLaws
-pub mod RunCalls

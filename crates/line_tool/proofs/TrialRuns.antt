@@ -2,6 +2,7 @@
 use Rattle.std.proofs.Common.{◌≡◌, ◌≢◌, ◌≤◌, ◌<◌, ◌+◌, ◌-◌, ◌*◌, ◌==◌, ◌⊎◌, inl, inr, ℕ, zero, suc, Bool, true, false, List, [], ◌∷◌, ◌++◌, map, length, get_or, Option, None, Some, refl, sym, ap, ◌∙◌, subst, arith, append-nil}
 use Rattle.std.specs.Prelude.{All}
 use Rattle.std.specs.List.{concat, Contains, list_any, range_with_len}
+use Rattle.std.proofs.lemmas.Bool.{cases_lt}
 use Rattle.std.proofs.lemmas.Bool.Decides.{nat_tests}
 use Rattle.std.proofs.lemmas.List.Elements.{All-from_get_or}
 use Rattle.std.proofs.lemmas.List.Folds.{list_any_none}
@@ -51,10 +52,8 @@ zero_alone (suc a) p run same used =
 
 -- the first run has the clients 0 to 7, and no other
 client_known : (n : ℕ) → uses (trial_plan 0) (port.ClientIn n) ≡ true → n < 8
-client_known n used = by_size (n_below n)
+client_known n used = by_size (cases_lt n 8)
   where
-    n_below : (n : ℕ) → (n < 8) ⊎ (8 ≤ n)
-    n_below n = omega arith
     by_size : (n < 8) ⊎ (8 ≤ n) → n < 8
     by_size (inl h) = h
     by_size (inr h) = absurd (none_used 0 (touches (port.ClientIn n)) (λ k few. (let e : (k == n) ≡ false = grind (arith, nat_tests) in e)) used)

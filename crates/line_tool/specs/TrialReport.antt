@@ -21,10 +21,14 @@ client_line c packets bytes = codes "client " ++ (decimal c ++ (codes " sent 16 
 
 -- ---- what came at a client, by its text
 
+-- whether a byte ends a line, as a count
+abbrev pub feed : (byte : ℕ) → ℕ
+feed byte = if byte == 10 then 1 else 0
+
 -- how many lines a text has: its line feeds
 unfoldable pub lines_in : (text : List ℕ) → ℕ
 lines_in [] = 0
-lines_in (byte ∷ bytes) = (if byte == 10 then 1 else 0) + lines_in bytes
+lines_in (byte ∷ bytes) = feed byte + lines_in bytes
 
 -- how many bytes its packets have: two digits each, beside the line feeds
 abbrev pub bytes_in : (text : List ℕ) → ℕ

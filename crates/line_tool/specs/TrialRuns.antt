@@ -1,5 +1,5 @@
 -- The runs of the trial, over places in memory.
-use Rattle.std.specs.Prelude.{◌≡◌, ℕ, ◌<◌, ◌*◌, false, true, List, [], Some}
+use Rattle.std.specs.Prelude.{◌≡◌, ℕ, ◌<◌, ◌*◌, false, true, List, [], Some, All}
 use Rattle.std.specs.List.{concat}
 use Rattle.otn_ports.specs.Bytes.{raised}
 use Rattle.otn_ports.specs.Views.{Live, InView, OutView, BaysView, line_in_at, line_out_at, client_in_at, client_out_at}
@@ -8,9 +8,11 @@ use Rattle.device_model.specs.Report.{Numbers}
 use Rattle.device_model.specs.Through.{Inputs, own_input, text_by}
 use Rattle.node_core.specs.RunLeft.{Takings, RunLeft}
 use Rattle.odu_client.specs.ClientInput.{AtEnd}
+use Rattle.packet_text.specs.Laws.{IsPacket}
 use Rattle.packet_text.specs.PacketText.{hex_text}
 use Rattle.line_tool.specs.TrialCarried.{trial_frames}
 use Rattle.line_tool.specs.TrialDraw.{packets_of_trial}
+use Rattle.line_tool.specs.TrialReport.{client_lines}
 use Rattle.line_tool.specs.TrialPlans.{trial_clients, trial_turns, trial_connection, trial_plan}
 
 -- ---- places
@@ -83,3 +85,14 @@ pub record LastRan (read : List ℕ) (last : BaysView) (asked asked_now : ℕ) :
   pub clients : (c : ℕ) → c < trial_clients → (client_out_at last c).state ≡ Live
       → (client_out_at last c).got ≡ Some (text_by (trial_connection 3 c) (own_input inputs (trial_connection 3 c)) trial_turns)
   pub asked_each : asked_now ≡ raised asked run_pieces
+
+-- ---- what came to the clients
+
+-- each client whose place lives got the text of these packets
+pub record GotPackets (bays : BaysView) (packets : (c : ℕ) → List (List ℕ)) : Type 0 where
+  pub each : (c : ℕ) → c < trial_clients → (client_out_at bays c).state ≡ Live → (client_out_at bays c).got ≡ Some (hex_text (packets c))
+  pub are : (c : ℕ) → c < trial_clients → All IsPacket (packets c)
+
+-- these are the lines of the first n clients, whatever packets came
+pub record ClientsTold (n : ℕ) (bays : BaysView) (lines : List ℕ) : Type 0 where
+  pub told : (packets : (c : ℕ) → List (List ℕ)) → GotPackets bays packets → lines ≡ client_lines packets n

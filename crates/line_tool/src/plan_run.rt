@@ -104,8 +104,8 @@ fn carry_plan<K: Sink, C: Chooser, I: Source, O: Sink>(
     }
 }
 
-// Carries a node through all its turns, settles it, and tells its numbers.
-fn carry_node<C: Chooser, I: Source, O: Sink>(
+/// Carries a node through all its turns, settles it, and tells its numbers.
+pub(crate) fn carry_node<C: Chooser, I: Source, O: Sink>(
     node: &mut Node,
     bays: &mut Rack<I, O>,
     chooser: &mut C,

@@ -3,6 +3,7 @@ ghost use Rattle.std.specs.Prelude.{◌≡◌, IfErr, IfOk, string_bytes};
 ghost use Rattle.otn_ports.specs.PortViews.{sink_view};
 ghost use Rattle.otn_ports.specs.Racks.{bays_view};
 ghost use Rattle.line_tool.specs.TrialAnswers.{TrialRan};
+ghost use Rattle.line_tool.specs.TrialRuns.{ClientsTold};
 
 mod carried;
 mod draw;
@@ -16,7 +17,7 @@ pub use laws::{all_packets_come_back, come_back, drawn_as_said};
 use carried::{first_run, last_run, middle_run};
 use lines::{line_of_check, line_of_client};
 use otn_base::Memory;
-use otn_ports::{Chooser, Sink, Written, write_whole};
+use otn_ports::{Chooser, MemSink, MemSource, Sink, Source, Written, write_whole};
 use places::{Memories, text_of};
 use std::alloc::Global;
 
@@ -47,11 +48,16 @@ pub(crate) fn write_trial<C: Chooser, K: Sink>(
 }
 
 // The lines of the clients, by the texts that they got.
-fn lines_of_clients(alloc: Global, bays: &Memories) -> Result<String, Memory> {
+fn lines_of_clients(alloc: Global, bays: &Memories) -> Result<String, Memory>
+    ensures { IfOk result (λ lines. ClientsTold 8 (bays_view ⟦<MemSource as Source>⟧ ⟦<MemSink as Sink>⟧ bays.now) (string_bytes lines)) }
+{
     let mut lines = String::new(alloc);
     for c in 0..CLIENTS {
-        let text = text_of(bays.client_out(c)).ok_or(Memory)?;
-        lines.push_str(&line_of_client(alloc, c, text)?)?;
+        let Some(text) = text_of(bays.client_out(c)) else {
+            return Err(Memory);
+        };
+        let line = line_of_client(alloc, c, text)?;
+        lines.push_str(&line)?;
     }
     Ok(lines)
 }

@@ -13,15 +13,20 @@ use std::alloc::Global;
 
 /// The first run: the clients' packets, drawn by the number, go to line 0, whose file is the answer. Where the place of the line died, it had
 /// no room, and the answer is `Memory`.
+#[tactic(auto, using(crate::proofs::TrialRuns::first_ran))]
 pub(crate) fn first_run<C: Chooser>(alloc: Global, number: u64, chooser: &mut C) -> Result<Vec<u8>, Memory>
     ensures { IfOk result (λ file. FirstRan number file.items (C.asked chooser.old) (C.asked chooser.new)) }
 {
     let mut bays = first_places(alloc, number)?;
     carry_run(alloc, 0, &mut bays, chooser)?;
-    file_of(bays, 0).ok_or(Memory)
+    match file_of(bays, 0) {
+        Some(file) => Ok(file),
+        None => Err(Memory),
+    }
 }
 
 /// The second or the third run: from the file of the one before to that of the line of its number.
+#[tactic(auto, using(crate::proofs::TrialRuns::middle_ran))]
 pub(crate) fn middle_run<C: Chooser>(alloc: Global, run: u8, file: Vec<u8>, chooser: &mut C) -> Result<Vec<u8>, Memory>
     requires least { 1 ≤ run }
     requires most { run ≤ 2 }
@@ -29,10 +34,14 @@ pub(crate) fn middle_run<C: Chooser>(alloc: Global, run: u8, file: Vec<u8>, choo
 {
     let mut bays = middle_places(alloc, run, file)?;
     carry_run(alloc, run, &mut bays, chooser)?;
-    file_of(bays, run).ok_or(Memory)
+    match file_of(bays, run) {
+        Some(made) => Ok(made),
+        None => Err(Memory),
+    }
 }
 
 /// The last run: from the file of the third one to the clients, whose places are the answer.
+#[tactic(auto, using(crate::proofs::TrialRuns::last_ran))]
 pub(crate) fn last_run<C: Chooser>(alloc: Global, file: Vec<u8>, chooser: &mut C) -> Result<Memories, Memory>
     ensures { IfOk result (λ bays. LastRan file.items (bays_view ⟦<MemSource as Source>⟧ ⟦<MemSink as Sink>⟧ bays) (C.asked chooser.old) (C.asked chooser.new)) }
 {

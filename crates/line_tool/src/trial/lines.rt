@@ -1,7 +1,7 @@
 // The lines of the trial's report.
-ghost use Rattle.std.specs.Prelude.{◌≡◌, ◌≤◌, [], ◌∷◌, IfOk, length, string_bytes};
+ghost use Rattle.std.specs.Prelude.{◌≡◌, ◌≤◌, IfOk, length, string_bytes};
 ghost use Rattle.gfp_frames.specs.CoreHeader.{four_bytes};
-ghost use Rattle.line_tool.specs.TrialReport.{check_digits, check_line, client_line, lines_in, text_line};
+ghost use Rattle.line_tool.specs.TrialReport.{check_digits, check_line, client_line, feed, lines_in, text_line};
 
 use crc_small::crc32;
 use hex::encode;
@@ -65,7 +65,7 @@ fn count_lines(text: &[u8]) -> usize
 }
 
 fn one_if_feed(byte: u8) -> usize
-    ensures { result ≡ lines_in (byte ∷ []) }
+    ensures { result ≡ feed byte }
 {
     if byte == b'\n' { 1 } else { 0 }
 }
