@@ -143,3 +143,16 @@ unfolding packets_of_trial
 trial_packets_are number c =
     let words = order_word number in
     record { many = many_drawn words (client_place words c) 16; sizes = are_sized words (client_place words c) 16 }
+
+-- ---- the clients, one after another
+
+pub first_client : (number : ℕ) → client_place (order_word number) 0 ≡ 0
+unfolding client_place
+first_client number = refl
+
+pub text_drawn : (number n : ℕ) (old new : Lcg) (text : List ℕ) → old ≡ generator_after number (client_place (order_word number) n) → DrawsText 16 old new text
+    → (text ≡ hex_text (packets_of_trial number n)) × (new ≡ generator_after number (client_place (order_word number) (n + 1)))
+unfolding client_place packets_of_trial
+text_drawn number n old new text is drawn =
+    let place = client_place (order_word number) n in
+    (drawn.drawn number place is, drawn.behind number place is ∙ ap (λ k. generator_after number (client_place (order_word number) k)) (sym (add-one n)))

@@ -60,3 +60,57 @@ run_went run first last plan numbers asked now left few is went all each = recor
   well = reads_well last;
   asked_each = each ∙ ap (raised asked) (all ∙ ap (λ (p : Plan). over_ports (pieces_of p) * p.turns) is ∙ pieces run few);
 }
+
+-- ---- the clients' places, one after another
+
+some_place : {A : Type 0} (l : List A) (n : ℕ) (d : A) → n < length l → slice_get l n ≡ Some (get_or l n d)
+some_place l n d h = slice_get-get_or l n d h
+
+client_in_known : (rack : Rack MemSource MemSink) (n : ℕ) → n < 16 → n < length rack.client_in.items
+client_in_known rack n few = (let all = rack.all in let ok = rack.client_in.ok in omega arith)
+
+client_out_known : (rack : Rack MemSource MemSink) (n : ℕ) → n < 16 → n < length rack.client_out.items
+client_out_known rack n few = (let all = rack.all in let ok = rack.client_out.ok in omega arith)
+
+below_or_same : (m n : ℕ) → m < n + 1 → (m < n) ⊎ (m ≡ n)
+below_or_same m n h = by_size (cases_lt m n)
+  where
+    by_size : (m < n) ⊎ (n ≤ m) → (m < n) ⊎ (m ≡ n)
+    by_size (inl less) = inl less
+    by_size (inr more) = inr (omega arith)
+
+-- the places of the first run, of which the first n clients have their texts
+pub record FirstUpTo (number n : ℕ) (bays : BaysView) : Type 0 where
+  pub clients : (c : ℕ) → c < n → client_in_at bays c ≡ holding (hex_text (packets_of_trial number c))
+  pub out : line_out_at bays 0 ≡ waiting
+
+pub next_client : (number n : ℕ) (rack new : Rack MemSource MemSink) (place : InPlaceOf MemSource) → n < 8 → FirstUpTo number n (view rack)
+    → in_view source.ghosts place ≡ holding (hex_text (packets_of_trial number n)) → new ≡ with_client_in rack n place → FirstUpTo number (n + 1) (view new)
+next_client number n rack new place few before is set = subst (λ r. FirstUpTo number (n + 1) (view r)) (sym set) record {
+  clients = λ m h. by_place m (below_or_same m n h);
+  out = before.out;
+}
+  where
+    by_place : (m : ℕ) → (m < n) ⊎ (m ≡ n) → client_in_at (view (with_client_in rack n place)) m ≡ holding (hex_text (packets_of_trial number m))
+    by_place m (inl less) = (only_client_in source.ghosts sink.ghosts rack n place).client_in m (let other : m ≢ n = omega arith in other) ∙ before.clients m less
+    by_place m (inr same) =
+        subst (λ k. client_in_at (view (with_client_in rack n place)) k ≡ holding (hex_text (packets_of_trial number k))) (sym same)
+        (client_in_set source.ghosts sink.ghosts rack n (get_or rack.client_in.items n input.Empty) place (some_place rack.client_in.items n input.Empty (client_in_known rack n (omega arith))) ∙ is)
+
+-- the places of the last run, of which the first n clients have room
+pub record LastUpTo (file : List ℕ) (n : ℕ) (bays : BaysView) : Type 0 where
+  pub line : line_in_at bays 0 ≡ holding file
+  pub clients : (c : ℕ) → c < n → client_out_at bays c ≡ waiting
+
+pub next_room : (file : List ℕ) (n : ℕ) (rack new : Rack MemSource MemSink) (place : OutPlaceOf MemSink) → n < 8 → LastUpTo file n (view rack)
+    → out_view sink.ghosts place ≡ waiting → new ≡ with_client_out rack n place → LastUpTo file (n + 1) (view new)
+next_room file n rack new place few before is set = subst (λ r. LastUpTo file (n + 1) (view r)) (sym set) record {
+  line = before.line;
+  clients = λ m h. by_place m (below_or_same m n h);
+}
+  where
+    by_place : (m : ℕ) → (m < n) ⊎ (m ≡ n) → client_out_at (view (with_client_out rack n place)) m ≡ waiting
+    by_place m (inl less) = (only_client_out source.ghosts sink.ghosts rack n place).client_out m (let other : m ≢ n = omega arith in other) ∙ before.clients m less
+    by_place m (inr same) =
+        subst (λ k. client_out_at (view (with_client_out rack n place)) k ≡ waiting) (sym same)
+        (client_out_set source.ghosts sink.ghosts rack n (get_or rack.client_out.items n output.Empty) place (some_place rack.client_out.items n output.Empty (client_out_known rack n (omega arith))) ∙ is)
