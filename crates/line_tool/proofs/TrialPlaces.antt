@@ -6,7 +6,7 @@ use Rattle.std.proofs.lemmas.Option.{slice_get-get_or}
 use Rattle.otn_ports.specs.Bytes.{raised}
 use Rattle.otn_ports.specs.InPlace.{in_view}
 use Rattle.otn_ports.specs.OutPlace.{out_view}
-use Rattle.otn_ports.specs.Racks.{bays_view, client_ins, client_outs, with_client_in, with_client_out}
+use Rattle.otn_ports.specs.Racks.{bays_view, line_outs, client_ins, client_outs, with_line_out, with_client_in, with_client_out, IsVacant}
 use Rattle.otn_ports.specs.Views.{BaysView, no_input, line_in_at, line_out_at, client_in_at, client_out_at}
 use Rattle.otn_ports.specs.contracts.mem_sink.MemSinkSink.TheImpl as sink
 use Rattle.otn_ports.specs.contracts.mem_source.MemSourceSource.TheImpl as source
@@ -17,7 +17,7 @@ use Rattle.otn_ports.specs.declared.mem_sink.MemSink.{MemSink}
 use Rattle.otn_ports.specs.declared.mem_source.MemSource.{MemSource}
 use Rattle.otn_ports.specs.declared.out_place.OutPlaceOf.{OutPlaceOf}
 use Rattle.otn_ports.specs.declared.out_place.OutPlaceOf.TheVariants as output
-use Rattle.otn_ports.proofs.BaysLaws.{client_in_set, only_client_in, client_out_set, only_client_out}
+use Rattle.otn_ports.proofs.BaysLaws.{line_out_set, client_in_set, only_client_in, client_out_set, only_client_out}
 use Rattle.plan_file.specs.declared.plan.Plan.{Plan}
 use Rattle.device_model.specs.Moments.{over_ports, pieces_of}
 use Rattle.device_model.specs.Report.{Numbers}
@@ -83,6 +83,12 @@ below_or_same m n h = by_size (cases_lt m n)
 pub record FirstUpTo (number n : ℕ) (bays : BaysView) : Type 0 where
   pub clients : (c : ℕ) → c < n → client_in_at bays c ≡ holding (hex_text (packets_of_trial number c))
   pub out : line_out_at bays 0 ≡ waiting
+
+pub first_none : (number : ℕ) (rack new : Rack MemSource MemSink) (place : OutPlaceOf MemSink) → IsVacant rack → out_view sink.ghosts place ≡ waiting → new ≡ with_line_out rack 0 place → FirstUpTo number 0 (view new)
+first_none number rack new place vacant is set = subst (λ r. FirstUpTo number 0 (view r)) (sym set) record {
+  clients = λ c h. absurd (omega arith);
+  out = line_out_set source.ghosts sink.ghosts rack 0 output.Empty place (ap (λ l. slice_get l 0) vacant.line_out) ∙ is;
+}
 
 pub next_client : (number n : ℕ) (rack new : Rack MemSource MemSink) (place : InPlaceOf MemSource) → n < 8 → FirstUpTo number n (view rack)
     → in_view source.ghosts place ≡ holding (hex_text (packets_of_trial number n)) → new ≡ with_client_in rack n place → FirstUpTo number (n + 1) (view new)

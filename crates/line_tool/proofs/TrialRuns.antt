@@ -38,7 +38,7 @@ none_used run p none used =
     let f = trial_connection run in
     let long = length-map-range_with_len f 0 8 in
     let each : All (λ x. p x ≡ false) (map f (range_with_len 0 8)) = All-from_get_or (λ x. p x ≡ false) (map f (range_with_len 0 8)) (f 0)
-        (λ i h. (let few : i < 8 = omega arith in let P : Connection → Type 0 = λ x. p x ≡ false in subst P (sym (get_or-map-range_with_len f 0 8 i i (f 0) few (omega arith))) (none i few))) in
+    (λ i h. (let few : i < 8 = omega arith in let P : Connection → Type 0 = λ x. p x ≡ false in subst P (sym (get_or-map-range_with_len f 0 8 i i (f 0) few (omega arith))) (none i few))) in
     let off : list_any p (map f (range_with_len 0 8)) ≡ false = list_any_none p (map f (range_with_len 0 8)) each in
     let bad : false ≡ true = sym off ∙ used in
     cc
@@ -144,9 +144,12 @@ first_may number first last takings numbers places left well = record {
       let client = left.client_in (trial_connection 0 n) n (known_client 0 n few) refl in
       let same : client_in_at last n ≡ client.was = client.place in
       let faults : client.was.faults ≡ 0 = ap (λ (v : InView). v.faults) (sym same) ∙ well.clients n in
-      let k = kept (hex_text (packets_of_trial number n)) (takings.client n) (takings.client_more n) (client_in_at first n) client.was place faults client.left in
-      (hex_text (packets_of_trial number n), k.follow, text_input number n (has_died (client_in_at first n).state (client_in_at last n).state)
-        (not_died (client_in_at first n).state (client_in_at last n).state (ap (λ (v : InView). v.state) place) (ap (λ (v : InView). v.state) same ∙ k.lives)));
+      let k = kept (hex_text (packets_of_trial number n)) (takings.client n) (takings.client_more n) (client_in_at first n) client.was place faults client.left in (
+        hex_text (packets_of_trial number n),
+        k.follow,
+        text_input number n (has_died (client_in_at first n).state (client_in_at last n).state)
+            (not_died (client_in_at first n).state (client_in_at last n).state (ap (λ (v : InView). v.state) place) (ap (λ (v : InView). v.state) same ∙ k.lives)),
+      );
 }
 
 pub first_ran : (number : ℕ) (first last : BaysView) (file : List ℕ) (asked asked_now : ℕ) → FirstPlaces number first → RunWent 0 first last asked asked_now

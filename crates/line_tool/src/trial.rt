@@ -12,9 +12,8 @@ mod lines;
 mod places;
 mod plans;
 
-pub use laws::{all_packets_come_back, come_back, drawn_as_said};
-
 use carried::{first_run, last_run, middle_run};
+pub use laws::{all_packets_come_back, come_back, drawn_as_said};
 use lines::{line_of_check, line_of_client};
 use otn_base::Memory;
 use otn_ports::{Chooser, MemSink, MemSource, Sink, Source, Written, write_whole};

@@ -13,8 +13,11 @@ use std::alloc::Global;
 
 /// The first run: the clients' packets, drawn by the number, go to line 0, whose file is the answer. Where the place of the line died, it had
 /// no room, and the answer is `Memory`.
-#[tactic(auto, using(crate::proofs::TrialRuns::first_ran))]
-pub(crate) fn first_run<C: Chooser>(alloc: Global, number: u64, chooser: &mut C) -> Result<Vec<u8>, Memory>
+pub(crate) fn first_run<C: Chooser>(
+    alloc: Global,
+    number: u64,
+    chooser: &mut C,
+) -> Result<Vec<u8>, Memory>
     ensures { IfOk result (λ file. FirstRan number file.items (C.asked chooser.old) (C.asked chooser.new)) }
 {
     let mut bays = first_places(alloc, number)?;
@@ -26,8 +29,12 @@ pub(crate) fn first_run<C: Chooser>(alloc: Global, number: u64, chooser: &mut C)
 }
 
 /// The second or the third run: from the file of the one before to that of the line of its number.
-#[tactic(auto, using(crate::proofs::TrialRuns::middle_ran))]
-pub(crate) fn middle_run<C: Chooser>(alloc: Global, run: u8, file: Vec<u8>, chooser: &mut C) -> Result<Vec<u8>, Memory>
+pub(crate) fn middle_run<C: Chooser>(
+    alloc: Global,
+    run: u8,
+    file: Vec<u8>,
+    chooser: &mut C,
+) -> Result<Vec<u8>, Memory>
     requires least { 1 ≤ run }
     requires most { run ≤ 2 }
     ensures { IfOk result (λ made. MiddleRan run file.items made.items (C.asked chooser.old) (C.asked chooser.new)) }
@@ -41,8 +48,11 @@ pub(crate) fn middle_run<C: Chooser>(alloc: Global, run: u8, file: Vec<u8>, choo
 }
 
 /// The last run: from the file of the third one to the clients, whose places are the answer.
-#[tactic(auto, using(crate::proofs::TrialRuns::last_ran))]
-pub(crate) fn last_run<C: Chooser>(alloc: Global, file: Vec<u8>, chooser: &mut C) -> Result<Memories, Memory>
+pub(crate) fn last_run<C: Chooser>(
+    alloc: Global,
+    file: Vec<u8>,
+    chooser: &mut C,
+) -> Result<Memories, Memory>
     ensures { IfOk result (λ bays. LastRan file.items (bays_view ⟦<MemSource as Source>⟧ ⟦<MemSink as Sink>⟧ bays) (C.asked chooser.old) (C.asked chooser.new)) }
 {
     let mut bays = last_places(alloc, file)?;
@@ -51,7 +61,12 @@ pub(crate) fn last_run<C: Chooser>(alloc: Global, file: Vec<u8>, chooser: &mut C
 }
 
 // Carries the plan of a run over its places.
-fn carry_run<C: Chooser>(alloc: Global, run: u8, bays: &mut Memories, chooser: &mut C) -> Result<(), Memory>
+fn carry_run<C: Chooser>(
+    alloc: Global,
+    run: u8,
+    bays: &mut Memories,
+    chooser: &mut C,
+) -> Result<(), Memory>
     requires { run < 4 }
     ensures { IfOk result (λ _. RunWent run (bays_view ⟦<MemSource as Source>⟧ ⟦<MemSink as Sink>⟧ bays.old) (bays_view ⟦<MemSource as Source>⟧ ⟦<MemSink as Sink>⟧ bays.new)
         (C.asked chooser.old) (C.asked chooser.new)) }

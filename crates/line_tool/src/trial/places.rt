@@ -17,6 +17,7 @@ pub(crate) type Memories = Rack<MemSource, MemSink>;
 
 // Bytes of a line's file, in 16 turns of eight frames; and of the text of 16 packets of 1,500 bytes.
 const FILE_BYTES: usize = 2_088_960;
+
 const TEXT_BYTES: usize = 48_016;
 
 // Clients of the trial.
