@@ -3,11 +3,14 @@ use Rattle.std.specs.Prelude.{◌≡◌, ℕ, ◌*◌, List}
 use Rattle.otn_ports.specs.Bytes.{raised}
 use Rattle.otn_ports.specs.PortViews.{SinkView, SinkWrites}
 use Rattle.otn_ports.specs.declared.drain.Written.{Written}
+use Rattle.otn_ports.specs.declared.drain.Written.TheVariants as written
 use Rattle.device_model.specs.Through.{Inputs}
 use Rattle.line_tool.specs.TrialCarried.{AreTrialRuns}
 use Rattle.line_tool.specs.TrialDraw.{packets_of_trial}
 use Rattle.line_tool.specs.TrialReport.{trial_report}
 use Rattle.line_tool.specs.TrialRuns.{run_pieces}
+use Rattle.line_tool.specs.declared.status.Status.{Status}
+use Rattle.line_tool.specs.declared.status.Status.TheVariants as status
 
 -- how many pieces the four runs have together
 abbrev pub trial_pieces : ℕ
@@ -16,9 +19,17 @@ trial_pieces = 4 * run_pieces
 -- The trial of a number, once there was memory for it: four runs carried the packets that it draws, each but the first over the file of the one
 -- before; the report of these files and packets was written, whole, or a part of it from the front where a write failed; and the chooser was
 -- asked once for each piece.
-pub record TrialRan (number : ℕ) (written : Written) (old new : SinkView) (asked asked_now : ℕ) : Type 0 where
+pub record TrialRan (number : ℕ) (answer : Written) (old new : SinkView) (asked asked_now : ℕ) : Type 0 where
   pub inputs : (run : ℕ) → Inputs
   pub frames : (run : ℕ) → List (List ℕ)
   pub runs : AreTrialRuns (packets_of_trial number) inputs frames
-  pub wrote : SinkWrites written old (trial_report frames (packets_of_trial number)) new
+  pub wrote : SinkWrites answer old (trial_report frames (packets_of_trial number)) new
   pub asked_each : asked_now ≡ raised asked trial_pieces
+
+-- the answer of the top call to the trial of a number: Done where its report was written whole, ReportFault where a write of it failed; after
+-- Memory the report is as it was
+abbrev pub TrialAnswers : (number : ℕ) → (old new : SinkView) → (asked asked_now : ℕ) → Status → Type 0
+TrialAnswers number old new asked asked_now status.Done = TrialRan number written.Whole old new asked asked_now
+TrialAnswers number old new asked asked_now status.ReportFault = TrialRan number written.Lost old new asked asked_now
+TrialAnswers number old new asked asked_now status.Memory = new ≡ old
+TrialAnswers number old new asked asked_now other = ⊥

@@ -4,6 +4,7 @@ mod number_chooser;
 mod pull;
 mod report;
 mod slot;
+mod trial;
 mod words;
 
 use crate::{Status, run};

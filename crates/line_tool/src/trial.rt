@@ -2,7 +2,7 @@
 ghost use Rattle.std.specs.Prelude.{◌≡◌, IfErr, IfOk, string_bytes};
 ghost use Rattle.otn_ports.specs.PortViews.{sink_view};
 ghost use Rattle.otn_ports.specs.Racks.{bays_view};
-ghost use Rattle.line_tool.specs.TrialAnswers.{TrialRan};
+ghost use Rattle.line_tool.specs.TrialAnswers.{TrialAnswers, TrialRan};
 ghost use Rattle.line_tool.specs.TrialRuns.{ClientsTold};
 
 mod carried;
@@ -12,6 +12,7 @@ mod lines;
 mod places;
 mod plans;
 
+use crate::Status;
 use carried::{first_run, last_run, middle_run};
 pub use laws::{all_packets_come_back, come_back, drawn_as_said};
 use lines::{line_of_check, line_of_client};
@@ -23,10 +24,27 @@ use std::alloc::Global;
 // Clients of the trial.
 const CLIENTS: u8 = 8;
 
-/// Draws packets for eight clients by the number, carries them through four nodes in a row over ports in memory, in an order that the chooser
-/// says, and writes the checks of the three line files and what came back. A place of the trial that died had no room: the answer is `Memory`
-/// then, as it is for want of memory.
-pub(crate) fn write_trial<C: Chooser, K: Sink>(
+/// Does the trial of a number. After `Memory` the report is as it was; the chooser may have been asked by then.
+pub(crate) fn run_trial<C: Chooser, K: Sink>(
+    alloc: Global,
+    number: u64,
+    chooser: &mut C,
+    report: &mut K,
+) -> Status
+    ensures answers { TrialAnswers number (sink_view K.Sink report.old) (sink_view K.Sink report.new) (C.asked chooser.old) (C.asked chooser.new) result }
+    ensures refused { result ≡ Status.Memory → report.new ≡ report.old }
+{
+    match write_trial(alloc, number, chooser, report) {
+        Ok(Written::Whole) => Status::Done,
+        Ok(Written::Lost) => Status::ReportFault,
+        Err(Memory) => Status::Memory,
+    }
+}
+
+// Draws packets for eight clients by the number, carries them through four nodes in a row over ports in memory, in an order that the chooser
+// says, and writes the checks of the three line files and what came back. A place of the trial that died had no room: the answer is `Memory`
+// then, as it is for want of memory.
+fn write_trial<C: Chooser, K: Sink>(
     alloc: Global,
     number: u64,
     chooser: &mut C,
