@@ -1,5 +1,5 @@
 -- The trial, of its four runs.
-use Rattle.std.proofs.Common.{◌≡◌, ◌<◌, ◌+◌, ℕ, zero, suc, List, ◌++◌, Some, refl, sym, ap, ◌∙◌, subst, arith, append_assoc}
+use Rattle.std.proofs.Common.{◌≡◌, ◌<◌, ◌+◌, ℕ, zero, suc, List, ◌++◌, Some, ap, ◌∙◌, subst, arith, append_assoc}
 use Rattle.std.specs.List.{concat}
 use Rattle.otn_ports.specs.Bytes.{raised}
 use Rattle.otn_ports.specs.PortViews.{SinkView, SinkWrites}

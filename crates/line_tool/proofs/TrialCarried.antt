@@ -1,5 +1,5 @@
 -- All packets of the trial come back.
-use Rattle.std.proofs.Common.{◌≡◌, ◌≤◌, ◌<◌, ◌+◌, ◌-◌, ◌*◌, ℕ, zero, suc, true, List, [], ◌∷◌, length, None, refl, sym, ap, ◌∙◌, subst, arith}
+use Rattle.std.proofs.Common.{◌≡◌, ◌≤◌, ◌<◌, ◌+◌, ◌-◌, ◌*◌, ℕ, true, List, [], ◌∷◌, length, refl, sym, ap, ◌∙◌, subst, arith}
 use Rattle.std.specs.Prelude.{All}
 use Rattle.std.specs.List.{Contains}
 use Rattle.std.proofs.lemmas.List.Elements.{All-head, All-tail, All-weaker}
@@ -9,7 +9,6 @@ use Rattle.odu_client.specs.ClientInput.{ClientInput, AtEnd, emitted_before, gfp
 use Rattle.odu_client.specs.ClientOutput.{arriving_packets}
 use Rattle.odu_client.proofs.GfpTexts.{clients, total, gfp_length-is}
 use Rattle.packet_text.specs.PacketText.{hex_text}
-use Rattle.plan_file.specs.Answer.{fault_in}
 use Rattle.device_model.specs.Chains.{Hop}
 use Rattle.device_model.specs.Delivery.{AreOffered, whole_payload}
 use Rattle.device_model.specs.Through.{Inputs, own_input, arrived_by, text_by}

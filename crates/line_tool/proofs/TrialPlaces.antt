@@ -1,12 +1,12 @@
 -- The places of the trial, in memory, and a run over them.
 use Rattle.std.proofs.Common.{◌≡◌, ◌≢◌, ◌≤◌, ◌<◌, ◌+◌, ◌*◌, ◌⊎◌, inl, inr, ℕ, zero, suc, List, [], ◌∷◌, map, length, get_or, Some, refl, sym, ap, ◌∙◌, subst, arith}
-use Rattle.std.specs.Prelude.{slice_get, replicate, vec_len}
+use Rattle.std.specs.Prelude.{slice_get}
 use Rattle.std.proofs.lemmas.Bool.{cases_lt}
 use Rattle.std.proofs.lemmas.Option.{slice_get-get_or}
 use Rattle.otn_ports.specs.Bytes.{raised}
 use Rattle.otn_ports.specs.InPlace.{in_view}
 use Rattle.otn_ports.specs.OutPlace.{out_view}
-use Rattle.otn_ports.specs.Racks.{bays_view, line_outs, client_ins, client_outs, with_line_out, with_client_in, with_client_out, IsVacant}
+use Rattle.otn_ports.specs.Racks.{bays_view, with_line_out, with_client_in, with_client_out, IsVacant}
 use Rattle.otn_ports.specs.Views.{BaysView, no_input, line_in_at, line_out_at, client_in_at, client_out_at}
 use Rattle.otn_ports.specs.contracts.mem_sink.MemSinkSink.TheImpl as sink
 use Rattle.otn_ports.specs.contracts.mem_source.MemSourceSource.TheImpl as source

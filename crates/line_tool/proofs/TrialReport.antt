@@ -1,6 +1,6 @@
 -- What is counted in the text of packets.
-use Rattle.std.proofs.Common.{◌≡◌, ◌≢◌, ◌≤◌, ◌<◌, ◌+◌, ◌-◌, ◌*◌, ◌/◌, ◌==◌, if◌then◌else◌, ℕ, zero, suc, true, false, Bool, List, [], ◌∷◌, ◌++◌, length, length-append, take, get_or, Option, Some, refl, sym, ap, ◌∙◌, subst, arith, add-one}
-use Rattle.std.specs.Prelude.{All, sum, map}
+use Rattle.std.proofs.Common.{◌≡◌, ◌≢◌, ◌≤◌, ◌<◌, ◌+◌, ◌*◌, ◌==◌, ℕ, true, false, List, [], ◌∷◌, ◌++◌, length, length-append, take, get_or, Some, refl, sym, ap, ◌∙◌, subst, arith, add-one}
+use Rattle.std.specs.Prelude.{All, map}
 use Rattle.std.specs.List.{AllPass}
 use Rattle.std.proofs.lemmas.Bool.Decides.{nat_tests}
 use Rattle.std.proofs.lemmas.List.{take_more, take_all}
@@ -12,7 +12,7 @@ use Rattle.otn_ports.specs.Views.{Live, OutView, BaysView, client_out_at}
 use Rattle.packet_text.specs.Laws.{IsPacket}
 use Rattle.packet_text.specs.PacketText.{packet_line, hex_text}
 use Rattle.line_tool.specs.TrialReport.{feed, lines_in, bytes_in, bytes_of, client_line, text_line, client_lines}
-use Rattle.line_tool.specs.TrialRuns.{GotPackets, ClientsTold}
+use Rattle.line_tool.specs.TrialRuns.{ClientsTold}
 
 lines_append : (xs ys : List ℕ) → lines_in (xs ++ ys) ≡ lines_in xs + lines_in ys
 unfolding lines_in

@@ -1,5 +1,5 @@
 -- What each run of the trial made, by what it left.
-use Rattle.std.proofs.Common.{◌≡◌, ◌≢◌, ◌≤◌, ◌<◌, ◌+◌, ◌-◌, ◌*◌, ◌==◌, ◌⊎◌, inl, inr, ℕ, zero, suc, Bool, true, false, List, [], ◌∷◌, ◌++◌, map, length, get_or, Option, None, Some, refl, sym, ap, ◌∙◌, subst, arith, append-nil}
+use Rattle.std.proofs.Common.{◌≡◌, ◌≤◌, ◌<◌, ◌==◌, ◌⊎◌, inl, inr, ℕ, zero, suc, Bool, true, false, List, [], ◌++◌, map, Option, None, Some, refl, sym, ap, ◌∙◌, subst, arith, append-nil}
 use Rattle.std.specs.Prelude.{All}
 use Rattle.std.specs.List.{concat, Contains, list_any, range_with_len}
 use Rattle.std.proofs.lemmas.Bool.{cases_lt}
@@ -8,23 +8,19 @@ use Rattle.std.proofs.lemmas.List.Elements.{All-from_get_or}
 use Rattle.std.proofs.lemmas.List.Folds.{list_any_none}
 use Rattle.std.proofs.lemmas.List.FromFn.{length-map-range_with_len, get_or-map-range_with_len}
 use Rattle.otn_base.specs.declared.kind.PortName.TheVariants as port
-use Rattle.otn_ports.specs.Bytes.{before, after, HasFailed}
-use Rattle.otn_ports.specs.Given.{Gave, Gained, Lives}
+use Rattle.otn_ports.specs.Bytes.{before, after}
+use Rattle.otn_ports.specs.Given.{Lives}
 use Rattle.otn_ports.specs.Reads.{HasEnded}
-use Rattle.otn_ports.specs.Views.{State, Empty, Live, Dead, InView, OutView, BaysView, line_in_at, line_out_at, client_in_at, client_out_at}
+use Rattle.otn_ports.specs.Views.{State, Live, InView, OutView, BaysView, line_in_at, line_out_at, client_in_at, client_out_at}
 use Rattle.plan_file.specs.declared.connection.Connection.{Connection}
-use Rattle.plan_file.specs.declared.connection.FromEnd.TheVariants as from_end
-use Rattle.plan_file.specs.declared.connection.ToEnd.TheVariants as to_end
-use Rattle.device_model.specs.Entries.{is_from_line, is_from_client}
 use Rattle.device_model.specs.Inputs.{has_died}
 use Rattle.device_model.specs.LineFiles.{IsLineFile}
 use Rattle.device_model.specs.Moments.{touches, uses}
 use Rattle.device_model.specs.Report.{Numbers}
-use Rattle.device_model.specs.Through.{Inputs, own_input, text_by}
-use Rattle.node_core.specs.RunLeft.{Takings, MayFollow, MayBeInputs, InputLeft, OutputLeft, OutputsLeft, RunLeft}
-use Rattle.odu_client.specs.ClientInput.{ClientInput, AtEnd, input_given}
-use Rattle.packet_text.specs.Laws.{IsPacket}
-use Rattle.packet_text.specs.PacketText.{Ended, packets_of, hex_text}
+use Rattle.device_model.specs.Through.{Inputs}
+use Rattle.node_core.specs.RunLeft.{Takings, MayFollow, MayBeInputs, InputLeft, OutputLeft, RunLeft}
+use Rattle.odu_client.specs.ClientInput.{AtEnd, input_given}
+use Rattle.packet_text.specs.PacketText.{hex_text}
 use Rattle.packet_text.proofs.ReadingBack.{reads_back}
 use Rattle.line_tool.specs.TrialDraw.{packets_of_trial}
 use Rattle.line_tool.specs.TrialPlans.{trial_connection, trial_plan}

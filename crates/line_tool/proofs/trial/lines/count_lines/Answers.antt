@@ -1,5 +1,5 @@
-use Rattle.std.proofs.Common.{◌≡◌, ◌≤◌, ◌<◌, ◌+◌, length, take, get_or, ap, sym, ◌∙◌, arith}
-use Rattle.line_tool.specs.TrialReport.{feed, lines_in}
+use Rattle.std.proofs.Common.{◌<◌, ◌+◌, length, take, get_or, ap, sym, ◌∙◌, arith}
+use Rattle.line_tool.specs.TrialReport.{lines_in}
 use Rattle.line_tool.proofs.TrialReport.{feed_few, lines_none, lines_next}
 use Rattle.line_tool.proofs.trial.lines.count_lines.Goals as goal
 
