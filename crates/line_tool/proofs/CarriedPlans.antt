@@ -16,7 +16,7 @@ use Rattle.line_tool.specs.Device.{Device, Stays}
 use Rattle.line_tool.specs.PlanReading.{PlanReading}
 use Rattle.line_tool.specs.PlanRuns.{PlanCarried, run_status}
 use Rattle.line_tool.specs.RunAnswers.{PlanRan, RunAnswers, TextRan, outcome_status, pieces_in_all}
-use Rattle.line_tool.specs.Runs.{Reports}
+use Rattle.line_tool.specs.Runs.{IsRefusal, Reports}
 use Rattle.line_tool.specs.declared.plan_run.Ran.{Ran}
 use Rattle.line_tool.specs.declared.plan_run.Ran.TheVariants as ran
 use Rattle.line_tool.specs.declared.plan_text.Planned.TheVariants as planned
@@ -97,10 +97,19 @@ no_plan_fault plan old new first last asked now ran.ReportFault h e = cc
 no_plan_fault plan old new first last asked now (ran.Refused error place) h e = absurd h.ends
 no_plan_fault plan old new first last asked now ran.PlanFault h e = absurd h.ends
 
+no_refusal : (plan : Plan) (old new : SinkView) (first last : BaysView) (asked now : ℕ) (answer : Ran) → PlanCarried plan first last old new asked now answer → IsRefusal (run_status (Ok answer)) → ⊥
+no_refusal plan old new first last asked now (ran.Carried outcome.Done) h refusal = refusal
+no_refusal plan old new first last asked now (ran.Carried outcome.Unfinished) h refusal = refusal
+no_refusal plan old new first last asked now (ran.Carried outcome.Cut) h refusal = refusal
+no_refusal plan old new first last asked now ran.ReportFault h refusal = refusal
+no_refusal plan old new first last asked now (ran.Refused error place) h refusal = h.ends
+no_refusal plan old new first last asked now ran.PlanFault h refusal = h.ends
+
 done_is_none : status.Done ≢ status.PlanFault
 done_is_none e = cc
 
-pub accepted_ran : (plan : Plan) (old new : Device) (asked now : ℕ) (result : Result Ran NoMemory) → PlanReading (Ok (planned.Accepted plan)) old.plan new.plan → IfErr result (λ _. new.report ≡ old.report)
+pub accepted_ran : (plan : Plan) (old new : Device) (asked now : ℕ) (result : Result Ran NoMemory) → PlanReading (Ok (planned.Accepted plan)) old.plan new.plan
+    → IfErr result (λ _. (new.report ≡ old.report) × (now ≡ asked))
     → IfOk result (PlanCarried plan old.bays new.bays old.report new.report asked now) → RunAnswers old new asked now (run_status result)
 accepted_ran plan old new asked now (Ok answer) r same h = record {
   text = r.text;
@@ -110,6 +119,7 @@ accepted_ran plan old new asked now (Ok answer) r same h = record {
   ran = text_ran plan r.text old new asked now answer r.says.0 h;
   plan_counts = record { fault = λ e. absurd (no_plan_fault plan old.report new.report old.bays new.bays asked now answer h e); calm = λ _. r.counts.calm done_is_none };
   report_counts = h.counts;
+  unasked = λ refusal. absurd (no_refusal plan old.report new.report old.bays new.bays asked now answer h refusal);
 }
 accepted_ran plan old new asked now (Err memory) r same h = record {
   text = r.text;
@@ -118,10 +128,12 @@ accepted_ran plan old new asked now (Err memory) r same h = record {
   all = inr r.all;
   ran = tt;
   plan_counts = record { fault = λ e. absurd (cc); calm = λ _. r.counts.calm done_is_none };
-  report_counts = record { fault = λ e. absurd (cc); calm = λ _. ap (λ (v : SinkView). v.faults) same };
+  report_counts = record { fault = λ e. absurd (cc); calm = λ _. ap (λ (v : SinkView). v.faults) same.0 };
+  unasked = λ _. same.1;
 }
 
-pub accepted_stays : (plan : Plan) (old new : Device) (asked now : ℕ) (result : Result Ran NoMemory) → PlanReading (Ok (planned.Accepted plan)) old.plan new.plan → IfErr result (λ _. new.report ≡ old.report)
+pub accepted_stays : (plan : Plan) (old new : Device) (asked now : ℕ) (result : Result Ran NoMemory) → PlanReading (Ok (planned.Accepted plan)) old.plan new.plan
+    → IfErr result (λ _. (new.report ≡ old.report) × (now ≡ asked))
     → IfOk result (PlanCarried plan old.bays new.bays old.report new.report asked now) → Stays old new
 accepted_stays plan old new asked now (Ok answer) r same h = record { plan = r.later; report = h.later }
-accepted_stays plan old new asked now (Err memory) r same h = record { plan = r.later; report = subst (SinkLater old.report) (sym same) (sink_later_none old.report) }
+accepted_stays plan old new asked now (Err memory) r same h = record { plan = r.later; report = subst (SinkLater old.report) (sym same.0) (sink_later_none old.report) }

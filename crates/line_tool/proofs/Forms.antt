@@ -5,7 +5,7 @@ use Rattle.otn_base.specs.LineSlots.{LineSlots}
 use Rattle.otn_base.specs.declared.line_kind.LineKind.{LineKind}
 use Rattle.line_tool.specs.Words.{IsForm, slots_text}
 use Rattle.line_tool.specs.declared.words.Command.{Command}
-use Rattle.line_tool.specs.declared.words.Command.TheVariants.{Slot, Pull, Check, Run, RunOrdered}
+use Rattle.line_tool.specs.declared.words.Command.TheVariants.{Slot, Pull, Check, Run, RunOrdered, Trial}
 
 -- a text is that of one list of slots
 same_slots : (a b : List ℕ) → slots_text a ≡ slots_text b → a ≡ b
@@ -40,6 +40,11 @@ same_order words a b h k =
     let text : h.0 ≡ k.0 = cc (h.1, k.1) in
     sym h.2.2 ∙ ap (digits_value 10) text ∙ k.2.2
 
+same_trial : (words : List (List ℕ)) (a b : ℕ) → IsForm words (Trial a) → IsForm words (Trial b) → a ≡ b
+same_trial words a b h k =
+    let text : h.0 ≡ k.0 = cc (h.1, k.1) in
+    sym h.2.2 ∙ ap (digits_value 10) text ∙ k.2.2
+
 pub one_form : (words : List (List ℕ)) (a b : Command) → IsForm words a → IsForm words b → a ≡ b
 one_form words (Slot a) (Slot b) h k = ap Slot (same_slot words a b h k)
 one_form words (Slot a) (Pull n others) h k = absurd (cc (h.0, k.0))
@@ -70,3 +75,14 @@ one_form words (RunOrdered a) (Pull n others) h k = absurd (cc (h.1, k.0))
 one_form words (RunOrdered a) Check h k = absurd (cc (h.1, k))
 one_form words (RunOrdered a) Run h k = absurd (cc (h.1, k))
 one_form words (RunOrdered a) (RunOrdered b) h k = ap RunOrdered (same_order words a b h k)
+one_form words (Slot a) (Trial n) h k = absurd (cc (h.0, k.1))
+one_form words (Pull port slots) (Trial n) h k = absurd (cc (h.0, k.1))
+one_form words Check (Trial n) h k = absurd (cc (h, k.1))
+one_form words Run (Trial n) h k = absurd (cc (h, k.1))
+one_form words (RunOrdered a) (Trial n) h k = absurd (cc (h.1, k.1))
+one_form words (Trial a) (Slot b) h k = absurd (cc (h.1, k.0))
+one_form words (Trial a) (Pull n others) h k = absurd (cc (h.1, k.0))
+one_form words (Trial a) Check h k = absurd (cc (h.1, k))
+one_form words (Trial a) Run h k = absurd (cc (h.1, k))
+one_form words (Trial a) (RunOrdered b) h k = absurd (cc (h.1, k.1))
+one_form words (Trial a) (Trial b) h k = ap Trial (same_trial words a b h k)

@@ -33,5 +33,6 @@ pub mod TrialPlaces
 pub mod TrialPlans
 pub mod TrialReport
 pub mod TrialRuns
+pub mod TrialTold
 pub mod TurnFrames
 pub mod TwoWorlds

@@ -12,7 +12,7 @@ use Rattle.device_model.specs.declared.outcome.Outcome.TheVariants as outcome
 use Rattle.node_core.specs.RunLeft.{Takings, RunLeft}
 use Rattle.line_tool.specs.Device.{Device}
 use Rattle.line_tool.specs.PlanCheck.{CountsBy, WasRead}
-use Rattle.line_tool.specs.Runs.{Reports}
+use Rattle.line_tool.specs.Runs.{IsRefusal, Reports}
 use Rattle.line_tool.specs.declared.status.Status.{Status}
 use Rattle.line_tool.specs.declared.status.Status.TheVariants as status
 
@@ -59,3 +59,5 @@ pub record RunAnswers (old new : Device) (asked asked_now : ℕ) (reply : Status
   -- each of the two counts of faults rose or stands at its end exactly with its own answer, and else is as it was
   pub plan_counts : CountsBy status.PlanFault reply old.plan.faults new.plan.faults
   pub report_counts : CountsBy status.ReportFault reply old.report.faults new.report.faults
+  -- a chooser was asked only once a plan was carried
+  pub unasked : IsRefusal reply → asked_now ≡ asked

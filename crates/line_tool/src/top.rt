@@ -11,6 +11,7 @@ use crate::ended::status_of;
 use crate::plan_run::{run_plan, status_of_run};
 use crate::pull::write_pull;
 use crate::slot::write_slot;
+use crate::trial::run_trial;
 use crate::words::command_of;
 use crate::{Command, Status};
 use otn_ports::{Chooser, Rack, Sink, Source};
@@ -29,6 +30,8 @@ use std::alloc::Global;
 /// `run` and `run --order N` read the plan, and where it is accepted carry it over the places, turn by turn, serving the ports that are ready
 /// in an order that the chooser says; then they write the report. A write of the report that fails ends them with ReportFault; else the
 /// answer is Cut where a place that the plan uses is dead, Unfinished where a line has more or a client is not spent, and Done.
+/// `trial N` draws packets for eight clients by the number, carries them through four nodes in a row over ports in memory, and writes the
+/// check of each line file and what came back. It asks no place.
 ///
 /// `Answers` says, of each command, what it took, what it wrote and why it ended, of all that it was
 /// handed: `device` before and after. What follows from it for the bytes that the line gave, and for
@@ -47,13 +50,13 @@ pub fn run<P: Source, K: Sink, C: Chooser, I: Source, O: Sink>(
     ensures form { result ≢ Status.Words → (command : Command) × IsForm (texts words.now) command }
     ensures idle { result ≡ Status.Words → (plan.new ≡ plan.old) × (bays.new ≡ bays.old) × (report.new ≡ report.old) × (chooser.new ≡ chooser.old) }
 
-    // The command is answered for, by LineAnswers, CheckAnswers or RunAnswers, over all that was handed in, before and after.
+    // The command is answered for, by LineAnswers, CheckAnswers, RunAnswers or TrialAnswers, over all that was handed in, before and after.
     ensures answers { (command : Command) → IsForm (texts words.now) command
         → Answers command (device P.Source K.Sink I.Source O.Sink plan.old bays.old report.old)
         (device P.Source K.Sink I.Source O.Sink plan.new bays.new report.new) (C.asked chooser.old) (C.asked chooser.new) result }
 
-    // Before anything was done: after Words, PlanFault, Plan and Memory all places, the report and the chooser are as they were.
-    ensures refused { IsRefusal result → (bays.new ≡ bays.old) × (report.new ≡ report.old) × (chooser.new ≡ chooser.old) }
+    // Before anything was done: after Words, PlanFault, Plan and Memory all places and the report are as they were.
+    ensures refused { IsRefusal result → (bays.new ≡ bays.old) × (report.new ≡ report.old) }
 
     // What stays.
     ensures stays { Stays (device P.Source K.Sink I.Source O.Sink plan.old bays.old report.old)
@@ -75,6 +78,7 @@ pub fn run<P: Source, K: Sink, C: Chooser, I: Source, O: Sink>(
         Some(Command::RunOrdered(_number)) => {
             status_of_run(run_plan(alloc, plan, bays, chooser, report))
         }
+        Some(Command::Trial(seed)) => run_trial(alloc, seed, chooser, report),
         None => Status::Words,
     }
 }

@@ -21,6 +21,8 @@ pub enum Command {
     Run,
     /// `run --order N`: the same, in the order that the number N, of 64 bits, settles.
     RunOrdered(u64),
+    /// `trial N`: packets drawn by the number N, of 64 bits, carried through four nodes in a row.
+    Trial(u64),
 }
 
 /// The most digits of a number among the words.
@@ -69,6 +71,7 @@ fn command_with_one(name: &str, word: &str) -> Option<Command>
 {
     match name {
         "slot" => slot_command(word),
+        "trial" => trial_command(word),
         _ => None,
     }
 }
@@ -91,6 +94,14 @@ fn slot_command(slot: &str) -> Option<Command>
     ensures no_form { IfNone result (IsNoForm (codes "slot" ∷ slot.now ∷ [])) }
 {
     Some(Command::Slot(one_digit(slot.as_bytes())?))
+}
+
+// The command `trial` with this word after it.
+fn trial_command(number: &str) -> Option<Command>
+    ensures form { IfSome result (IsForm (codes "trial" ∷ number.now ∷ [])) }
+    ensures no_form { IfNone result (IsNoForm (codes "trial" ∷ number.now ∷ [])) }
+{
+    Some(Command::Trial(order_number(number)?))
 }
 
 // The command `pull` with these words after it.

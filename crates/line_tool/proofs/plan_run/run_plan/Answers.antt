@@ -20,7 +20,7 @@ returns-in-Accepted-clause-ran g c =
     let old = device g.P.Source g.K.Sink g.I.Source g.O.Sink c.args.plan.now c.args.bays.now c.args.report.now in
     let new = device g.P.Source g.K.Sink g.I.Source g.O.Sink c.read_plan.new.plan c.carry_plan.new.bays c.carry_plan.new.report in
     let reading = subst (λ result. PlanReading result (source_view g.P.Source c.args.plan.now) (source_view g.P.Source c.read_plan.new.plan)) (c.in_ok-plan.was ∙ ap Ok c.in-Accepted.is) c.read_plan.ensures in
-    let same = map_err c.carry_plan.result _ _ (λ e. ap (sink_view g.K.Sink) e.1) c.carry_plan.ensures.memory in
+    let same = map_err c.carry_plan.result _ _ (λ e. (ap (sink_view g.K.Sink) e.1, ap g.C.Chooser.asked e.2)) c.carry_plan.ensures.memory in
     accepted_ran c.in-Accepted.plan old new (g.C.Chooser.asked c.args.chooser.now) (g.C.Chooser.asked c.carry_plan.new.chooser) c.carry_plan.result reading same c.carry_plan.ensures.ran
 
 pub returns-in-Accepted-clause-stays : goal.returns-in-Accepted-clause-stays
@@ -28,5 +28,5 @@ returns-in-Accepted-clause-stays g c =
     let old = device g.P.Source g.K.Sink g.I.Source g.O.Sink c.args.plan.now c.args.bays.now c.args.report.now in
     let new = device g.P.Source g.K.Sink g.I.Source g.O.Sink c.read_plan.new.plan c.carry_plan.new.bays c.carry_plan.new.report in
     let reading = subst (λ result. PlanReading result (source_view g.P.Source c.args.plan.now) (source_view g.P.Source c.read_plan.new.plan)) (c.in_ok-plan.was ∙ ap Ok c.in-Accepted.is) c.read_plan.ensures in
-    let same = map_err c.carry_plan.result _ _ (λ e. ap (sink_view g.K.Sink) e.1) c.carry_plan.ensures.memory in
+    let same = map_err c.carry_plan.result _ _ (λ e. (ap (sink_view g.K.Sink) e.1, ap g.C.Chooser.asked e.2)) c.carry_plan.ensures.memory in
     accepted_stays c.in-Accepted.plan old new (g.C.Chooser.asked c.args.chooser.now) (g.C.Chooser.asked c.carry_plan.new.chooser) c.carry_plan.result reading same c.carry_plan.ensures.ran

@@ -1,4 +1,6 @@
 use Rattle.std.proofs.Common.{refl, sym, subst}
+use Rattle.otn_ports.proofs.PortLaws.{source_later_none}
+use Rattle.otn_ports.specs.PortViews.{sink_view, source_view}
 use Rattle.otn_ports.specs.Racks.{with_line_in}
 use Rattle.line_tool.specs.Answers.{Answers}
 use Rattle.line_tool.specs.Device.{device}
@@ -7,9 +9,10 @@ use Rattle.line_tool.specs.PullReport.{tributary}
 use Rattle.line_tool.specs.RunAnswers.{RunAnswers}
 use Rattle.line_tool.specs.Runs.{IsRefusal}
 use Rattle.line_tool.specs.Words.{texts}
-use Rattle.line_tool.specs.declared.words.Command.TheVariants.{Slot, Pull, Run, RunOrdered}
+use Rattle.line_tool.specs.declared.words.Command.TheVariants.{Slot, Pull, Run, RunOrdered, Trial}
 use Rattle.line_tool.proofs.Answered.{check_stays, line_stays, nothing_stays, pull_answered, refused_line, slot_answered}
 use Rattle.line_tool.proofs.Forms.{one_form}
+use Rattle.line_tool.proofs.TrialTold.{trial_answered, trial_later, trial_refused}
 use Rattle.line_tool.proofs.top.run.Goals as goal
 
 -- ---- `slot`
@@ -25,9 +28,8 @@ returns-in-Some-Slot-clause-answers g c = λ command form.
 
 pub returns-in-Some-Slot-clause-refused : goal.returns-in-Some-Slot-clause-refused
 returns-in-Some-Slot-clause-refused g c = λ refusal.
-    let same = refused_line c.args.bays.now c.line_in_mut-line.result.now c.write_slot.new.line c.args.report.now c.write_slot.new.report
-    c.write_slot.result c.line_in_mut-line.ensures.value c.write_slot.ensures.memory (subst IsRefusal c.status_of.ensures refusal) in
-    (same.0, same.1, refl)
+    refused_line c.args.bays.now c.line_in_mut-line.result.now c.write_slot.new.line c.args.report.now c.write_slot.new.report
+    c.write_slot.result c.line_in_mut-line.ensures.value c.write_slot.ensures.memory (subst IsRefusal c.status_of.ensures refusal)
 
 pub returns-in-Some-Slot-clause-stays : goal.returns-in-Some-Slot-clause-stays
 returns-in-Some-Slot-clause-stays g c =
@@ -47,9 +49,8 @@ returns-in-Some-Pull-clause-answers g c = λ command form.
 
 pub returns-in-Some-Pull-clause-refused : goal.returns-in-Some-Pull-clause-refused
 returns-in-Some-Pull-clause-refused g c = λ refusal.
-    let same = refused_line c.args.bays.now c.line_in_mut-tapped.result.now c.write_pull.new.line c.args.report.now c.write_pull.new.report
-    c.write_pull.result c.line_in_mut-tapped.ensures.value c.write_pull.ensures.memory (subst IsRefusal c.status_of-in-Some-Pull.ensures refusal) in
-    (same.0, same.1, refl)
+    refused_line c.args.bays.now c.line_in_mut-tapped.result.now c.write_pull.new.line c.args.report.now c.write_pull.new.report
+    c.write_pull.result c.line_in_mut-tapped.ensures.value c.write_pull.ensures.memory (subst IsRefusal c.status_of-in-Some-Pull.ensures refusal)
 
 pub returns-in-Some-Pull-clause-stays : goal.returns-in-Some-Pull-clause-stays
 returns-in-Some-Pull-clause-stays g c =
@@ -59,7 +60,7 @@ returns-in-Some-Pull-clause-stays g c =
 -- ---- `check`, and no command
 
 pub returns-in-Some-Check-clause-refused : goal.returns-in-Some-Check-clause-refused
-returns-in-Some-Check-clause-refused g c = λ refusal. (refl, c.check_plan.ensures.refused (subst IsRefusal c.status_of_check.ensures refusal), refl)
+returns-in-Some-Check-clause-refused g c = λ refusal. (refl, c.check_plan.ensures.refused (subst IsRefusal c.status_of_check.ensures refusal))
 
 pub returns-in-Some-Check-clause-stays : goal.returns-in-Some-Check-clause-stays
 returns-in-Some-Check-clause-stays g c =
@@ -79,7 +80,9 @@ returns-in-Some-Run-clause-answers g c = λ command form.
     (subst (λ answer. RunAnswers old new (g.C.Chooser.asked c.args.chooser.now) (g.C.Chooser.asked c.run_plan.new.chooser) answer) (sym c.status_of_run.ensures) c.run_plan.ensures.ran)
 
 pub returns-in-Some-Run-clause-refused : goal.returns-in-Some-Run-clause-refused
-returns-in-Some-Run-clause-refused g c = λ refusal. c.run_plan.ensures.refused (subst IsRefusal c.status_of_run.ensures refusal)
+returns-in-Some-Run-clause-refused g c = λ refusal.
+    let same = c.run_plan.ensures.refused (subst IsRefusal c.status_of_run.ensures refusal) in
+    (same.0, same.1)
 
 pub returns-in-Some-Run-clause-stays : goal.returns-in-Some-Run-clause-stays
 returns-in-Some-Run-clause-stays g c = c.run_plan.ensures.stays
@@ -93,7 +96,32 @@ returns-in-Some-RunOrdered-clause-answers g c = λ command form.
     (subst (λ answer. RunAnswers old new (g.C.Chooser.asked c.args.chooser.now) (g.C.Chooser.asked c.run_plan-in-Some-RunOrdered.new.chooser) answer) (sym c.status_of_run-in-Some-RunOrdered.ensures) c.run_plan-in-Some-RunOrdered.ensures.ran)
 
 pub returns-in-Some-RunOrdered-clause-refused : goal.returns-in-Some-RunOrdered-clause-refused
-returns-in-Some-RunOrdered-clause-refused g c = λ refusal. c.run_plan-in-Some-RunOrdered.ensures.refused (subst IsRefusal c.status_of_run-in-Some-RunOrdered.ensures refusal)
+returns-in-Some-RunOrdered-clause-refused g c = λ refusal.
+    let same = c.run_plan-in-Some-RunOrdered.ensures.refused (subst IsRefusal c.status_of_run-in-Some-RunOrdered.ensures refusal) in
+    (same.0, same.1)
 
 pub returns-in-Some-RunOrdered-clause-stays : goal.returns-in-Some-RunOrdered-clause-stays
 returns-in-Some-RunOrdered-clause-stays g c = c.run_plan-in-Some-RunOrdered.ensures.stays
+
+-- ---- `trial`
+
+pub returns-in-Some-Trial-clause-answers : goal.returns-in-Some-Trial-clause-answers
+returns-in-Some-Trial-clause-answers g c = λ command form.
+    let mine = rw c.in-Some-Trial.field-0-is at c.in-Some-Trial.ensures.form in
+    let old = device g.P.Source g.K.Sink g.I.Source g.O.Sink c.args.plan.now c.args.bays.now c.args.report.now in
+    let new = device g.P.Source g.K.Sink g.I.Source g.O.Sink c.args.plan.now c.args.bays.now c.run_trial.new.report in
+    subst (λ k. Answers k old new (g.C.Chooser.asked c.args.chooser.now) (g.C.Chooser.asked c.run_trial.new.chooser) c.run_trial.result) (one_form (texts c.args.words.now) (Trial c.in-Some-Trial.seed) command mine form)
+    c.run_trial.ensures.answers
+
+pub returns-in-Some-Trial-clause-words : goal.returns-in-Some-Trial-clause-words
+returns-in-Some-Trial-clause-words g c = (λ e. absurd (trial_answered c.run_trial.result c.in-Some-Trial.seed _ _ _ _ c.run_trial.ensures.answers e),
+    λ none. absurd (none (Trial c.in-Some-Trial.seed) (rw c.in-Some-Trial.field-0-is at c.in-Some-Trial.ensures.form)))
+
+pub returns-in-Some-Trial-clause-refused : goal.returns-in-Some-Trial-clause-refused
+returns-in-Some-Trial-clause-refused g c = λ refusal. (refl, c.run_trial.ensures.refused (trial_refused c.run_trial.result c.in-Some-Trial.seed _ _ _ _ c.run_trial.ensures.answers refusal))
+
+pub returns-in-Some-Trial-clause-stays : goal.returns-in-Some-Trial-clause-stays
+returns-in-Some-Trial-clause-stays g c = record {
+  plan = source_later_none (source_view g.P.Source c.args.plan.now);
+  report = trial_later c.run_trial.result c.in-Some-Trial.seed (sink_view g.K.Sink c.args.report.now) (sink_view g.K.Sink c.run_trial.new.report) _ _ c.run_trial.ensures.answers;
+}
