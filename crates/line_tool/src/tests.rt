@@ -1,6 +1,10 @@
 // Whole runs over ports in memory.
 mod check;
 mod number_chooser;
+mod plan_faults;
+mod plan_ports;
+mod plan_rows;
+mod plan_runs;
 mod pull;
 mod report;
 mod slot;
