@@ -1,7 +1,7 @@
 // The file `ports.txt`: which ports fail, and when.
 use std::alloc::{AllocError, Global};
 
-/// A port of a trial, with its number.
+/// A port of a run, with its number.
 #[derive(Clone, Copy, PartialEq, Eq)]
 pub enum Port {
     LineIn(u8),

@@ -27,7 +27,7 @@ use std::{fs, io};
 use traces::{Traces, no_bytes};
 use words::words;
 
-// The status of a trial that could not be carried out.
+// The status of a run that could not be carried out.
 const NO_TRIAL: u8 = 8;
 
 fn main(rt: HostRuntime) -> ExitCode {
@@ -43,7 +43,7 @@ fn main(rt: HostRuntime) -> ExitCode {
     }
 }
 
-// Carries a trial out, and writes what it left.
+// Carries a run out, and writes what it left.
 fn serve(rt: &HostRuntime) -> io::Result<Status> {
     let alloc = rt.alloc();
     let words = words(rt)?;

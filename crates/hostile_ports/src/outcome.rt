@@ -1,4 +1,4 @@
-// What a trial left: the files of its outputs, and the lines of `places.txt`.
+// What a run left: the files of its outputs, and the lines of `places.txt`.
 use crate::places::Places;
 use crate::ports::Got;
 use crate::traces::Traces;

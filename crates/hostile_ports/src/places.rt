@@ -1,4 +1,4 @@
-// The places of a trial, filled with what the files of the folder say.
+// The places of a run, filled with what the files of the folder say.
 use crate::listing::{Fate, Port, fate_of};
 use crate::ports::{InputPort, OutputPort};
 use crate::traces::Traces;
@@ -9,7 +9,7 @@ use std::alloc::{AllocError, Global};
 use std::io::ErrorKind;
 use std::{fs, io};
 
-/// All places of a trial.
+/// All places of a run.
 pub type Places = Rack<InputPort, OutputPort>;
 
 /// Bytes of text that are written at once at most: a packet in hex, and its line's end.

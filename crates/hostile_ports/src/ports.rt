@@ -1,4 +1,4 @@
-// The ports of a trial: they are in memory, fail as they are told to, and leave what they gave or got where it is found
+// The ports of a run: they are in memory, fail as they are told to, and leave what they gave or got where it is found
 // after their place was emptied too.
 ghost use Rattle.std.specs.Prelude.{◌≡◌, ◌≤◌, ◌<◌, false, None, IfOk, length};
 ghost use Rattle.hostile_ports.specs.Ports.{input_faults, output_faults};

@@ -27,6 +27,7 @@ usage: otn slot K           the payload bytes of tributary slot K, 1 to 8, of ea
        otn check            whether plan.toml is a plan, and of how many connections and turns
        otn run              carries plan.toml, and reports what came of it
        otn run --order N    the same, with the ports taken in an order drawn from the number N
+       otn trial N          carries packets drawn from the number N through four nodes in a row, in memory
        otn --help
        otn --version
 

@@ -29,6 +29,7 @@ fn forms_of_run(rt: HostRuntime) -> Result<(), Fail> {
             Command::RunOrdered(u64::MAX),
             Some(u64::MAX),
         ),
+        ("trial 7", Command::Trial(7), None),
         ("check", Command::Check, None),
         ("slot 8", Command::Slot(8), None),
     ] {
@@ -44,6 +45,9 @@ fn words_of_no_command(rt: HostRuntime) -> Result<(), Fail> {
     for text in [
         "",
         "Run",
+        "trial",
+        "trial x",
+        "trial 1 2",
         "run ",
         "run extra",
         "run --order",

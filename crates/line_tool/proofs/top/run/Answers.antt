@@ -114,8 +114,10 @@ returns-in-Some-Trial-clause-answers g c = λ command form.
     c.run_trial.ensures.answers
 
 pub returns-in-Some-Trial-clause-words : goal.returns-in-Some-Trial-clause-words
-returns-in-Some-Trial-clause-words g c = (λ e. absurd (trial_answered c.run_trial.result c.in-Some-Trial.seed _ _ _ _ c.run_trial.ensures.answers e),
-    λ none. absurd (none (Trial c.in-Some-Trial.seed) (rw c.in-Some-Trial.field-0-is at c.in-Some-Trial.ensures.form)))
+returns-in-Some-Trial-clause-words g c = (
+  λ e. absurd (trial_answered c.run_trial.result c.in-Some-Trial.seed _ _ _ _ c.run_trial.ensures.answers e),
+  λ none. absurd (none (Trial c.in-Some-Trial.seed) (rw c.in-Some-Trial.field-0-is at c.in-Some-Trial.ensures.form)),
+)
 
 pub returns-in-Some-Trial-clause-refused : goal.returns-in-Some-Trial-clause-refused
 returns-in-Some-Trial-clause-refused g c = λ refusal. (refl, c.run_trial.ensures.refused (trial_refused c.run_trial.result c.in-Some-Trial.seed _ _ _ _ c.run_trial.ensures.answers refusal))
