@@ -125,6 +125,38 @@ fn least_and_most_go_through_a_second_node(rt: HostRuntime) -> Result<(), Fail> 
     Ok(())
 }
 
+const STOPPING: &str = r#"turns = 8
+connection = [{ name = "a", kind = "odu0", from = { client = 0 }, to = { line = 0, port = 1, slots = [3] }, stop = 4, retire = true }]
+"#;
+
+// How many payload bytes of so many frames of a line file are not 0, from this frame on.
+fn payload_set(file: &[u8], from: usize, frames: usize) -> usize {
+    let mut set = 0_usize;
+    for (place, byte) in file.iter().enumerate() {
+        let column = place % 4080 + 1;
+        let counts = from <= place / FRAME && place / FRAME - from < frames;
+        if counts && 17 <= column && column <= 3824 && *byte != 0 {
+            set = set.saturating_add(1);
+        }
+    }
+    set
+}
+
+#[test]
+fn a_slot_is_free_after_a_stop(rt: HostRuntime) -> Result<(), Fail> {
+    let alloc = rt.alloc();
+    let file = file_of(alloc, STOPPING, LINE_ROOM)?;
+    // Data first stands in turn 3.
+    assert_eq!(rt; payload_set(&file, 0, 16), 0);
+    assert!(rt; payload_set(&file, 16, 16) > 0);
+    assert_eq!(rt; payload_set(&file, 32, 32), 0);
+    assert_eq!(rt; said(&file, 26), [0xED, 0x00, 0x39]);
+    for frame in 32..64_u16 {
+        assert_eq!(rt; said(&file, frame), [0, 0, 0], "in frame {frame}");
+    }
+    Ok(())
+}
+
 const NINE_TURNS_THERE: &str = r#"turns = 9
 connection = [{ name = "a", kind = "odu0", from = { client = 0 }, to = { line = 0, port = 1, slots = [3] } }]
 "#;
