@@ -8,10 +8,12 @@ use plan_file::PlanError;
 /// where no other is. Want of memory is answered where it is met.
 #[derive(Clone, Copy, Debug, PartialEq, Eq)]
 pub enum Status {
-    /// All bytes of the line stand in whole frames that the command looked at, or the plan is accepted. For
-    /// `pull` that may be before the line's last turn, where the most turns were done.
+    /// All bytes of the line stand in whole frames that the command looked at, the plan is accepted, or it was
+    /// carried and nothing is left over. For `pull` that may be before the line's last turn, where the most turns
+    /// were done.
     Done,
-    /// The line had bytes after its last whole frame, or more of them than the command reads.
+    /// The line had bytes after its last whole frame, or more of them than the command reads; after `run`, a line
+    /// that the plan uses has more than its turns want, or a client is not spent.
     Unfinished,
     /// The words are no command.
     Words,
@@ -20,11 +22,13 @@ pub enum Status {
     Plan(PlanError, u64),
     /// A read of the plan failed.
     PlanFault,
-    /// A write of the report failed, and ended the command.
+    /// A write of the report failed, and ended the command. `run` and `trial` have carried their plans by then.
     ReportFault,
-    /// The line input is dead: a read of it failed, or it was handed in dead.
+    /// The line input, or after `run` a place that the plan uses, is dead: a call of its port failed, or it was
+    /// handed in dead.
     Cut,
-    /// There was no memory: no place was asked, and nothing was written. `check` may have read the plan.
+    /// There was no memory: no place was asked, and nothing was written. `check` and `run` may have read the plan,
+    /// and `trial` may have asked the chooser.
     Memory,
 }
 
