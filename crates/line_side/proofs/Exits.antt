@@ -1,6 +1,7 @@
 -- What is known of a line's bytes: what its place gave is among those that it may have, and so many of them were read as
 -- the line's turns want.
-use Rattle.std.proofs.Common.{◌≡◌, ◌≢◌, ◌*◌, ◌⊎◌, ℕ, true, false, cond, ltb, List, [], Option, Some, length, arith, refl, sym, ap, ◌∙◌, inl, inr, subst}
+use Rattle.std.proofs.Common.{◌≡◌, ◌≢◌, ◌*◌, ◌⊎◌, ℕ, Bool, true, false, cond, ltb, List, [], Option, Some, length, arith, refl, sym, ap, ◌∙◌, inl, inr, subst}
+use Rattle.std.specs.Prelude.{IfSome}
 use Rattle.std.proofs.lemmas.Bool.{lt-ltb, le-ltb}
 use Rattle.otn_ports.specs.Views.{State, Empty, Live, Dead}
 use Rattle.otn_ports.specs.Reads.{HasEnded}
@@ -21,17 +22,17 @@ live_or_not Empty = inr empty_not_live
 live_or_not Dead = inr dead_not_live
 
 -- nothing is left of a live place that has ended
-none_left : (s : State) (left : Option (List ℕ)) (rest : List ℕ) → (s ≡ Live → left ≡ Some rest) → (s ≢ Live → rest ≡ []) → (s ≡ Live → HasEnded left) → rest ≡ []
-none_left s left rest live other ended = go (live_or_not s)
+none_left : (s : State) (left : Option (List ℕ)) (answered : Bool) (rest : List ℕ) → (s ≡ Live → left ≡ Some rest) → (s ≢ Live → rest ≡ []) → (s ≡ Live → HasEnded left answered) → rest ≡ []
+none_left s left answered rest live other ended = go (live_or_not s)
   where
     go : (s ≡ Live) ⊎ (s ≢ Live) → rest ≡ []
-    go (inl now) = subst HasEnded (live now) (ended now)
+    go (inl now) = subst (λ l. IfSome l (λ bytes. bytes ≡ [])) (live now) (ended now).nothing
     go (inr idle) = other idle
 
 pub given_among : GivenIsAmong
 given_among form first now taken file t line h g =
     let b = given_of_gave first now taken file h.gave g in
-    record { rest = b.rest; over = λ closed. none_left now.state now.left b.rest b.live b.other (h.over closed); parts = ap (through_mask form.scrambled) b.parts }
+    record { rest = b.rest; over = λ closed. none_left now.state now.left now.ended b.rest b.live b.other (h.over closed); parts = ap (through_mask form.scrambled) b.parts }
 
 -- so many bytes were read as the turns and pieces so far want
 took_of : (size : ℕ) (given : List ℕ) (n t : ℕ) (line : LineView) → IsLine size given n t line → n ≡ took 16320 (length given) (mfas_of given) (wanted_so_far size (mfas_of given) t line.pieces)

@@ -20,7 +20,7 @@ pub record FrameCame (reading : Reading) (was : InView) (frame : List ℕ) (is :
   pub came : List ℕ
   pub gave : Gave was came is
   pub whole : reading ≡ Full → (came ≡ frame) × (length came ≡ 16320) × (is.state ≢ Dead)
-  pub short : reading ≢ Full → (length came < 16320) × (is.state ≡ Live → HasEnded is.left)
+  pub short : reading ≢ Full → (length came < 16320) × (is.state ≡ Live → HasEnded is.left is.ended)
   pub end : (k : ℕ) → reading ≡ End k → k ≡ length came
 
 live_came : (reading : Reading) (was is : InView) (into : List ℕ) → length into ≡ 16320 → was.state ≡ Live → is.state ≡ state_after Live reading → Reads reading was into is → GaveBy reading was into is → FrameCame reading was into is

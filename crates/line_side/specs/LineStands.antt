@@ -59,7 +59,7 @@ pub record LineStands (form : LineForm) (first now : InView) (taken : List ℕ) 
   pub is_form : form_of line ≡ form
   pub gave : Gave first taken now
   pub ending : EndedAs line.reader.ending now
-  pub over : line.reader.ending ≢ Open → now.state ≡ Live → HasEnded now.left
+  pub over : line.reader.ending ≢ Open → now.state ≡ Live → HasEnded now.left now.ended
   pub is_line : (given : List ℕ) → MayBe form.scrambled line.reader.ending taken given → IsLine (size_of form) given (length taken) t line
 
 -- after a piece: more bytes were taken, and what the line may have from then on it might have before

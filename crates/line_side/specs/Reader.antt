@@ -64,7 +64,7 @@ pub record FrameRead (scrambled : Bool) (reading : Reading) (was : InView) (fram
   pub came : List ℕ
   pub gave : Gave was came is
   pub whole : reading ≡ Full → (frame ≡ through_mask scrambled came) × (length came ≡ LINE_FRAME_BYTES)
-  pub short : reading ≢ Full → (length came < LINE_FRAME_BYTES) × (is.state ≡ Live → HasEnded is.left)
+  pub short : reading ≢ Full → (length came < LINE_FRAME_BYTES) × (is.state ≡ Live → HasEnded is.left is.ended)
   pub end : (k : ℕ) → reading ≡ End k → (k ≡ length came) × (is.state ≢ Dead)
   pub lost : reading ≡ Lost → is.state ≡ Dead
 
@@ -105,7 +105,7 @@ pub record ReadStep (old : ReaderView) (was : InView) (came : List ℕ) (new : R
   pub scrambled : new.scrambled ≡ old.scrambled
   pub gave : Gave was came is
   pub quiet : old.ending ≢ Open → (came ≡ []) × (new.ending ≢ Open)
-  pub over : (old.ending ≢ Open → was.state ≡ Live → HasEnded was.left) → new.ending ≢ Open → is.state ≡ Live → HasEnded is.left
+  pub over : (old.ending ≢ Open → was.state ≡ Live → HasEnded was.left was.ended) → new.ending ≢ Open → is.state ≡ Live → HasEnded is.left is.ended
   pub ended : EndedAs old.ending was → EndedAs new.ending is
 
 -- the frame after those that are used came into the hand, or there is none

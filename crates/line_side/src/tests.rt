@@ -1,5 +1,6 @@
 // Whole lines, piece by piece.
 ghost use Rattle.std.specs.Prelude.{None};
+ghost use Rattle.otn_ports.specs.Memory.{memory_ended};
 
 use crate::{LineCounts, LineIn, LineOut};
 use msi_table::SlotMap;
@@ -21,6 +22,8 @@ impl Source for FailsAfter {
     ghost left = { λ _. None };
 
     ghost faults = { λ s. s.failed };
+
+    ghost ended = { λ s. memory_ended s.source };
 
     fn read(&mut self, into: &mut [u8]) -> Result<usize, Failed> {
         if self.reads == 0 {

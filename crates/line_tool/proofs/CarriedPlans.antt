@@ -77,17 +77,17 @@ text_ran plan text old new asked now (ran.Refused error place) says h = absurd h
 text_ran plan text old new asked now ran.PlanFault says h = absurd h.ends
 
 -- all that there is was read
-was_read : (outcome : Outcome) (text : List ℕ) (left : Option (List ℕ)) → WasRead status.Done text left → WasRead (outcome_status outcome) text left
-was_read outcome.Done text left h = h
-was_read outcome.Unfinished text left h = h
-was_read outcome.Cut text left h = h
+was_read : (outcome : Outcome) (text : List ℕ) (source : SourceView) → WasRead status.Done text source → WasRead (outcome_status outcome) text source
+was_read outcome.Done text source h = h
+was_read outcome.Unfinished text source h = h
+was_read outcome.Cut text source h = h
 
-read_for : (plan : Plan) (old new : SinkView) (first last : BaysView) (asked now : ℕ) (answer : Ran) (text : List ℕ) (left : Option (List ℕ)) → PlanCarried plan first last old new asked now answer
-    → WasRead status.Done text left → WasRead (run_status (Ok answer)) text left
-read_for plan old new first last asked now (ran.Carried outcome) text left h all = was_read outcome text left all
-read_for plan old new first last asked now ran.ReportFault text left h all = all
-read_for plan old new first last asked now (ran.Refused error place) text left h all = absurd h.ends
-read_for plan old new first last asked now ran.PlanFault text left h all = absurd h.ends
+read_for : (plan : Plan) (old new : SinkView) (first last : BaysView) (asked now : ℕ) (answer : Ran) (text : List ℕ) (source : SourceView) → PlanCarried plan first last old new asked now answer
+    → WasRead status.Done text source → WasRead (run_status (Ok answer)) text source
+read_for plan old new first last asked now (ran.Carried outcome) text source h all = was_read outcome text source all
+read_for plan old new first last asked now ran.ReportFault text source h all = all
+read_for plan old new first last asked now (ran.Refused error place) text source h all = absurd h.ends
+read_for plan old new first last asked now ran.PlanFault text source h all = absurd h.ends
 
 no_plan_fault : (plan : Plan) (old new : SinkView) (first last : BaysView) (asked now : ℕ) (answer : Ran) → PlanCarried plan first last old new asked now answer → run_status (Ok answer) ≢ status.PlanFault
 no_plan_fault plan old new first last asked now (ran.Carried outcome.Done) h e = cc

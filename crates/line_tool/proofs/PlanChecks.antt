@@ -1,8 +1,9 @@
 -- What `check` answers to the text of a source that tells it.
-use Rattle.std.proofs.Common.{◌≡◌, ◌≢◌, ◌<◌, ◌+◌, ◌∙◌, ◌⊎◌, ℕ, false, List, [], ◌++◌, Option, Some, None, Result, Ok, Err, length, nat_le, refl, sym, ap, subst, inl, inr, arith, append-nil, length-append}
+use Rattle.std.proofs.Common.{◌≡◌, ◌≢◌, ◌<◌, ◌+◌, ◌∙◌, ◌⊎◌, ℕ, Bool, false, List, [], ◌++◌, Option, Some, None, Result, Ok, Err, length, nat_le, refl, sym, ap, subst, inl, inr, arith, append-nil, length-append}
 use Rattle.std.specs.Prelude.{unwrap_or}
 use Rattle.std.proofs.lemmas.Bool.Decides.{nat_tests}
 use Rattle.otn_ports.specs.Bytes.{before}
+use Rattle.otn_ports.specs.Reads.{HasEnded}
 use Rattle.plan_file.specs.Answer.{plan_of_text, plan_of_table, table_of_text}
 use Rattle.otn_base.specs.declared.memory.Memory.{Memory as NoMemory}
 use Rattle.plan_file.specs.declared.error.PlanError.{PlanError}
@@ -28,28 +29,31 @@ too_long text long =
     rw no_room refl
 
 -- the answer to all that came is that to the whole text
-pub same_plan : (text came : List ℕ) (has : Option (List ℕ)) → Some text ≡ before came has → IsAll came has → plan_of_text came ≡ plan_of_text text
-same_plan text came None e all = absurd (cc)
-same_plan text came (Some rest) e (inl ended) =
+same_text : (text came : List ℕ) (left : Option (List ℕ)) (ended : Bool) → Some text ≡ before came left → HasEnded left ended ⊎ (length came ≡ 1048577) → plan_of_text came ≡ plan_of_text text
+same_text text came None answered e all = absurd (cc)
+same_text text came (Some rest) answered e (inl ended) =
     let whole : text ≡ came ++ rest = ap (λ t. unwrap_or t []) e in
-    let none : rest ≡ [] = ended in
+    let none : rest ≡ [] = ended.nothing in
     ap plan_of_text (sym (whole ∙ ap (λ xs. came ++ xs) none ∙ append-nil came))
-same_plan text came (Some rest) e (inr long) =
+same_text text came (Some rest) answered e (inr long) =
     let whole : text ≡ came ++ rest = ap (λ t. unwrap_or t []) e in
     let size : length text ≡ length came + length rest = ap length whole ∙ length-append came rest in
     ap plan_of_table (too_long came (omega (arith, long)) ∙ sym (too_long text (omega (arith, long, size))))
+
+pub same_plan : (text came : List ℕ) (has : SourceView) → Some text ≡ before came has.left → IsAll came has → plan_of_text came ≡ plan_of_text text
+same_plan text came has e all = same_text text came has.left has.ended e all
 
 -- by the whole text
 pub check_told : (answer : Status) (text : List ℕ) (has : SourceView) (had : SourceView) (old new : SinkView) → CheckRun had has old new answer → had.left ≡ Some text
     → answer ≢ status.Memory → answer ≢ status.PlanFault → CheckEnds answer text old.got new.got
 check_told status.Done text has had old new h told a b =
-    let e = same_plan text h.text has.left (sym told ∙ h.read) h.all in
+    let e = same_plan text h.text has (sym told ∙ h.read) h.all in
     (h.ends.0, (sym e ∙ h.ends.1.0, h.ends.1.1))
 check_told status.ReportFault text has had old new h told a b =
-    let e = same_plan text h.text has.left (sym told ∙ h.read) h.all in
+    let e = same_plan text h.text has (sym told ∙ h.read) h.all in
     (h.ends.0, (sym e ∙ h.ends.1.0, h.ends.1.1))
 check_told (status.Plan error place) text has had old new h told a b =
-    let e = same_plan text h.text has.left (sym told ∙ h.read) h.all in
+    let e = same_plan text h.text has (sym told ∙ h.read) h.all in
     (sym e ∙ h.ends.0, h.ends.1)
 check_told status.Memory text has had old new h told a b = absurd (a refl)
 check_told status.PlanFault text has had old new h told a b = absurd (b refl)
@@ -93,13 +97,13 @@ told_ends plan text (Ok (checked.Refused error place)) old new says told = absur
 told_ends plan text (Ok checked.PlanFault) old new says told = absurd told
 told_ends plan text (Err memory) old new says told = told
 
-told_read : (plan : Plan) (text : List ℕ) (left : Option (List ℕ)) (answer : Result Checked NoMemory) (old new : Option (List ℕ)) → PlanTold (check_status answer) plan old new → IsAll text left
-    → WasRead (check_status answer) text left
-told_read plan text left (Ok checked.Told) old new told all = all
-told_read plan text left (Ok checked.ReportFault) old new told all = all
-told_read plan text left (Ok (checked.Refused error place)) old new told all = all
-told_read plan text left (Ok checked.PlanFault) old new told all = absurd told
-told_read plan text left (Err memory) old new told all = inr all
+told_read : (plan : Plan) (text : List ℕ) (source : SourceView) (answer : Result Checked NoMemory) (old new : Option (List ℕ)) → PlanTold (check_status answer) plan old new → IsAll text source
+    → WasRead (check_status answer) text source
+told_read plan text source (Ok checked.Told) old new told all = all
+told_read plan text source (Ok checked.ReportFault) old new told all = all
+told_read plan text source (Ok (checked.Refused error place)) old new told all = all
+told_read plan text source (Ok checked.PlanFault) old new told all = absurd told
+told_read plan text source (Err memory) old new told all = inr all
 
 never_plan_fault : (plan : Plan) (answer : Result Checked NoMemory) (old new : Option (List ℕ)) → PlanTold (check_status answer) plan old new → check_status answer ≢ status.PlanFault
 never_plan_fault plan (Ok checked.Told) old new told e = cc
@@ -115,7 +119,7 @@ accepted_check plan had has old new answer r told later counts = record {
   text = r.text;
   read = r.read;
   most = r.most;
-  all = told_read plan r.text has.left answer old.got new.got told r.all;
+  all = told_read plan r.text has answer old.got new.got told r.all;
   ends = told_ends plan r.text answer old.got new.got r.says.0 told;
   plan = r.later;
   plan_counts = record { fault = λ e. absurd (never_plan_fault plan answer old.got new.got told e); calm = λ _. r.counts.calm done_is_none };

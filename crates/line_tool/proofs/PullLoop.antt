@@ -244,7 +244,7 @@ more_least n more m frames a b c = omega (arith, a, b, c)
 
 -- the end was seen
 seen_ends : (own : Tributary) (first now : InView) (taken : List ℕ) (line : LineView) (old new : Option (List ℕ)) → AllTurns own taken line old new
-    → Gave first taken now → now.state ≢ Dead → (now.state ≡ Live → HasEnded now.left) → line.reader.ending ≡ Seen
+    → Gave first taken now → now.state ≢ Dead → (now.state ≡ Live → HasEnded now.left now.ended) → line.reader.ending ≡ Seen
     → ((line.reader.rest ≡ 0) → PullRun own first now old new Done) × ((0 < line.reader.rest) → PullRun own first now old new Unfinished)
 seen_ends own first now taken line old new all gave alive over seen =
     let took = all.took taken (itself line.reader.ending taken) in
@@ -287,10 +287,10 @@ turns_end Done own first was now t tap old new h few last none a = by_end a.ends
     gave : Gave first h.taken now
     gave = subst (λ xs. Gave first xs now) (ap (λ xs. h.taken ++ xs) a.ends.1 ∙ append-nil h.taken) (gave_twice first was now h.taken a.came h.stands.line.gave a.gave)
 
-    by_end : ((tap.line.reader.ending ≡ Seen) × (tap.line.reader.rest ≡ 0) × (now ≡ was)) ⊎ ((tap.line.reader.ending ≢ Seen) × HasEnded now.left) → PullRun own first now old new Done
+    by_end : ((tap.line.reader.ending ≡ Seen) × (tap.line.reader.rest ≡ 0) × (now ≡ was)) ⊎ ((tap.line.reader.ending ≢ Seen) × HasEnded now.left now.ended) → PullRun own first now old new Done
     by_end (inl s) =
         let closed : tap.line.reader.ending ≢ Open = λ e. let f : Seen ≡ Open = sym s.0 ∙ e in absurd (cc) in
-        (seen_ends own first now h.taken tap.line old new all gave a.ends.0 (λ live. subst (λ (v : InView). HasEnded v.left) (sym s.2) (h.stands.line.over closed (ap (λ (v : InView). v.state) (sym s.2) ∙ live))) s.0).0 s.1
+        (seen_ends own first now h.taken tap.line old new all gave a.ends.0 (λ live. subst (λ (v : InView). HasEnded v.left v.ended) (sym s.2) (h.stands.line.over closed (ap (λ (v : InView). v.state) (sym s.2) ∙ live))) s.0).0 s.1
     by_end (inr u) =
         let alive = was_alive was now a.came a.gave a.ends.0 in
         let open_now = open_is tap.line.reader.ending u.0 (λ died. alive (h.stands.line.ending.died died)) in
@@ -314,7 +314,7 @@ turns_end Unfinished own first was now t tap old new h few last none a = by_end 
     by_end (inl s) =
         let closed : tap.line.reader.ending ≢ Open = λ e. let f : Seen ≡ Open = sym s.0 ∙ e in absurd (cc) in
         let gave = subst (λ xs. Gave first xs now) (ap (λ xs. h.taken ++ xs) s.2 ∙ append-nil h.taken) (gave_twice first was now h.taken a.came h.stands.line.gave a.gave) in
-        (seen_ends own first now h.taken tap.line old new all gave a.ends.0 (λ live. subst (λ (v : InView). HasEnded v.left) (sym s.3) (h.stands.line.over closed (ap (λ (v : InView). v.state) (sym s.3) ∙ live))) s.0).1 s.1
+        (seen_ends own first now h.taken tap.line old new all gave a.ends.0 (λ live. subst (λ (v : InView). HasEnded v.left v.ended) (sym s.3) (h.stands.line.over closed (ap (λ (v : InView). v.state) (sym s.3) ∙ live))) s.0).1 s.1
     by_end (inr u) =
         let alive = was_alive was now a.came a.gave a.ends.0 in
         let open_now = open_is tap.line.reader.ending u.0 (λ died. alive (h.stands.line.ending.died died)) in

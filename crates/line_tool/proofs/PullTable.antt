@@ -18,16 +18,16 @@ use Rattle.line_tool.specs.declared.status.Status.TheVariants as status
 use Rattle.line_tool.proofs.Lives.{still_alive}
 
 -- nothing is beyond the bytes taken of a line that has ended or is not live
-none_beyond : (s : State) (left : Option (List ℕ)) (rest : List ℕ) → (s ≡ Live → HasEnded left) → (s ≡ Live → left ≡ Some rest) → (s ≢ Live → rest ≡ []) → rest ≡ []
-none_beyond Live left rest ended live other = let h : IfSome (Some rest) (λ bytes. bytes ≡ []) = subst (λ l. IfSome l (λ bytes. bytes ≡ [])) (live refl) (ended refl) in h
-none_beyond Empty left rest ended live other = other (λ e. cc)
-none_beyond Dead left rest ended live other = other (λ e. cc)
+none_beyond : (s : State) (left : Option (List ℕ)) (answered : Bool) (rest : List ℕ) → (s ≡ Live → HasEnded left answered) → (s ≡ Live → left ≡ Some rest) → (s ≢ Live → rest ≡ []) → rest ≡ []
+none_beyond Live left answered rest ended live other = let h : IfSome (Some rest) (λ bytes. bytes ≡ []) = subst (λ l. IfSome l (λ bytes. bytes ≡ [])) (live refl) (ended refl).nothing in h
+none_beyond Empty left answered rest ended live other = other (λ e. cc)
+none_beyond Dead left answered rest ended live other = other (λ e. cc)
 
 -- what Given has beyond the bytes taken may follow them
-beyond_follows : (more : Bool) (taken given : List ℕ) (s : State) (left : Option (List ℕ)) → (more ≡ false → s ≡ Live → HasEnded left)
+beyond_follows : (more : Bool) (taken given : List ℕ) (s : State) (left : Option (List ℕ)) (answered : Bool) → (more ≡ false → s ≡ Live → HasEnded left answered)
     → (b : Beyond taken given s left) → MayFollow more b.rest
-beyond_follows true taken given s left over b = tt
-beyond_follows false taken given s left over b = none_beyond s left b.rest (over refl) b.live b.other
+beyond_follows true taken given s left answered over b = tt
+beyond_follows false taken given s left answered over b = none_beyond s left answered b.rest (over refl) b.live b.other
 
 -- Given is what was taken, and bytes that may follow it
 record Followed (more : Bool) (taken given : List ℕ) : Type 0 where
@@ -46,7 +46,7 @@ followed : (own : Tributary) (old new : Device) (answer : Status) (given : List 
     → IsGiven (line_zero old) (line_zero new) given → Followed h.more h.taken given
 followed own old new answer given h is =
     let b = given_of_gave (line_zero old) (line_zero new) h.taken given h.gave is in
-    record { rest = b.rest; parts = b.parts; follows = beyond_follows h.more h.taken given (line_zero new).state (line_zero new).left h.over b }
+    record { rest = b.rest; parts = b.parts; follows = beyond_follows h.more h.taken given (line_zero new).state (line_zero new).left (line_zero new).ended h.over b }
 
 -- ---- what `pull` answers for
 

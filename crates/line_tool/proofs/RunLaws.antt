@@ -20,19 +20,19 @@ use Rattle.line_tool.proofs.PlanChecks.{same_plan}
 
 pub run_told : (reply : Status) (text : List ℕ) (old new : Device) (asked now : ℕ) → RunAnswers old new asked now reply → old.plan.left ≡ Some text → TextRan reply text old new asked now
 run_told status.Done text old new asked now h told =
-    let e = same_plan text h.text new.plan.left (sym told ∙ h.read) h.all in
+    let e = same_plan text h.text new.plan (sym told ∙ h.read) h.all in
     (h.ran.0, sym e ∙ h.ran.1, h.ran.2)
 run_told status.Unfinished text old new asked now h told =
-    let e = same_plan text h.text new.plan.left (sym told ∙ h.read) h.all in
+    let e = same_plan text h.text new.plan (sym told ∙ h.read) h.all in
     (h.ran.0, sym e ∙ h.ran.1, h.ran.2)
 run_told status.Cut text old new asked now h told =
-    let e = same_plan text h.text new.plan.left (sym told ∙ h.read) h.all in
+    let e = same_plan text h.text new.plan (sym told ∙ h.read) h.all in
     (h.ran.0, sym e ∙ h.ran.1, h.ran.2)
 run_told status.ReportFault text old new asked now h told =
-    let e = same_plan text h.text new.plan.left (sym told ∙ h.read) h.all in
+    let e = same_plan text h.text new.plan (sym told ∙ h.read) h.all in
     (h.ran.0, sym e ∙ h.ran.1, h.ran.2)
 run_told (status.Plan error place) text old new asked now h told =
-    let e = same_plan text h.text new.plan.left (sym told ∙ h.read) h.all in
+    let e = same_plan text h.text new.plan (sym told ∙ h.read) h.all in
     sym e ∙ h.ran
 run_told status.PlanFault text old new asked now h told = tt
 run_told status.Memory text old new asked now h told = tt

@@ -81,14 +81,14 @@ part_of_more slot bytes more old new h =
     }
 
 -- an ended line has nothing beyond what was taken
-ended_given : (s : State) (left : Option (List ℕ)) (rest : List ℕ) → (s ≡ Live → left ≡ Some rest) → (s ≢ Live → rest ≡ []) → HasEnded left → rest ≡ []
-ended_given Live left rest live other ended = let h : IfSome (Some rest) (λ bytes. bytes ≡ []) = subst (λ l. IfSome l (λ bytes. bytes ≡ [])) (live refl) ended in h
-ended_given Empty left rest live other ended = other (λ e. cc)
-ended_given Dead left rest live other ended = other (λ e. cc)
+ended_given : (s : State) (left : Option (List ℕ)) (answered : Bool) (rest : List ℕ) → (s ≡ Live → left ≡ Some rest) → (s ≢ Live → rest ≡ []) → HasEnded left answered → rest ≡ []
+ended_given Live left answered rest live other ended = let h : IfSome (Some rest) (λ bytes. bytes ≡ []) = subst (λ l. IfSome l (λ bytes. bytes ≡ [])) (live refl) ended.nothing in h
+ended_given Empty left answered rest live other ended = other (λ e. cc)
+ended_given Dead left answered rest live other ended = other (λ e. cc)
 
-all_given : (first now : InView) (taken given : List ℕ) → Beyond taken given now.state now.left → HasEnded now.left → given ≡ taken
+all_given : (first now : InView) (taken given : List ℕ) → Beyond taken given now.state now.left → HasEnded now.left now.ended → given ≡ taken
 all_given first now taken given h ended =
-    h.parts ∙ ap (λ xs. taken ++ xs) (ended_given now.state now.left h.rest h.live h.other ended) ∙ append-nil taken
+    h.parts ∙ ap (λ xs. taken ++ xs) (ended_given now.state now.left now.ended h.rest h.live h.other ended) ∙ append-nil taken
 
 dead_given : (first now : InView) (taken given : List ℕ) → Beyond taken given now.state now.left → now.state ≡ Dead → given ≡ taken
 dead_given first now taken given h dead =
@@ -157,7 +157,7 @@ pub all_or_most : (slot : ℕ) (old new : Device) (answer : Status) (given : Lis
     → Beyond h.taken given (line_zero new).state (line_zero new).left → IsAllOrMost h.taken given
 all_or_most slot old new answer given h other b = by_life (is_dead (line_zero new).state)
   where
-    by_end : HasEnded (line_zero new).left ⊎ (length h.taken ≡ 131072 * 16320 + 1) → IsAllOrMost h.taken given
+    by_end : HasEnded (line_zero new).left (line_zero new).ended ⊎ (length h.taken ≡ 131072 * 16320 + 1) → IsAllOrMost h.taken given
     by_end (inl ended) = inl (all_given (line_zero old) (line_zero new) h.taken given b ended)
     by_end (inr many) = inr many
 

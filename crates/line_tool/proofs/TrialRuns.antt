@@ -61,9 +61,9 @@ known_client run c h =
 
 -- ---- an input in memory
 
-told_all : (given taken : List ℕ) (more : Bool) (l : Option (List ℕ)) → Some given ≡ before taken l → (more ≡ false → HasEnded l) → MayFollow more taken given
-told_all given taken more None e over = absurd (cc)
-told_all given taken more (Some rest) e over = record { rest = rest; over = over; parts = (let same : given ≡ taken ++ rest = cc in same) }
+told_all : (given taken : List ℕ) (more : Bool) (l : Option (List ℕ)) (ended : Bool) → Some given ≡ before taken l → (more ≡ false → HasEnded l ended) → MayFollow more taken given
+told_all given taken more None ended e over = absurd (cc)
+told_all given taken more (Some rest) ended e over = record { rest = rest; over = λ m. (over m).nothing; parts = (let same : given ≡ taken ++ rest = cc in same) }
 
 lives_on : (first now : State) (a b : ℕ) → first ≡ Live → a ≡ 0 → b ≡ 0 → Lives first now a b → now ≡ Live
 lives_on first now a b live none well (inl same) = same.0 ∙ live
@@ -83,7 +83,7 @@ kept given taken more first last is well left =
     let lives = lives_on first.state last.state first.faults last.faults (ap (λ (v : InView). v.state) is) (ap (λ (v : InView). v.faults) is) well state in
     record {
       lives = lives;
-      follow = told_all given taken more last.left (sym (ap (λ (v : InView). v.left) is) ∙ told) (λ no. left.over no lives);
+      follow = told_all given taken more last.left last.ended (sym (ap (λ (v : InView). v.left) is) ∙ told) (λ no. left.over no lives);
     }
 
 -- ---- an output in memory

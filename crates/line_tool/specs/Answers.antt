@@ -49,7 +49,7 @@ pub record SlotRan (slot : ℕ) (old new : Device) (status : Status) : Type 0 wh
   -- all that there is was taken, but of 131,072 frames and one byte more at most; of a line that tells nothing this says nothing of
   -- an early end
   pub most : length taken ≤ most_taken
-  pub all : status ≢ ReportFault → (line_zero new).state ≢ Dead → HasEnded (line_zero new).left ⊎ (length taken ≡ most_taken)
+  pub all : status ≢ ReportFault → (line_zero new).state ≢ Dead → HasEnded (line_zero new).left (line_zero new).ended ⊎ (length taken ≡ most_taken)
 
 -- ---- `pull PORT K,K`: what the sink of a tributary on line input 0 emits, turn by turn
 
@@ -60,7 +60,7 @@ pub record PullRan (own : Tributary) (old new : Device) (status : Status) : Type
   pub taken : List ℕ
   pub gave : Gave (line_zero old) taken (line_zero new)
   pub more : Bool
-  pub over : more ≡ false → (line_zero new).state ≡ Live → HasEnded (line_zero new).left
+  pub over : more ≡ false → (line_zero new).state ≡ Live → HasEnded (line_zero new).left (line_zero new).ended
   -- what they give was written, whole, or a part of it from the front where a write failed
   pub wrote : (rest : List ℕ) → MayFollow more rest → Reports status old.report.got new.report.got (pull_report own (taken ++ rest))
   -- Cut is the answer where the line is dead, and Unfinished where it is not, and bytes stand behind the frames that the turns

@@ -9,7 +9,7 @@ use Rattle.line_tool.specs.declared.ended.Ended.TheVariants.{Done, Unfinished, R
 -- the answer to one byte more
 abbrev pub ByteEnds : Ended → (taken : List ℕ) → (first now : InView) → Type 0
 ByteEnds Unfinished taken first now = (length taken ≡ 1) × (now.state ≡ first.state)
-ByteEnds Done taken first now = (taken ≡ []) × (now.state ≡ first.state) × HasEnded now.left
+ByteEnds Done taken first now = (taken ≡ []) × (now.state ≡ first.state) × HasEnded now.left now.ended
 ByteEnds Cut taken first now = (taken ≡ []) × (now.state ≡ Dead)
 ByteEnds ReportFault taken first now = ⊥
 

@@ -32,14 +32,14 @@ CheckEnds status.PlanFault text old new = new ≡ old
 CheckEnds other text old new = ⊥
 
 -- all of a source came, or 1,048,577 bytes: one more than the longest plan has
-abbrev pub IsAll : List ℕ → Option (List ℕ) → Type 0
-IsAll text left = HasEnded left ⊎ (length text ≡ 1048577)
+abbrev pub IsAll : List ℕ → SourceView → Type 0
+IsAll text source = HasEnded source.left source.ended ⊎ (length text ≡ 1048577)
 
 -- what was read before an answer: all; a part of what would be all, where a read failed; all or nothing, where there was no memory
-abbrev pub WasRead : Status → List ℕ → Option (List ℕ) → Type 0
-WasRead status.PlanFault text left = length text < 1048577
-WasRead status.Memory text left = (text ≡ []) ⊎ IsAll text left
-WasRead other text left = IsAll text left
+abbrev pub WasRead : Status → List ℕ → SourceView → Type 0
+WasRead status.PlanFault text source = length text < 1048577
+WasRead status.Memory text source = (text ≡ []) ⊎ IsAll text source
+WasRead other text source = IsAll text source
 
 -- a port's count of faults rose or stands at its end where this is the answer, and else it is as it was
 pub record CountsBy (failure answer : Status) (old new : ℕ) : Type 0 where
@@ -52,7 +52,7 @@ pub record CheckRun (plan_old plan_new : SourceView) (old new : SinkView) (answe
   pub text : List ℕ
   pub read : plan_old.left ≡ before text plan_new.left
   pub most : length text ≤ 1048577
-  pub all : WasRead answer text plan_new.left
+  pub all : WasRead answer text plan_new
   -- and answered for
   pub ends : CheckEnds answer text old.got new.got
   pub plan : SourceLater plan_old plan_new

@@ -30,7 +30,7 @@ pub record PlanReading (result : Result Planned NoMemory) (old new : SourceView)
   pub text : List ℕ
   pub read : old.left ≡ before text new.left
   pub most : length text ≤ 1048577
-  pub all : WasRead (reading_status result) text new.left
+  pub all : WasRead (reading_status result) text new
   pub says : SaysOf result text
   pub later : SourceLater old new
   pub counts : CountsBy status.PlanFault (reading_status result) old.faults new.faults

@@ -49,7 +49,7 @@ pub record PullRun (own : Tributary) (first now : InView) (old new : Option (Lis
   pub taken : List ℕ
   pub gave : Gave first taken now
   pub more : Bool
-  pub over : more ≡ false → now.state ≡ Live → HasEnded now.left
+  pub over : more ≡ false → now.state ≡ Live → HasEnded now.left now.ended
   pub report : (rest : List ℕ) → MayFollow more rest → Reports (line_status (Ok ended)) old new (pull_report own (taken ++ rest))
   pub ends : PullEnds ended more taken now
   pub took : ended ≢ ReportFault → (rest : List ℕ) → MayFollow more rest → length taken ≡ bytes_taken (taken ++ rest)
@@ -70,7 +70,7 @@ pub record TurnRun (own : Tributary) (first now : InView) (taken : List ℕ) (t 
 -- how the command ends after the last turn: by the rest where the end was seen, else by one byte more
 abbrev pub AnswerEnds : Ended → (line : LineView) → (came : List ℕ) → (was now : InView) → Type 0
 AnswerEnds Done line came was now =
-    (now.state ≢ Dead) × (came ≡ []) × (((line.reader.ending ≡ Seen) × (line.reader.rest ≡ 0) × (now ≡ was)) ⊎ ((line.reader.ending ≢ Seen) × HasEnded now.left))
+    (now.state ≢ Dead) × (came ≡ []) × (((line.reader.ending ≡ Seen) × (line.reader.rest ≡ 0) × (now ≡ was)) ⊎ ((line.reader.ending ≢ Seen) × HasEnded now.left now.ended))
 AnswerEnds Unfinished line came was now =
     (now.state ≢ Dead) × (((line.reader.ending ≡ Seen) × (0 < line.reader.rest) × (came ≡ []) × (now ≡ was)) ⊎ ((line.reader.ending ≢ Seen) × (length came ≡ 1)))
 AnswerEnds Cut line came was now = (now.state ≡ Dead) × (came ≡ [])

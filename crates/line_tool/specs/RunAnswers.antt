@@ -53,7 +53,7 @@ pub record RunAnswers (old new : Device) (asked asked_now : ℕ) (reply : Status
   pub text : List ℕ
   pub read : old.plan.left ≡ before text new.plan.left
   pub most : length text ≤ 1048577
-  pub all : WasRead reply text new.plan.left
+  pub all : WasRead reply text new.plan
   -- and answered for
   pub ran : TextRan reply text old new asked asked_now
   -- each of the two counts of faults rose or stands at its end exactly with its own answer, and else is as it was

@@ -23,11 +23,11 @@ pub record StoppedInFrame (slot : ℕ) (given : List ℕ) (count : ℕ) (old new
 -- the answer of a command that took these bytes of its line, of the most frames and one byte more at most
 abbrev pub SlotEnds : Ended → (slot : ℕ) → (taken : List ℕ) → (first now : InView) → (old new : Option (List ℕ)) → Type 0
 SlotEnds Done slot taken first now old new =
-    (new ≡ after old (slot_report slot taken)) × (now.state ≢ Dead) × HasEnded now.left × (length taken ≡ whole_frames_used (length taken) * LINE_FRAME_BYTES)
+    (new ≡ after old (slot_report slot taken)) × (now.state ≢ Dead) × HasEnded now.left now.ended × (length taken ≡ whole_frames_used (length taken) * LINE_FRAME_BYTES)
     × (length taken ≤ most_taken)
 SlotEnds Unfinished slot taken first now old new =
     (new ≡ after old (slot_report slot taken)) × (now.state ≢ Dead) × (whole_frames_used (length taken) * LINE_FRAME_BYTES < length taken)
-    × (HasEnded now.left ⊎ (length taken ≡ most_taken)) × (length taken ≤ most_taken)
+    × (HasEnded now.left now.ended ⊎ (length taken ≡ most_taken)) × (length taken ≤ most_taken)
 SlotEnds Cut slot taken first now old new = (new ≡ after old (slot_report slot taken)) × (now.state ≡ Dead) × (length taken ≤ most_taken)
 SlotEnds ReportFault slot taken first now old new = StoppedInFrame slot taken (length taken) old new × (now.state ≡ first.state) × (length taken ≤ most_taken)
 
@@ -42,9 +42,9 @@ abbrev pub StepEnds : Option Ended → (slot : ℕ) → (taken : List ℕ) → (
 StepEnds None slot taken first now old new = (length taken ≡ LINE_FRAME_BYTES) × (now.state ≡ first.state) × (new ≡ after old (slot_bytes slot taken))
 StepEnds (Some ReportFault) slot taken first now old new =
     (length taken ≡ LINE_FRAME_BYTES) × (now.state ≡ first.state) × GainsPart old new (slot_bytes slot taken)
-StepEnds (Some Done) slot taken first now old new = (taken ≡ []) × (now.state ≡ first.state) × HasEnded now.left × (new ≡ old)
+StepEnds (Some Done) slot taken first now old new = (taken ≡ []) × (now.state ≡ first.state) × HasEnded now.left now.ended × (new ≡ old)
 StepEnds (Some Unfinished) slot taken first now old new =
-    (0 < length taken) × (length taken < LINE_FRAME_BYTES) × (now.state ≡ first.state) × HasEnded now.left × (new ≡ old)
+    (0 < length taken) × (length taken < LINE_FRAME_BYTES) × (now.state ≡ first.state) × HasEnded now.left now.ended × (new ≡ old)
 StepEnds (Some Cut) slot taken first now old new = (length taken < LINE_FRAME_BYTES) × (now.state ≡ Dead) × (new ≡ old)
 
 pub record SlotStep (slot : ℕ) (first now : InView) (old new : Option (List ℕ)) (answer : Option Ended) : Type 0 where

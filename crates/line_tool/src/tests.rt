@@ -39,10 +39,13 @@ impl FailsAt {
 
 impl Source for FailsAt {
     ghost use Rattle.std.specs.Prelude.{None};
+    ghost use Rattle.otn_ports.specs.Memory.{memory_ended};
 
     ghost left = { λ _. None };
 
     ghost faults = { λ s. s.failed };
+
+    ghost ended = { λ s. memory_ended s.inner };
 
     fn read(&mut self, into: &mut [u8]) -> Result<usize, Failed> {
         self.calls = self.calls.saturating_add(1);

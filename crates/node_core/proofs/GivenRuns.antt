@@ -62,16 +62,16 @@ died_follows more taken given first now took left =
     record { rest = []; over = λ e. refl; parts = append_cancel_right given taken took.rest (parts_of (given ++ took.rest) (taken ++ took.rest) e) ∙ sym (append-nil taken) }
 
 -- of one that is live what was taken and what is left
-live_follows : (more : Bool) (taken given : List ℕ) (first now : Option (List ℕ)) → first ≡ Some given → first ≡ before taken now → (more ≡ false → HasEnded now) → MayFollow more taken given
-live_follows more taken given first None told left ended = absurd (cc)
-live_follows more taken given first (Some rest) told left ended =
-    record { rest = rest; over = ended; parts = parts_of given (taken ++ rest) (sym told ∙ left) }
+live_follows : (more : Bool) (taken given : List ℕ) (first now : Option (List ℕ)) (answered : Bool) → first ≡ Some given → first ≡ before taken now → (more ≡ false → HasEnded now answered) → MayFollow more taken given
+live_follows more taken given first None answered told left ended = absurd (cc)
+live_follows more taken given first (Some rest) answered told left ended =
+    record { rest = rest; over = λ m. (ended m).nothing; parts = parts_of given (taken ++ rest) (sym told ∙ left) }
 
 -- a place that was in this state, and is in that
 follows_by : (first last : InView) (taken : List ℕ) (more : Bool) (given : List ℕ) (was is : State) → first.state ≡ was → last.state ≡ is → InputLeft first last taken more
     → given_between was is first.left last.left given → MayFollow more taken given
 follows_by first last taken more given Live Dead f l left told = died_follows more taken given first.left last.left told left.gave.takes.left
-follows_by first last taken more given Live Live f l left told = live_follows more taken given first.left last.left told left.gave.takes.left (λ m. left.over m l)
+follows_by first last taken more given Live Live f l left told = live_follows more taken given first.left last.left last.ended told left.gave.takes.left (λ m. left.over m l)
 follows_by first last taken more given Live Empty f l left told = elim left.gave.state [ inl t ↦ absurd (cc (t.0, f, l)) | inr t ↦ absurd (cc (t.1, l)) ]
 follows_by first last taken more given Empty is f l left told = none_follows more taken given (left.gave.idle (λ e. cc)).1 told
 follows_by first last taken more given Dead is f l left told = none_follows more taken given (left.gave.idle (λ e. cc)).1 told

@@ -146,12 +146,12 @@ line_left form first was is taken came t line h asked = record {
   over = λ none live. by_ending line.reader.ending refl none live;
 }
   where
-    by_closed : (e : Ending) → line.reader.ending ≡ e → e ≢ Open → is.state ≡ Live → HasEnded is.left
+    by_closed : (e : Ending) → line.reader.ending ≡ e → e ≢ Open → is.state ≡ Live → HasEnded is.left is.ended
     by_closed e at closed live =
         let same = (ended_asked form first was is taken came t line h asked e at closed).0 in
-        subst (λ (v : InView). HasEnded v.left) (sym same) (h.over (λ o. closed (sym at ∙ o)) (sym (ap (λ (v : InView). v.state) same) ∙ live))
+        subst (λ (v : InView). HasEnded v.left v.ended) (sym same) (h.over (λ o. closed (sym at ∙ o)) (sym (ap (λ (v : InView). v.state) same) ∙ live))
 
-    by_ending : (e : Ending) → line.reader.ending ≡ e → has_come came ≡ false → is.state ≡ Live → HasEnded is.left
+    by_ending : (e : Ending) → line.reader.ending ≡ e → has_come came ≡ false → is.state ≡ Live → HasEnded is.left is.ended
     by_ending Open e none live = asked.over (ap (λ d. not (is_seen d)) e) none live
     by_ending Seen e none live = by_closed Seen e (λ o. cc) live
     by_ending Died e none live = by_closed Died e (λ o. cc) live

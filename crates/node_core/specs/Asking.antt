@@ -33,7 +33,7 @@ pub record ByteAsked (asks : Bool) (was is : InView) (came : List ℕ) : Type 0 
   pub quiet : asks ≡ false → (is ≡ was) × (came ≡ [])
   pub most : length came ≤ 1
   pub lives : has_come came ≡ true → is.state ≡ Live
-  pub over : asks ≡ true → has_come came ≡ false → is.state ≡ Live → HasEnded is.left
+  pub over : asks ≡ true → has_come came ≡ false → is.state ≡ Live → HasEnded is.left is.ended
 
 -- and this says whether it came
 pub record ByteAnswer (asks : Bool) (was is : InView) (answer : Bool) : Type 0 where

@@ -51,7 +51,7 @@ pub record MayBeInputs (plan : Plan) (first last : BaysView) (takings : Takings)
 pub record InputLeft (first last : InView) (taken : List ℕ) (more : Bool) : Type 0 where
   pub gave : Gave first taken last
   pub live : more ≡ true → last.state ≡ Live
-  pub over : more ≡ false → last.state ≡ Live → HasEnded last.left
+  pub over : more ≡ false → last.state ≡ Live → HasEnded last.left last.ended
 
 -- the place of a client, which was emptied at the end where it was live and its connection retires
 pub record ClientInLeft (retires : Bool) (first last : InView) (taken : List ℕ) (more : Bool) : Type 0 where

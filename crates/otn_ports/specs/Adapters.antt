@@ -16,6 +16,10 @@ has_reader source = is_some source.reader
 abbrev pub reader_faults : {R : Type 0} → ReaderSource R → ℕ
 reader_faults source = source.failed
 
+-- whether its reader has answered that it ended
+abbrev pub reader_ended : {R : Type 0} → ReaderSource R → Bool
+reader_ended source = source.ended
+
 -- the bytes that its reader has yet
 abbrev pub reader_bytes : {R : Type 0} → (R → Option (List ℕ)) → ReaderSource R → Option (List ℕ)
 reader_bytes remaining source = told_by remaining source.reader

@@ -1,6 +1,6 @@
 -- Ports in memory that fail at listed calls.
 use Rattle.std.specs.Prelude.{◌≡◌, ℕ, Bool, true, false, ◌||◌, nat_eq, min, List, [], ◌∷◌, length, Result, Ok, IsErr}
-use Rattle.otn_ports.specs.Memory.{memory_left, memory_got, memory_room, TakesWhatFits}
+use Rattle.otn_ports.specs.Memory.{memory_left, memory_ended, memory_got, memory_room, TakesWhatFits}
 use Rattle.otn_ports.specs.declared.listed_calls.ListedCalls.{ListedCalls}
 use Rattle.otn_ports.specs.declared.listed_sink.ListedSink.{ListedSink}
 use Rattle.otn_ports.specs.declared.listed_source.ListedSource.{ListedSource}
@@ -22,6 +22,10 @@ calls_failing calls = calls.failing.items
 -- the bytes still to come of a source
 abbrev pub listed_left : ListedSource → List ℕ
 listed_left source = memory_left source.source
+
+-- whether it has answered that it ended
+abbrev pub listed_ended : ListedSource → Bool
+listed_ended source = memory_ended source.source
 
 -- how many reads were made
 abbrev pub read_calls : ListedSource → ℕ

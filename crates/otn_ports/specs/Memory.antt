@@ -1,5 +1,5 @@
 -- What is seen of the ports in memory.
-use Rattle.std.specs.Prelude.{◌≡◌, ◌<◌, ◌↔◌, ◌-◌, min, ℕ, List, length, drop, take, Result, IfOk, IsErr, vec_len}
+use Rattle.std.specs.Prelude.{◌≡◌, ◌<◌, ◌↔◌, ◌-◌, min, ℕ, Bool, List, length, drop, take, Result, IfOk, IsErr, vec_len}
 use Rattle.otn_ports.specs.Bytes.{sent}
 use Rattle.otn_ports.specs.declared.source.Failed.{Failed}
 use Rattle.otn_ports.specs.declared.mem_source.MemSource.{MemSource}
@@ -8,6 +8,10 @@ use Rattle.otn_ports.specs.declared.mem_sink.MemSink.{MemSink}
 -- the bytes still to come
 abbrev pub memory_left : MemSource → List ℕ
 memory_left m = drop m.at m.bytes.items
+
+-- whether it has answered that it ended
+abbrev pub memory_ended : MemSource → Bool
+memory_ended m = m.ended
 
 -- the bytes taken so far
 abbrev pub memory_got : MemSink → List ℕ

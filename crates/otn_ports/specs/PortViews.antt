@@ -8,15 +8,17 @@ use Rattle.otn_ports.specs.declared.drain.Written.TheVariants as written
 use Rattle.otn_ports.specs.declared.in_place.Reading.{Reading}
 use Rattle.otn_ports.specs.declared.in_place.Reading.TheVariants as reading
 
--- a source: whether it is behind a box, the bytes still to come where it tells them, and its count of faults
+-- a source: whether it is behind a box, the bytes still to come where it tells them, whether it has answered that it ended, and
+-- its count of faults
 pub record SourceView : Type 0 where
   pub boxed : Bool
   pub left : Option (List ℕ)
+  pub ended : Bool
   pub faults : ℕ
 
 -- what is seen of a source
 abbrev pub source_view : {P : Type 0} → source.Ghosts P → P → SourceView
-source_view source port = record { boxed = source.boxed port; left = source.left port; faults = source.faults port }
+source_view source port = record { boxed = source.boxed port; left = source.left port; ended = source.ended port; faults = source.faults port }
 
 -- a sink: whether it is behind a box, the bytes that it got where it tells them, whether it gives them back, and its
 -- count of faults

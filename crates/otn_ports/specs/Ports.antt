@@ -2,7 +2,7 @@
 use Rattle.std.specs.Prelude.{ℕ, List, [], Option, Some, Bool, true, false}
 use Rattle.std.specs.declared.alloc.Global.{Global}
 use Rattle.std.specs.declared.dyn_box.DynBox.{DynBox}
-use Rattle.otn_ports.specs.Memory.{memory_left, memory_got, memory_room, memory_faults}
+use Rattle.otn_ports.specs.Memory.{memory_left, memory_ended, memory_got, memory_room, memory_faults}
 use Rattle.otn_ports.specs.declared.in_port.InPort.{InPort}
 use Rattle.otn_ports.specs.declared.in_port.InPort.TheVariants as input
 use Rattle.otn_ports.specs.declared.out_port.OutPort.{OutPort}
@@ -12,6 +12,11 @@ use Rattle.otn_ports.specs.declared.out_port.OutPort.TheVariants as output
 abbrev pub in_left : {X : Type 0} {F : X → Type 0} → (DynBox X Global F → Option (List ℕ)) → InPort X F → Option (List ℕ)
 in_left left (input.Boxed b) = left b
 in_left left (input.Held m) = Some (memory_left m)
+
+-- whether what an input port holds has answered that it ended
+abbrev pub in_ended : {X : Type 0} {F : X → Type 0} → (DynBox X Global F → Bool) → InPort X F → Bool
+in_ended ended (input.Boxed b) = ended b
+in_ended ended (input.Held m) = memory_ended m
 
 -- the bytes still to come of a port in memory
 abbrev pub held_left : {X : Type 0} {F : X → Type 0} → InPort X F → List ℕ

@@ -1,7 +1,8 @@
 -- What the answer of a place for an input says.
-use Rattle.std.specs.Prelude.{◌≡◌, ◌<◌, ◌≤◌, ℕ, zero, suc, List, [], length, take, Option, IfSome}
+use Rattle.std.specs.Prelude.{◌≡◌, ◌<◌, ◌≤◌, ◌||◌, ◌&&◌, ℕ, zero, suc, nat_eq, nat_lt, Bool, true, false, List, [], length, take, Option, IfSome, Result, Ok, Err}
 use Rattle.otn_ports.specs.Bytes.{before, HasFailed, raised}
 use Rattle.otn_ports.specs.Views.{State, Live, Dead, InView}
+use Rattle.otn_ports.specs.declared.source.Failed.{Failed}
 use Rattle.otn_ports.specs.declared.in_place.Reading.{Reading}
 use Rattle.otn_ports.specs.declared.in_place.Reading.TheVariants.{Full, End, Lost}
 
@@ -12,15 +13,25 @@ pub record Takes (old : InView) (bytes : List ℕ) (new : InView) : Type 0 where
   pub faults : old.faults ≤ new.faults
   pub number : new.number ≡ raised old.number (length bytes)
 
--- how a source has ended: nothing is left, where it tells what is left
-abbrev pub HasEnded : Option (List ℕ) → Type 0
-HasEnded left = IfSome left (λ bytes. bytes ≡ [])
+-- whether a read into so much room answered that the source has ended: no byte came, and there was room
+abbrev pub is_end : ℕ → Result ℕ Failed → Bool
+is_end room (Ok n) = nat_eq n 0 && nat_lt 0 room
+is_end room (Err e) = false
+
+-- whether a source has answered that it ended, after a read into so much room
+abbrev pub ended_after : ℕ → Result ℕ Failed → Bool → Bool
+ended_after room result ended = ended || is_end room result
+
+-- a source has ended: it has answered so, and nothing is left, where it tells what is left
+pub record HasEnded (left : Option (List ℕ)) (ended : Bool) : Type 0 where
+  pub answered : ended ≡ true
+  pub nothing : IfSome left (λ bytes. bytes ≡ [])
 
 -- what the answer of a live place says, with the slice as it was left: its port's count of faults rose or stands at its end where the read
 -- is lost, and else it is as it was
 abbrev pub Reads : Reading → InView → List ℕ → InView → Type 0
 Reads Full old into new = Takes old into new × (new.faults ≡ old.faults)
-Reads (End n) old into new = (n < length into) × Takes old (take n into) new × HasEnded new.left × (new.faults ≡ old.faults)
+Reads (End n) old into new = (n < length into) × Takes old (take n into) new × HasEnded new.left new.ended × (new.faults ≡ old.faults)
 Reads Lost old into new = (n : ℕ) × (n < length into) × Takes old (take n into) new × HasFailed old.faults new.faults
 
 -- a live place dies exactly where a read is lost
@@ -34,7 +45,7 @@ idle_reading zero = Full
 idle_reading (suc n) = End 0
 
 -- what so many bytes that came into so much room make of an answer
-abbrev pub IsReading : Reading → ℕ → ℕ → Option (List ℕ) → Type 0
-IsReading Full came room left = came ≡ room
-IsReading (End n) came room left = (n ≡ came) × (came < room) × HasEnded left
-IsReading Lost came room left = came < room
+abbrev pub IsReading : Reading → ℕ → ℕ → Option (List ℕ) → Bool → Type 0
+IsReading Full came room left ended = came ≡ room
+IsReading (End n) came room left ended = (n ≡ came) × (came < room) × HasEnded left ended
+IsReading Lost came room left ended = came < room

@@ -1,5 +1,5 @@
 -- What is seen of a place, and of all places.
-use Rattle.std.specs.Prelude.{ℕ, Bool, false, List, [], Option, Some, get_or}
+use Rattle.std.specs.Prelude.{ℕ, Bool, true, false, List, [], Option, Some, get_or}
 
 -- how a place stands
 pub data State : Type 0 where
@@ -8,11 +8,13 @@ pub data State : Type 0 where
   Dead : State
 
 -- a place for an input: how it stands, whether its port is behind a box, the bytes still to come
--- where its port tells them, its port's count of faults, and the place's number of bytes taken
+-- where its port tells them, whether its port has answered that it ended, its port's count of faults, and
+-- the place's number of bytes taken
 pub record InView : Type 0 where
   pub state : State
   pub boxed : Bool
   pub left : Option (List ℕ)
+  pub ended : Bool
   pub faults : ℕ
   pub number : ℕ
 
@@ -27,9 +29,9 @@ pub record OutView : Type 0 where
   pub faults : ℕ
   pub number : ℕ
 
--- a place for an input with no port
+-- a place for an input with no port: it acts as one whose port has ended
 abbrev pub no_input : InView
-no_input = record { state = Empty; boxed = false; left = Some []; faults = 0; number = 0 }
+no_input = record { state = Empty; boxed = false; left = Some []; ended = true; faults = 0; number = 0 }
 
 -- a place for an output with no port
 abbrev pub no_output : OutView

@@ -14,7 +14,7 @@ pub fn read_whole<S: Source>(source: &mut S, into: &mut [u8]) -> (Reading, usize
     ensures port { SourceReads result.0 (source_view S.Source source.old) (take result.1 into.new) (source_view S.Source source.new) }
     ensures within { result.1 ≤ length into.old }
     ensures bytes { S.left source.old ≡ before (take result.1 into.new) (S.left source.new) }
-    ensures reading { IsReading result.0 result.1 (length into.old) (S.left source.new) }
+    ensures reading { IsReading result.0 result.1 (length into.old) (S.left source.new) (S.ended source.new) }
     ensures later { S.faults source.old ≤ S.faults source.new }
     ensures cause { result.0 ≡ Reading.Lost → HasFailed (S.faults source.old) (S.faults source.new) }
     ensures well { result.0 ≢ Reading.Lost → S.faults source.new ≡ S.faults source.old }

@@ -1,8 +1,8 @@
 // A source behind a box, or one in memory.
 ghost use Rattle.std.specs.Prelude.{◌≡◌, ◌<◌, ◌≤◌, Ok, false, IfOk, OnOk, OnErr, length, min};
 ghost use Rattle.otn_ports.specs.Bytes.{before, taken, HasFailed};
-ghost use Rattle.otn_ports.specs.Ports.{in_left, in_faults, is_in_boxed, held_left};
-ghost use Rattle.otn_ports.specs.Reads.{HasEnded};
+ghost use Rattle.otn_ports.specs.Ports.{in_left, in_ended, in_faults, is_in_boxed, held_left};
+ghost use Rattle.otn_ports.specs.Reads.{HasEnded, ended_after};
 
 use crate::{Failed, MemSource, Source};
 
@@ -18,12 +18,15 @@ impl Source for InPort {
 
     ghost faults = { in_faults (λ b. (Source-box b).faults b.value) };
 
+    ghost ended = { in_ended (λ b. (Source-box b).ended b.value) };
+
     ghost boxed = { is_in_boxed };
 
     fn read(&mut self, into: &mut [u8]) -> Result<usize, Failed>
         ensures bound { IfOk result (λ n. n ≤ length into.old) }
         ensures bytes { in_left left self.old ≡ before (taken result into.new) (in_left left self.new) }
-        ensures end { result ≡ Ok 0 → 0 < length into.old → HasEnded (in_left left self.new) }
+        ensures end { result ≡ Ok 0 → 0 < length into.old → HasEnded (in_left left self.new) (in_ended ended self.new) }
+        ensures answered { in_ended ended self.new ≡ ended_after (length into.old) result (in_ended ended self.old) }
         ensures later { in_faults faults self.old ≤ in_faults faults self.new }
         ensures cause { OnErr result (HasFailed (in_faults faults self.old) (in_faults faults self.new)) }
         ensures well { OnOk result (in_faults faults self.new ≡ in_faults faults self.old) }

@@ -1,7 +1,7 @@
 // A source in memory that fails at listed calls.
-ghost use Rattle.std.specs.Prelude.{◌≡◌, ◌<◌, ◌≤◌, Some, Ok, OnErr, length};
+ghost use Rattle.std.specs.Prelude.{◌≡◌, ◌<◌, ◌≤◌, Some, Ok, false, OnErr, length};
 ghost use Rattle.otn_ports.specs.Bytes.{before, taken, raised, faults_after, HasFailed};
-ghost use Rattle.otn_ports.specs.Reads.{HasEnded};
+ghost use Rattle.otn_ports.specs.Reads.{HasEnded, ended_after};
 
 use crate::listed_calls::ListedCalls;
 use crate::{Failed, MemSource, Source};
@@ -18,12 +18,13 @@ pub struct ListedSource {
 }
 
 impl ListedSource {
-    ghost use Rattle.otn_ports.specs.Listed.{listed_left, read_calls, read_failing, read_most, read_faults};
+    ghost use Rattle.otn_ports.specs.Listed.{listed_left, listed_ended, read_calls, read_failing, read_most, read_faults};
 
     /// Gives these bytes, at most `most` of them a call, and fails at the calls of these numbers.
     pub fn new(bytes: Vec<u8>, failing: Vec<u32>, most: usize) -> ListedSource
         requires { 1 ≤ most }
         ensures left { listed_left result ≡ bytes.items }
+        ensures ended { listed_ended result ≡ false }
         ensures calls { read_calls result ≡ 0 }
         ensures failing { read_failing result ≡ failing.items }
         ensures most { read_most result ≡ most }
@@ -39,18 +40,21 @@ impl ListedSource {
 }
 
 impl Source for ListedSource {
-    ghost use Rattle.otn_ports.specs.Listed.{listed_left, read_calls, read_failing, read_most, read_faults, is_listed, ListedGives};
+    ghost use Rattle.otn_ports.specs.Listed.{listed_left, listed_ended, read_calls, read_failing, read_most, read_faults, is_listed, ListedGives};
 
     ghost left = { λ source. Some (listed_left source) };
 
     ghost faults = { read_faults };
+
+    ghost ended = { listed_ended };
 
     /// Counts the call. Where it is listed it fails; else it gives as many as there are, as the
     /// slice has room for, and as one call may give.
     fn read(&mut self, into: &mut [u8]) -> Result<usize, Failed>
         ensures answer { ListedGives (is_listed (read_failing self.old) (read_calls self.new)) (read_most self.old) (listed_left self.old) (length into.old) result }
         ensures bytes { Some (listed_left self.old) ≡ before (taken result into.new) (Some (listed_left self.new)) }
-        ensures end { result ≡ Ok 0 → 0 < length into.old → HasEnded (Some (listed_left self.new)) }
+        ensures end { result ≡ Ok 0 → 0 < length into.old → HasEnded (Some (listed_left self.new)) (listed_ended self.new) }
+        ensures answered { listed_ended self.new ≡ ended_after (length into.old) result (listed_ended self.old) }
         ensures calls { read_calls self.new ≡ raised (read_calls self.old) 1 }
         ensures failing { read_failing self.new ≡ read_failing self.old }
         ensures most { read_most self.new ≡ read_most self.old }

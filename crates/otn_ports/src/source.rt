@@ -1,7 +1,7 @@
 // A port that gives bytes, and may fail at any call.
 ghost use Rattle.std.specs.Prelude.{◌≡◌, ◌<◌, ◌≤◌, ℕ, Bool, false, List, Option, length, IfOk, OnOk, OnErr, Ok};
 ghost use Rattle.otn_ports.specs.Bytes.{before, taken, HasFailed};
-ghost use Rattle.otn_ports.specs.Reads.{HasEnded};
+ghost use Rattle.otn_ports.specs.Reads.{HasEnded, ended_after};
 
 /// A call of a port failed.
 #[derive(Clone, Copy, Debug, PartialEq, Eq)]
@@ -15,6 +15,9 @@ pub trait Source: Drop {
     /// How often it has failed: a count that never falls.
     ghost faults: { Self → ℕ };
 
+    /// Whether it has answered, in any call so far, that it ended: that no byte came into a slice with room.
+    ghost ended: { Self → Bool };
+
     /// Whether it is a port behind a box.
     ghost boxed: { Self → Bool } = { λ _. false };
 
@@ -25,7 +28,8 @@ pub trait Source: Drop {
     fn read(&mut self, into: &mut [u8]) -> Result<usize, Failed>
         ensures bound { IfOk result (λ n. n ≤ length into.old) }
         ensures bytes { left self.old ≡ before (taken result into.new) (left self.new) }
-        ensures end { result ≡ Ok 0 → 0 < length into.old → HasEnded (left self.new) }
+        ensures end { result ≡ Ok 0 → 0 < length into.old → HasEnded (left self.new) (ended self.new) }
+        ensures answered { ended self.new ≡ ended_after (length into.old) result (ended self.old) }
         ensures later { faults self.old ≤ faults self.new }
         ensures cause { OnErr result (HasFailed (faults self.old) (faults self.new)) }
         ensures well { OnOk result (faults self.new ≡ faults self.old) }

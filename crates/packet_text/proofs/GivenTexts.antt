@@ -10,17 +10,17 @@ use Rattle.packet_text.specs.declared.line.Line.{Line}
 use Rattle.packet_text.specs.declared.line.Line.TheVariants.{Packet, End, Bad, Lost}
 use Rattle.packet_text.proofs.Texts.{full_lines-front}
 
-ended_none : (left : Option (List ℕ)) (rest : List ℕ) → left ≡ Some rest → HasEnded left → rest ≡ []
-ended_none left rest e h = rw e at h
+ended_none : (left : Option (List ℕ)) (answered : Bool) (rest : List ℕ) → left ≡ Some rest → HasEnded left answered → rest ≡ []
+ended_none left answered rest e h = rw e at h.nothing
 
 same : (taken given : List ℕ) (now : InView) → (b : Beyond taken given now.state now.left) → b.rest ≡ [] → given ≡ taken
 same taken given now b e = b.parts ∙ ap (λ bytes. taken ++ bytes) e ∙ append-nil taken
 
-nothing_left : (now : InView) (rest : List ℕ) → (now.state ≡ Live → now.left ≡ Some rest) → (now.state ≢ Live → rest ≡ []) → (now.state ≡ Live → HasEnded now.left) → rest ≡ []
+nothing_left : (now : InView) (rest : List ℕ) → (now.state ≡ Live → now.left ≡ Some rest) → (now.state ≢ Live → rest ≡ []) → (now.state ≡ Live → HasEnded now.left now.ended) → rest ≡ []
 nothing_left now rest live other over = by_state now.state refl
   where
     by_state : (s : State) → now.state ≡ s → rest ≡ []
-    by_state Live e = ended_none now.left rest (live e) (over e)
+    by_state Live e = ended_none now.left now.ended rest (live e) (over e)
     by_state Empty e = other (λ l. (let f : Empty ≡ Live = sym e ∙ l in cc))
     by_state Dead e = other (λ l. dead_not_live (sym e ∙ l))
 

@@ -12,6 +12,6 @@ pub record BlockRead (reading : Reading) (was : InView) (block : List ℕ) (is :
   pub gave : Gave was came is
   pub whole : reading ≡ Full → came ≡ block
   pub end : (n : ℕ) → reading ≡ End n → (came ≡ take n block) × (n < 4096)
-  pub over : (n : ℕ) → reading ≡ End n → is.state ≡ Live → HasEnded is.left
+  pub over : (n : ℕ) → reading ≡ End n → is.state ≡ Live → HasEnded is.left is.ended
   pub alive : reading ≢ Lost → is.state ≡ was.state
   pub lost : reading ≡ Lost → (length came < 4096) × (was.state ≡ Live) × (is.state ≡ Dead)

@@ -74,7 +74,7 @@ pub record LastRead (result : Cut) (old : CutView) (came : List ℕ) (new : CutV
 pub record Cuts (result : Cut) (old : CutView) (was : InView) (came : List ℕ) (new : CutView) (is : InView) : Type 0 where
   pub gave : Gave was came is
   pub quiet : old.ended ≡ true → (came ≡ []) × (new.ended ≡ true) × (is ≡ was)
-  pub over : (old.ended ≡ true → was.state ≡ Live → HasEnded was.left) → new.ended ≡ true → is.state ≡ Live → HasEnded is.left
+  pub over : (old.ended ≡ true → was.state ≡ Live → HasEnded was.left was.ended) → new.ended ≡ true → is.state ≡ Live → HasEnded is.left is.ended
   pub alive : result ≢ Lost → is.state ≡ was.state
   pub blocks : result ≢ Lost → new.ended ≡ false → length came % 4096 ≡ 0
   pub clean : has_lf old.line ≡ false → has_lf new.line ≡ false

@@ -97,7 +97,7 @@ pub record ReadAsNeeded (short : Bool) (taken : List ℕ) : Type 0 where
 -- that were taken show it, and then nothing more is read.
 pub record LinesStand (first now : InView) (taken : List ℕ) (packets : List (List ℕ)) (view : LinesView) : Type 0 where
   pub gave : Gave first taken now
-  pub over : view.ended ≡ true → now.state ≡ Live → HasEnded now.left
+  pub over : view.ended ≡ true → now.state ≡ Live → HasEnded now.left now.ended
   pub alive : view.answer ≢ Lost → now.state ≡ first.state
   pub ended : view.answer ≡ End → view.ended ≡ true
   pub lost : view.answer ≡ Lost → (view.ended ≡ false) × (now.state ≡ Dead) × (first.state ≡ Live)

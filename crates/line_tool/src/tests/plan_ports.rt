@@ -27,10 +27,13 @@ struct NamedSource {
 
 impl Source for NamedSource {
     ghost use Rattle.std.specs.Prelude.{None};
+    ghost use Rattle.otn_ports.specs.Memory.{memory_ended};
 
     ghost left = { λ _. None };
 
     ghost faults = { λ _. 0 };
+
+    ghost ended = { λ s. memory_ended s.bytes };
 
     fn read(&mut self, into: &mut [u8]) -> Result<usize, Failed> {
         call(&self.first, CLIENT);
