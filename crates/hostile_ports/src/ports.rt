@@ -1,7 +1,7 @@
 // The ports of a run: they are in memory, fail as they are told to, and leave what they gave or got where it is found
 // after their place was emptied too.
 ghost use Rattle.std.specs.Prelude.{◌≡◌, ◌≤◌, ◌<◌, false, None, IfOk, length};
-ghost use Rattle.hostile_ports.specs.Ports.{input_faults, output_faults};
+ghost use Rattle.hostile_ports.specs.Ports.{input_ended, input_faults, output_faults};
 
 use otn_ports::{Failed, ListedSink, ListedSource, Sink, Source};
 use std::cell::{Cell, RefCell};
@@ -31,6 +31,8 @@ impl Source for InputPort {
     ghost left = { λ _. None };
 
     ghost faults = { input_faults };
+
+    ghost ended = { input_ended };
 
     fn read(&mut self, into: &mut [u8]) -> Result<usize, Failed> {
         let answer = self.source.read(into);

@@ -2,7 +2,7 @@
 use Rattle.std.proofs.Common.{◌≡◌, ◌≢◌, ◌<◌, ◌∙◌, ℕ, List, Option, length, take, refl, sym, ap, subst, Result, Ok, Err, IfOk, IfErr, inr, ◌⊎◌}
 use Rattle.otn_ports.specs.Bytes.{after, raised, HasFailed}
 use Rattle.otn_base.specs.declared.memory.Memory.{Memory as NoMemory}
-use Rattle.otn_ports.specs.PortViews.{SinkGot, SinkLater, SinkView}
+use Rattle.otn_ports.specs.PortViews.{SourceView, SinkGot, SinkLater, SinkView}
 use Rattle.otn_ports.specs.Views.{BaysView}
 use Rattle.otn_ports.proofs.PortLaws.{sink_later_none}
 use Rattle.plan_file.specs.Answer.{plan_of_text}
@@ -115,7 +115,7 @@ accepted_ran plan old new asked now (Ok answer) r same h = record {
   text = r.text;
   read = r.read;
   most = r.most;
-  all = read_for plan old.report new.report old.bays new.bays asked now answer r.text new.plan.left h r.all;
+  all = read_for plan old.report new.report old.bays new.bays asked now answer r.text new.plan h r.all;
   ran = text_ran plan r.text old new asked now answer r.says.0 h;
   plan_counts = record { fault = λ e. absurd (no_plan_fault plan old.report new.report old.bays new.bays asked now answer h e); calm = λ _. r.counts.calm done_is_none };
   report_counts = h.counts;

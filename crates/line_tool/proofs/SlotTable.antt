@@ -1,5 +1,5 @@
 -- The answers of `slot`, and what it wrote, by what its line gave.
-use Rattle.std.proofs.Common.{◌≡◌, ◌≢◌, ◌<◌, ◌≤◌, ◌+◌, ◌-◌, ◌*◌, ◌^◌, ◌∙◌, ◌⊎◌, ◌↔◌, ℕ, zero, suc, List, [], ◌++◌, Option, Some, IfSome, Ok, length, min, take, refl, sym, ap, subst, inl, inr, arith, append-nil, append_assoc, length-append}
+use Rattle.std.proofs.Common.{◌≡◌, ◌≢◌, ◌<◌, ◌≤◌, ◌+◌, ◌-◌, ◌*◌, ◌^◌, ◌∙◌, ◌⊎◌, ◌↔◌, ℕ, Bool, zero, suc, List, [], ◌++◌, Option, Some, IfSome, Ok, length, min, take, refl, sym, ap, subst, inl, inr, arith, append-nil, append_assoc, length-append}
 use Rattle.std.proofs.lemmas.List.{take-append-le}
 use Rattle.otn_ports.proofs.GivenLaws.{Beyond, given_of_gave}
 use Rattle.otn_ports.specs.Bytes.{after, raised}

@@ -17,9 +17,9 @@ use Rattle.line_tool.specs.TrialPlans.{trial_clients, trial_turns, trial_connect
 
 -- ---- places
 
--- a place with these bytes in memory, of which none was taken
+-- a place with these bytes in memory, of which none was taken or asked for
 abbrev pub holding : List ℕ → InView
-holding bytes = record { state = Live; boxed = false; left = Some bytes; faults = 0; number = 0 }
+holding bytes = record { state = Live; boxed = false; left = Some bytes; ended = false; faults = 0; number = 0 }
 
 -- a place with room in memory, to which nothing went
 abbrev pub waiting : OutView
