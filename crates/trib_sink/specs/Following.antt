@@ -2,7 +2,7 @@
 use Rattle.std.specs.Prelude.{◌≡◌, ℕ, ◌<◌, ◌≤◌, List, [], Bool, Option, Some, None}
 use Rattle.otn_base.specs.declared.limits.TheConstants.{GROUPS}
 use Rattle.maintenance_signals.specs.declared.signal.Signal.TheVariants.{Ais}
-use Rattle.maintenance_signals.specs.Given.{Standing as Stream, HasGiven}
+use Rattle.maintenance_signals.specs.Given.{StreamPlace, HasGiven}
 use Rattle.tributary_model.specs.declared.turns.Hearing.{Hearing}
 use Rattle.tributary_model.specs.declared.turns.Hearing.TheVariants.{Damaged, Lost, Pair}
 use Rattle.tributary_model.specs.declared.turns.Said.{Said}
@@ -16,7 +16,7 @@ pub record Following : Type 0 where
   pub standing : Standing
   pub listener : Option ℕ
   pub extraction : Extraction
-  pub stream : Stream
+  pub stream : StreamPlace
 
 -- the number that a listener keeps after a message
 abbrev pub kept_after : Option ℕ → Hearing → Option ℕ
