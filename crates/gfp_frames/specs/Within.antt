@@ -22,7 +22,7 @@ abbrev pub CanCarry : Frame → Type 0
 CanCarry Idle = Unit {0}
 CanCarry (Client packet fcs) = (1 ≤ length packet) × (length packet ≤ 65527)
 
--- so is each of these frames
+-- each of these frames carries such a packet, or none
 abbrev pub CanCarryAll : List Frame → Type 0
 CanCarryAll [] = Unit {0}
 CanCarryAll (frame ∷ frames) = CanCarry frame × CanCarryAll frames

@@ -111,7 +111,7 @@ abbrev pub up_gives : Option Said → Said → (pending fresh : List ℕ) → Li
 up_gives (Some next) said pending fresh = given_of said.former pending fresh
 up_gives None said pending fresh = pending
 
--- what a turn emits of a machine that stands so: nothing while Waiting; Down the AIS stream, or nothing in the turn that begins a stretch
+-- what a turn emits of a machine that stands so: nothing while Waiting; Down as `down_gives` says of the AIS stream; Up as `up_gives` says
 abbrev pub gives_standing : (m : ℕ) → (ais : ℕ → ℕ) → Option Hearing → (fresh : List ℕ) → Machine → Standing → List ℕ
 gives_standing m ais heard fresh s (Waiting n) = []
 gives_standing m ais heard fresh s Down = down_gives (begins heard) (stream_bytes ais s.place (m * NOMINAL))
