@@ -1,7 +1,7 @@
 -- The moves of the parts of a pipe.
 use Rattle.std.proofs.Common.{◌≡◌, ◌≢◌, ◌+◌, ◌∙◌, ℕ, suc, Bool, false, List, [], ◌∷◌, ◌++◌, length, Option, refl, sym, ap, subst, length-append}
 use Rattle.std.specs.Prelude.{option_map}
-use Rattle.maintenance_signals.specs.Given.{Standing, HasGiven}
+use Rattle.maintenance_signals.specs.Given.{StreamPlace, HasGiven}
 use Rattle.maintenance_signals.specs.declared.signal.Signal.{Signal}
 use Rattle.odu_client.specs.ClientFrames.{stream_part}
 use Rattle.odu_client.specs.ClientInput.{ClientInput, input_of, input_emits, emitted_before, pace_of, packets_begun, is_spent, bad_line}
@@ -60,7 +60,7 @@ line_ended a port slots x shows j whole frames old new step h e =
 
 -- ---- from a signal
 
-pub signal_went_on : (from : FromEnd) (x : Connection) (input : OwnInput) (j count : ℕ) (ended : Bool) (old new : Standing) → count ≡ pace_of x.pace j
+pub signal_went_on : (from : FromEnd) (x : Connection) (input : OwnInput) (j count : ℕ) (ended : Bool) (old new : StreamPlace) → count ≡ pace_of x.pace j
     → ((signal : Signal) (given : ℕ) → HasGiven signal given old → HasGiven signal (given + count) new)
     → TakingStands from x input j [] ended (taking.Signal old) → TakingStands from x input (suc j) [] false (taking.Signal new)
 unfolding emitted_before
@@ -75,13 +75,13 @@ signal_went_on (from_end.Signal signal) x (of_client input) j count ended old ne
 signal_went_on (from_end.Signal signal) x of_signal j count ended old new e step h =
     subst (λ k. HasGiven signal (emitted_before x.pace j + k) new) e (step signal (emitted_before x.pace j) h)
 
-pub signal_from : (from : FromEnd) (x : Connection) (count : ℕ) (old new : Standing) → ((signal : Signal) (given : ℕ) → HasGiven signal given old → HasGiven signal (given + count) new)
+pub signal_from : (from : FromEnd) (x : Connection) (count : ℕ) (old new : StreamPlace) → ((signal : Signal) (given : ℕ) → HasGiven signal given old → HasGiven signal (given + count) new)
     → TakesFrom from x (taking.Signal old) → TakesFrom from x (taking.Signal new)
 signal_from (from_end.Line a port slots) x count old new step h = absurd h
 signal_from (from_end.Client n) x count old new step h = absurd h
 signal_from (from_end.Signal signal) x count old new step h = (h.0 + count, step signal h.0 h.1)
 
-pub signal_restarted : (from : FromEnd) (x : Connection) (input : OwnInput) (old new : Standing) → ((signal : Signal) (given : ℕ) → HasGiven signal given old → HasGiven signal 0 new)
+pub signal_restarted : (from : FromEnd) (x : Connection) (input : OwnInput) (old new : StreamPlace) → ((signal : Signal) (given : ℕ) → HasGiven signal given old → HasGiven signal 0 new)
     → TakesFrom from x (taking.Signal old) → IsInputOf from input → TakingStands from x input 0 [] false (taking.Signal new)
 unfolding emitted_before
 signal_restarted (from_end.Line a port slots) x input old new step h of = absurd h

@@ -6,6 +6,7 @@ use Rattle.cross_matrix.specs.declared.taking.TakingPart.TheVariants as taking
 use Rattle.cross_matrix.specs.declared.giving.GivingPart.{GivingPart}
 use Rattle.cross_matrix.specs.declared.giving.GivingPart.TheVariants as giving
 
+-- the number, where this is so
 abbrev pub some_if : Bool → ℕ → Option ℕ
 some_if true n = Some n
 some_if false n = None

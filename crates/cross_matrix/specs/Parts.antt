@@ -41,35 +41,40 @@ GivesTo to other = ⊥
 
 -- ---- what is counted in a turn
 
--- how many frames of the turn were taken of a line, and how many of a line were filled
+-- how many frames of the turn were taken of a line
 abbrev pub frames_taken : TakingPart → ℕ
 frames_taken (taking.Line sink) = sink.taken
 frames_taken (taking.Client client) = 0
 frames_taken (taking.Signal stream) = 0
 
+-- how many frames of the turn were filled for a line
 abbrev pub frames_filled : GivingPart → ℕ
 frames_filled (giving.Line source) = source.filled
 frames_filled (giving.Client receiver) = 0
 
--- the part takes from a line, and this holds of its sink; or gives to a line, and this holds of its source; or to a client, and this of its receiver
+-- the part takes from a line, and this holds of its sink
 abbrev pub OnSink : TakingPart → (Sink → Type 0) → Type 0
 OnSink (taking.Line sink) Holds = Holds sink
 OnSink (taking.Client client) Holds = ⊥
 OnSink (taking.Signal stream) Holds = ⊥
 
+-- the part gives to a line, and this holds of its source
 abbrev pub OnSource : GivingPart → (Source → Type 0) → Type 0
 OnSource (giving.Line source) Holds = Holds source
 OnSource (giving.Client receiver) Holds = ⊥
 
+-- the part gives to a client, and this holds of its receiver
 abbrev pub OnReceiver : GivingPart → (ReceiverView → Type 0) → Type 0
 OnReceiver (giving.Client receiver) Holds = Holds receiver
 OnReceiver (giving.Line source) Holds = ⊥
 
+-- the part takes from a client
 abbrev pub IsOfClient : TakingPart → Type 0
 IsOfClient (taking.Line sink) = ⊥
 IsOfClient (taking.Client client) = ⊤
 IsOfClient (taking.Signal stream) = ⊥
 
+-- the part gives to a client
 abbrev pub IsToClient : GivingPart → Type 0
 IsToClient (giving.Line source) = ⊥
 IsToClient (giving.Client receiver) = ⊤
@@ -110,6 +115,7 @@ pub record TextStands (x : Connection) (first now : InView) (taken : List ℕ) (
   pub sapi : client.framer.sapi ≡ x.trace
   pub fcs : client.framer.stream.fcs ≡ x.fcs
 
+-- the same of the part that takes from a client
 abbrev pub ClientInStands : Connection → (first now : InView) → (taken : List ℕ) → (n : ℕ) → TakingPart → Type 0
 ClientInStands x first now taken n (taking.Client client) = TextStands x first now taken n client
 ClientInStands x first now taken n (taking.Line sink) = ⊥

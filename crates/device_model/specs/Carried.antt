@@ -64,17 +64,20 @@ CarriesWhatItGets x = (plan : Plan) (inputs : Inputs) (b port u n : ℕ) (slots 
     → Arrives (tributary_of slots port) (arrived_by x (own_input inputs x) (n + 1)) (numbers_got x.pace n)
     (view_at (tributary_of slots port) (concat frames)) (first_turn x) (first_turn x) (first_turn x) u
 
+-- so it is of a connection from a client
 abbrev pub CarriesAClient : Type 0
 CarriesAClient = (x : Connection) (client : ℕ) → x.from ≡ from_end.Client client → CarriesWhatItGets x
 
+-- so it is of a connection from a maintenance signal
 abbrev pub CarriesASignal : Type 0
 CarriesASignal = (x : Connection) (signal : Signal) → x.from ≡ from_end.Signal signal → CarriesWhatItGets x
 
--- That is the front of the client's stream, or of the signal's, as long as the paces of the first n turns say.
+-- What a connection from a client gets is the front of the client's stream, as long as the paces of the first n turns say.
 abbrev pub GetsTheStream : Type 0
 GetsTheStream = (x : Connection) (inputs : Inputs) (client n : ℕ) → x.from ≡ from_end.Client client
     → arrived_by x (own_input inputs x) (n + 1) ≡ client_stream x.trace (inputs.client client).packets x.fcs (emitted_before x.pace n)
 
+-- What a connection from a maintenance signal gets is the front of the signal's stream, as long.
 abbrev pub GetsTheSignal : Type 0
 GetsTheSignal = (x : Connection) (inputs : Inputs) (signal : Signal) (n : ℕ) → x.from ≡ from_end.Signal signal
     → arrived_by x (own_input inputs x) (n + 1) ≡ signal_bytes signal 0 (emitted_before x.pace n)

@@ -28,16 +28,19 @@ pub record Hop : Type 0 where
   pub slots_out : LineSlots
   pub frames : List (List ℕ)
 
+-- the tributary of its input line
 abbrev pub own_in : Hop → Tributary
 own_in hop = tributary_of hop.slots_in hop.port_in
 
+-- the tributary of the line that it goes to
 abbrev pub own_out : Hop → Tributary
 own_out hop = tributary_of hop.slots_out hop.port_out
 
--- what the turns of its input line, and of the file that was made, show of it
+-- what the turns of its input line show of it
 abbrev pub views_in : Hop → (t : ℕ) → Option View
 views_in hop = view_at (own_in hop) (hop.inputs.line hop.line_in)
 
+-- what the turns of the file that was made show of it
 abbrev pub views_out : Hop → (t : ℕ) → Option View
 views_out hop = view_at (own_out hop) (concat hop.frames)
 
@@ -62,10 +65,12 @@ pub record ReadsOn (hop next : Hop) : Type 0 where
   pub start : next.x.start ≡ hop.x.start
   pub stop : next.x.stop ≤ hop.x.stop
 
+-- each of these is a hop, and reads on what the one before it made
 abbrev pub AreInARow : Hop → List Hop → Type 0
 AreInARow hop [] = IsHop hop
 AreInARow hop (next ∷ hops) = IsHop hop × ReadsOn hop next × AreInARow next hops
 
+-- the last of hops in a row
 abbrev pub last_hop : Hop → List Hop → Hop
 last_hop hop [] = hop
 last_hop hop (next ∷ hops) = last_hop next hops

@@ -30,22 +30,24 @@ own_turn x past = past - first_turn x
 
 -- ---- ends
 
--- it comes from line a, or from client n
+-- it comes from line a
 abbrev pub is_from_line : (a : ℕ) → FromEnd → Bool
 is_from_line a (from_end.Line line port slots) = line == a
 is_from_line a (from_end.Client client) = false
 is_from_line a (from_end.Signal signal) = false
 
+-- it comes from client n
 abbrev pub is_from_client : (n : ℕ) → FromEnd → Bool
 is_from_client n (from_end.Line line port slots) = false
 is_from_client n (from_end.Client client) = client == n
 is_from_client n (from_end.Signal signal) = false
 
--- it goes to line b, or to client n
+-- it goes to line b
 abbrev pub is_to_line : (b : ℕ) → ToEnd → Bool
 is_to_line b (to_end.Line line port slots) = line == b
 is_to_line b (to_end.Client client) = false
 
+-- it goes to client n
 abbrev pub is_to_client : (n : ℕ) → ToEnd → Bool
 is_to_client n (to_end.Line line port slots) = false
 is_to_client n (to_end.Client client) = client == n
@@ -56,18 +58,21 @@ slots_between (from_end.Line line port slots) to = length slots.list
 slots_between from (to_end.Line line port slots) = length slots.list
 slots_between from (to_end.Client client) = 0
 
+-- M of a connection
 abbrev pub slot_count : Connection → ℕ
 slot_count x = slots_between x.from x.to
 
 -- ---- lines
 
+-- a line's kind, where these lines are OTU3
 abbrev pub kind_by : (otu3 : List ℕ) → (line : ℕ) → LineKind
 kind_by otu3 line = if list_any (λ n. n == line) otu3 then Otu3 else Otu2
 
--- the kind of an input line and of an output line, and whether it is scrambled
+-- the kind of an input line, and whether it is scrambled
 abbrev pub form_in : Plan → (line : ℕ) → LineForm
 form_in plan line = record { kind = kind_by plan.otu3_in line; scrambled = list_any (λ n. n == line) plan.scrambled_in }
 
+-- the kind of an output line, and whether it is scrambled
 abbrev pub form_out : Plan → (line : ℕ) → LineForm
 form_out plan line = record { kind = kind_by plan.otu3_out line; scrambled = list_any (λ n. n == line) plan.scrambled_out }
 

@@ -34,6 +34,7 @@ ending_of Dead whole wanted = Died
 ending_of Live whole wanted = if nat_lt whole wanted then Seen else Open
 ending_of Empty whole wanted = if nat_lt whole wanted then Seen else Open
 
+-- the same of a line of this form, of which these bytes were given, after the turns 1 to `turns`
 abbrev pub line_ending : State → LineForm → (given : List ℕ) → (turns : ℕ) → Ending
 line_ending state form given turns = ending_of state (length (mfas_of given)) (wanted (size_of form) (mfas_of given) turns)
 

@@ -40,11 +40,13 @@ pub record Numbers : Type 0 where
 
 -- ---- words
 
+-- how a place is
 abbrev pub state_word : State → List ℕ
 state_word Live = codes "live"
 state_word Dead = codes "dead"
 state_word Empty = codes "empty"
 
+-- what a connection's from end was; off where it was not active
 abbrev pub from_word : Option FromState → List ℕ
 from_word None = codes "off"
 from_word (Some from.Client) = codes "client"
@@ -53,6 +55,7 @@ from_word (Some from.Waiting) = codes "waiting"
 from_word (Some from.Up) = codes "up"
 from_word (Some from.Down) = codes "down"
 
+-- how the run ended
 abbrev pub outcome_word : Outcome → List ℕ
 outcome_word outcome.Done = codes "done"
 outcome_word outcome.Unfinished = codes "unfinished"
@@ -70,22 +73,27 @@ client_word false None = codes "open"
 abbrev pub line_of : List (List ℕ) → List ℕ
 line_of parts = concat parts ++ 10 ∷ []
 
+-- an input line: its frames, its lead-in, its lost multiframes, its rest, its wrong FAS and BIP-8, and its place
 unfoldable pub line_in_line : (a : ℕ) → LineCounts → State → List ℕ
 line_in_line a counts state = line_of (codes "line-in " ∷ decimal a ∷ codes " frames " ∷ decimal counts.frames ∷ codes " lead-in " ∷ decimal counts.lead_in
     ∷ codes " lost " ∷ decimal counts.lost ∷ codes " rest " ∷ decimal counts.rest ∷ codes " fas " ∷ decimal counts.fas ∷ codes " sm " ∷ decimal counts.sm
     ∷ codes " pm " ∷ decimal counts.pm ∷ codes " " ∷ state_word state ∷ [])
 
+-- an output line: its frames, and its place
 unfoldable pub line_out_line : (b frames : ℕ) → State → List ℕ
 line_out_line b frames state = line_of (codes "line-out " ∷ decimal b ∷ codes " frames " ∷ decimal frames ∷ codes " " ∷ state_word state ∷ [])
 
+-- a client input: its packets, how its text ends, and its place
 unfoldable pub client_in_line : (n : ℕ) → ClientInNumbers → State → List ℕ
 client_in_line n numbers state =
     line_of (codes "client-in " ∷ decimal n ∷ codes " packets " ∷ decimal numbers.packets ∷ codes " " ∷ client_word numbers.spent numbers.bad ∷ codes " " ∷ state_word state ∷ [])
 
+-- a client output: its frames, its packets, and its place
 unfoldable pub client_out_line : (n : ℕ) → ClientOutNumbers → State → List ℕ
 client_out_line n numbers state =
     line_of (codes "client-out " ∷ decimal n ∷ codes " frames " ∷ decimal numbers.frames ∷ codes " packets " ∷ decimal numbers.packets ∷ codes " " ∷ state_word state ∷ [])
 
+-- a connection: its name, and its from end
 unfoldable pub connection_line : (name : List ℕ) → Option FromState → List ℕ
 connection_line name state = line_of (codes "connection " ∷ name ∷ codes " " ∷ from_word state ∷ [])
 

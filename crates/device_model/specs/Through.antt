@@ -32,12 +32,13 @@ pub record Inputs : Type 0 where
   pub line : (a : ℕ) → List ℕ
   pub client : (n : ℕ) → ClientInput
 
--- what of these is a connection's own
+-- what of these is a from end's own
 abbrev pub own_of : Inputs → FromEnd → OwnInput
 own_of inputs (from_end.Line a port slots) = of_line (view_at (tributary_of slots port) (inputs.line a))
 own_of inputs (from_end.Client n) = of_client (inputs.client n)
 own_of inputs (from_end.Signal signal) = of_signal
 
+-- what of these is a connection's own
 abbrev pub own_input : Inputs → Connection → OwnInput
 own_input inputs x = own_of inputs x.from
 
@@ -47,6 +48,7 @@ own_input inputs x = own_of inputs x.from
 abbrev pub signal_emits : Signal → (paces : List ℕ) → (j : ℕ) → List ℕ
 signal_emits signal paces j = signal_bytes signal (emitted_before paces j) (pace_of paces j)
 
+-- what a from end emits in own turn j: a line or a client nothing of an input of another sort
 abbrev pub emits_by : FromEnd → Connection → OwnInput → (j : ℕ) → List ℕ
 emits_by (from_end.Line a port slots) x (of_line shows) j =
     emission (tributary_of slots port) (signal_byte Ais) (past_of shows (first_turn x) j) (shows (first_turn x + j))
@@ -83,11 +85,13 @@ text_by x input n = arriving_text (arrived_by x input n)
 
 -- ---- how it stands
 
+-- how the sink of a from end at a line stands
 abbrev pub sink_state : SinkState → FromState
 sink_state sink.Waiting = from.Waiting
 sink_state sink.Up = from.Up
 sink_state sink.Down = from.Down
 
+-- what a from end is after n own turns: at a line by its sink
 abbrev pub state_by : FromEnd → Connection → OwnInput → (n : ℕ) → FromState
 state_by (from_end.Line a port slots) x (of_line shows) n = sink_state (state_after (tributary_of slots port) (past_of shows (first_turn x) n))
 state_by (from_end.Line a port slots) x input n = from.Waiting

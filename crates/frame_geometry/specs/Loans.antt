@@ -18,6 +18,7 @@ after_row_loan cols row frame payload = refill (4 * cols) frame (with_payload_ro
 refill-whole : (n : ℕ) (old new : List ℕ) → length new ≡ n → refill n old new ≡ new
 refill-whole n old new e = take_at new (drop (length new) old) n e
 
+-- Payload bytes put into a row where there is room for them leave the frame's length as it is.
 pub length-with_payload_row : (cols row : ℕ) (frame payload : List ℕ) → place_of cols row 17 + length payload ≤ length frame
     → length (with_payload_row cols row frame payload) ≡ length frame
 length-with_payload_row cols row frame payload room =

@@ -3,10 +3,12 @@ use Rattle.std.specs.Prelude.{◌≡◌, ℕ, ◌+◌, ◌-◌, ◌^◌, min, �
 use Rattle.frame_geometry.specs.Places.{place_of}
 use Rattle.frame_overhead.specs.Parity.{parity_of}
 
+-- the first of a list
 abbrev pub first : {A : Type 0} → List A → Option A
 first [] = None
 first (x ∷ rest) = Some x
 
+-- the second of a list
 abbrev pub second : {A : Type 0} → List A → Option A
 second [] = None
 second (x ∷ []) = None
@@ -52,6 +54,7 @@ pub record HasSent (cols : ℕ) (frames : List (List ℕ)) (kept : Kept) : Type 
   pub last : kept.last ≡ option_map (parity_of cols) (first (reverse frames))
   pub before : kept.before ≡ parity_due cols frames
 
+-- what is kept of the frames that were checked: their parities, and how many carried a wrong one
 pub record Checked : Type 0 where
   pub kept : Kept
   pub wrong : ℕ

@@ -18,18 +18,23 @@ client_area packet fcs = type_bytes fcs ++ two_bytes (crc16_of (type_bytes fcs))
 
 -- ---- what a receiver looks at in an area of at least four bytes
 
+-- the payload type identifier PTI, bits 1 to 3 of the first byte
 abbrev pub pti : List ℕ → ℕ
 pti area = slice_index area 0 / 2 ^ 5
 
+-- the payload FCS indicator PFI, bit 4 of the first byte
 abbrev pub pfi : List ℕ → ℕ
 pfi area = slice_index area 0 / 2 ^ 4 % 2
 
+-- the extension header identifier EXI, bits 5 to 8 of the first byte
 abbrev pub exi : List ℕ → ℕ
 exi area = slice_index area 0 % 2 ^ 4
 
+-- the user payload identifier UPI, the second byte
 abbrev pub upi : List ℕ → ℕ
 upi area = slice_index area 1
 
+-- the tHEC, bytes 3 and 4, is the CRC-16 of bytes 1 and 2
 abbrev pub thec_is_right : List ℕ → Bool
 thec_is_right area = crc16_of (slice_index area 0 ∷ slice_index area 1 ∷ []) == number_of_two (slice_index area 2) (slice_index area 3)
 
@@ -37,10 +42,11 @@ thec_is_right area = crc16_of (slice_index area 0 ∷ slice_index area 1 ∷ [])
 abbrev pub is_client : List ℕ → Bool
 is_client area = pti area == 0 && exi area == 0 && upi area == 1 && thec_is_right area
 
--- what stands after the tHEC, without the FCS where PFI is 1
+-- how many bytes stand after the tHEC, without the FCS where PFI is 1
 abbrev pub packet_size : List ℕ → ℕ
 packet_size area = length area - 4 - (if pfi area == 1 then 4 else 0)
 
+-- these bytes: the packet
 abbrev pub packet_of : List ℕ → List ℕ
 packet_of area = take (packet_size area) (drop 4 area)
 
@@ -49,6 +55,7 @@ abbrev pub last_four : List ℕ → ℕ
 last_four area =
     number_of_four (slice_index area (length area - 4)) (slice_index area (length area - 3)) (slice_index area (length area - 2)) (slice_index area (length area - 1))
 
+-- the FCS, where PFI says that there is one, is the CRC-32 of the packet
 abbrev pub fcs_is_right : List ℕ → Bool
 fcs_is_right area = if pfi area == 1 then crc32_of (packet_of area) == last_four area else true
 

@@ -2,16 +2,19 @@
 use Rattle.std.specs.Prelude.{ℕ, zero, suc, ◌+◌, ◌*◌, ◌/◌, ◌%◌, ◌^◌, ◌==◌, List, [], ◌∷◌, nat_lt, if◌then◌else◌, Option, None, Some, length, slice_index, bit_xor}
 use Rattle.crc_small.specs.LongDivision.{crc16_of}
 
--- a number of 16 bits, and one of 32 bits, as bytes, the most significant first
+-- a number of 16 bits as bytes, the most significant first
 abbrev pub two_bytes : ℕ → List ℕ
 two_bytes n = n / 2 ^ 8 ∷ n % 2 ^ 8 ∷ []
 
+-- a number of 32 bits as bytes, the most significant first
 abbrev pub four_bytes : ℕ → List ℕ
 four_bytes n = n / 2 ^ 24 ∷ n / 2 ^ 16 % 2 ^ 8 ∷ n / 2 ^ 8 % 2 ^ 8 ∷ n % 2 ^ 8 ∷ []
 
+-- the number that two bytes are, the most significant first
 abbrev pub number_of_two : (a b : ℕ) → ℕ
 number_of_two a b = a * 2 ^ 8 + b
 
+-- the number that four bytes are, the most significant first
 abbrev pub number_of_four : (a b c d : ℕ) → ℕ
 number_of_four a b c d = a * 2 ^ 24 + b * 2 ^ 16 + c * 2 ^ 8 + d
 

@@ -38,13 +38,15 @@ unfoldable mutual
     | None ↦ hunting places (drop 1 bytes)
   ]
 
--- the same where a hunt, the place after a PRESYNC frame, or the place after a frame in sync is at the list's front
+-- the same where a hunt is at the list's front
 abbrev pub from_hunt : List ℕ → List (List ℕ)
 from_hunt bytes = hunting (length bytes) bytes
 
+-- the same where the place after a PRESYNC frame is at the list's front
 abbrev pub from_presync : List ℕ → List (List ℕ)
 from_presync bytes = after_presync (length bytes) bytes
 
+-- the same where the place after a frame in sync is at the list's front
 abbrev pub from_sync : List ℕ → List (List ℕ)
 from_sync bytes = in_sync (length bytes) bytes
 

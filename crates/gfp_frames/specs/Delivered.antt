@@ -4,6 +4,7 @@ use Rattle.gfp_scrambler.specs.Register.{descrambled}
 use Rattle.gfp_frames.specs.Area.{packet_in}
 use Rattle.gfp_frames.specs.Delineation.{sync_areas}
 
+-- areas one after another, as one list
 abbrev pub joined : List (List ℕ) → List ℕ
 joined areas = flat_map (λ area. area) areas
 

@@ -75,9 +75,11 @@ after_header reader pli next area = record {
   packet = [];
 }
 
+-- a hunt found the header of a PRESYNC frame
 abbrev pub presync_after : ReaderState → (pli : ℕ) → ReaderState
 presync_after reader pli = after_header reader pli Presync PresyncArea
 
+-- the header of a frame in sync was found
 abbrev pub sync_after : ReaderState → (pli : ℕ) → ReaderState
 sync_after reader pli = after_header reader pli Sync SyncArea
 

@@ -6,6 +6,7 @@ use Rattle.gfp_frames.specs.GfpText.{Frame, Idle, Client, area_of}
 abbrev pub frame_size : Frame → ℕ
 frame_size frame = 4 + length (area_of frame)
 
+-- the packet that a frame carries: none in an idle frame
 abbrev pub packets_of : Frame → List (List ℕ)
 packets_of Idle = []
 packets_of (Client packet fcs) = packet ∷ []
@@ -21,6 +22,7 @@ abbrev pub CanCarry : Frame → Type 0
 CanCarry Idle = Unit {0}
 CanCarry (Client packet fcs) = (1 ≤ length packet) × (length packet ≤ 65527)
 
+-- each of these frames carries such a packet, or none
 abbrev pub CanCarryAll : List Frame → Type 0
 CanCarryAll [] = Unit {0}
 CanCarryAll (frame ∷ frames) = CanCarry frame × CanCarryAll frames

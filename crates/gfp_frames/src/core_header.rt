@@ -40,7 +40,7 @@ pub fn header_bytes(pli: u16) -> [u8; 4]
 
 /// The PLI of a header whose cHEC is right. The header is a number of four bytes without the pattern.
 #[tactic(auto, unfolding(crate::specs::CoreHeader::right_pli))]
-pub fn right(header: u32) -> Option<u16>
+pub fn checked_pli(header: u32) -> Option<u16>
     ensures value { result ≡ right_pli header }
     ensures small { IfSome result (λ pli. pli < 65536) }
 {
@@ -53,7 +53,7 @@ pub fn right(header: u32) -> Option<u16>
 }
 
 /// The PLI of the right header that differs from this one in one bit at most.
-pub fn near(header: u32) -> Option<u16>
+pub fn corrected_pli(header: u32) -> Option<u16>
     ensures value { result ≡ near_pli header }
     ensures small { IfSome result (λ pli. pli < 65536) }
 {

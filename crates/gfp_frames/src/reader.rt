@@ -10,7 +10,7 @@ ghost use Rattle.gfp_frames.specs.Reader.{ReaderState, may_want, HasRead, kept, 
 ghost use Rattle.gfp_frames.specs.Maker.{idle_bytes};
 
 use crate::area::packet_size;
-use crate::core_header::{PATTERN, near, right};
+use crate::core_header::{PATTERN, checked_pli, corrected_pli};
 use crate::phase::Phase;
 use gfp_scrambler::Descrambler;
 use otn_base::Memory;
@@ -263,7 +263,7 @@ impl GfpReader {
         ensures { self.new ≡ option_map_or (presync_after self.old) (right_pli (header_in (self.old.held ++ byte ∷ []))) (slid self.old byte) }
     {
         let header = self.header(byte);
-        match right(header) {
+        match checked_pli(header) {
             Some(pli) => self.await_frame(pli as usize, Phase::Presync, Phase::PresyncArea),
             None => self.slide(byte),
         }
@@ -276,7 +276,7 @@ impl GfpReader {
         ensures { self.new ≡ option_map_or (sync_after self.old) (right_pli (header_in (self.old.held ++ byte ∷ []))) (slid self.old byte) }
     {
         let confirming = self.header(byte);
-        match right(confirming) {
+        match checked_pli(confirming) {
             Some(pli) => self.await_frame(pli as usize, Phase::Sync, Phase::SyncArea),
             None => self.slide(byte),
         }
@@ -288,7 +288,7 @@ impl GfpReader {
         requires last { length self.old.held ≡ 3 }
         ensures { self.new ≡ option_map_or (sync_after self.old) (near_pli (header_in (self.old.held ++ byte ∷ []))) (slid self.old byte) }
     {
-        match near(self.header(byte)) {
+        match corrected_pli(self.header(byte)) {
             Some(pli) => self.await_frame(pli as usize, Phase::Sync, Phase::SyncArea),
             None => self.slide(byte),
         }
@@ -426,7 +426,7 @@ fn hunted(three: u32, bytes: &[u8]) -> (usize, u32)
     let mut last = three;
     for (i, byte) in bytes.iter().enumerate() {
         let header = last * 256 + *byte as u32;
-        if right(header ^ PATTERN).is_some() {
+        if checked_pli(header ^ PATTERN).is_some() {
             return (i, last);
         }
         last = header % 0x100_0000;

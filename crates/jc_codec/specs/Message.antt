@@ -15,21 +15,27 @@ pub record Row : Type 0 where
   pub ii : ℕ
   pub di : ℕ
 
+-- the letters of the change by 0: no bit is inverted
 unfoldable pub same : List ℕ
 same = codes "UUUUUUUUUUUUUU"
 
+-- the letters of the change by +1: the bits C1, C3 and so on to C13 are inverted
 unfoldable pub one_more : List ℕ
 one_more = codes "IUIUIUIUIUIUIU"
 
+-- the letters of the change by -1: the bits C2, C4 and so on to C14 are inverted
 unfoldable pub one_less : List ℕ
 one_less = codes "UIUIUIUIUIUIUI"
 
+-- the letters of the change by +2: the bits C2, C3, C6, C7, C10, C11 and C14 are inverted
 unfoldable pub two_more : List ℕ
 two_more = codes "UIIUUIIUUIIUUI"
 
+-- the letters of the change by -2: the bits C1, C4, C5, C8, C9, C12 and C13 are inverted
 unfoldable pub two_less : List ℕ
 two_less = codes "IUUIIUUIIUUIIU"
 
+-- the table of changes: by 0, +1, -1, +2 and -2
 abbrev pub table : List Row
 table =
     record { more = 0; less = 0; letters = same; ii = 0; di = 0 }
@@ -78,6 +84,7 @@ word_in [] former next = binary next
 word_in (row ∷ rows) former next =
     if is_change former next row then record { bits = turned row.letters former; ii = row.ii; di = row.di } else word_in rows former next
 
+-- what JC1 and JC2 hold to say the next number, with a former one or with none
 abbrev pub word_said : Option ℕ → ℕ → Word
 word_said None next = binary next
 word_said (Some former) next = word_in table former next

@@ -3,9 +3,11 @@ use Rattle.std.specs.Prelude.{ℕ, ◌+◌, ◌*◌, List, [], ◌∷◌, ◌++�
 use Rattle.std.specs.Simd.Lanes.{pick_l, put_chunk}
 use Rattle.lane_kernels.specs.declared.block.Block.{Block}
 
+-- lanes 0 to 7 of two vectors, in turn
 abbrev pub low_half : List ℕ → List ℕ → List ℕ
 low_half xs ys = pick_l 0 (xs ++ ys) (0 ∷ 16 ∷ 1 ∷ 17 ∷ 2 ∷ 18 ∷ 3 ∷ 19 ∷ 4 ∷ 20 ∷ 5 ∷ 21 ∷ 6 ∷ 22 ∷ 7 ∷ 23 ∷ [])
 
+-- lanes 8 to 15 of two vectors, in turn
 abbrev pub high_half : List ℕ → List ℕ → List ℕ
 high_half xs ys = pick_l 0 (xs ++ ys) (8 ∷ 24 ∷ 9 ∷ 25 ∷ 10 ∷ 26 ∷ 11 ∷ 27 ∷ 12 ∷ 28 ∷ 13 ∷ 29 ∷ 14 ∷ 30 ∷ 15 ∷ 31 ∷ [])
 
@@ -26,6 +28,7 @@ interleaved x = record {
   v7 = high_half x.v3 x.v7;
 }
 
+-- a vector of sixteen bytes, lane by lane
 abbrev pub sixteen : (ℕ → ℕ) → List ℕ
 sixteen f = f 0 ∷ f 1 ∷ f 2 ∷ f 3 ∷ f 4 ∷ f 5 ∷ f 6 ∷ f 7 ∷ f 8 ∷ f 9 ∷ f 10 ∷ f 11 ∷ f 12 ∷ f 13 ∷ f 14 ∷ f 15 ∷ []
 
@@ -59,6 +62,7 @@ by_bytes f = record {
   v7 = sixteen (λ g. f g 7);
 }
 
+-- a group of eight bytes
 abbrev pub eight : (ℕ → ℕ) → List ℕ
 eight f = f 0 ∷ f 1 ∷ f 2 ∷ f 3 ∷ f 4 ∷ f 5 ∷ f 6 ∷ f 7 ∷ []
 
@@ -66,10 +70,11 @@ eight f = f 0 ∷ f 1 ∷ f 2 ∷ f 3 ∷ f 4 ∷ f 5 ∷ f 6 ∷ f 7 ∷ []
 unfoldable pub bytes_from : List ℕ → (at : ℕ) → ℕ → ℕ
 bytes_from xs at i = slice_index xs (at + i)
 
--- the groups, and the lists of their first bytes, of their second, and so on
+-- the sixteen groups
 abbrev pub group_lists : (ℕ → ℕ → ℕ) → List (List ℕ)
 group_lists f = eight (f 0) ∷ eight (f 1) ∷ eight (f 2) ∷ eight (f 3) ∷ eight (f 4) ∷ eight (f 5) ∷ eight (f 6) ∷ eight (f 7) ∷ eight (f 8) ∷ eight (f 9) ∷ eight (f 10) ∷ eight (f 11) ∷ eight (f 12) ∷ eight (f 13) ∷ eight (f 14) ∷ eight (f 15) ∷ []
 
+-- the first bytes of all groups, their second, and so on, as lists
 abbrev pub byte_lists : (ℕ → ℕ → ℕ) → List (List ℕ)
 byte_lists f = sixteen (λ g. f g 0) ∷ sixteen (λ g. f g 1) ∷ sixteen (λ g. f g 2) ∷ sixteen (λ g. f g 3) ∷ sixteen (λ g. f g 4) ∷ sixteen (λ g. f g 5) ∷ sixteen (λ g. f g 6) ∷ sixteen (λ g. f g 7) ∷ []
 

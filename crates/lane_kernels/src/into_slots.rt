@@ -5,6 +5,7 @@ ghost use Rattle.otn_base.specs.declared.limits.TheConstants.{OTU2_SLOTS, OTU3_S
 ghost use Rattle.lane_kernels.specs.declared.slot_rows.TheConstants.{OTU2_SLOT_ROW, OTU3_SLOT_ROW};
 
 use crate::slot_rows::{OTU2_SLOT_ROW, OTU3_SLOT_ROW};
+use crate::turn::GROUP;
 use crate::{SlotRows, turn};
 use otn_base::limits::{OTU2_SLOTS, OTU3_SLOTS};
 
@@ -46,10 +47,10 @@ fn split_thirty_two(row: &[u8], into: &mut [u8])
     for quarter in 0..4_usize {
         turn::apart(
             row,
-            8 * quarter,
+            GROUP * quarter,
             OTU3_SLOTS,
             into,
-            8 * OTU3_SLOT_ROW * quarter,
+            GROUP * OTU3_SLOT_ROW * quarter,
             OTU3_SLOT_ROW,
         );
     }

@@ -3,6 +3,9 @@ ghost use Rattle.std.specs.Prelude.{◌≡◌, ℕ, ◌+◌, ◌*◌, ◌<◌, �
 
 use crate::block::Block;
 
+/// The bytes of a group, as a vector of eight bytes holds them.
+pub(crate) const GROUP: usize = 8;
+
 /// Writes eight lists of `count` bytes one after the other, at `to`: byte j of list k, from 0, is byte k
 /// of the group that begins `step * j` bytes behind `first`.
 #[inline(always)]

@@ -4,11 +4,11 @@ use Rattle.maintenance_signals.specs.declared.signal.Signal.{Signal}
 use Rattle.maintenance_signals.specs.declared.runs.TheConstants.{PERIOD}
 
 -- a signal, and a place among the 3,915,776 bytes of its 256 different frames
-pub record Standing : Type 0 where
+pub record StreamPlace : Type 0 where
   pub signal : Signal
   pub place : ℕ
 
 -- So many bytes of this signal's stream were given: it stands at the next one. The stream comes again after 256 frames.
-pub record HasGiven (signal : Signal) (given : ℕ) (standing : Standing) : Type 0 where
-  pub signal_is : standing.signal ≡ signal
-  pub place_is : standing.place ≡ given % PERIOD
+pub record HasGiven (signal : Signal) (given : ℕ) (stands : StreamPlace) : Type 0 where
+  pub signal_is : stands.signal ≡ signal
+  pub place_is : stands.place ≡ given % PERIOD

@@ -25,6 +25,7 @@ pattern Ais row column = if (row == 2) && (column == 14) then 0x00 else filling 
 pattern Oci row column = filling Oci
 pattern Lck row column = filling Lck
 
+-- the byte of a signal's frame with this MFAS, in a row and a column: of the alignment in row 1, columns 1 to 14, else of the pattern
 abbrev pub frame_byte : Signal → (mfas row column : ℕ) → ℕ
 frame_byte signal mfas row column = if (row == 1) && nat_le column 14 then alignment mfas column else pattern signal row column
 

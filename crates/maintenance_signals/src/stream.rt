@@ -15,10 +15,10 @@ pub struct SignalBytes {
 
 impl Model for SignalBytes {
     ghost use Rattle.std.specs.Prelude.{◌<◌};
-    ghost use Rattle.maintenance_signals.specs.Given.{Standing};
+    ghost use Rattle.maintenance_signals.specs.Given.{StreamPlace};
     ghost use Rattle.maintenance_signals.specs.declared.runs.TheConstants.{PERIOD};
 
-    ghost Value = { Standing };
+    ghost Value = { StreamPlace };
 
     ghost view = { λ s. record { signal = s.signal; place = s.place } };
 

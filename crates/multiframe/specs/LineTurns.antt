@@ -12,6 +12,7 @@ begins size first second = (first % size == 0) && (second == first + 1)
 abbrev pub is_start : ℕ → List ℕ → ℕ → Bool
 is_start size ms f = nat_lt (f + 1) (length ms) && begins size (slice_index ms f) (slice_index ms (f + 1))
 
+-- the least n that was found so far, or k where none was and a multiframe may begin there
 abbrev pub least_or : Option ℕ → Bool → ℕ → Option ℕ
 least_or (Some n) here k = Some n
 least_or None true k = Some k
@@ -39,6 +40,7 @@ has_ended (Hunting i) = false
 has_ended (Locked lock) = false
 has_ended Ended = true
 
+-- locked at frame i + n, with that frame's own MFAS as the expected one; not locked where there is no n
 abbrev pub lock_from : List ℕ → ℕ → Option ℕ → Option Lock
 lock_from ms i None = None
 lock_from ms i (Some n) = Some (record { frame = i + n; expected = slice_index ms (i + n) })
@@ -50,10 +52,12 @@ lock_of size ms (Hunting i) = lock_from ms i (least_start size ms i size)
 lock_of size ms (Locked lock) = Some lock
 lock_of size ms Ended = None
 
+-- 1 where it is so, else 0
 abbrev pub one_if : Bool → ℕ
 one_if true = 1
 one_if false = 0
 
+-- 0 where it is so, else 1
 abbrev pub one_unless : Bool → ℕ
 one_unless true = 0
 one_unless false = 1
@@ -75,11 +79,13 @@ outcome_of size ms lock =
     if nat_lt (length ms) (lock.frame + size) then CutShort
     else (if nat_lt (size / 2) (wrong_count lock.expected (take size (drop lock.frame ms))) then Lost else Whole)
 
+-- how a line stands after a locked turn: ended; hunting from behind the lost multiframe on; or locked at the frame behind its multiframe
 abbrev pub after_outcome : ℕ → Lock → Outcome → Standing
 after_outcome size lock CutShort = Ended
 after_outcome size lock Lost = Hunting (lock.frame + size)
 after_outcome size lock Whole = Locked (record { frame = lock.frame + size; expected = (lock.expected + size) % 256 })
 
+-- how a line stands after a turn that hunted at i: as its lock's outcome says; without a lock it hunts size frames further on, or has ended
 abbrev pub after_hunt : ℕ → List ℕ → ℕ → Option Lock → Standing
 after_hunt size ms i (Some lock) = after_outcome size lock (outcome_of size ms lock)
 after_hunt size ms i None = if nat_le (i + size) (length ms) then Hunting (i + size) else Ended
@@ -95,11 +101,13 @@ unfoldable pub standing : ℕ → List ℕ → ℕ → Standing
 standing size ms zero = Hunting 0
 standing size ms (suc t) = after_turn size ms (standing size ms t)
 
+-- the lock of a turn that has its whole multiframe
 abbrev pub kept_if : Outcome → Lock → Option Lock
 kept_if Whole lock = Some lock
 kept_if Lost lock = None
 kept_if CutShort lock = None
 
+-- the multiframe of a turn that is locked so: none without a lock, or where it is lost or cut short
 abbrev pub multiframe_at : ℕ → List ℕ → Option Lock → Option Lock
 multiframe_at size ms None = None
 multiframe_at size ms (Some lock) = kept_if (outcome_of size ms lock) lock
@@ -109,6 +117,7 @@ multiframe_at size ms (Some lock) = kept_if (outcome_of size ms lock) lock
 abbrev pub multiframe : ℕ → List ℕ → ℕ → Option Lock
 multiframe size ms t = multiframe_at size ms (lock_of size ms (standing size ms t))
 
+-- the lead-in frames of a turn that hunts at i: n where it locks at frame i + n, else a multiframe's number of frames, or all that are left
 abbrev pub lead_in_from : ℕ → List ℕ → ℕ → Option ℕ → ℕ
 lead_in_from size ms i (Some n) = n
 lead_in_from size ms i None = min size (length ms - i)
@@ -124,11 +133,13 @@ unfoldable pub lead_in : ℕ → List ℕ → ℕ → ℕ
 lead_in size ms zero = 0
 lead_in size ms (suc t) = lead_in size ms t + lead_in_of size ms (standing size ms t)
 
+-- whether a locked turn lost its multiframe
 abbrev pub is_lost : Outcome → Bool
 is_lost Lost = true
 is_lost Whole = false
 is_lost CutShort = false
 
+-- 1 where the turn that is locked so lost its multiframe, else 0
 abbrev pub lost_at : ℕ → List ℕ → Option Lock → ℕ
 lost_at size ms None = 0
 lost_at size ms (Some lock) = one_if (is_lost (outcome_of size ms lock))
@@ -138,6 +149,7 @@ unfoldable pub lost_count : ℕ → List ℕ → ℕ → ℕ
 lost_count size ms zero = 0
 lost_count size ms (suc t) = lost_count size ms t + lost_at size ms (lock_of size ms (standing size ms t))
 
+-- used_in for the first k pieces of a turn that hunts at i, where k is not 0: up to frame k of its multiframe; without a lock all that it hunted over
 abbrev pub used_at : ℕ → List ℕ → Option Lock → (i k : ℕ) → ℕ
 used_at size ms (Some lock) i k = min (length ms) (lock.frame + k)
 used_at size ms None i k = min (length ms) (i + size)
@@ -151,9 +163,11 @@ used_in size ms (Hunting i) (suc k) = used_at size ms (lock_of size ms (Hunting 
 used_in size ms (Locked lock) k = min (length ms) (lock.frame + k)
 used_in size ms Ended k = length ms
 
+-- whether frame f is there and its MFAS is a multiple of size, so that a hunt looks at the frame behind it too
 abbrev pub looked_ahead : ℕ → List ℕ → ℕ → Bool
 looked_ahead size ms f = nat_lt f (length ms) && (slice_index ms f % size == 0)
 
+-- wanted_in for the first k pieces of a turn that hunts at i, where k is not 0: it locks at frame i + n, or nowhere
 abbrev pub wanted_from : ℕ → List ℕ → ℕ → Option ℕ → ℕ → ℕ
 wanted_from size ms i (Some n) k = i + n + max 2 k
 wanted_from size ms i None k = i + size + one_if (looked_ahead size ms (i + size - 1))

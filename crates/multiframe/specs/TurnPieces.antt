@@ -4,6 +4,7 @@ use Rattle.std.specs.Prelude.{◌≡◌, ℕ, zero, suc, ◌+◌, ◌%◌, Bool,
 use Rattle.multiframe.specs.LineTurns.{Lock, Standing, Hunting, Locked, Ended, lock_of, standing, lead_in, lead_in_of}
 use Rattle.multiframe.specs.Alignment.{Alignment, taken_of}
 
+-- frame j, from 0, of the multiframe at which a turn is locked, with its expected MFAS, where the frame is whole
 abbrev pub hand_at : List ℕ → Option Lock → ℕ → Option Lock
 hand_at ms None j = None
 hand_at ms (Some lock) j = if nat_lt (lock.frame + j) (length ms) then Some (record { frame = lock.frame + j; expected = (lock.expected + j) % 256 }) else None
@@ -14,6 +15,7 @@ abbrev pub in_hand : ℕ → List ℕ → Standing → ℕ → Option Lock
 in_hand size ms st zero = None
 in_hand size ms st (suc j) = hand_at ms (lock_of size ms st) j
 
+-- ended_in for the first k pieces of a turn that hunts at i, where k is not 0: by the multiframe at which it locks, or without a lock by what it hunts over
 abbrev pub ended_at : ℕ → List ℕ → Option Lock → (i k : ℕ) → Bool
 ended_at size ms (Some lock) i k = nat_lt (length ms) (lock.frame + k)
 ended_at size ms None i k = nat_lt (length ms) (i + size)
@@ -36,6 +38,7 @@ lead_in_by size ms st (suc k) = lead_in_of size ms st
 abbrev pub lead_in_so_far : ℕ → List ℕ → (t k : ℕ) → ℕ
 lead_in_so_far size ms t k = lead_in size ms t + lead_in_by size ms (standing size ms t) k
 
+-- the alignment after k pieces of a turn that is locked so; none where the hunt found no lock
 abbrev pub aligned_by : List ℕ → Option Lock → ℕ → Option Alignment → Type 0
 aligned_by ms None k alignment = alignment ≡ None
 aligned_by ms (Some lock) k alignment = alignment ≡ Some (taken_of k ms lock)

@@ -45,10 +45,11 @@ unfoldable mutual
   framing zero misses bytes = []
   framing (suc places) misses bytes = next_frame misses bytes (whole_frame bytes (framing places (misses_after misses bytes) (drop CLIENT_FRAME_BYTES bytes))) (searching places (drop 6 bytes))
 
--- the same where a search, or a frame behind so many without the FAS, is at the list's front
+-- the same where a search is at the list's front
 abbrev pub from_search : List ℕ → List Arrival
 from_search bytes = searching (length bytes) bytes
 
+-- the same where a frame, behind so many in a row without the FAS, is at the list's front
 abbrev pub from_frame : ℕ → List ℕ → List Arrival
 from_frame misses bytes = framing (length bytes) misses bytes
 

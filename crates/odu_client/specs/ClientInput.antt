@@ -18,6 +18,7 @@ pub record ClientInput : Type 0 where
   pub packets : List (List ℕ)
   pub ending : InputEnding
 
+-- how an input ends by its text: at a bad line, or else where its place died, or at the text's end
 abbrev pub input_ending : (died : Bool) → TextEnding → InputEnding
 input_ending died (BadAt n) = AtBad n
 input_ending true Ended = AtDeath
@@ -50,6 +51,7 @@ packets_begun packets fcs emitted = begun_within (payload_begun emitted) (stream
 abbrev pub ending_seen : (packets : List (List ℕ)) → (fcs : Bool) → (emitted : ℕ) → Bool
 ending_seen packets fcs emitted = nat_lt (gfp_length packets fcs) (payload_begun emitted)
 
+-- whether an input ends at the end of its text
 abbrev pub is_end : InputEnding → Bool
 is_end AtEnd = true
 is_end (AtBad n) = false
@@ -59,6 +61,7 @@ is_end AtDeath = false
 abbrev pub is_spent : ClientInput → (fcs : Bool) → (emitted : ℕ) → Bool
 is_spent input fcs emitted = is_end input.ending && nat_le (CLIENT_FRAME_BYTES * (gfp_length input.packets fcs / CLIENT_PAYLOAD_BYTES + 1)) emitted
 
+-- the number of the bad line with which an input ends
 abbrev pub bad_at : InputEnding → Option ℕ
 bad_at AtEnd = None
 bad_at (AtBad n) = Some n

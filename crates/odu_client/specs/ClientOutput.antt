@@ -12,6 +12,7 @@ arriving_packets bytes = flat_map delivered (runs_of (arrivals bytes))
 unfoldable pub arriving_text : List ℕ → List ℕ
 arriving_text bytes = hex_text (arriving_packets bytes)
 
+-- how many of these arrivals are frames that are handed on
 unfoldable pub handed_count : List Arrival → ℕ
 handed_count [] = 0
 handed_count (Handed frame ∷ later) = handed_count later + 1

@@ -64,10 +64,12 @@ pub record TextGoes (first now : InView) (taken : List ℕ) (packets : List (Lis
   pub still : old.answer ≢ Packet → (more ≡ []) × (new ≡ old)
   pub same : stream.fcs ≡ fcs
 
+-- so the text goes on, and the stream is ready for its next byte
 pub record GetsReady (first now : InView) (taken given : List ℕ) (packets : List (List ℕ)) (old new : LinesView) (fcs : Bool) (stream : StreamState) : Type 0 where
   pub goes : TextGoes first now taken packets old new fcs stream
   pub ready : StreamReady (packets ++ goes.more) given stream
 
+-- so the text goes on, and the stream has given these bytes
 pub record StreamGoes (first now : InView) (taken given : List ℕ) (packets : List (List ℕ)) (old new : LinesView) (fcs : Bool) (stream : StreamState) : Type 0 where
   pub goes : TextGoes first now taken packets old new fcs stream
   pub made : StreamMade (packets ++ goes.more) given stream

@@ -5,6 +5,7 @@ use Rattle.odu_client.specs.declared.aligned.Aligned.{Aligned}
 use Rattle.odu_client.specs.declared.aligned.Aligned.TheVariants.{Nothing, Whole, Break}
 use Rattle.odu_client.specs.declared.aligner.ClientAligner.{ClientAligner}
 
+-- the state of an aligner: whether it searches, how many frames in a row had no FAS, and the bytes that it holds
 abbrev pub aligner_state : ClientAligner → AlignerState
 aligner_state a = record { searches = a.searching; misses = a.misses; held = a.held.items }
 

@@ -31,6 +31,7 @@ has_fas frame =
     let is = λ (k : ℕ). byte_of LINE_COLUMNS SECTION_ROW (FAS_COLUMN + k) frame == slice_index FAS k in
     is 0 && (is 1 && (is 2 && (is 3 && (is 4 && is 5))))
 
+-- 1 where a frame has a wrong FAS, else 0
 abbrev pub fas_wrong : List ℕ → ℕ
 fas_wrong frame = if has_fas frame then 0 else 1
 

@@ -14,6 +14,7 @@ pub record CutView : Type 0 where
   pub hand : List ℕ
   pub ended : Bool
 
+-- a cutter as it is seen
 abbrev pub cut_view : Cutter → CutView
 cut_view c = record { line = c.line.items; hand = take (c.end - c.at) (drop c.at c.block.items); ended = c.ended }
 

@@ -20,6 +20,7 @@ pub record LinesView : Type 0 where
   pub number : ℕ
   pub empty : ℕ
 
+-- the lines of a place as they are seen
 abbrev pub lines_view : PacketLines → LinesView
 lines_view p = record { hand = (cut_view p.cutter).hand; ended = p.cutter.ended; answer = p.answer; packet = take p.len p.packet.items; number = p.number; empty = p.empty }
 
@@ -41,19 +42,22 @@ may_be false (Bad n) taken text = Begins taken text
 may_be false End taken text = text ≡ taken
 may_be false Lost taken text = text ≡ text_of_dead taken
 
+-- the same by what is seen of the lines
 abbrev pub MayBe : LinesView → List ℕ → List ℕ → Type 0
 MayBe view taken text = may_be view.ended view.answer taken text
 
--- what an answer says of the packets of a text, when these were given
+-- these packets are the first of a text's
 pub record GoesOnWith (packets : List (List ℕ)) (text : Packets) : Type 0 where
   pub later : Packets
   pub parts : text ≡ behind packets later
 
+-- the text ends behind these packets with a bad line, whose number is this one as far as it counts
 pub record HasBad (packets : List (List ℕ)) (number : ℕ) (text : Packets) : Type 0 where
   pub line : ℕ
   pub counted : number ≡ stopped line
   pub ends : text ≡ record { packets = packets; ending = BadAt line }
 
+-- what an answer says of the packets of a text, when these were given
 abbrev pub Told : Line → List (List ℕ) → Packets → Type 0
 Told Packet packets text = GoesOnWith packets text
 Told End packets text = text ≡ record { packets = packets; ending = Ended }
@@ -117,6 +121,7 @@ given_by End packet = []
 given_by (Bad n) packet = []
 given_by Lost packet = []
 
+-- whether an answer is Packet
 abbrev pub is_packet : Line → Bool
 is_packet Packet = true
 is_packet End = false

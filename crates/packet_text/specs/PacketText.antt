@@ -10,6 +10,7 @@ use Rattle.packet_text.specs.TextLines.{lines_of, full_lines, begun_line}
 unfoldable pub without_cr : List ℕ → List ℕ
 without_cr line = if nat_lt 0 (length line) && (slice_index line (length line - 1) == 13) then take (length line - 1) line else line
 
+-- the bytes of hex digits, where they are such
 abbrev pub decoded : Result (List ℕ) FromHexError → Option (List ℕ)
 decoded (Ok bytes) = Some bytes
 decoded (Err e) = None
@@ -18,6 +19,7 @@ decoded (Err e) = None
 unfoldable pub bytes_of_line : List ℕ → Option (List ℕ)
 bytes_of_line line = if nat_le (length (without_cr line)) 131054 then decoded (decode_of (without_cr line)) else None
 
+-- the list is empty
 abbrev pub is_nothing : List ℕ → Bool
 is_nothing [] = true
 is_nothing (x ∷ xs) = false
@@ -64,6 +66,7 @@ packets_behind before (line ∷ lines) = with_line (length before + 1) (line_giv
 unfoldable pub packets_of : List ℕ → Packets
 packets_of text = packets_behind [] (lines_of text)
 
+-- whether a text ends with a bad line
 abbrev pub is_bad : TextEnding → Bool
 is_bad Ended = false
 is_bad (BadAt n) = true

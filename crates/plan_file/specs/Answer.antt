@@ -33,6 +33,7 @@ abbrev pub accepted_or : Plan → Option (PlanError × ℕ) → Result Plan NoPl
 accepted_or plan None = Ok plan
 accepted_or plan (Some broken) = Err (Refused broken.0 broken.1)
 
+-- the plan of a table, or the first rule that it breaks; where the text has no table it is not TOML
 abbrev pub plan_of_table : Option Members → Result Plan NoPlan
 plan_of_table None = Err (Refused NotToml 0)
 plan_of_table (Some top) = accepted_or (plan_of (outline_at top)) (refusal_of top)

@@ -7,6 +7,7 @@ use Rattle.plan_file.specs.declared.ends.Side.TheVariants.{From, To}
 use Rattle.plan_file.specs.declared.ends.Form.{Form}
 use Rattle.plan_file.specs.declared.ends.Form.TheVariants.{Client, Signal, Line}
 
+-- the value is a table
 abbrev pub is_table : Data → Bool
 is_table value = is_some (as_table value)
 
@@ -14,6 +15,7 @@ is_table value = is_some (as_table value)
 abbrev pub has : List ℕ → Data → Bool
 has key value = is_some (get key value)
 
+-- the key of an end: `from` or `to`
 abbrev pub side_key : Side → List ℕ
 side_key From = codes "from"
 side_key To = codes "to"

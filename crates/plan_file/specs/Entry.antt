@@ -45,10 +45,12 @@ pub record Outline : Type 0 where
 
 -- ---- of an end
 
+-- the end is at a line
 abbrev pub is_line : End → Bool
 is_line (at_line line port kind slots) = true
 is_line _ = false
 
+-- the end is at a client
 abbrev pub is_client : End → Bool
 is_client (at_client client) = true
 is_client _ = false
@@ -64,15 +66,18 @@ slots_between from to = if is_line from then slot_count from else slot_count to
 
 -- ---- the outline of a plan
 
+-- a from end of the plan
 abbrev pub from_seen : FromEnd → End
 from_seen (from_end.Line line port slots) = at_line (pos line) (pos port) slots.kind (map pos slots.list)
 from_seen (from_end.Client client) = at_client (pos client)
 from_seen (from_end.Signal signal) = of_signal signal
 
+-- a to end of the plan
 abbrev pub to_seen : ToEnd → End
 to_seen (to_end.Line line port slots) = at_line (pos line) (pos port) slots.kind (map pos slots.list)
 to_seen (to_end.Client client) = at_client (pos client)
 
+-- a connection of the plan
 abbrev pub seen : Connection → Entry
 seen c = record {
   name = c.name;
@@ -87,6 +92,7 @@ seen c = record {
   retire = c.retire;
 }
 
+-- the top of the plan
 abbrev pub top_seen : Plan → Top
 top_seen plan = record {
   turns = pos plan.turns;
@@ -96,6 +102,7 @@ top_seen plan = record {
   scrambled_out = map pos plan.scrambled_out;
 }
 
+-- the outline of a plan
 abbrev pub outline : Plan → Outline
 outline plan = record { top = top_seen plan; entries = map seen plan.connections }
 
@@ -106,20 +113,23 @@ abbrev pub natural : ℤ → ℕ
 natural (pos n) = n
 natural (negsuc n) = 0
 
+-- slots of a line of this kind
 abbrev pub slots_as : LineKind → List ℤ → LineSlots
 slots_as kind slots = record { kind = kind; list = map natural slots }
 
+-- a from end of the outline
 abbrev pub from_of : End → FromEnd
 from_of (at_line line port kind slots) = from_end.Line (natural line) (natural port) (slots_as kind slots)
 from_of (at_client client) = from_end.Client (natural client)
 from_of (of_signal signal) = from_end.Signal signal
 
--- no outline has a signal here
+-- a to end of the outline, which is no signal where the outline is accepted
 abbrev pub to_of : End → ToEnd
 to_of (at_line line port kind slots) = to_end.Line (natural line) (natural port) (slots_as kind slots)
 to_of (at_client client) = to_end.Client (natural client)
 to_of (of_signal signal) = to_end.Client 0
 
+-- a connection of the outline
 abbrev pub connection_of : Entry → Connection
 connection_of e = record {
   name = e.name;
@@ -134,6 +144,7 @@ connection_of e = record {
   retire = e.retire;
 }
 
+-- the plan of an outline
 abbrev pub plan_of : Outline → Plan
 plan_of o = record {
   turns = natural o.top.turns;

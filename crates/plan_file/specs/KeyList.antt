@@ -4,6 +4,7 @@ use Rattle.plan_file.specs.declared.keys.list.KeyList.{KeyList}
 use Rattle.plan_file.specs.declared.keys.list.KeyList.TheVariants as of
 use Rattle.plan_file.specs.Keys.{top_keys, client_keys, signal_keys, line_keys, connection_keys}
 
+-- the keys of the list with this name
 abbrev pub keys_in : KeyList → List (List ℕ)
 keys_in of.Top = top_keys false
 keys_in of.TopOfSecond = top_keys true

@@ -12,20 +12,23 @@ use Rattle.plan_file.specs.Ends.{is_table, has, TableEnd, end_at}
 
 -- ---- the lists of keys
 
--- the keys of the top, and those that it has in version 2 besides
+-- the keys of the lists of lines, which the top has in version 2 alone
 abbrev pub line_list_keys : List (List ℕ)
 line_list_keys = codes "otu3-in" ∷ codes "otu3-out" ∷ codes "scrambled-in" ∷ codes "scrambled-out" ∷ []
 
+-- the keys of the top, in version 2 or not
 abbrev pub top_keys : Bool → List (List ℕ)
 top_keys is_second = (codes "version" ∷ codes "turns" ∷ codes "connection" ∷ []) ++ (if is_second then line_list_keys else [])
 
--- the keys of an end at a client, of one that is a signal, and of one at a line
+-- the keys of an end at a client
 abbrev pub client_keys : List (List ℕ)
 client_keys = codes "client" ∷ []
 
+-- the keys of an end that is a signal
 abbrev pub signal_keys : List (List ℕ)
 signal_keys = codes "signal" ∷ []
 
+-- the keys of an end at a line
 abbrev pub line_keys : List (List ℕ)
 line_keys = codes "line" ∷ codes "port" ∷ codes "slots" ∷ []
 
@@ -61,6 +64,7 @@ form_keys Line = connection_keys false false
 abbrev pub keys_from : TableEnd → List (List ℕ)
 keys_from end = if is_table end.value then form_keys end.form else connection_keys true true
 
+-- the same of a connection, which may lack its `from`
 abbrev pub keys_of_connection : Data → List (List ℕ)
 keys_of_connection connection = option_map_or keys_from (end_at From connection) (connection_keys true true)
 
@@ -83,6 +87,7 @@ has_unknown_top_key top = not (knows_all (top_keys (is_second_version top)) top)
 abbrev pub has_other : List (List ℕ) → Data → Bool
 has_other keys value = option_map_or (λ members. not (knows_all keys members)) (as_table value) false
 
+-- the end is a table with a key that is not in the list of its form
 abbrev pub end_has_other : TableEnd → Bool
 end_has_other end = has_other (end_keys end.form) end.value
 
@@ -108,6 +113,7 @@ abbrev pub form_lacks_key : Form → Data → Bool
 form_lacks_key Line end = lacks_line_key end
 form_lacks_key _ end = false
 
+-- the end lacks a key of its form
 abbrev pub end_lacks_key : TableEnd → Bool
 end_lacks_key end = form_lacks_key end.form end.value
 

@@ -11,13 +11,15 @@ use Rattle.plan_file.specs.declared.kinds.value.Wanted.TheVariants as wanted
 use Rattle.plan_file.specs.Ends.{is_table, TableEnd, end_at}
 use Rattle.plan_file.specs.Keys.{is_this_number}
 
--- a number, a truth value, a text
+-- a number
 abbrev pub is_number : Data → Bool
 is_number value = is_some (as_integer value)
 
+-- a truth value
 abbrev pub is_truth : Data → Bool
 is_truth value = is_some (as_bool value)
 
+-- a text
 abbrev pub is_text : Data → Bool
 is_text value = is_some (as_str value)
 
@@ -26,10 +28,11 @@ abbrev pub each_item : (Data → Bool) → Items → Bool
 each_item test no_items = true
 each_item test (item value rest) = test value && each_item test rest
 
--- a list of numbers, a list of tables
+-- a list of numbers
 abbrev pub is_number_list : Data → Bool
 is_number_list value = option_map_or (each_item is_number) (as_array value) false
 
+-- a list of tables
 abbrev pub is_table_list : Data → Bool
 is_table_list value = option_map_or (each_item is_table) (as_array value) false
 
@@ -41,10 +44,11 @@ is_either one other value = option_map_or (λ text. bytes_eq text one || bytes_e
 abbrev pub is_version : Data → Bool
 is_version value = is_this_number (pos 1) value || is_this_number (pos 2) value
 
--- the value of `kind`, and that of `signal`
+-- the value of `kind`: `odu0` or `flex`
 abbrev pub is_kind : Data → Bool
 is_kind = is_either (codes "odu0") (codes "flex")
 
+-- the value of `signal`: `oci` or `lck`
 abbrev pub is_signal : Data → Bool
 is_signal = is_either (codes "oci") (codes "lck")
 
@@ -77,12 +81,13 @@ has_form Line end = is_line_end end
 abbrev pub is_end : TableEnd → Bool
 is_end end = is_table end.value && has_form end.form end.value
 
--- the keys that each connection has, and those of a pace, of a client input, of a span and of its end
+-- the values of the keys that each connection has
 abbrev pub has_plain_kinds : Data → Bool
 has_plain_kinds connection =
     (each_at (codes "name") is_text connection && each_at (codes "kind") is_kind connection)
     && (option_map_or is_end (end_at From connection) true && option_map_or is_end (end_at To connection) true)
 
+-- the values of the keys of a pace, of a client input, of a span and of its end
 abbrev pub has_other_kinds : Data → Bool
 has_other_kinds connection =
     ((each_at (codes "pace") is_number_list connection && each_at (codes "fcs") is_truth connection)

@@ -13,6 +13,7 @@ abbrev pub places_from : {A : Type 0} → ℕ → (A → Bool) → List A → Li
 places_from place test [] = []
 places_from place test (x ∷ xs) = if test x then place ∷ places_from (place + 1) test xs else places_from (place + 1) test xs
 
+-- the same of all connections, from place 1 on
 abbrev pub places : {A : Type 0} → (A → Bool) → List A → List ℕ
 places test xs = places_from 1 test xs
 
@@ -24,6 +25,7 @@ places_after before clash (x ∷ xs) =
     then (length before + 1) ∷ places_after (before ++ x ∷ []) clash xs
     else places_after (before ++ x ∷ []) clash xs
 
+-- the same of all connections
 abbrev pub later_places : {A : Type 0} → (A → A → Bool) → List A → List ℕ
 later_places clash xs = places_after [] clash xs
 

@@ -7,19 +7,22 @@ use Rattle.plan_file.specs.Entry.{Entry, Top, Outline}
 use Rattle.plan_file.specs.Places.{top_place, places, later_places}
 use Rattle.plan_file.specs.Rules.{is_within, breaks_name, have_one_name, breaks_lines, breaks_place, breaks_slots, have_one_slot, have_one_port, have_one_client, breaks_pace, breaks_span}
 
--- in the order in which they are tried
+-- the rules of connections, in the order in which they are tried
 abbrev pub connection_rules : List PlanError
 connection_rules = BadName ∷ NameTwice ∷ BadPlace ∷ BadSlots ∷ SlotTwice ∷ PortTwice ∷ ClientTwice ∷ BadPace ∷ BadSpan ∷ []
 
+-- the rules of the whole, and behind them those of connections
 abbrev pub plan_rules : List PlanError
 plan_rules = Turns ∷ TooMany ∷ connection_rules
 
+-- the top, or the number of connections, breaks the rule
 abbrev pub breaks_whole : PlanError → Outline → Bool
 breaks_whole Turns o = not (is_within 1 MOST_TURNS o.top.turns)
 breaks_whole TooMany o = nat_lt MOST_CONNECTIONS (length o.entries)
 breaks_whole BadPlace o = breaks_lines o.top
 breaks_whole _ o = false
 
+-- a connection of a plan with this top breaks the rule by itself
 abbrev pub breaks_alone : PlanError → Top → Entry → Bool
 breaks_alone BadName top e = breaks_name e
 breaks_alone BadPlace top e = breaks_place top e

@@ -23,6 +23,7 @@ is_within least most (negsuc n) = false
 abbrev pub is_name_byte : ℕ → Bool
 is_name_byte byte = (is_in_range 97 122 byte || is_in_range 48 57 byte) || byte == 45
 
+-- a name: 1 to 32 of these bytes
 abbrev pub is_name : List ℕ → Bool
 is_name name = (nat_le 1 (length name) && nat_le (length name) 32) && list_all is_name_byte name
 
@@ -30,11 +31,13 @@ is_name name = (nat_le 1 (length name) && nat_le (length name) 32) && list_all i
 abbrev pub is_sapi : List ℕ → Bool
 is_sapi bytes = nat_le (length bytes) 15 && list_all (is_in_range 0x20 0x7E) bytes
 
+-- the connection's name is not a name, or its trace not a SAPI
 abbrev pub breaks_name : Entry → Bool
 breaks_name e = not (is_name e.name && is_sapi e.trace)
 
 -- ---- places
 
+-- each number is greater than the one before it
 abbrev pub rises : List ℤ → Bool
 rises [] = true
 rises (first ∷ []) = true
@@ -44,6 +47,7 @@ rises (first ∷ second ∷ rest) = int_lt first second && rises (second ∷ res
 abbrev pub is_line_list : List ℤ → Bool
 is_line_list lines = list_all (is_within 0 3) lines && rises lines
 
+-- one of the four lists of the top is not a list of lines
 abbrev pub breaks_lines : Top → Bool
 breaks_lines top = not ((is_line_list top.otu3_in && is_line_list top.otu3_out) && (is_line_list top.scrambled_in && is_line_list top.scrambled_out))
 
@@ -53,6 +57,7 @@ is_placed otu3 (at_line line port kind slots) = is_within 0 3 line && is_within 
 is_placed otu3 (at_client client) = is_within 0 15 client
 is_placed otu3 (of_signal signal) = true
 
+-- an end's line, tributary port or client is out of range, or neither end is at a line
 abbrev pub breaks_place : Top → Entry → Bool
 breaks_place top e = not ((is_placed top.otu3_in e.from && is_placed top.otu3_out e.to) && (is_line e.from || is_line e.to))
 
@@ -84,28 +89,33 @@ abbrev pub has_equal_counts : End → End → Bool
 has_equal_counts (at_line line port kind slots) (at_line number other made_for others) = length slots == length others
 has_equal_counts _ _ = true
 
+-- an end has not the slots that it may have, or two ends at lines have not as many
 abbrev pub breaks_slots : Top → Entry → Bool
 breaks_slots top e = not ((has_slots top.otu3_in e.kind e.from && has_slots top.otu3_out e.kind e.to) && has_equal_counts e.from e.to)
 
 -- ---- the pace
 
--- the least and the greatest number of bytes in a turn, on M slots
+-- the least number of bytes in a turn, on M slots
 abbrev pub least_pace : Kind → ℕ → ℕ
 least_pace Odu0 m = NOMINAL - 1
 least_pace Flex m = m
 
+-- the greatest number of bytes in a turn, on M slots
 abbrev pub most_pace : Kind → ℕ → ℕ
 most_pace Odu0 m = NOMINAL + 1
 most_pace Flex m = m * GROUPS
 
+-- a pace: a list of such numbers, not empty and not too long
 abbrev pub is_pace : Kind → ℕ → List ℤ → Bool
 is_pace kind m pace = (nat_le 1 (length pace) && nat_le (length pace) MOST_PACES) && list_all (is_within (least_pace kind m) (most_pace kind m)) pace
 
+-- the pace does not suit the connection's kind and its slots
 abbrev pub breaks_pace : Entry → Bool
 breaks_pace e = not (is_pace e.kind (slots_between e.from e.to) e.pace)
 
 -- ---- the span
 
+-- the start is at least 1, the stop not before it, and not behind the plan's last turn
 abbrev pub is_span : ℤ → Entry → Bool
 is_span turns e = (int_le (pos 1) e.start && int_le e.start e.stop) && int_le e.stop turns
 
@@ -113,11 +123,13 @@ is_span turns e = (int_le (pos 1) e.start && int_le e.start e.stop) && int_le e.
 abbrev pub can_retire : Entry → Bool
 can_retire e = not e.retire || (is_client e.from || is_client e.to)
 
+-- the span is not within the plan's turns, or what retires has no client
 abbrev pub breaks_span : ℤ → Entry → Bool
 breaks_span turns e = not (is_span turns e && can_retire e)
 
 -- ---- two connections, the earlier one first
 
+-- both have one name
 abbrev pub have_one_name : Entry → Entry → Bool
 have_one_name e f = bytes_eq e.name f.name
 
@@ -144,9 +156,11 @@ abbrev pub share_client : End → End → Bool
 share_client (at_client client) (at_client other) = int_eq client other
 share_client _ _ = false
 
+-- both go to a slot of one line while their spans meet
 abbrev pub have_one_slot : Entry → Entry → Bool
 have_one_slot e f = share_slot e.to f.to && meet e f
 
+-- both go to a tributary port of one line while their spans meet
 abbrev pub have_one_port : Entry → Entry → Bool
 have_one_port e f = share_port e.to f.to && meet e f
 

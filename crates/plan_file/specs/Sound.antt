@@ -12,6 +12,7 @@ is_sound (at_line line port kind slots) = (is_within 0 3 line && is_within 1 MOS
 is_sound (at_client client) = is_within 0 15 client
 is_sound (of_signal signal) = true
 
+-- the end is at a line or at a client
 abbrev pub is_no_signal : End → Bool
 is_no_signal (at_line line port kind slots) = true
 is_no_signal (at_client client) = true

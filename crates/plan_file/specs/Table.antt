@@ -18,9 +18,11 @@ use Rattle.plan_file.specs.Lines.{line_kind}
 
 -- ---- values by their kind
 
+-- the number, or else this one
 abbrev pub number_or : ℤ → Option Data → ℤ
 number_or otherwise value = unwrap_or (option_and_then as_integer value) otherwise
 
+-- the truth value, or else this one
 abbrev pub truth_or : Bool → Option Data → Bool
 truth_or otherwise value = unwrap_or (option_and_then as_bool value) otherwise
 
@@ -28,6 +30,7 @@ truth_or otherwise value = unwrap_or (option_and_then as_bool value) otherwise
 abbrev pub text_of : Option Data → List ℕ
 text_of value = unwrap_or (option_and_then as_str value) []
 
+-- the items as a list
 abbrev pub listed : Items → List Data
 listed no_items = []
 listed (item value rest) = value ∷ listed rest
@@ -36,11 +39,13 @@ listed (item value rest) = value ∷ listed rest
 abbrev pub list_of : Option Data → List Data
 list_of value = option_map_or listed (option_and_then as_array value) []
 
+-- the numbers of a list, with 0 for what is none
 abbrev pub numbers : List Data → List ℤ
 numbers values = map (λ value. number_or (pos 0) (Some value)) values
 
 -- ---- the ends of a connection
 
+-- the maintenance signal that the text names: `oci` is OCI, all else LCK
 abbrev pub signal_of : Option Data → Signal
 signal_of value = if bytes_eq (text_of value) (codes "oci") then Oci else Lck
 
@@ -50,6 +55,7 @@ line_at otu3 end =
     let line = number_or (pos 0) (get (codes "line") end) in
     at_line line (number_or (pos 0) (get (codes "port") end)) (line_kind otu3 line) (numbers (list_of (get (codes "slots") end)))
 
+-- an end at a client
 abbrev pub client_at : Data → End
 client_at end = at_client (number_or (pos 0) (get (codes "client") end))
 
@@ -69,6 +75,7 @@ end_of otu3 end = option_map_or (λ (e : TableEnd). form_at otu3 e.form e.value)
 
 -- ---- a connection
 
+-- the kind that the text names: `odu0`, or else `flex`
 abbrev pub kind_of : Option Data → Kind
 kind_of value = if bytes_eq (text_of value) (codes "odu0") then Odu0 else Flex
 
@@ -104,6 +111,7 @@ entry_at top connection =
 abbrev pub numbers_at : List ℕ → Members → List ℤ
 numbers_at key top = numbers (list_of (get_member key top))
 
+-- the top of a plan
 abbrev pub top_at : Members → Top
 top_at top = record {
   turns = number_or (pos 0) (get_member (codes "turns") top);
@@ -113,8 +121,10 @@ top_at top = record {
   scrambled_out = numbers_at (codes "scrambled-out") top;
 }
 
+-- the values of its connections
 abbrev pub connections_at : Members → List Data
 connections_at top = list_of (get_member (codes "connection") top)
 
+-- the outline of a plan
 abbrev pub outline_at : Members → Outline
 outline_at top = record { top = top_at top; entries = map (entry_at (top_at top)) (connections_at top) }

@@ -8,16 +8,18 @@ use Rattle.plan_file.specs.Kinds.{has_kinds, has_top_kinds}
 use Rattle.plan_file.specs.Places.{top_place, places}
 use Rattle.plan_file.specs.Table.{connections_at}
 
--- in the order in which they are tried
+-- the rules of keys and kinds, in the order in which they are tried
 abbrev pub table_rules : List PlanError
 table_rules = UnknownKey ∷ MissingKey ∷ WrongKind ∷ []
 
+-- the top breaks the rule
 abbrev pub breaks_top : PlanError → Members → Bool
 breaks_top UnknownKey top = has_unknown_top_key top
 breaks_top MissingKey top = is_none (get_member (codes "turns") top)
 breaks_top WrongKind top = not (has_top_kinds top)
 breaks_top _ top = false
 
+-- a connection breaks the rule by itself
 abbrev pub breaks_in_table : PlanError → Data → Bool
 breaks_in_table UnknownKey connection = has_unknown_key connection
 breaks_in_table MissingKey connection = lacks_key connection

@@ -2,7 +2,7 @@
 use Rattle.std.specs.Prelude.{◌≡◌, ℕ, ◌<◌, ◌≤◌, List, [], Bool, Option, Some, None}
 use Rattle.otn_base.specs.declared.limits.TheConstants.{GROUPS}
 use Rattle.maintenance_signals.specs.declared.signal.Signal.TheVariants.{Ais}
-use Rattle.maintenance_signals.specs.Given.{Standing as Stream, HasGiven}
+use Rattle.maintenance_signals.specs.Given.{StreamPlace, HasGiven}
 use Rattle.tributary_model.specs.declared.turns.Hearing.{Hearing}
 use Rattle.tributary_model.specs.declared.turns.Hearing.TheVariants.{Damaged, Lost, Pair}
 use Rattle.tributary_model.specs.declared.turns.Said.{Said}
@@ -16,7 +16,7 @@ pub record Following : Type 0 where
   pub standing : Standing
   pub listener : Option ℕ
   pub extraction : Extraction
-  pub stream : Stream
+  pub stream : StreamPlace
 
 -- the number that a listener keeps after a message
 abbrev pub kept_after : Option ℕ → Hearing → Option ℕ
@@ -35,9 +35,11 @@ abbrev pub FitsFormer : (slots : ℕ) → (pending : List ℕ) → Option ℕ �
 FitsFormer slots pending None = pending ≡ []
 FitsFormer slots pending (Some due) = due < slots
 
+-- what a turn says is small: no more groups than a multiframe has, and a remainder less than a group
 abbrev pub IsSmallSaid : (slots : ℕ) → Said → Type 0
 IsSmallSaid slots said = (said.number ≤ GROUPS) × (said.rest < slots)
 
+-- what is kept fits how the sink stands: at most two turns while Waiting; within a stretch small numbers, and what is pending
 abbrev pub FitsStanding : (slots : ℕ) → (pending : List ℕ) → Standing → Type 0
 FitsStanding slots pending (Waiting n) = n ≤ 2
 FitsStanding slots pending Down = Unit {0}
@@ -48,11 +50,12 @@ pub record IsSmallHearing (slots : ℕ) (heard : Option Hearing) : Type 0 where
   pub number_low : (number rest : ℕ) (equal : Bool) → heard ≡ Some (Pair number rest equal) → number ≤ GROUPS
   pub rest_low : (number rest : ℕ) (equal : Bool) → heard ≡ Some (Pair number rest equal) → rest < slots
 
--- what the first turn of a stretch says, and what a later one does
+-- what the first turn of a stretch says: small numbers, and no turn before
 pub record FitsFirst (slots : ℕ) (first : Option Said) : Type 0 where
   pub small : (said : Said) → first ≡ Some said → IsSmallSaid slots said
   pub former : (said : Said) → first ≡ Some said → said.former ≡ None
 
+-- what a later turn of a stretch says: small numbers, and this remainder of the turn before
 pub record FitsNext (slots : ℕ) (next : Option Said) (due : ℕ) : Type 0 where
   pub small : (said : Said) → next ≡ Some said → IsSmallSaid slots said
   pub former : (said : Said) → next ≡ Some said → said.former ≡ Some due

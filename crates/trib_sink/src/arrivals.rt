@@ -7,6 +7,7 @@ ghost use Rattle.trib_sink.specs.Watching.{AreOfSlots};
 
 use arrayvec::ArrayVec;
 use frame_geometry::Frame;
+use frame_geometry::overhead::{PSI_COLUMN, PSI_ROW};
 use odtu_columns::message;
 use otn_base::Slots;
 use otn_base::limits::{LINE_COLUMNS, MOST_SLOTS};
@@ -53,6 +54,6 @@ pub(crate) fn note_msi(
         return;
     }
     if slots.has(expected - 1) {
-        came.push((expected - 1, frame.get(4, 15)));
+        came.push((expected - 1, frame.get(PSI_ROW, PSI_COLUMN)));
     }
 }

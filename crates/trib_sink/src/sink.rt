@@ -48,7 +48,7 @@ impl TribSink {
     ghost use Rattle.trib_sink.specs.Sink.{AfterAnyTurns, StandsAfter, ended_view};
 
     /// A sink of these slots and this tributary port (1 to the number of the line's slots), before its
-    /// first turn. Takes all memory that it will ever need, 30,464 bytes a slot and a row; answers
+    /// first turn. Takes all memory that it will ever need, 30,464 bytes a slot and 3,808 more; answers
     /// `Memory` where there is none.
     pub fn new(alloc: Global, slots: &Slots, port: u8) -> Result<TribSink, Memory>
         requires low { 1 ≤ port }

@@ -11,10 +11,11 @@ use Rattle.tributary_model.specs.Places.{Tributary, View}
 abbrev pub sent : List ℕ → (t : ℕ) → ℕ
 sent p t = sum (take t p)
 
--- C(t) and D(t) of turn t, from 0: the whole groups of m bytes that it completes, and the bytes left over
+-- C(t) (Cm) of turn t, from 0: the whole groups of m bytes that it completes
 abbrev pub number_in : (m : ℕ) → List ℕ → (t : ℕ) → ℕ
 number_in m p t = sent p (t + 1) / m - sent p t / m
 
+-- D(t) (CnD) of turn t, from 0: the bytes left over behind the whole groups of all turns up to it
 abbrev pub rest_in : (m : ℕ) → List ℕ → (t : ℕ) → ℕ
 rest_in m p t = sent p (t + 1) % m
 

@@ -32,11 +32,12 @@ abbrev pub NeverThree : Tributary → List (Option View) → Type 0
 NeverThree own [] = Unit {0}
 NeverThree own (view ∷ past) = (is_third own view (course own past) ≡ false) × NeverThree own past
 
--- what a sink emits in each of these turns, and how it stands after each, the last first
+-- what a sink emits in each of these turns, the last first
 abbrev pub emissions : Tributary → (ais : ℕ → ℕ) → List (Option View) → List (List ℕ)
 emissions own ais [] = []
 emissions own ais (view ∷ past) = emission own ais past view ∷ emissions own ais past
 
+-- how the sink stands after each of these turns, the last first
 abbrev pub states : Tributary → List (Option View) → List SinkState
 states own [] = []
 states own (view ∷ past) = state_after own (view ∷ past) ∷ states own past

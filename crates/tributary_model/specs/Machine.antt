@@ -13,20 +13,23 @@ use Rattle.tributary_model.specs.Messages.{hears_message}
 use Rattle.tributary_model.specs.Stretches.{groups_of, any_marked}
 use Rattle.tributary_model.specs.Emission.{data_bytes, stream_bytes}
 
+-- what it keeps between two turns: how it stands, the bytes extracted and not yet emitted, and its place in the AIS stream
 pub record Machine : Type 0 where
   pub standing : Standing
   pub pending : List ℕ
   pub place : ℕ
 
+-- the machine before the first turn
 abbrev pub start : Machine
 start = record { standing = Waiting 0; pending = []; place = 0 }
 
--- the number that a message is heard after, and by which the turn's groups are data
+-- the number that a message is heard after
 abbrev pub former_of : Standing → Option ℕ
 former_of (Waiting n) = None
 former_of Down = None
 former_of (Up said) = Some said.number
 
+-- the number by which the turn's groups are data: the same, or 0 outside a stretch
 abbrev pub number_of : Standing → ℕ
 number_of (Waiting n) = 0
 number_of Down = 0
@@ -45,6 +48,7 @@ first_said (Pair number rest false) = None
 first_said Damaged = None
 first_said Lost = None
 
+-- the same of what a turn has: nothing where nothing is heard in it
 abbrev pub begins : Option Hearing → Option Said
 begins None = None
 begins (Some heard) = first_said heard
@@ -57,6 +61,7 @@ next_said said Damaged =
     if nat_le 2 said.damaged then None
     else Some (record { number = said.number; rest = said.rest; damaged = said.damaged + 1; former = Some said.rest })
 
+-- the same of what a turn has: the stretch ends where nothing is heard in it
 abbrev pub stays : Option Hearing → Said → Option Said
 stays None said = None
 stays (Some heard) said = next_said said heard
@@ -67,17 +72,21 @@ abbrev pub given_of : Option ℕ → (pending fresh : List ℕ) → List ℕ
 given_of None pending fresh = []
 given_of (Some due) pending fresh = pending ++ take due fresh
 
+-- what is pending after such a turn: all, where it emitted nothing, else the bytes that it extracted beyond those it emitted
 abbrev pub kept_of : Option ℕ → (pending fresh : List ℕ) → List ℕ
 kept_of None pending fresh = pending ++ fresh
 kept_of (Some due) pending fresh = drop due fresh
 
+-- a turn in which no stretch begins, after n such turns: still Waiting, or Down from the third one on
 abbrev pub waits_on : ℕ → Machine
 waits_on n = if nat_le 2 n then record { standing = Down; pending = []; place = 0 } else record { standing = Waiting (n + 1); pending = []; place = 0 }
 
+-- a turn in no stretch: Up where it begins one with what was said, else the other machine
 abbrev pub opened : Option Said → Machine → Machine
 opened (Some said) other = record { standing = Up said; pending = []; place = 0 }
 opened None other = other
 
+-- a turn after one that was Up: Up with what is said next and what is pending, or Down where the stretch ended
 abbrev pub went_on : Option Said → Said → (pending fresh : List ℕ) → Machine
 went_on (Some next) said pending fresh = record { standing = Up next; pending = kept_of said.former pending fresh; place = 0 }
 went_on None said pending fresh = record { standing = Down; pending = []; place = 0 }
@@ -88,30 +97,35 @@ after_standing m heard fresh s (Waiting n) = opened (begins heard) (waits_on n)
 after_standing m heard fresh s Down = opened (begins heard) (record { standing = Down; pending = []; place = s.place + m * NOMINAL })
 after_standing m heard fresh s (Up said) = went_on (stays heard said) said s.pending fresh
 
+-- the same, by how the machine itself stands
 abbrev pub after_heard : (m : ℕ) → Option Hearing → (fresh : List ℕ) → Machine → Machine
 after_heard m heard fresh s = after_standing m heard fresh s s.standing
 
--- what it emits in the turn
+-- what a turn after one that was Down emits: nothing where it begins a stretch, else the signal
 abbrev pub down_gives : Option Said → List ℕ → List ℕ
 down_gives (Some said) signal = []
 down_gives None signal = signal
 
+-- what a turn after one that was Up emits: where the stretch goes on as `given_of` says, where it ended all that was pending
 abbrev pub up_gives : Option Said → Said → (pending fresh : List ℕ) → List ℕ
 up_gives (Some next) said pending fresh = given_of said.former pending fresh
 up_gives None said pending fresh = pending
 
+-- what a turn emits of a machine that stands so: nothing while Waiting; Down as `down_gives` says of the AIS stream; Up as `up_gives` says
 abbrev pub gives_standing : (m : ℕ) → (ais : ℕ → ℕ) → Option Hearing → (fresh : List ℕ) → Machine → Standing → List ℕ
 gives_standing m ais heard fresh s (Waiting n) = []
 gives_standing m ais heard fresh s Down = down_gives (begins heard) (stream_bytes ais s.place (m * NOMINAL))
 gives_standing m ais heard fresh s (Up said) = up_gives (stays heard said) said s.pending fresh
 
+-- the same, by how the machine itself stands
 abbrev pub gives_heard : (m : ℕ) → (ais : ℕ → ℕ) → Option Hearing → (fresh : List ℕ) → Machine → List ℕ
 gives_heard m ais heard fresh s = gives_standing m ais heard fresh s s.standing
 
--- the same of a turn with this view
+-- the machine after a turn with this view
 abbrev pub after : (m : ℕ) → (marked : Bool) → Option View → Machine → Machine
 after m marked view s = after_heard m (heard_in (former_of s.standing) m marked view) (data_bytes (number_of s.standing) (groups_of view)) s
 
+-- what the machine emits in a turn with this view
 abbrev pub gives : (m : ℕ) → (ais : ℕ → ℕ) → (marked : Bool) → Option View → Machine → List ℕ
 gives m ais marked view s = gives_heard m ais (heard_in (former_of s.standing) m marked view) (data_bytes (number_of s.standing) (groups_of view)) s
 

@@ -73,6 +73,7 @@ abbrev pub IsChain : (ais : ℕ → ℕ) → (s : ℕ) → Leg → List Leg → 
 IsChain ais s leg [] = Unit {0}
 IsChain ais s leg (next ∷ legs) = (next.stop ≤ leg.stop) × SendsOn leg.own next.own ais leg.views next.views s next.stop × IsChain ais s next legs
 
+-- the last leg of a chain
 abbrev pub last_of : Leg → List Leg → Leg
 last_of leg [] = leg
 last_of leg (next ∷ legs) = last_of next legs

@@ -51,6 +51,7 @@ pub record IsOwnMsi (own : Tributary) (expected row column : ℕ) : Type 0 where
   pub place : (row ≡ 4) × (column ≡ 15)
   pub slot : (k : ℕ) × (Contains own.slots k × (expected ≡ 1 + k))
 
+-- a place of frame n that is the tributary's own: of the payload, of the message, or of the MSI
 abbrev pub IsOwn : Tributary → (n expected row column : ℕ) → Type 0
 IsOwn own n expected row column = IsOwnPayload own row column ⊎ IsOwnMessage own n row column ⊎ IsOwnMsi own expected row column
 
@@ -84,6 +85,7 @@ pub record View : Type 0 where
   pub message : List ℕ
   pub msi : List (ℕ × ℕ)
 
+-- the view of a tributary in the frames of a multiframe
 unfoldable pub view_of : Tributary → List Taken → View
 view_of own frames = record {
   groups = flat_map (λ t. frame_groups own t.frame) frames;
@@ -105,6 +107,7 @@ abbrev pub IsWholeTurn : (m : ℕ) → Option View → Type 0
 IsWholeTurn m None = Unit {0}
 IsWholeTurn m (Some view) = IsWhole m view
 
+-- so is each turn of a past
 abbrev pub AreWholeTurns : (m : ℕ) → List (Option View) → Type 0
 AreWholeTurns m [] = Unit {0}
 AreWholeTurns m (view ∷ past) = IsWholeTurn m view × AreWholeTurns m past

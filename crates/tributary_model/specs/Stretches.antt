@@ -12,6 +12,7 @@ use Rattle.tributary_model.specs.Messages.{hears_message}
 
 -- ---- marked slots
 
+-- the groups of a turn: none where it has no multiframe
 abbrev pub groups_of : Option View → List (List ℕ)
 groups_of None = []
 groups_of (Some view) = view.groups
@@ -59,6 +60,7 @@ fit_pair view (Pair number rest false) = None
 fit_pair view Damaged = None
 fit_pair view Lost = None
 
+-- a turn as the first of a stretch, where it is fit
 abbrev pub fit : Tributary → (marked : Bool) → Option View → Option Member
 fit own true view = None
 fit own false None = None
@@ -85,6 +87,7 @@ goes_on_with view true last Damaged = None
 goes_on_with view false last Damaged = Some (record { heard = Damaged; number = last.number; rest = last.rest; groups = view.groups })
 goes_on_with view two last Lost = None
 
+-- the next turn of a stretch, where it goes on with this view
 abbrev pub goes_on : Tributary → (marked : Bool) → Option View → List Member → Option Member
 goes_on own true view stretch = None
 goes_on own false None stretch = None
@@ -108,6 +111,7 @@ abbrev pub opens : List Part → Option Member → Part
 opens parts (Some first) = StretchTurn (first ∷ [])
 opens parts None = idle parts
 
+-- the turn after a stretch's last one: of the same stretch where it goes on, else its ending turn
 abbrev pub continues : List Member → Option Member → Part
 continues stretch (Some next) = StretchTurn (next ∷ stretch)
 continues stretch None = EndingTurn stretch
@@ -133,5 +137,6 @@ state_of (EndingTurn stretch ∷ parts) = Down
 state_of (DownTurn ∷ parts) = Down
 state_of (WaitingTurn ∷ parts) = if nat_lt (length parts) 2 then Waiting else Down
 
+-- how the sink stands after the turns of these views
 abbrev pub state_after : Tributary → List (Option View) → SinkState
 state_after own past = state_of (course own past)

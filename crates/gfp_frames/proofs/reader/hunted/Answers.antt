@@ -18,7 +18,7 @@ loop-i-preserved c =
     let byte = get_or bytes i 0 in
     let few : byte < 256 = omega (arith, c.type_inv.bytes i) in
     let within : i < length bytes = omega arith in
-    let none = sym c.right.ensures.value ∙ no_some c.right.result (sym c.is_some.ensures ∙ c.if-is_some.false) in
+    let none = sym c.checked_pli.ensures.value ∙ no_some c.checked_pli.result (sym c.is_some.ensures ∙ c.if-is_some.false) in
     record {
       goes = λ register. hunt_next c.args.three c.loop-i.last byte register bytes i c.loop-i.invariant.small few within refl none (c.loop-i.invariant.goes register);
       small = omega arith;

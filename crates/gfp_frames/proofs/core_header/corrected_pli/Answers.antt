@@ -1,6 +1,6 @@
 use Rattle.std.proofs.Common.{◌<◌, ◌^◌, sym, refl, arith}
 use Rattle.gfp_frames.proofs.Near.{near_is, near_none}
-use Rattle.gfp_frames.proofs.core_header.near.Goals as goal
+use Rattle.gfp_frames.proofs.core_header.corrected_pli.Goals as goal
 
 pub returns-in-Some-clause-value : goal.returns-in-Some-clause-value
 returns-in-Some-clause-value c =
