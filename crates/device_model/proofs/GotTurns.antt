@@ -37,7 +37,7 @@ first_got x input (suc n) k h = go (λ low. first_got x input n k low) (cases_lt
     go rest (inr low) = let long = many_got x input n in take-append-le k (got_by x input n) (got_in x input n ∷ []) (omega arith) ∙ rest low
 
 -- a connection from a line gets what its sink emitted in the turn before
-emits_line : (x : Connection) (inputs : Inputs) (a from n : ℕ) (slots : LineSlots) → x.from ≡ from_end.Line a from slots
+pub emits_line : (x : Connection) (inputs : Inputs) (a from n : ℕ) (slots : LineSlots) → x.from ≡ from_end.Line a from slots
     → emits x (own_input inputs x) n ≡ emission (tributary_of slots from) (signal_byte Ais) (past_of (view_at (tributary_of slots from) (inputs.line a)) (first_turn x) n) (view_at (tributary_of slots from) (inputs.line a) (first_turn x + n))
 unfolding emits
 emits_line x inputs a from n slots e = ap (λ f. emits_by f x (own_of inputs f) n) e

@@ -23,3 +23,5 @@ pub mod LineBytes
 pub mod OneFile
 pub mod TwoWorlds
 pub mod RunsInARow
+pub mod Healed
+pub mod OneDamaged

@@ -17,3 +17,5 @@ pub mod Accepted
 pub mod TwoWorlds
 pub mod OneFile
 pub mod RunsInARow
+pub mod Healing
+pub mod OneDamaged

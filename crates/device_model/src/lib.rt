@@ -2,6 +2,7 @@
 //! top call cite, and laws about them, each the contract of a function.
 //!
 //! - `carriage`: what the file of an output line shows and carries of the connections that go to it.
+//! - `damage`: what a connection gets after damage on its line, and of one damaged message.
 //! - `line_views`: what the turns of a line show of a tributary, and what a sink on it emits.
 //! - `outcome`: how a run ends, and what the from end of a connection is.
 //! - `plans`: what is promised of a plan that breaks no rule.
@@ -10,6 +11,7 @@
 #![tactic(auto)]
 
 mod carriage;
+mod damage;
 mod line_views;
 mod outcome;
 mod plans;
@@ -19,6 +21,7 @@ mod worlds;
 pub use carriage::{
     carried_from, carried_on, carried_through_all, made_files, packets_at_client, sound_connections,
 };
+pub use damage::{healing, one_damaged_message};
 pub use line_views::{same_views, whole_views};
 pub use outcome::{FromState, Outcome};
 pub use plans::accepted_plans;

@@ -1,0 +1,5 @@
+use Rattle.device_model.proofs.OneDamaged.{leaves_as_if_repeated}
+use Rattle.device_model.proofs.damage.one_damaged_message.Goals as goal
+
+pub returns : goal.returns
+returns c = leaves_as_if_repeated
