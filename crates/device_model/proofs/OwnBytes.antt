@@ -95,18 +95,18 @@ own_there : (one other : Run) (x : Connection) (b port past n row column : ℕ) 
     → IsOwn (tributary_of slots port) n ((slots_of slots.kind * past + n) % 256) row column
 own_there one other x b port past n row column slots have = search rules
 
-other_shows : (one other : Run) (x : Connection) (b port past n row column : ℕ) (slots : LineSlots) → HaveFrame one other x b port past n row column slots → SameInput (own_input one.inputs x) (own_input other.inputs x)
+other_shows : (one other : Run) (x : Connection) (b port past n row column : ℕ) (slots : LineSlots) → HaveFrame one other x b port past n row column slots → got_by x (own_input one.inputs x) (own_turn x past + 1) ≡ got_by x (own_input other.inputs x) (own_turn x past + 1)
     → ShowsOwn (tributary_of slots port) (got_by x (own_input one.inputs x) (own_turn x past + 1)) (own_turn x past) n ((slots_of slots.kind * past + n) % 256)
     (frame_at (concat other.frames) (slots_of slots.kind * past + n))
 other_shows one other x b port past n row column slots have same =
     let f = slots_of slots.kind * past + n in
     subst (λ turns. ShowsOwn (tributary_of slots port) turns (own_turn x past) n (f % 256) (frame_at (concat other.frames) f))
-    (sym (same_got x (own_input one.inputs x) (own_input other.inputs x) (own_turn x past + 1) same))
+    (sym same)
     (shows_own other x b port past n slots have.second have.frame)
 
-pub sends_the_same : (one other : Run) (x : Connection) (b port past n row column : ℕ) (slots : LineSlots) → HaveFrame one other x b port past n row column slots → SameInput (own_input one.inputs x) (own_input other.inputs x)
+pub sends_as_got : (one other : Run) (x : Connection) (b port past n row column : ℕ) (slots : LineSlots) → HaveFrame one other x b port past n row column slots → got_by x (own_input one.inputs x) (own_turn x past + 1) ≡ got_by x (own_input other.inputs x) (own_turn x past + 1)
     → byte_at (frame_at (concat one.frames) (slots_of slots.kind * past + n)) row column ≡ byte_at (frame_at (concat other.frames) (slots_of slots.kind * past + n)) row column
-sends_the_same one other x b port past n row column slots have same =
+sends_as_got one other x b port past n row column slots have same =
     let f = slots_of slots.kind * past + n in
     same_own (tributary_of slots port) (got_by x (own_input one.inputs x) (own_turn x past + 1)) (own_turn x past) n (f % 256) row column (frame_at (concat one.frames) f) (frame_at (concat other.frames) f)
     (shows_own one x b port past n slots have.first have.frame) (other_shows one other x b port past n row column slots have same) (own_there one other x b port past n row column slots have)
@@ -127,11 +127,11 @@ masked_byte true one other place h k same =
     let there = index_masked 0 place other k in
     cc
 
-pub writes_the_same : (one other : Run) (x : Connection) (b port past n row column : ℕ) (slots : LineSlots) → HaveFrame one other x b port past n row column slots → SameInput (own_input one.inputs x) (own_input other.inputs x)
+pub writes_as_got : (one other : Run) (x : Connection) (b port past n row column : ℕ) (slots : LineSlots) → HaveFrame one other x b port past n row column slots → got_by x (own_input one.inputs x) (own_turn x past + 1) ≡ got_by x (own_input other.inputs x) (own_turn x past + 1)
     → (form_out one.plan b).scrambled ≡ (form_out other.plan b).scrambled
     → byte_at (frame_at (through_mask (form_out one.plan b).scrambled (concat one.frames)) (slots_of slots.kind * past + n)) row column
     ≡ byte_at (frame_at (through_mask (form_out other.plan b).scrambled (concat other.frames)) (slots_of slots.kind * past + n)) row column
-writes_the_same one other x b port past n row column slots have same mask =
+writes_as_got one other x b port past n row column slots have same mask =
     let f = slots_of slots.kind * past + n in
     let place = place_of 4080 row column in
     let scrambled = (form_out one.plan b).scrambled in
@@ -143,6 +143,20 @@ writes_the_same one other x b port past n row column slots have same mask =
     let size_too = shows_too.size in
     let here = inside (tributary_of slots port) n (f % 256) row column (own_there one other x b port past n row column slots have) in
     ap (λ l. get_or l place 0) (frame_through scrambled (concat one.frames) f)
-    ∙ masked_byte scrambled first second place (omega arith) (omega arith) (sends_the_same one other x b port past n row column slots have same)
+    ∙ masked_byte scrambled first second place (omega arith) (omega arith) (sends_as_got one other x b port past n row column slots have same)
     ∙ ap (λ l. get_or l place 0) (sym (frame_through scrambled (concat other.frames) f))
     ∙ ap (λ s. get_or (frame_at (through_mask s (concat other.frames)) f) place 0) mask
+
+-- ---- where the own input shows the same
+
+pub sends_the_same : (one other : Run) (x : Connection) (b port past n row column : ℕ) (slots : LineSlots) → HaveFrame one other x b port past n row column slots → SameInput (own_input one.inputs x) (own_input other.inputs x)
+    → byte_at (frame_at (concat one.frames) (slots_of slots.kind * past + n)) row column ≡ byte_at (frame_at (concat other.frames) (slots_of slots.kind * past + n)) row column
+sends_the_same one other x b port past n row column slots have same =
+    sends_as_got one other x b port past n row column slots have (same_got x (own_input one.inputs x) (own_input other.inputs x) (own_turn x past + 1) same)
+
+pub writes_the_same : (one other : Run) (x : Connection) (b port past n row column : ℕ) (slots : LineSlots) → HaveFrame one other x b port past n row column slots → SameInput (own_input one.inputs x) (own_input other.inputs x)
+    → (form_out one.plan b).scrambled ≡ (form_out other.plan b).scrambled
+    → byte_at (frame_at (through_mask (form_out one.plan b).scrambled (concat one.frames)) (slots_of slots.kind * past + n)) row column
+    ≡ byte_at (frame_at (through_mask (form_out other.plan b).scrambled (concat other.frames)) (slots_of slots.kind * past + n)) row column
+writes_the_same one other x b port past n row column slots have same mask =
+    writes_as_got one other x b port past n row column slots have (same_got x (own_input one.inputs x) (own_input other.inputs x) (own_turn x past + 1) same) mask

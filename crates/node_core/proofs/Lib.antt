@@ -43,3 +43,4 @@ pub mod GivenRuns
 pub mod RunsAlike
 pub mod FaultlessRuns
 pub mod RunsThrough
+pub mod RunsDamaged

@@ -1,9 +1,10 @@
 -- What left on a connection that two runs share is the same, as far as both have gone.
-use Rattle.std.proofs.Common.{◌≡◌, ◌≢◌, ◌<◌, ◌≤◌, ◌+◌, ◌-◌, ◌*◌, ◌/◌, inl, inr, min, ℕ, Bool, true, false, List, [], ◌∷◌, ◌++◌, Some, length, take, drop, slice_get, nat_le, ◌&&◌, if◌then◌else◌, refl, sym, ap, ◌∙◌, subst, arith, append-nil, length-drop, mul_comm}
+use Rattle.std.proofs.Common.{◌≡◌, ◌≢◌, ◌<◌, ◌≤◌, ◌+◌, ◌-◌, ◌*◌, ◌/◌, inl, inr, min, ℕ, Bool, true, false, List, [], ◌∷◌, ◌++◌, Some, length, take, drop, slice_get, nat_le, ◌&&◌, if◌then◌else◌, refl, sym, ap, ◌∙◌, subst, arith, append-nil, length-drop, mul_comm, ◌==◌, None}
 use Rattle.std.specs.List.{Contains, concat}
 use Rattle.std.proofs.lemmas.Nat.{mul-add-lt}
 use Rattle.std.proofs.lemmas.List.{take-append-le, drop-append-le}
 use Rattle.std.proofs.lemmas.Option.{slice_get_read}
+use Rattle.std.proofs.lemmas.Bool.Decides.{nat_tests}
 use Rattle.otn_base.specs.LineSlots.{LineSlots, slots_of}
 use Rattle.otn_ports.specs.Given.{Lives}
 use Rattle.otn_ports.specs.Retiring.{retired_out_as}
@@ -15,15 +16,16 @@ use Rattle.plan_file.specs.declared.connection.Connection.{Connection}
 use Rattle.plan_file.specs.declared.connection.FromEnd.TheVariants as from_end
 use Rattle.plan_file.specs.declared.connection.ToEnd.TheVariants as to_end
 use Rattle.tributary_model.specs.Places.{byte_at}
-use Rattle.device_model.specs.Entries.{first_turn, form_out}
+use Rattle.device_model.specs.Entries.{first_turn, own_turn, form_out}
 use Rattle.device_model.specs.Moments.{turns_done, client_due}
 use Rattle.device_model.specs.Numbers.{client_numbers, output_numbers, last_state}
+use Rattle.device_model.specs.OneDamaged.{LeavesAlikeInItsTurns}
 use Rattle.device_model.specs.SoundPlans.{IsSoundEntry}
-use Rattle.device_model.specs.Through.{own_input, arrived_by, text_by}
+use Rattle.device_model.specs.Through.{OwnInput, own_input, got_by, arrived_by, text_by, state_in}
 use Rattle.device_model.specs.TwoWorlds.{SameInput, AgreeOnEnd, HasFrame, HaveFrame, HaveSameByte, Run, written}
 use Rattle.device_model.proofs.MadeFrames.{made_whole}
-use Rattle.device_model.proofs.OwnBytes.{writes_the_same}
-use Rattle.device_model.proofs.WorldInputs.{gives_the_same_input, leaves_the_same, reports_the_same, sound_of}
+use Rattle.device_model.proofs.OwnBytes.{writes_as_got}
+use Rattle.device_model.proofs.WorldInputs.{gives_the_same_input, leaves_the_same, sound_of}
 use Rattle.node_core.specs.RunLeft.{LineOutLeft, ClientOutLeft}
 use Rattle.node_core.specs.RunsAlike.{World, IsWorld, ShareOne, IsFrontOfOther, HasLived, BothLived, HasPlace, LeftAlike, state_of_client, went_out}
 use Rattle.node_core.specs.Stands.{out_after_retire}
@@ -160,36 +162,45 @@ went_whole world x b number past n row column slots went is has place l lived =
 
 -- ---- both
 
-share_input : (one other : World) (x : Connection) → IsWorld one → ShareOne one other x → SameInput (own_input one.inputs x) (own_input other.inputs x)
-share_input one other x first share = gives_the_same_input one.plan x one.inputs other.inputs first.accepted share.first share.agree
+-- two runs that carry the connection, on which the same leaves in each of its turns, and a client that it comes from is the same
+pub record CarryAlike (one other : World) (x : Connection) : Type 0 where
+  pub first : Contains one.plan.connections x
+  pub second : Contains other.plan.connections x
+  pub alike : LeavesAlikeInItsTurns x (own_input one.inputs x) (own_input other.inputs x)
+  pub client : (n : ℕ) → x.from ≡ from_end.Client n → one.inputs.client n ≡ other.inputs.client n
 
-same_due : (one other : World) (x : Connection) → IsWorld one → IsWorld other → ShareOne one other x
+-- all its turns
+own_all : (world : World) (x : Connection) → IsWorld world → Contains world.plan.connections x → first_turn x + (x.stop - first_turn x) ≤ x.stop
+own_all world x is has = let sound = sound_in world x is has in let span = sound.span in omega arith
+
+same_due : (one other : World) (x : Connection) → IsWorld one → IsWorld other → CarryAlike one other x
     → client_due x (own_input one.inputs x) one.plan.turns 0 ≡ client_due x (own_input other.inputs x) other.plan.turns 0
 same_due one other x first second share =
-    let same = leaves_the_same x (own_input one.inputs x) (own_input other.inputs x) (x.stop - first_turn x) (share_input one other x first share) in
-    text_in one x first share.first ∙ same.text ∙ sym (text_in other x second share.second)
+    let same = share.alike.text (x.stop - first_turn x) (own_all one x first share.first) in
+    text_in one x first share.first ∙ same ∙ sym (text_in other x second share.second)
 
-same_text : (one other : World) (x : Connection) (first : IsWorld one) (second : IsWorld other) → ShareOne one other x → (n : ℕ) → x.to ≡ to_end.Client n
+same_text : (one other : World) (x : Connection) (first : IsWorld one) (second : IsWorld other) → CarryAlike one other x → (n : ℕ) → x.to ≡ to_end.Client n
     → IsFrontOfOther ((went_out one first).client n) ((went_out other second).client n)
 same_text one other x first second share n to =
     let l = client_left one x n first share.first to in
     let r = client_left other x n second share.second to in
     one_front ((went_out one first).client n) l.left.rest ((went_out other second).client n) r.left.rest (l.left.parts ∙ same_due one other x first second share ∙ sym r.left.parts)
 
-same_whole : (one other : World) (x : Connection) (first : IsWorld one) (second : IsWorld other) → ShareOne one other x → (n : ℕ) → x.to ≡ to_end.Client n
+same_whole : (one other : World) (x : Connection) (first : IsWorld one) (second : IsWorld other) → CarryAlike one other x → (n : ℕ) → x.to ≡ to_end.Client n
     → BothLived one other (state_of_client n) → (went_out one first).client n ≡ (went_out other second).client n
 same_whole one other x first second share n to lived =
     text_lived one x n first share.first to lived.first ∙ same_due one other x first second share ∙ sym (text_lived other x n second share.second to lived.second)
 
 same_bytes : (one other : World) (x : Connection) (b number past n row column : ℕ) (slots : LineSlots) (went others : List ℕ)
     (l : LineOutLeft one.plan one.inputs b (line_out_at one.first b) went (line_out_at one.last b)) (r : LineOutLeft other.plan other.inputs b (line_out_at other.first b) others (line_out_at other.last b))
-    → HaveFrame (run_at one b went l) (run_at other b others r) x b number past n row column slots → SameInput (own_input one.inputs x) (own_input other.inputs x)
+    → HaveFrame (run_at one b went l) (run_at other b others r) x b number past n row column slots
+    → got_by x (own_input one.inputs x) (own_turn x past + 1) ≡ got_by x (own_input other.inputs x) (own_turn x past + 1)
     → (form_out one.plan b).scrambled ≡ (form_out other.plan b).scrambled → HaveSameByte (written (run_at one b went l) b) (written (run_at other b others r) b) (slots_of slots.kind * past + n) row column
 unfolding run_at
 same_bytes one other x b number past n row column slots went others l r have same mask =
-    writes_the_same (run_at one b went l) (run_at other b others r) x b number past n row column slots have same mask
+    writes_as_got (run_at one b went l) (run_at other b others r) x b number past n row column slots have same mask
 
-same_places : (one other : World) (x : Connection) (first : IsWorld one) (second : IsWorld other) → ShareOne one other x → (b number past n row column : ℕ) (slots : LineSlots)
+same_places : (one other : World) (x : Connection) (first : IsWorld one) (second : IsWorld other) → CarryAlike one other x → (b number past n row column : ℕ) (slots : LineSlots)
     → HasPlace x b number past n row column slots → (form_out one.plan b).scrambled ≡ (form_out other.plan b).scrambled
     → slots_of slots.kind * past + n < whole_frames ((went_out one first).line b) → slots_of slots.kind * past + n < whole_frames ((went_out other second).line b)
     → HaveSameByte ((went_out one first).line b) ((went_out other second).line b) (slots_of slots.kind * past + n) row column
@@ -203,8 +214,13 @@ same_places one other x first second share b number past n row column slots plac
       frame = place.frame;
       own = place.own;
     } in
+    let sound = sound_in one x first share.first in
+    let start = sound.start in
+    let began = place.active.start in
+    let stop = place.active.stop in
+    let same = share.alike.got (own_turn x past + 1) (omega arith) in
     ap (λ frame. byte_at frame row column) (went_frame one b f ((went_out one first).line b) l went)
-    ∙ same_bytes one other x b number past n row column slots ((went_out one first).line b) ((went_out other second).line b) l r have (share_input one other x first share) mask
+    ∙ same_bytes one other x b number past n row column slots ((went_out one first).line b) ((went_out other second).line b) l r have same mask
     ∙ sym (ap (λ frame. byte_at frame row column) (went_frame other b f ((went_out other second).line b) r others))
 
 -- ---- numbers
@@ -213,41 +229,52 @@ same_output : {was is : State} {arrived others went sent : List ℕ} → was ≡
 same_output {was} {is} {arrived} {others} {went} {sent} a b c =
     ap (λ s. output_numbers s arrived went) a ∙ ap (λ l. output_numbers is l went) b ∙ ap (output_numbers is others) c
 
-same_client_in : (one other : World) (x : Connection) (first : IsWorld one) (second : IsWorld other) → ShareOne one other x → (n : ℕ) → x.from ≡ from_end.Client n → one.numbers.client_in n ≡ other.numbers.client_in n
+same_client_in : (one other : World) (x : Connection) (first : IsWorld one) (second : IsWorld other) → CarryAlike one other x → (n : ℕ) → x.from ≡ from_end.Client n → one.numbers.client_in n ≡ other.numbers.client_in n
 same_client_in one other x first second share n from =
     let a = (first.left.of_inputs one.inputs first.may_be).numbers_are.client_in x n share.first from in
     let b = (second.left.of_inputs other.inputs second.may_be).numbers_are.client_in x n share.second from in
-    let agree : AgreeOnEnd (from_end.Client n) one.inputs other.inputs = subst (λ e. AgreeOnEnd e one.inputs other.inputs) from share.agree in
-    let same : one.inputs.client n ≡ other.inputs.client n = agree in
-    a ∙ ap (client_numbers x) same ∙ sym b
+    a ∙ ap (client_numbers x) (share.client n from) ∙ sym b
 
 arrived_in : (world : World) (x : Connection) (is : IsWorld world) → Contains world.plan.connections x
     → arrived_by x (own_input world.inputs x) (turns_done x world.plan.turns 0) ≡ arrived_by x (own_input world.inputs x) (x.stop - first_turn x)
 arrived_in world x is has = ap (arrived_by x (own_input world.inputs x)) (all_turns x world.plan.turns (sound_in world x is has).stop)
 
-same_client_out : (one other : World) (x : Connection) (first : IsWorld one) (second : IsWorld other) → ShareOne one other x → (n : ℕ) → x.to ≡ to_end.Client n
+same_client_out : (one other : World) (x : Connection) (first : IsWorld one) (second : IsWorld other) → CarryAlike one other x → (n : ℕ) → x.to ≡ to_end.Client n
     → BothLived one other (state_of_client n) → one.numbers.client_out n ≡ other.numbers.client_out n
 same_client_out one other x first second share n to lived =
     let a = (first.left.of_inputs one.inputs first.may_be).numbers_are.client_out x n share.first to in
     let b = (second.left.of_inputs other.inputs second.may_be).numbers_are.client_out x n share.second to in
-    let same = leaves_the_same x (own_input one.inputs x) (own_input other.inputs x) (x.stop - first_turn x) (share_input one other x first share) in
-    let arrived = arrived_in one x first share.first ∙ same.arrived ∙ sym (arrived_in other x second share.second) in
+    let same = share.alike.arrived (x.stop - first_turn x) (own_all one x first share.first) in
+    let arrived = arrived_in one x first share.first ∙ same ∙ sym (arrived_in other x second share.second) in
     let went = same_whole one other x first second share n to lived in
     let state : (client_out_at one.first n).state ≡ (client_out_at other.first n).state = lived.first.was ∙ sym lived.second.was in
     a ∙ same_output state arrived went ∙ sym b
 
-same_from : (one other : World) (x : Connection) (first : IsWorld one) (second : IsWorld other) → ShareOne one other x → (i j : ℕ) → slice_get one.plan.connections i ≡ Some x
+same_turn : (a b : ℕ) → (a == b) ≡ true → a ≡ b
+same_turn a b e = grind (arith, nat_tests)
+
+-- the report of the connection, whose state is told where the plan's last turn is its own
+same_report : (x : Connection) (one other : OwnInput) (turns : ℕ) → first_turn x + (x.stop - first_turn x) ≤ x.stop → LeavesAlikeInItsTurns x one other → last_state turns x one ≡ last_state turns x other
+same_report x one other turns all alike = go (x.stop == turns) refl
+  where
+    go : (last : Bool) → (x.stop == turns) ≡ last → (if last then Some (state_in x one (turns - first_turn x)) else None) ≡ (if last then Some (state_in x other (turns - first_turn x)) else None)
+    go false e = refl
+    go true e =
+        let is : x.stop ≡ turns = same_turn x.stop turns e in
+        ap Some (alike.state (turns - first_turn x) (omega arith))
+
+same_from : (one other : World) (x : Connection) (first : IsWorld one) (second : IsWorld other) → CarryAlike one other x → (i j : ℕ) → slice_get one.plan.connections i ≡ Some x
     → slice_get other.plan.connections j ≡ Some x → one.plan.turns ≡ other.plan.turns → one.numbers.from i ≡ other.numbers.from j
 same_from one other x first second share i j at there turns =
     let a = (first.left.of_inputs one.inputs first.may_be).numbers_are.from i x at in
     let b = (second.left.of_inputs other.inputs second.may_be).numbers_are.from j x there in
-    a ∙ reports_the_same x (own_input one.inputs x) (own_input other.inputs x) one.plan.turns (share_input one other x first share)
+    a ∙ same_report x (own_input one.inputs x) (own_input other.inputs x) one.plan.turns (own_all one x first share.first) share.alike
     ∙ ap (λ t. last_state t x (own_input other.inputs x)) turns ∙ sym b
 
 -- ---- all of it
 
-pub left_alike : (one other : World) (x : Connection) (first : IsWorld one) (second : IsWorld other) → ShareOne one other x → LeftAlike one other (went_out one first) (went_out other second) x
-left_alike one other x first second share = record {
+pub left_as_alike : (one other : World) (x : Connection) (first : IsWorld one) (second : IsWorld other) → CarryAlike one other x → LeftAlike one other (went_out one first) (went_out other second) x
+left_as_alike one other x first second share = record {
   text = same_text one other x first second share;
   whole_text = same_whole one other x first second share;
   places = same_places one other x first second share;
@@ -259,3 +286,31 @@ left_alike one other x first second share = record {
   client_out = same_client_out one other x first second share;
   from = same_from one other x first second share;
 }
+
+-- ---- where the own input agrees
+
+-- a client of both, in the same way
+same_client : (one other : World) (x : Connection) (n : ℕ) → ShareOne one other x → x.from ≡ from_end.Client n → one.inputs.client n ≡ other.inputs.client n
+same_client one other x n share from =
+    let agree : AgreeOnEnd (from_end.Client n) one.inputs other.inputs = subst (λ e. AgreeOnEnd e one.inputs other.inputs) from share.agree in
+    agree
+
+leaves_in_turns : (x : Connection) (one other : OwnInput) → SameInput one other → LeavesAlikeInItsTurns x one other
+leaves_in_turns x one other same = record {
+  emitted = λ j h. (leaves_the_same x one other j same).emitted;
+  got = λ n h. (leaves_the_same x one other n same).got;
+  arrived = λ n h. (leaves_the_same x one other n same).arrived;
+  text = λ n h. (leaves_the_same x one other n same).text;
+  state = λ n h. (leaves_the_same x one other n same).state;
+}
+
+pub left_alike : (one other : World) (x : Connection) (first : IsWorld one) (second : IsWorld other) → ShareOne one other x → LeftAlike one other (went_out one first) (went_out other second) x
+left_alike one other x first second share =
+    let same = gives_the_same_input one.plan x one.inputs other.inputs first.accepted share.first share.agree in
+    left_as_alike one other x first second
+    (record {
+      first = share.first;
+      second = share.second;
+      alike = leaves_in_turns x (own_input one.inputs x) (own_input other.inputs x) same;
+      client = λ n from. same_client one other x n share from;
+    })

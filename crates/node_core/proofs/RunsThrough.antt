@@ -87,12 +87,12 @@ left_through world x is has = record {
 -- ---- what a line carries
 
 -- what is read of a line that has lived is its file
-read_back : (world : World) (b : ℕ) (went : List ℕ) (f : FileWent world b went) → LivedIn world (state_of_line b) → through_mask (form_out world.plan b).scrambled went ≡ concat f.frames
+pub read_back : (world : World) (b : ℕ) (went : List ℕ) (f : FileWent world b went) → LivedIn world (state_of_line b) → through_mask (form_out world.plan b).scrambled went ≡ concat f.frames
 read_back world b went f lived =
     let s = (form_out world.plan b).scrambled in
     ap (through_mask s) (all_of went f.front.rest (through_mask s (concat f.frames)) f.front.parts (f.front.whole lived)) ∙ twice s (concat f.frames)
 
-made_to : (world : World) (x : Connection) (b u : ℕ) (went : List ℕ) → IsWorld world → Contains world.plan.connections x → (f : FileWent world b went) → u < x.stop
+pub made_to : (world : World) (x : Connection) (b u : ℕ) (went : List ℕ) → IsWorld world → Contains world.plan.connections x → (f : FileWent world b went) → u < x.stop
     → IsMadeTo world.plan world.inputs x b u f.frames
 made_to world x b u went is has f less =
     let stop = (sound_in world x is has).stop in
@@ -103,14 +103,14 @@ made_to world x b u went is has f less =
       active = less;
     }
 
-entry : (world : World) (x : Connection) → (c : Contains world.plan.connections x) → slice_get world.plan.connections c.0 ≡ Some x
+pub entry : (world : World) (x : Connection) → (c : Contains world.plan.connections x) → slice_get world.plan.connections c.0 ≡ Some x
 entry world x c = slice_get_read world.plan.connections (length world.plan.connections) c.0 x refl c.1 (sym c.2)
 
-goes : (world : World) (x : Connection) (b port : ℕ) (slots : LineSlots) → IsWorld world → Contains world.plan.connections x → x.to ≡ to_end.Line b port slots
+pub goes : (world : World) (x : Connection) (b port : ℕ) (slots : LineSlots) → IsWorld world → Contains world.plan.connections x → x.to ≡ to_end.Line b port slots
     → GoesTo world.plan x b port slots × HasPaces (length slots.list) x.pace
 goes world x b port slots is has to = goes_as_asked world.plan has.0 b port x slots (sound_plan world.plan is.accepted) (entry world x has) to
 
-file_of : (world : World) (x : Connection) (b port : ℕ) (slots : LineSlots) (is : IsWorld world) → Contains world.plan.connections x → x.to ≡ to_end.Line b port slots → FileWent world b ((went_out world is).line b)
+pub file_of : (world : World) (x : Connection) (b port : ℕ) (slots : LineSlots) (is : IsWorld world) → Contains world.plan.connections x → x.to ≡ to_end.Line b port slots → FileWent world b ((went_out world is).line b)
 file_of world x b port slots is has to = line_front world b ((went_out world is).line b) (line_left world x b port slots is has to)
 
 carried_line : (world : World) (x : Connection) (is : IsWorld world) → Contains world.plan.connections x → (a from b port u w : ℕ) (slots others : LineSlots) (bytes p : List ℕ) → x.from ≡ from_end.Line a from slots

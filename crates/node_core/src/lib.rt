@@ -9,11 +9,13 @@
 //! - `turn`: the end of a turn; `retire`: client places at the stop of their connection.
 //! - `settle`: the end of a run; `reads`: what a node tells of its ports and its connections; `tally`: all of it together, as the
 //!   `numbers` of a run for its report.
+//! - `damage`: laws of what a run leaves on a connection whose line was damaged.
 //! - `laws`: what follows of what a run leaves, of runs of what was given, of two worlds, and of what a connection carries.
 #![tactic(auto)]
 
 mod build;
 mod clients;
+mod damage;
 mod laws;
 mod lines_in;
 mod lines_out;
@@ -33,6 +35,7 @@ mod tally;
 mod tests;
 mod turn;
 
+pub use damage::{runs_agree_but_for_one, runs_heal};
 pub use device_model::{FromState, Outcome};
 pub use laws::{faultless_runs, outputs_through, run_of_given, runs_agree, runs_carry};
 pub use node::Node;

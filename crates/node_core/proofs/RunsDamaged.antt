@@ -1,0 +1,74 @@
+-- What a run leaves on a connection whose line was damaged.
+use Rattle.std.proofs.Common.{◌≡◌, ◌<◌, ◌≤◌, ◌+◌, ◌-◌, ℕ, List, ◌++◌, refl, sym, ap, ◌∙◌, subst, arith}
+use Rattle.std.specs.List.{Contains}
+use Rattle.otn_base.specs.LineSlots.{LineSlots}
+use Rattle.odu_client.specs.ClientOutput.{arriving_text}
+use Rattle.plan_file.specs.declared.connection.Connection.{Connection}
+use Rattle.plan_file.specs.declared.connection.FromEnd.TheVariants as from_end
+use Rattle.plan_file.specs.declared.connection.ToEnd.TheVariants as to_end
+use Rattle.std.specs.Prelude.{slice_range}
+use Rattle.tributary_model.specs.Carries.{sent, Carries}
+use Rattle.tributary_model.specs.Places.{tributary_of}
+use Rattle.tributary_model.specs.Puts.{lengths_of}
+use Rattle.device_model.specs.Entries.{first_turn}
+use Rattle.device_model.specs.Healing.{Heals}
+use Rattle.device_model.specs.LineViews.{view_at}
+use Rattle.device_model.specs.Through.{own_input, got_by, arrived_by}
+use Rattle.device_model.proofs.Accepted.{has_as_many_slots}
+use Rattle.device_model.proofs.Healed.{gets_what_healed, arrives_healed, carries_what_it_gets}
+use Rattle.device_model.proofs.OneDamaged.{leaves_as_if_repeated}
+use Rattle.device_model.proofs.SoundPlans.{sound_plan}
+use Rattle.node_core.specs.RunsAlike.{World, IsWorld, LeftAlike, state_of_line, state_of_client, went_out}
+use Rattle.node_core.specs.RunsDamaged.{CarriesAllGot, HealsIn, RunsHeal, ShareButForOne, RunsAgreeButForOne}
+use Rattle.node_core.specs.RunsThrough.{LivedIn, read_of}
+use Rattle.node_core.proofs.RunsAlike.{sound_in, text_in, text_lived, left_as_alike}
+use Rattle.node_core.proofs.RunsThrough.{entry, goes, file_of, made_to, read_back}
+
+-- ---- healing
+
+heals_on_line : (world : World) (x : Connection) (is : IsWorld world) → Contains world.plan.connections x → (a from b port w : ℕ) (slots others : LineSlots) → x.from ≡ from_end.Line a from slots
+    → x.to ≡ to_end.Line b port others → LivedIn world (state_of_line b) → first_turn x ≤ w → w < x.stop → CarriesAllGot world (went_out world is) x b port others w
+heals_on_line world x is has a from b port w slots others comes to lived low less =
+    let f = file_of world x b port others is has to in
+    let input = own_input world.inputs x in
+    let n = w + 1 - first_turn x in
+    let sound = sound_plan world.plan is.accepted in
+    let same = has_as_many_slots world.plan has.0 a from b port x slots others sound (entry world x has) comes to in
+    let list = ((sound_in world x is has).from_line a from slots comes).list in
+    subst (λ line. Carries (tributary_of others port) (arrived_by x input n) (lengths_of (got_by x input n)) (view_at (tributary_of others port) line) (first_turn x) (first_turn x) w)
+    (sym (read_back world b ((went_out world is).line b) f lived))
+    (carries_what_it_gets world.plan world.inputs x a from b port w slots others f.frames comes list (goes world x b port others is has to).0 same
+    (made_to world x b w ((went_out world is).line b) is has f less) low)
+
+text_of_arrived : (world : World) (x : Connection) (is : IsWorld world) → Contains world.plan.connections x → (n : ℕ) → x.to ≡ to_end.Client n → LivedIn world (state_of_client n)
+    → (went_out world is).client n ≡ arriving_text (arrived_by x (own_input world.inputs x) (x.stop - first_turn x))
+text_of_arrived world x is has n to lived = text_lived world x n is has to lived ∙ text_in world x is has
+
+pub runs_heal : RunsHeal
+runs_heal world x a from s b u h slots bytes p is has comes heals = record {
+  turn = λ t low high. gets_what_healed world.inputs x a from s b u h t slots bytes p comes heals low high;
+  line = λ line port w others to lived low less. heals_on_line world x is has a from line port w slots others comes to lived low less;
+  client = λ n to lived low most.
+      let input = own_input world.inputs x in
+      let f = first_turn x in
+      let w = x.stop - 2 in
+      text_of_arrived world x is has n to lived
+      ∙ ap (λ k. arriving_text (arrived_by x input (k - f))) (let e : x.stop ≡ w + 2 = omega arith in e)
+      ∙ ap arriving_text (arrives_healed world.inputs x a from s b u h w slots bytes p comes heals (omega arith) (omega arith))
+      ∙ ap (λ k. arriving_text (arrived_by x input (h + 4 - f) ++ slice_range bytes (sent p (h + 1 - s)) (sent p k))) (let e : w - s - 1 ≡ x.stop - s - 3 = omega arith in e);
+}
+
+-- ---- one damaged message
+
+no_client : (world : World) (x : Connection) (a port n : ℕ) (slots : LineSlots) → x.from ≡ from_end.Line a port slots → x.from ≡ from_end.Client n → ⊥
+no_client world x a port n slots comes from = cc
+
+pub agree_but_for_one : RunsAgreeButForOne
+agree_but_for_one one other x first second share =
+    left_as_alike one other x first second
+    (record {
+      first = share.first;
+      second = share.second;
+      alike = leaves_as_if_repeated one.inputs other.inputs x share.agree;
+      client = λ n from. absurd (no_client one x share.agree.line share.agree.port n share.agree.slots share.agree.comes from);
+    })

@@ -1,0 +1,5 @@
+use Rattle.node_core.proofs.RunsDamaged.{runs_heal}
+use Rattle.node_core.proofs.damage.runs_heal.Goals as goal
+
+pub returns : goal.returns
+returns c = runs_heal

@@ -1,0 +1,16 @@
+// The laws of what a run leaves on a connection whose line was damaged, each the contract of a function.
+ghost use Rattle.node_core.specs.RunsDamaged.{RunsAgreeButForOne, RunsHeal};
+
+/// Healing in a run, whatever came before: once its line carries a client's bytes to a connection, and a turn
+/// says its number without a former one while no slot is marked, from the third turn after it on the
+/// connection hands on exactly these bytes. A line to which it goes carries all that it got, and a client gets
+/// what all that arrived delivers, these bytes among it.
+pub fn runs_heal()
+    ensures { RunsHeal }
+{}
+
+/// One damaged message, where no three in a row are damaged, is as the pair of the turn before, said again: of
+/// two runs whose line shows a connection the same but for that, the same leaves on it, as far as both have gone.
+pub fn runs_agree_but_for_one()
+    ensures { RunsAgreeButForOne }
+{}
