@@ -1,18 +1,19 @@
 -- What a connection gets once its line carries a client's bytes again, and what carries it on.
-use Rattle.std.proofs.Common.{◌≡◌, ◌<◌, ◌≤◌, ◌+◌, ◌-◌, ◌/◌, ℕ, zero, suc, List, [], ◌∷◌, ◌++◌, Option, Some, length, map, take, refl, sym, ap, ◌∙◌, subst, arith, append-nil, add-one}
+use Rattle.std.proofs.Common.{rules, ◌≡◌, ◌<◌, ◌≤◌, ◌+◌, ◌-◌, ◌/◌, ℕ, zero, suc, List, [], ◌∷◌, ◌++◌, Option, Some, length, map, take, refl, sym, ap, ◌∙◌, subst, arith, append-nil, add-one}
 use Rattle.std.specs.Prelude.{sum, slice_range}
 use Rattle.std.specs.List.{concat}
 use Rattle.std.proofs.lemmas.List.{take-map, map-append, append_assoc}
 use Rattle.std.proofs.lemmas.List.Folds.{concat-append}
 use Rattle.std.proofs.lemmas.List.Sums.{sum_by_push}
-use Rattle.otn_base.specs.LineSlots.{LineSlots}
+use Rattle.otn_base.specs.LineSlots.{LineSlots, slots_of}
+use Rattle.otn_base.specs.SlotList.{IsSlotList}
 use Rattle.maintenance_signals.specs.Stream.{signal_byte}
 use Rattle.maintenance_signals.specs.declared.signal.Signal.TheVariants.{Ais}
 use Rattle.plan_file.specs.declared.connection.Connection.{Connection}
 use Rattle.plan_file.specs.declared.connection.FromEnd.TheVariants as from_end
 use Rattle.plan_file.specs.declared.plan.Plan.{Plan}
 use Rattle.tributary_model.specs.Carries.{sent, number_in, Carries, past_of}
-use Rattle.tributary_model.specs.Carriage.{EmitsTwoLater}
+use Rattle.tributary_model.specs.Carriage.{EmitsTwoLater, SaysAnew}
 use Rattle.tributary_model.specs.Emission.{emission, emitted_so_far}
 use Rattle.tributary_model.specs.Places.{Tributary, tributary_of, View, turn_view, IsWholeTurn, AreWholeTurns}
 use Rattle.tributary_model.specs.Puts.{lengths_of}
@@ -25,7 +26,7 @@ use Rattle.tributary_model.proofs.Ranges.{none_between, joined}
 use Rattle.tributary_model.proofs.Totals.{sent_up}
 use Rattle.device_model.specs.Carried.{GoesTo, IsMadeTo}
 use Rattle.device_model.specs.Entries.{first_turn}
-use Rattle.device_model.specs.Healing.{Heals, GetsWhatHealed, ArrivesHealed, CarriesWhatItGets}
+use Rattle.device_model.specs.Healing.{Heals}
 use Rattle.device_model.specs.LineViews.{view_at}
 use Rattle.device_model.specs.Through.{Inputs, OwnInput, own_input, emits, got_in, got_by, arrived_by}
 use Rattle.device_model.proofs.Carried.{turn_frames, shown}
@@ -34,6 +35,14 @@ use Rattle.device_model.proofs.LineViews.{whole_at}
 
 -- ---- what it gets
 
+-- what healing asks of turn h + 1
+no_sooner : (line : List ℕ) (x : Connection) (port s b u h : ℕ) (slots : LineSlots) (bytes p : List ℕ) → Heals line x port slots bytes p s b u h → b ≤ h
+no_sooner line x port s b u h slots bytes p heals = search rules
+
+says_anew : (line : List ℕ) (x : Connection) (port s b u h : ℕ) (slots : LineSlots) (bytes p : List ℕ) → Heals line x port slots bytes p s b u h
+    → SaysAnew (tributary_of slots port) (view_at (tributary_of slots port) line) (first_turn x) h
+says_anew line x port s b u h slots bytes p heals = search rules
+
 emits_healed : (inputs : Inputs) (x : Connection) (a port s b u h t j : ℕ) (slots : LineSlots) (bytes p : List ℕ) → x.from ≡ from_end.Line a port slots → Heals (inputs.line a) x port slots bytes p s b u h
     → h + 3 ≤ t → t ≤ u → first_turn x + j ≡ t → emits x (own_input inputs x) j ≡ slice_range bytes (sent p (t - s - 2)) (sent p (t - s - 1))
 emits_healed inputs x a port s b u h t j slots bytes p comes heals low high at =
@@ -41,17 +50,18 @@ emits_healed inputs x a port s b u h t j slots bytes p comes heals low high at =
     let ais = signal_byte Ais in
     let views = view_at own (inputs.line a) in
     let f = first_turn x in
-    let law : EmitsTwoLater own ais bytes p views f s t = emits_after_damage own ais bytes p views f s b u h heals.arrives heals.order heals.anew t low high in
+    let law : EmitsTwoLater own ais bytes p views f s t = emits_after_damage own ais bytes p views f s b u h heals.arrives (no_sooner (inputs.line a) x port s b u h slots bytes p heals) (says_anew (inputs.line a) x port s b u h slots bytes p heals) t low high in
     emits_line x inputs a port j slots comes
     ∙ ap (λ k. emission own ais (past_of views f k) (views (f + j))) (let e : j ≡ t - f = omega arith in e)
     ∙ ap (λ k. emission own ais (past_of views f (t - f)) (views k)) at
     ∙ law
 
-pub gets_what_healed : GetsWhatHealed
+pub gets_what_healed : (inputs : Inputs) (x : Connection) (a port s b u h t : ℕ) (slots : LineSlots) (bytes p : List ℕ) → x.from ≡ from_end.Line a port slots → Heals (inputs.line a) x port slots bytes p s b u h → h + 3 ≤ t → t ≤ u
+    → got_in x (own_input inputs x) (t + 1 - first_turn x) ≡ slice_range bytes (sent p (t - s - 2)) (sent p (t - s - 1))
 gets_what_healed inputs x a port s b u h t slots bytes p comes heals low high =
     let f = first_turn x in
     let first = heals.arrives.order in
-    let order = heals.order in
+    let order = no_sooner (inputs.line a) x port s b u h slots bytes p heals in
     ap (got_in x (own_input inputs x)) (let e : t + 1 - f ≡ suc (t - f) = omega arith in e)
     ∙ emits_healed inputs x a port s b u h t (t - f) slots bytes p comes heals low high (omega arith)
 
@@ -77,7 +87,7 @@ healed_until inputs x a port s b u h (suc k) slots bytes p comes heals high =
     let f = first_turn x in
     let input = own_input inputs x in
     let first = heals.arrives.order in
-    let order = heals.order in
+    let order = no_sooner (inputs.line a) x port s b u h slots bytes p heals in
     let began = heals.arrives.carries.order in
     let t = h + 3 + k in
     let j = t - f in
@@ -92,12 +102,13 @@ healed_until inputs x a port s b u h (suc k) slots bytes p comes heals high =
     ∙ append_assoc before (slice_range bytes (sent p i) (sent p (i + k))) (slice_range bytes (sent p (i + k)) (sent p (i + suc k)))
     ∙ ap (λ y. before ++ y) (joined bytes (sent p i) (sent p (i + k)) (sent p (i + suc k)) (sent_up p i (i + k) (omega arith)) (sent_up p (i + k) (i + suc k) (omega arith)))
 
-pub arrives_healed : ArrivesHealed
+pub arrives_healed : (inputs : Inputs) (x : Connection) (a port s b u h w : ℕ) (slots : LineSlots) (bytes p : List ℕ) → x.from ≡ from_end.Line a port slots → Heals (inputs.line a) x port slots bytes p s b u h → h + 2 ≤ w → w ≤ u
+    → arrived_by x (own_input inputs x) (w + 2 - first_turn x) ≡ arrived_by x (own_input inputs x) (h + 4 - first_turn x) ++ slice_range bytes (sent p (h + 1 - s)) (sent p (w - s - 1))
 arrives_healed inputs x a port s b u h w slots bytes p comes heals low high =
     let f = first_turn x in
     let input = own_input inputs x in
     let began = heals.arrives.carries.order in
-    let order = heals.order in
+    let order = no_sooner (inputs.line a) x port s b u h slots bytes p heals in
     let k = w - (h + 2) in
     ap (arrived_by x input) (let e : w + 2 - f ≡ h + 2 + k + 2 - f = omega arith in e)
     ∙ healed_until inputs x a port s b u h k slots bytes p comes heals (omega arith)
@@ -161,7 +172,10 @@ few_in_turn x inputs a from n (suc i) slots comes some whole less =
 
 -- ---- what carries it on
 
-pub carries_what_it_gets : CarriesWhatItGets
+pub carries_what_it_gets : (plan : Plan) (inputs : Inputs) (x : Connection) (a from b port u : ℕ) (slots others : LineSlots) (frames : List (List ℕ)) → x.from ≡ from_end.Line a from slots → IsSlotList (slots_of slots.kind) slots.list
+    → GoesTo plan x b port others → length others.list ≡ length slots.list → IsMadeTo plan inputs x b u frames → first_turn x ≤ u
+    → Carries (tributary_of others port) (arrived_by x (own_input inputs x) (u + 1 - first_turn x)) (lengths_of (got_by x (own_input inputs x) (u + 1 - first_turn x)))
+    (view_at (tributary_of others port) (concat frames)) (first_turn x) (first_turn x) u
 unfolding view_at
 carries_what_it_gets plan inputs x a from b port u slots others frames comes list goes same made low =
     let s = first_turn x in

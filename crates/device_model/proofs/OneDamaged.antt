@@ -1,5 +1,5 @@
 -- One damaged message changes nothing of what leaves on a connection.
-use Rattle.std.proofs.Common.{◌≡◌, ◌<◌, ◌≤◌, ◌+◌, ◌-◌, ◌∙◌, ℕ, zero, suc, List, [], ◌∷◌, ◌++◌, Option, Some, refl, sym, ap, subst, arith}
+use Rattle.std.proofs.Common.{rules, ◌≡◌, ◌<◌, ◌≤◌, ◌+◌, ◌-◌, ◌∙◌, ℕ, zero, suc, List, [], ◌∷◌, ◌++◌, Option, Some, length, refl, sym, ap, subst, arith}
 use Rattle.std.specs.List.{concat}
 use Rattle.maintenance_signals.specs.Stream.{signal_byte}
 use Rattle.maintenance_signals.specs.declared.signal.Signal.TheVariants.{Ais}
@@ -7,7 +7,8 @@ use Rattle.odu_client.specs.ClientOutput.{arriving_text}
 use Rattle.otn_base.specs.LineSlots.{LineSlots}
 use Rattle.plan_file.specs.declared.connection.Connection.{Connection}
 use Rattle.plan_file.specs.declared.connection.FromEnd.TheVariants as from_end
-use Rattle.tributary_model.specs.declared.turns.SinkState.{SinkState}
+use Rattle.tributary_model.specs.declared.turns.Hearing.TheVariants.{Pair}
+use Rattle.tributary_model.specs.Messages.{hears_message}
 use Rattle.tributary_model.specs.Carries.{past_of}
 use Rattle.tributary_model.specs.Damage.{pair_had, NeverThree, emissions, states}
 use Rattle.tributary_model.specs.Emission.{emission}
@@ -16,7 +17,7 @@ use Rattle.tributary_model.specs.Stretches.{course, state_after}
 use Rattle.tributary_model.proofs.OneDamaged.{as_if_repeated}
 use Rattle.device_model.specs.Entries.{first_turn}
 use Rattle.device_model.specs.LineViews.{view_at}
-use Rattle.device_model.specs.OneDamaged.{DifferInOneMessage, AgreeButForOne, LeavesAlikeInItsTurns, LeavesAsIfRepeated}
+use Rattle.device_model.specs.OneDamaged.{DifferInOneMessage, AgreeButForOne, LeavesAlikeInItsTurns}
 use Rattle.device_model.specs.Through.{Inputs, OwnInput, own_of, own_input, emits, got_in, got_by, sink_state, state_by, state_in}
 use Rattle.device_model.proofs.GotTurns.{emits_line}
 
@@ -27,19 +28,29 @@ behind : (ℕ → Option View) → (i k : ℕ) → List (Option View)
 behind views i zero = []
 behind views i (suc k) = views (i + suc k) ∷ behind views i k
 
+-- what is known of the other list
+other_calm : (own : Tributary) (one other : ℕ → Option View) (s e i : ℕ) → DifferInOneMessage own one other s e i → NeverThree own (past_of other s (e - s))
+other_calm own one other s e i d = search rules
+
+repeats : (own : Tributary) (one other : ℕ → Option View) (s e i : ℕ) → (d : DifferInOneMessage own one other s e i) → hears_message (Some d.number) (length own.slots) d.said ≡ Pair d.number d.rest d.equal
+repeats own one other s e i d = search rules
+
+same_at : (own : Tributary) (one other : ℕ → Option View) (s e i t : ℕ) → DifferInOneMessage own one other s e i → s ≤ t → t < e → (t ≡ i → ⊥) → one t ≡ other t
+same_at own one other s e i t d low less not = search rules
+
 -- the turns before are the same
 same_before : (own : Tributary) (one other : ℕ → Option View) (s e i n : ℕ) → DifferInOneMessage own one other s e i → s + n ≤ i → past_of one s n ≡ past_of other s n
 same_before own one other s e i zero d h = refl
 same_before own one other s e i (suc n) d h =
     let less = d.turn.1 in
-    ap (λ v. v ∷ past_of one s n) (d.views (s + n) (omega arith) (omega arith) (λ q. omega arith)) ∙ ap (λ past. other (s + n) ∷ past) (same_before own one other s e i n d (omega arith))
+    ap (λ v. v ∷ past_of one s n) (same_at own one other s e i (s + n) d (omega arith) (omega arith) (λ q. omega arith)) ∙ ap (λ past. other (s + n) ∷ past) (same_before own one other s e i n d (omega arith))
 
 same_behind : (own : Tributary) (one other : ℕ → Option View) (s e i k : ℕ) → DifferInOneMessage own one other s e i → i + k < e → behind one i k ≡ behind other i k
 unfolding behind
 same_behind own one other s e i zero d h = refl
 same_behind own one other s e i (suc k) d h =
     let low = d.turn.0 in
-    ap (λ v. v ∷ behind one i k) (d.views (i + suc k) (omega arith) (omega arith) (λ q. omega arith)) ∙ ap (λ past. other (i + suc k) ∷ past) (same_behind own one other s e i k d (omega arith))
+    ap (λ v. v ∷ behind one i k) (same_at own one other s e i (i + suc k) d (omega arith) (omega arith) (λ q. omega arith)) ∙ ap (λ past. other (i + suc k) ∷ past) (same_behind own one other s e i k d (omega arith))
 
 split_at : (views : ℕ → Option View) (s n k : ℕ) → past_of views s (n + suc k) ≡ behind views (s + n) k ++ (views (s + n) ∷ past_of views s n)
 unfolding behind
@@ -68,8 +79,8 @@ same_whole own one other s e n k d all =
     ∙ ap (λ xs. xs ++ (other i ∷ past_of other s n)) (sym (same_behind own one other s e i k d (omega arith)))
     ∙ ap (λ xs. later ++ (other i ∷ xs)) (sym (same_before own one other s e i n d (omega arith)))
     ∙ ap (λ v. later ++ (v ∷ past)) d.there in
-    let law = as_if_repeated own (signal_byte Ais) past later d.view d.said d.number d.rest d.equal (subst (λ n. pair_had (course own (past_of one s n)) ≡ Some (d.number, d.rest)) before d.had) d.damaged d.repeats
-    (subst (NeverThree own) (ap (past_of one s) count ∙ first) d.one_calm) (subst (NeverThree own) (ap (past_of other s) count ∙ second) d.other_calm) in (
+    let law = as_if_repeated own (signal_byte Ais) past later d.view d.said d.number d.rest d.equal (subst (λ n. pair_had (course own (past_of one s n)) ≡ Some (d.number, d.rest)) before d.had) d.damaged (repeats own one other s e i d)
+    (subst (NeverThree own) (ap (past_of one s) count ∙ first) d.one_calm) (subst (NeverThree own) (ap (past_of other s) count ∙ second) (other_calm own one other s e i d)) in (
       ap (emissions own (signal_byte Ais)) first ∙ law.0 ∙ sym (ap (emissions own (signal_byte Ais)) second),
       ap (states own) first ∙ law.1 ∙ sym (ap (states own) second),
     )
@@ -135,7 +146,7 @@ got_alike one other x (suc n) g h =
     turn zero h = refl
     turn (suc j) h = emits_alike one other x j g (omega arith)
 
-pub leaves_as_if_repeated : LeavesAsIfRepeated
+pub leaves_as_if_repeated : (one other : Inputs) (x : Connection) → AgreeButForOne one other x → LeavesAlikeInItsTurns x (own_input one x) (own_input other x)
 leaves_as_if_repeated one other x g = record {
   emitted = λ j h. emits_alike one other x j g h;
   got = λ n h. got_alike one other x n g h;

@@ -19,7 +19,7 @@ use Rattle.device_model.proofs.Healed.{gets_what_healed, arrives_healed, carries
 use Rattle.device_model.proofs.OneDamaged.{leaves_as_if_repeated}
 use Rattle.device_model.proofs.SoundPlans.{sound_plan}
 use Rattle.node_core.specs.RunsAlike.{World, IsWorld, LeftAlike, state_of_line, state_of_client, went_out}
-use Rattle.node_core.specs.RunsDamaged.{CarriesAllGot, HealsIn, RunsHeal, ShareButForOne, RunsAgreeButForOne}
+use Rattle.node_core.specs.RunsDamaged.{CarriesAllGot, HealsIn, ShareButForOne}
 use Rattle.node_core.specs.RunsThrough.{LivedIn, read_of}
 use Rattle.node_core.proofs.RunsAlike.{sound_in, text_in, text_lived, left_as_alike}
 use Rattle.node_core.proofs.RunsThrough.{entry, goes, file_of, made_to, read_back}
@@ -44,7 +44,8 @@ text_of_arrived : (world : World) (x : Connection) (is : IsWorld world) → Cont
     → (went_out world is).client n ≡ arriving_text (arrived_by x (own_input world.inputs x) (x.stop - first_turn x))
 text_of_arrived world x is has n to lived = text_lived world x n is has to lived ∙ text_in world x is has
 
-pub runs_heal : RunsHeal
+pub runs_heal : (world : World) (x : Connection) (a from s b u h : ℕ) (slots : LineSlots) (bytes p : List ℕ) (is : IsWorld world) → Contains world.plan.connections x → x.from ≡ from_end.Line a from slots
+    → Heals (world.inputs.line a) x from slots bytes p s b u h → HealsIn world (went_out world is) x a from slots bytes p s u h
 runs_heal world x a from s b u h slots bytes p is has comes heals = record {
   turn = λ t low high. gets_what_healed world.inputs x a from s b u h t slots bytes p comes heals low high;
   line = λ line port w others to lived low less. heals_on_line world x is has a from line port w slots others comes to lived low less;
@@ -63,7 +64,7 @@ runs_heal world x a from s b u h slots bytes p is has comes heals = record {
 no_client : (world : World) (x : Connection) (a port n : ℕ) (slots : LineSlots) → x.from ≡ from_end.Line a port slots → x.from ≡ from_end.Client n → ⊥
 no_client world x a port n slots comes from = cc
 
-pub agree_but_for_one : RunsAgreeButForOne
+pub agree_but_for_one : (one other : World) (x : Connection) (first : IsWorld one) (second : IsWorld other) → ShareButForOne one other x → LeftAlike one other (went_out one first) (went_out other second) x
 agree_but_for_one one other x first second share =
     left_as_alike one other x first second
     (record {
