@@ -1,6 +1,7 @@
 pub mod Answered
 pub mod CarriedBack
 pub mod CarriedPlans
+pub mod DamagedLines
 pub mod Forms
 pub mod LineFrames
 pub mod Lives

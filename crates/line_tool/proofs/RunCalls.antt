@@ -24,7 +24,7 @@ use Rattle.line_tool.specs.declared.status.Status.TheVariants as status
 
 -- ---- the plan is accepted
 
-accepted_plan : (text : List ℕ) (plan : Plan) → plan_of_text text ≡ Ok plan → fault_in plan ≡ None
+pub accepted_plan : (text : List ℕ) (plan : Plan) → plan_of_text text ≡ Ok plan → fault_in plan ≡ None
 accepted_plan text plan e =
     let h : IfOk (plan_of_text text) (λ p. fault_in p ≡ None) = elim (table_of_text text) as (λ table. IfOk (plan_of_table table) (λ p. fault_in p ≡ None)) [
       | None ↦ tt
@@ -33,7 +33,7 @@ accepted_plan text plan e =
     let P : Result Plan NoPlan → Type 0 = λ r. IfOk r (λ p. fault_in p ≡ None) in
     subst P e h
 
-is_world : (call : Call) (has : HasCarried call) → IsWorld (world_of call has)
+unfoldable pub is_world : (call : Call) (has : HasCarried call) → IsWorld (world_of call has)
 is_world call has = record { accepted = accepted_plan call.text call.plan has.is_plan; left = has.ran.left; may_be = has.may_be }
 
 -- ---- what was carried

@@ -3,6 +3,7 @@ pub mod Answers
 pub mod Beyond
 pub mod CarriedBack
 pub mod Codes
+pub mod DamagedLines
 pub mod Device
 pub mod Ends
 pub mod Gains

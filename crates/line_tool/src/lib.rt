@@ -12,12 +12,14 @@
 //! - `pull`, `tap`: what the sink of a tributary on a line emits, turn by turn.
 //! - `report`, `report_lines`, `report_words`: the report of a run, as text.
 //! - `beyond`: whether a line has more than a command reads.
+//! - `damage`: the headline of damaged lines.
 //! - `laws`: what no call shows by itself: that nothing else on a line changes a report, and the headline of a plan that is run.
 //! - `trial`: packets of eight clients, through four runs in a row.
 #![tactic(auto)]
 
 mod beyond;
 mod check;
+mod damage;
 mod ended;
 mod laws;
 mod number_chooser;
@@ -34,6 +36,7 @@ mod top;
 mod trial;
 mod words;
 
+pub use damage::damaged_lines;
 pub use laws::{
     check_of_text, forms_are_apart, headline, pull_of_carried, pull_of_given, pull_of_one_damaged,
     pull_two_worlds, run_of_text, slot_of_given, slot_two_worlds, without_faults,
