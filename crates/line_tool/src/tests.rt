@@ -1,5 +1,6 @@
 // Whole runs over ports in memory.
 mod check;
+mod damage;
 mod number_chooser;
 mod plan_faults;
 mod plan_ports;

@@ -6,8 +6,8 @@ use otn_ports::MemSource;
 use std::alloc::Global;
 use std::test::Fail;
 
-// How many groups of a multiframe carry data in these lines, of one byte each in one slot.
-const DATA_GROUPS: usize = 15_168;
+/// How many groups of a multiframe carry data in these lines, of one byte each in one slot.
+pub const DATA_GROUPS: usize = 15_168;
 
 // A byte of a frame of this turn, from 1, of a line that carries a tributary of port 1 in slot 3. Its payload is the byte
 // that `fill` gives, or else the turn's number. What is not the tributary's is never 0.
@@ -73,8 +73,8 @@ fn line(
     Ok(bytes)
 }
 
-// A byte of the AIS stream, counted from 0.
-fn ais_byte(place: usize) -> u8 {
+/// A byte of the AIS stream, counted from 0.
+pub fn ais_byte(place: usize) -> u8 {
     match place % 15_296 {
         0..=2 => 0xF6,
         3..=5 => 0x28,

@@ -1,0 +1,237 @@
+// Damage to a line, over whole runs: listed bytes of it are spoiled.
+ghost use Rattle.std.specs.Prelude.{◌≡◌, true};
+ghost use Rattle.otn_ports.specs.Spoiling.{rises_from};
+
+use super::plan_runs::{
+    FROM_LINE, LINE_ROOM, REPORT_ROOM, TO_LINE, carried, input, kept, output, packets, plan_of,
+    text_of, to_line,
+};
+use super::pull::{DATA_GROUPS, ais_byte};
+use super::ran;
+use crate::Status;
+use otn_base::Memory;
+use otn_ports::{InPlaceOf, ListedSink, MemSource, Rack, SpoiledSource};
+use std::alloc::Global;
+use std::test::Fail;
+
+// A byte of frame n, from 0, of a line that carries a tributary of port 1 in slot 3 from turn 1 on: 15,168 groups, said in
+// full in turn 1, and no change after it. Its payload is the turn's number, from 1. All else is 0.
+fn byte_of(frame: u32, row: u32, column: u32) -> u8 {
+    let said = frame % 8 == 2;
+    match (row, column) {
+        (1, 7) => (frame % 256) as u8,
+        (4, 15) if frame % 256 == 4 => 0x80,
+        (1, 16) if said => 0xED,
+        (2, 16) if frame == 2 => 0x03,
+        (3, 16) if frame == 2 => 0x2E,
+        (3, 16) if said => 0x39,
+        (_, 17..=3824) if column % 8 == 3 => (frame / 8 % 255 + 1) as u8,
+        _ => 0,
+    }
+}
+
+// So many turns of it.
+fn line(alloc: Global, turns: u8) -> Result<Vec<u8>, Memory> {
+    let mut bytes = Vec::new(alloc);
+    for frame in 0..8 * turns as u32 {
+        for row in 1..5_u32 {
+            for column in 1..4081_u32 {
+                bytes.push(byte_of(frame, row, column))?;
+            }
+        }
+    }
+    Ok(bytes)
+}
+
+// A part of what a sink emits, 15,168 bytes a turn: the payload of the turns from one to another, or so many turns of AIS from its first
+// byte on.
+#[derive(Clone, Copy)]
+enum Part {
+    Payload(u8, u8),
+    Ais(u8),
+}
+
+fn push_part(bytes: &mut Vec<u8>, part: Part) -> Result<(), Memory> {
+    match part {
+        Part::Payload(first, last) => {
+            for turn in first..=last {
+                for _ in 0..DATA_GROUPS {
+                    bytes.push(turn)?;
+                }
+            }
+        }
+        Part::Ais(turns) => {
+            for place in 0..DATA_GROUPS * turns as usize {
+                bytes.push(ais_byte(place))?;
+            }
+        }
+    }
+    Ok(())
+}
+
+fn emitted(alloc: Global, parts: &[Part]) -> Result<Vec<u8>, Memory> {
+    let mut bytes = Vec::new(alloc);
+    for part in parts {
+        push_part(&mut bytes, *part)?;
+    }
+    Ok(bytes)
+}
+
+// These bytes, of which those at the listed places are spoiled.
+fn spoiled(
+    alloc: Global,
+    bytes: Vec<u8>,
+    places: &[(u64, u8)],
+) -> Result<SpoiledSource<MemSource>, Memory>
+    requires { rises_from 0 places.now ≡ true }
+{
+    Ok(SpoiledSource::new(MemSource::new(bytes), places.to_vec(alloc)?))
+}
+
+// Whether `pull` of so many turns of the line, with bytes spoiled at these places, writes exactly these parts.
+fn pulls(alloc: Global, turns: u8, places: &[(u64, u8)], parts: &[Part]) -> Result<bool, Memory>
+    requires { rises_from 0 places.now ≡ true }
+{
+    let source = spoiled(alloc, line(alloc, turns)?, places)?;
+    let outcome = ran(alloc, &["pull", "1", "3"], source, 1_000_000)?;
+    let wanted = emitted(alloc, parts)?;
+    Ok(outcome.status == Status::Done && outcome.written.as_slice() == wanted.as_slice())
+}
+
+// The MSI byte of slot 3, in row 4, column 15 of the fifth frame of turn 1: it comes every 32 turns.
+const MSI: u64 = 77_534;
+
+// JC3 of slot 3, in row 3, column 16 of the third frame of turn 1.
+const JC3: u64 = 40_815;
+
+// The MFAS byte of a frame.
+const MFAS: u64 = 6;
+
+// Bytes of a frame, and of a turn.
+const FRAME: u64 = 16_320;
+
+const TURN: u64 = 130_560;
+
+#[test]
+fn a_marked_slot_is_down_until_its_msi_byte_is_right(rt: HostRuntime) -> Result<(), Fail> {
+    let alloc = rt.alloc();
+    let wrong = [(MSI, 1), (MSI + 32 * TURN, 1)];
+    let parts = [Part::Payload(2, 32), Part::Ais(31), Part::Payload(66, 67)];
+    assert!(rt; pulls(alloc, 67, &wrong, &parts)?);
+    Ok(())
+}
+
+#[test]
+fn three_damaged_messages_are_one_too_many(rt: HostRuntime) -> Result<(), Fail> {
+    let alloc = rt.alloc();
+    let turn_10 = JC3 + 9 * TURN;
+    assert!(rt; pulls(alloc, 18, &[(turn_10, 1)], &[Part::Payload(2, 18)])?);
+    let six = [
+        (turn_10, 1),
+        (turn_10 + TURN, 1),
+        (turn_10 + 2 * TURN, 1),
+        (turn_10 + 3 * TURN, 1),
+        (turn_10 + 4 * TURN, 1),
+        (turn_10 + 5 * TURN, 1),
+    ];
+    let parts = [Part::Payload(2, 11), Part::Ais(3), Part::Payload(17, 18)];
+    assert!(rt; pulls(alloc, 18, &six, &parts)?);
+    Ok(())
+}
+
+#[test]
+fn five_wrong_mfas_bytes_are_one_too_many(rt: HostRuntime) -> Result<(), Fail> {
+    let alloc = rt.alloc();
+    let first = MFAS + 9 * TURN;
+    let four = [
+        (first, 0x80),
+        (first + FRAME, 0x80),
+        (first + 2 * FRAME, 0x80),
+        (first + 3 * FRAME, 0x80),
+    ];
+    assert!(rt; pulls(alloc, 18, &four, &[Part::Payload(2, 18)])?);
+    let five = [
+        (first, 0x80),
+        (first + FRAME, 0x80),
+        (first + 2 * FRAME, 0x80),
+        (first + 3 * FRAME, 0x80),
+        (first + 4 * FRAME, 0x80),
+    ];
+    let parts = [Part::Payload(2, 9), Part::Payload(12, 18)];
+    assert!(rt; pulls(alloc, 18, &five, &parts)?);
+    Ok(())
+}
+
+// Reports of a run from slot 3 of a line to a client, after `run` wrote one packet there: two parities are wrong; one is; none is; and a
+// multiframe was lost, behind which the sink began anew.
+const TWO_WRONG: &str =
+    "turns 8\nline-in 0 frames 64 lead-in 0 lost 0 rest 0 fas 0 sm 2 pm 2 live\nclient-out 0 frames 3 packets 1 live\nconnection b up\nstatus done\n";
+
+const ONE_WRONG: &str =
+    "turns 8\nline-in 0 frames 64 lead-in 0 lost 0 rest 0 fas 0 sm 1 pm 1 live\nclient-out 0 frames 3 packets 1 live\nconnection b up\nstatus done\n";
+
+const NONE_LOST: &str =
+    "turns 8\nline-in 0 frames 64 lead-in 0 lost 0 rest 0 fas 0 sm 0 pm 0 live\nclient-out 0 frames 3 packets 1 live\nconnection b up\nstatus done\n";
+
+const ONE_LOST: &str =
+    "turns 8\nline-in 0 frames 64 lead-in 0 lost 1 rest 0 fas 0 sm 0 pm 0 live\nclient-out 0 frames 1 packets 1 live\nconnection b up\nstatus done\n";
+
+// Whether the client gets its packet of this line with bytes spoiled at these places, and the run reports this.
+fn hears(alloc: Global, file: &[u8], places: &[(u64, u8)], reported: &str) -> Result<bool, Memory>
+    requires { rises_from 0 places.now ≡ true }
+{
+    let line = spoiled(alloc, Vec::from_slice(alloc, file)?, places)?;
+    let mut bays: Rack<SpoiledSource<MemSource>, ListedSink> = Rack::new(alloc)?;
+    bays.set_line_in(0, InPlaceOf::Live(line, 0));
+    bays.set_client_out(0, output(alloc, 1000, 0)?);
+    let plan = plan_of(alloc, FROM_LINE)?;
+    let ran = carried(alloc, plan, &mut bays, REPORT_ROOM, false)?;
+    let text = kept(alloc, bays.client_out(0))?;
+    let sent = packets(alloc, 1, 60)?;
+    Ok(text_of(&ran.report) == reported && text.as_slice() == sent.as_slice())
+}
+
+// The line to which a client sent one packet, in 8 turns.
+fn one_packet(alloc: Global) -> Result<Vec<u8>, Memory> {
+    let client = input(alloc, packets(alloc, 1, 60)?, 4096, 0)?;
+    let line = output(alloc, LINE_ROOM, 0)?;
+    let (_, file) = to_line(alloc, TO_LINE, client, line, REPORT_ROOM, false)?;
+    Ok(file)
+}
+
+#[test]
+fn a_client_hears_its_own_slot_alone(rt: HostRuntime) -> Result<(), Fail> {
+    let alloc = rt.alloc();
+    let file = one_packet(alloc)?;
+    // Payload and JC1 of slot 4; or its MSI byte, and JC6 of slot 8.
+    let some = [(19, 0xFF), (3 * FRAME + 15, 0x0F)];
+    let others = [(5 * FRAME + 12_254, 0x40), (7 * FRAME + 8_174, 0xFF)];
+    assert!(rt; hears(alloc, &file, &some, TWO_WRONG)?);
+    assert!(rt; hears(alloc, &file, &others, TWO_WRONG)?);
+    // JC3 of its own, in turn 5 alone.
+    assert!(rt; hears(alloc, &file, &[(JC3 + 4 * TURN, 1)], ONE_WRONG)?);
+    Ok(())
+}
+
+#[test]
+fn a_lost_multiframe_is_reported(rt: HostRuntime) -> Result<(), Fail> {
+    let alloc = rt.alloc();
+    let file = one_packet(alloc)?;
+    let first = MFAS + 4 * TURN;
+    let four = [
+        (first, 0x80),
+        (first + FRAME, 0x80),
+        (first + 2 * FRAME, 0x80),
+        (first + 3 * FRAME, 0x80),
+    ];
+    let five = [
+        (first, 0x80),
+        (first + FRAME, 0x80),
+        (first + 2 * FRAME, 0x80),
+        (first + 3 * FRAME, 0x80),
+        (first + 4 * FRAME, 0x80),
+    ];
+    assert!(rt; hears(alloc, &file, &four, NONE_LOST)?);
+    assert!(rt; hears(alloc, &file, &five, ONE_LOST)?);
+    Ok(())
+}
