@@ -30,7 +30,7 @@ use Rattle.device_model.proofs.CarriedFrom.{stream_long}
 use Rattle.device_model.proofs.ClientStreams.{stream_front}
 use Rattle.device_model.proofs.GotTurns.{got_of_line}
 
-joined_turns : (es : List (List ℕ)) → concat (reverse es) ≡ joined_back es
+pub joined_turns : (es : List (List ℕ)) → concat (reverse es) ≡ joined_back es
 joined_turns [] = refl
 joined_turns (e ∷ es) =
     ap concat (reverse_onto es e [])

@@ -25,3 +25,5 @@ pub mod TwoWorlds
 pub mod RunsInARow
 pub mod Healed
 pub mod OneDamaged
+pub mod HeldBack
+pub mod SecondNode

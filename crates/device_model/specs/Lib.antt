@@ -19,3 +19,4 @@ pub mod OneFile
 pub mod RunsInARow
 pub mod Healing
 pub mod OneDamaged
+pub mod HeldBack

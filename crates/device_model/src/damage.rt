@@ -1,5 +1,6 @@
 // The laws of damage on the line that a connection comes from, each the contract of a function.
 ghost use Rattle.device_model.specs.Healing.{ArrivesHealed, CarriesWhatItGets, GetsWhatHealed};
+ghost use Rattle.device_model.specs.HeldBack.{CatchesUp, EmitsAFront, HoldsBackLessThanAGroup, PassesASecondNode, StaysUp};
 ghost use Rattle.device_model.specs.OneDamaged.{LeavesAsIfRepeated};
 
 /// Healing, whatever its line showed before: once it carries a client's bytes to a connection, and a turn says
@@ -16,4 +17,16 @@ pub fn healing()
 /// in each of a connection's own turns the same leaves on it.
 pub fn one_damaged_message()
     ensures { LeavesAsIfRepeated }
+{}
+
+/// Behind a gap: bytes that are carried in numbers which are not steady, as those of a sender behind a sink that
+/// began a stretch anew. The sink is never Down, and what it has emitted is a front of them: none is lost,
+/// doubled or out of order. Less than a group may be held back, until a turn brings one. So a second node gets a
+/// front of what the first got, whatever its own line does.
+pub fn behind_a_gap()
+    ensures front { EmitsAFront }
+    ensures state { StaysUp }
+    ensures held { HoldsBackLessThanAGroup }
+    ensures later { CatchesUp }
+    ensures second { PassesASecondNode }
 {}

@@ -21,7 +21,7 @@ mod worlds;
 pub use carriage::{
     carried_from, carried_on, carried_through_all, made_files, packets_at_client, sound_connections,
 };
-pub use damage::{healing, one_damaged_message};
+pub use damage::{behind_a_gap, healing, one_damaged_message};
 pub use line_views::{same_views, whole_views};
 pub use outcome::{FromState, Outcome};
 pub use plans::accepted_plans;
