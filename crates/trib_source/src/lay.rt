@@ -5,6 +5,7 @@ ghost use Rattle.otn_base.specs.declared.limits.TheConstants.{GROUPS};
 ghost use Rattle.trib_source.specs.Rows.{data_bytes, byte_laid};
 
 use gmp_rule::Runner;
+use std::mem;
 
 /// Lays out so many groups, of `m` bytes each, one after the other: into the data groups go these bytes,
 /// into the stuff groups bytes 0. The next group that the runner is asked about is the first of them.
@@ -31,15 +32,22 @@ pub(crate) fn lay_groups(
         lay_runs(runner, fresh, m, cycles, into);
         return;
     }
-    if m == 1 {
-        // A body of its own, in which a group is copied as one byte.
-        lay_each(runner, fresh, 1, cycles, into);
-        return;
+    // Bodies of their own, in which so many bytes are copied at once.
+    match m {
+        1 => lay_each(runner, fresh, 1, cycles, into),
+        2 => lay_each(runner, fresh, 2, cycles, into),
+        3 => lay_each(runner, fresh, 3, cycles, into),
+        4 => lay_each(runner, fresh, 4, cycles, into),
+        5 => lay_each(runner, fresh, 5, cycles, into),
+        6 => lay_each(runner, fresh, 6, cycles, into),
+        7 => lay_each(runner, fresh, 7, cycles, into),
+        8 => lay_each(runner, fresh, 8, cycles, into),
+        _ => lay_each(runner, fresh, m, cycles, into),
     }
-    lay_each(runner, fresh, m, cycles, into);
 }
 
-// Lays them out one by one, where all is 0 so far.
+// Lays them out one by one, where all is 0 so far. The runner is taken out of its place for that, so that the loop keeps it in
+// registers.
 #[inline(always)]
 fn lay_each(runner: &mut Runner, fresh: &[u8], m: usize, cycles: usize, into: &mut [u8])
     requires some { 1 ≤ m }
@@ -51,10 +59,12 @@ fn lay_each(runner: &mut Runner, fresh: &[u8], m: usize, cycles: usize, into: &m
     ensures bytes { (x i : ℕ) → x < cycles → i < m → slice_index into.new (m * x + i) ≡ byte_laid m runner.old.number runner.old.asked fresh.now x i }
     ensures runner { runner.new ≡ record runner.old { asked = runner.old.asked + cycles } }
 {
+    let mut own = mem::replace(runner, Runner::start(0));
     let mut from = 0usize;
     for cycle in 0..cycles {
-        from = lay_next(runner, fresh, from, m, into, m * cycle);
+        from = lay_next(&mut own, fresh, from, m, into, m * cycle);
     }
+    *runner = own;
 }
 
 // Lays them out by runs of data groups, where all is 0 so far.
