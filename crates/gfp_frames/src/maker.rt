@@ -21,6 +21,11 @@ const MOST_FRAME: usize = 65_539;
 /// Bytes of a core header, and of an idle frame.
 const HEADER: usize = 4;
 
+// Four idle frames, which are put at once.
+const FOUR_IDLES: [u8; 16] = [
+    0xB6, 0xAB, 0x31, 0xE0, 0xB6, 0xAB, 0x31, 0xE0, 0xB6, 0xAB, 0x31, 0xE0, 0xB6, 0xAB, 0x31, 0xE0,
+];
+
 /// Makes the bytes of a stream of GFP frames, one after another. Contracts see what is left of the
 /// frame in hand, and the scrambler's register.
 #[derive(Drop)]
@@ -198,6 +203,10 @@ fn put_idles(into: &mut [u8])
     ensures { into.new ≡ idle_bytes (length into.old / 4) }
 {
     let mut at = 0;
+    while into.len() - at >= 16 {
+        into[at..at + 16].copy_from_slice(&FOUR_IDLES);
+        at += 16;
+    }
     while at < into.len() {
         into[at..at + HEADER].copy_from_slice(&IDLE_FRAME);
         at += HEADER;

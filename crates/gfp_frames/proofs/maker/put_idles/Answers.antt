@@ -1,11 +1,19 @@
 use Rattle.std.proofs.Common.{◌≡◌, ◌+◌, ◌-◌, arith}
-use Rattle.gfp_frames.proofs.Idles.{idle_put}
+use Rattle.gfp_frames.proofs.Idles.{idle_put, idles_put}
 use Rattle.gfp_frames.proofs.maker.put_idles.Goals as goal
+
+pub loop-into-preserved : goal.loop-into-preserved
+loop-into-preserved c =
+    let at = c.loop-into.at in
+    let sixteen : at + 16 - at ≡ 16 = omega arith in
+    let put =
+    idles_put c.loop-into.into at (at + 16 - at) c.copy_from_slice.new.self (omega arith) sixteen c.copy_from_slice.ensures.after c.loop-into.invariant.frames c.loop-into.invariant.idle in
+    record { within = put.0; frames = omega arith; idle = put.1 }
 
 pub loop-at-preserved : goal.loop-at-preserved
 loop-at-preserved c =
     let at = c.loop-at.at in
     let four : at + 4 - at ≡ 4 = omega arith in
     let put =
-    idle_put c.loop-at.into at (at + 4 - at) c.copy_from_slice.new.self (omega arith) four c.copy_from_slice.ensures.after c.loop-at.invariant.frames c.loop-at.invariant.idle in
+    idle_put c.loop-at.into at (at + 4 - at) c.copy_from_slice-in-loop-at.new.self (omega arith) four c.copy_from_slice-in-loop-at.ensures.after c.loop-at.invariant.frames c.loop-at.invariant.idle in
     record { within = put.0; frames = omega arith; idle = put.1 }
