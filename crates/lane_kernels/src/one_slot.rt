@@ -35,8 +35,17 @@ pub fn put_slot<const SLOTS: usize>(bytes: &[u8], k: u8, row: &mut [u8])
     ensures others { (x : ℕ) → x % SLOTS + 1 ≢ k → slice_index row.new x ≡ slice_index row.old x }
 {
     let first = k as usize - 1;
-    for (j, byte) in bytes.iter().enumerate() {
-        row[SLOTS * j + first] = *byte;
+    let mut done = 0;
+    // Four at a time: of a plain loop the compiler gathers sixteen bytes, for which it has not the registers.
+    while bytes.len() - done >= 4 {
+        row[SLOTS * done + first] = bytes[done];
+        row[SLOTS * (done + 1) + first] = bytes[done + 1];
+        row[SLOTS * (done + 2) + first] = bytes[done + 2];
+        row[SLOTS * (done + 3) + first] = bytes[done + 3];
+        done += 4;
+    }
+    for j in done..bytes.len() {
+        row[SLOTS * j + first] = bytes[j];
     }
 }
 
