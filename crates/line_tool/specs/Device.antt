@@ -27,7 +27,7 @@ pub record Stays (old new : Device) : Type 0 where
   pub plan : SourceLater old.plan new.plan
   pub report : SinkLater old.report new.report
 
--- No place but line input 0 was asked: all others are seen as they were. That one gave these bytes, or none, and dies only where its port's
+-- No place but line input 0 has changed: all others are seen as they were. That one gave these bytes, or none, and dies only where its port's
 -- count of faults rose or stands at its end.
 pub record OnlyLine (old new : Device) : Type 0 where
   pub line : (taken : List ℕ) × Gave (line_zero old) taken (line_zero new)

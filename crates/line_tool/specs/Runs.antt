@@ -23,7 +23,7 @@ IsLineAnswer Words = ⊥
 IsLineAnswer PlanFault = ⊥
 IsLineAnswer (Plan error place) = ⊥
 
--- an answer that comes before anything was done
+-- an answer after which all places and the report are as they were
 abbrev pub IsRefusal : Status → Type 0
 IsRefusal Words = Unit {0}
 IsRefusal PlanFault = Unit {0}

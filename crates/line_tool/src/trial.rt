@@ -2,7 +2,8 @@
 ghost use Rattle.std.specs.Prelude.{◌≡◌, IfErr, IfOk, string_bytes};
 ghost use Rattle.otn_ports.specs.PortViews.{sink_view};
 ghost use Rattle.otn_ports.specs.Racks.{bays_view};
-ghost use Rattle.line_tool.specs.TrialAnswers.{TrialAnswers, TrialRan};
+ghost use Rattle.line_tool.specs.Ends.{trial_status};
+ghost use Rattle.line_tool.specs.TrialAnswers.{TrialRan};
 ghost use Rattle.line_tool.specs.TrialRuns.{ClientsTold};
 
 mod carried;
@@ -24,27 +25,21 @@ use std::alloc::Global;
 // Clients of the trial.
 const CLIENTS: u8 = 8;
 
-/// Does the trial of a number. After `Memory` the report is as it was; the chooser may have been asked by then.
-pub(crate) fn run_trial<C: Chooser, K: Sink>(
-    alloc: Global,
-    number: u64,
-    chooser: &mut C,
-    report: &mut K,
-) -> Status
-    ensures answers { TrialAnswers number (sink_view K.Sink report.old) (sink_view K.Sink report.new) (C.asked chooser.old) (C.asked chooser.new) result }
-    ensures refused { result ≡ Status.Memory → report.new ≡ report.old }
+/// The answer of the top call to a `trial` whose report was written so, or for which there was no memory.
+pub(crate) fn status_of_trial(answer: Result<Written, Memory>) -> Status
+    ensures { result ≡ trial_status answer }
 {
-    match write_trial(alloc, number, chooser, report) {
+    match answer {
         Ok(Written::Whole) => Status::Done,
         Ok(Written::Lost) => Status::ReportFault,
         Err(Memory) => Status::Memory,
     }
 }
 
-// Draws packets for eight clients by the number, carries them through four nodes in a row over ports in memory, in an order that the chooser
-// says, and writes the checks of the three line files and what came back. A place of the trial that died had no room: the answer is `Memory`
-// then, as it is for want of memory.
-fn write_trial<C: Chooser, K: Sink>(
+/// Draws packets for eight clients by the number, carries them through four nodes in a row over ports in memory, in an order that the chooser
+/// says, and writes the checks of the three line files and what came back. A place of the trial that died had no room: the answer is `Memory`
+/// then, as it is for want of memory. After `Memory` the report is as it was; the chooser may have been asked by then.
+pub(crate) fn run_trial<C: Chooser, K: Sink>(
     alloc: Global,
     number: u64,
     chooser: &mut C,
