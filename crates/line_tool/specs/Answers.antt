@@ -6,11 +6,11 @@ use Rattle.otn_ports.specs.Reads.{HasEnded}
 use Rattle.otn_ports.specs.Views.{Live, Dead}
 use Rattle.tributary_model.specs.Places.{Tributary}
 use Rattle.line_tool.specs.Device.{Device, OnlyLine, line_zero}
-use Rattle.line_tool.specs.PlanCheck.{CheckRun, CountsBy}
+use Rattle.line_tool.specs.PlanCheck.{CheckRun}
 use Rattle.line_tool.specs.PullReport.{LeavesBytes, bytes_taken, pull_report, tributary}
 use Rattle.line_tool.specs.PullRuns.{MayFollow, StoppedInTurn}
 use Rattle.line_tool.specs.RunAnswers.{RunAnswers}
-use Rattle.line_tool.specs.Runs.{Reports, HasRest, IsLineAnswer}
+use Rattle.line_tool.specs.Runs.{CountsBy, Reports, HasRest, IsLineAnswer}
 use Rattle.line_tool.specs.SlotReport.{slot_report, most_taken}
 use Rattle.line_tool.specs.SlotRuns.{StoppedInFrame}
 use Rattle.line_tool.specs.TrialAnswers.{TrialAnswers}

@@ -15,6 +15,7 @@ pub record Device : Type 0 where
   pub bays : BaysView
   pub report : SinkView
 
+-- what is seen of these, by the ghosts of the plan's source, the report, and the ports of the places
 abbrev pub device : {P K I O : Type 0} → source.Ghosts P → sink.Ghosts K → source.Ghosts I → sink.Ghosts O → P → Rack I O → K → Device
 device p k i o plan bays report = record { plan = source_view p plan; bays = bays_view i o bays; report = sink_view k report }
 

@@ -56,6 +56,7 @@ trial_connection run c = record {
   retire = false;
 }
 
+-- the plan of a run: the eight connections, over plain OTU2 lines
 abbrev pub trial_plan : (run : ℕ) → Plan
 trial_plan run = record {
   turns = trial_turns;

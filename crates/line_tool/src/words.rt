@@ -101,7 +101,7 @@ fn trial_command(number: &str) -> Option<Command>
     ensures form { IfSome result (IsForm (codes "trial" ∷ number.now ∷ [])) }
     ensures no_form { IfNone result (IsNoForm (codes "trial" ∷ number.now ∷ [])) }
 {
-    Some(Command::Trial(order_number(number)?))
+    Some(Command::Trial(number_of_digits(number)?))
 }
 
 // The command `pull` with these words after it.
@@ -119,13 +119,13 @@ fn run_command(option: &str, number: &str) -> Option<Command>
     ensures no_form { IfNone result (IsNoForm (codes "run" ∷ option.now ∷ number.now ∷ [])) }
 {
     match option {
-        "--order" => Some(Command::RunOrdered(order_number(number)?)),
+        "--order" => Some(Command::RunOrdered(number_of_digits(number)?)),
         _ => None,
     }
 }
 
-// The number that these digits write: 1 to 20 of them, with no sign, and a value of 64 bits.
-fn order_number(text: &str) -> Option<u64>
+// The number that these digits write, of `run --order` and of `trial`: 1 to 20 of them, with no sign, and a value of 64 bits.
+fn number_of_digits(text: &str) -> Option<u64>
     ensures number { IfSome result (IsNumberText text.now) }
     ensures none { IfNone result ((number : ℕ) → IsNumberText text.now number → ⊥) }
 {
