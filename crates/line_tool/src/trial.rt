@@ -4,6 +4,7 @@ ghost use Rattle.otn_ports.specs.PortViews.{sink_view};
 ghost use Rattle.otn_ports.specs.Racks.{bays_view};
 ghost use Rattle.line_tool.specs.Ends.{trial_status};
 ghost use Rattle.line_tool.specs.TrialAnswers.{TrialRan};
+ghost use Rattle.line_tool.specs.TrialPlans.{trial_clients};
 ghost use Rattle.line_tool.specs.TrialRuns.{ClientsTold};
 
 mod carried;
@@ -20,10 +21,8 @@ use lines::{line_of_check, line_of_client};
 use otn_base::Memory;
 use otn_ports::{Chooser, MemSink, MemSource, Sink, Source, Written, write_whole};
 use places::{Memories, text_of};
+use plans::CLIENTS;
 use std::alloc::Global;
-
-// Clients of the trial.
-const CLIENTS: u8 = 8;
 
 /// The answer of the top call to a `trial` whose report was written so, or for which there was no memory.
 pub(crate) fn status_of_trial(answer: Result<Written, Memory>) -> Status
@@ -61,7 +60,7 @@ pub(crate) fn run_trial<C: Chooser, K: Sink>(
 
 // The lines of the clients, by the texts that they got.
 fn lines_of_clients(alloc: Global, bays: &Memories) -> Result<String, Memory>
-    ensures { IfOk result (λ lines. ClientsTold 8 (bays_view ⟦<MemSource as Source>⟧ ⟦<MemSink as Sink>⟧ bays.now) (string_bytes lines)) }
+    ensures { IfOk result (λ lines. ClientsTold trial_clients (bays_view ⟦<MemSource as Source>⟧ ⟦<MemSink as Sink>⟧ bays.now) (string_bytes lines)) }
 {
     let mut lines = String::new(alloc);
     for c in 0..CLIENTS {

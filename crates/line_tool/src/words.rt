@@ -28,6 +28,9 @@ pub enum Command {
 /// The most digits of a number among the words.
 const NUMBER_DIGITS: usize = 20;
 
+/// The digit of the last slot and the last tributary port of an OTU2.
+const LAST_DIGIT: u8 = b'0' + OTU2_SLOTS as u8;
+
 /// The command whose form these words are. None where they are no command.
 pub fn command_of(words: &[String]) -> Option<Command>
     ensures form { IfSome result (IsForm (texts words.now)) }
@@ -144,7 +147,7 @@ fn one_digit(text: &[u8]) -> Option<u8>
     ensures none { IfNone result ((n : ℕ) → text.now ≡ digit n → 1 ≤ n → n ≤ OTU2_SLOTS → ⊥) }
 {
     match text {
-        [digit @ b'1'..=b'8'] => Some(*digit - b'0'),
+        [digit @ b'1'..=LAST_DIGIT] => Some(*digit - b'0'),
         _ => None,
     }
 }
