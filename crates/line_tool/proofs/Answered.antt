@@ -17,9 +17,9 @@ use Rattle.line_tool.specs.Answers.{LineAnswers, PullRan, SlotRan}
 use Rattle.otn_ports.specs.PortViews.{SinkLater, sink_view, source_view}
 use Rattle.line_tool.specs.Device.{Device, OnlyLine, Stays, device, line_zero}
 use Rattle.line_tool.specs.Ends.{ReportAfter, line_status}
-use Rattle.line_tool.specs.PlanCheck.{CheckRun, CountsBy}
+use Rattle.line_tool.specs.PlanCheck.{CheckRun}
 use Rattle.line_tool.specs.PullRuns.{PullRun}
-use Rattle.line_tool.specs.Runs.{IsRefusal}
+use Rattle.line_tool.specs.Runs.{CountsBy, IsRefusal}
 use Rattle.line_tool.specs.SlotRuns.{SlotRun}
 use Rattle.line_tool.specs.declared.ended.Ended.{Ended}
 use Rattle.line_tool.specs.declared.ended.Ended.TheVariants.{Done, Unfinished, ReportFault, Cut}

@@ -11,12 +11,12 @@ use Rattle.device_model.specs.Report.{Numbers, report_text}
 use Rattle.device_model.specs.declared.outcome.Outcome.{Outcome}
 use Rattle.device_model.specs.declared.outcome.Outcome.TheVariants as outcome
 use Rattle.node_core.specs.RunLeft.{Takings, RunLeft}
-use Rattle.line_tool.specs.PlanCheck.{CountsBy, WasRead}
+use Rattle.line_tool.specs.PlanReading.{WasRead}
 use Rattle.line_tool.specs.Device.{Device, Stays}
 use Rattle.line_tool.specs.PlanReading.{PlanReading}
 use Rattle.line_tool.specs.PlanRuns.{PlanCarried, run_status}
 use Rattle.line_tool.specs.RunAnswers.{PlanRan, RunAnswers, TextRan, outcome_status, pieces_in_all}
-use Rattle.line_tool.specs.Runs.{IsRefusal, Reports}
+use Rattle.line_tool.specs.Runs.{CountsBy, IsRefusal, Reports}
 use Rattle.line_tool.specs.declared.plan_run.Ran.{Ran}
 use Rattle.line_tool.specs.declared.plan_run.Ran.TheVariants as ran
 use Rattle.line_tool.specs.declared.plan_text.Planned.TheVariants as planned

@@ -12,9 +12,9 @@ use Rattle.line_tool.specs.Answers.{CheckAnswers}
 use Rattle.otn_ports.specs.PortViews.{SourceView, SinkView, SinkLater}
 use Rattle.line_tool.specs.Device.{Device}
 use Rattle.line_tool.specs.Ends.{check_status}
-use Rattle.line_tool.specs.PlanCheck.{CheckRun, CheckEnds, CountsBy, IsAll, PlanTold, WasRead}
-use Rattle.line_tool.specs.PlanReading.{PlanReading}
-use Rattle.line_tool.specs.Runs.{IsRefusal, IsWell}
+use Rattle.line_tool.specs.PlanCheck.{CheckRun, CheckEnds, PlanTold}
+use Rattle.line_tool.specs.PlanReading.{IsAll, PlanReading, WasRead, most_read}
+use Rattle.line_tool.specs.Runs.{CountsBy, IsRefusal, IsWell}
 use Rattle.line_tool.specs.declared.check.Checked.{Checked}
 use Rattle.line_tool.specs.declared.check.Checked.TheVariants as checked
 use Rattle.line_tool.specs.declared.plan_text.Planned.TheVariants as planned
@@ -29,7 +29,7 @@ too_long text long =
     rw no_room refl
 
 -- the answer to all that came is that to the whole text
-same_text : (text came : List ℕ) (left : Option (List ℕ)) (ended : Bool) → Some text ≡ before came left → HasEnded left ended ⊎ (length came ≡ 1048577) → plan_of_text came ≡ plan_of_text text
+same_text : (text came : List ℕ) (left : Option (List ℕ)) (ended : Bool) → Some text ≡ before came left → HasEnded left ended ⊎ (length came ≡ most_read) → plan_of_text came ≡ plan_of_text text
 same_text text came None answered e all = absurd (cc)
 same_text text came (Some rest) answered e (inl ended) =
     let whole : text ≡ came ++ rest = ap (λ t. unwrap_or t []) e in

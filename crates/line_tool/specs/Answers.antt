@@ -6,11 +6,11 @@ use Rattle.otn_ports.specs.Reads.{HasEnded}
 use Rattle.otn_ports.specs.Views.{Live, Dead}
 use Rattle.tributary_model.specs.Places.{Tributary}
 use Rattle.line_tool.specs.Device.{Device, OnlyLine, line_zero}
-use Rattle.line_tool.specs.PlanCheck.{CheckRun, CountsBy}
+use Rattle.line_tool.specs.PlanCheck.{CheckRun}
 use Rattle.line_tool.specs.PullReport.{LeavesBytes, bytes_taken, pull_report, tributary}
 use Rattle.line_tool.specs.PullRuns.{MayFollow, StoppedInTurn}
 use Rattle.line_tool.specs.RunAnswers.{RunAnswers}
-use Rattle.line_tool.specs.Runs.{Reports, HasRest, IsLineAnswer}
+use Rattle.line_tool.specs.Runs.{CountsBy, Reports, HasRest, IsLineAnswer}
 use Rattle.line_tool.specs.SlotReport.{slot_report, most_taken}
 use Rattle.line_tool.specs.SlotRuns.{StoppedInFrame}
 use Rattle.line_tool.specs.TrialAnswers.{TrialAnswers}
@@ -27,7 +27,7 @@ pub record LineAnswers (Ran : (old new : Device) → Status → Type 0) (old new
   -- failed was tried again and then went well
   pub counts : CountsBy ReportFault status old.report.faults new.report.faults
   pub memory : status ≡ Memory → new ≡ old
-  -- no other place was asked
+  -- no other place has changed
   pub alone : OnlyLine old new
   pub ran : status ≢ Memory → Ran old new status
 
@@ -46,8 +46,8 @@ pub record SlotRan (slot : ℕ) (old new : Device) (status : Status) : Type 0 wh
   -- and Unfinished where it is not, and bytes were taken behind the whole frames that are used; Done is the answer where none of
   -- Memory, ReportFault, Cut and Unfinished is
   pub unfinished : status ≢ ReportFault → (status ≡ Unfinished) ↔ (((line_zero new).state ≢ Dead) × HasRest (length taken))
-  -- all that there is was taken, but of 131,072 frames and one byte more at most; of a line that tells nothing this says nothing of
-  -- an early end
+  -- all that there is was taken, so that a line that is not dead has answered its end, or 131,072 frames and one byte more, which
+  -- are the most
   pub most : length taken ≤ most_taken
   pub all : status ≢ ReportFault → (line_zero new).state ≢ Dead → HasEnded (line_zero new).left (line_zero new).ended ⊎ (length taken ≡ most_taken)
 
@@ -56,7 +56,7 @@ pub record SlotRan (slot : ℕ) (old new : Device) (status : Status) : Type 0 wh
 -- Behind the bytes taken there may be more, `rest`: whatever they are, all this holds.
 pub record PullRan (own : Tributary) (old new : Device) (status : Status) : Type 0 where
   -- These bytes were taken of the line, and whether more may stand behind them: where it is true, what holds for every rest does
-  -- so for any bytes, else for none. Of a line that tells nothing, `over` says nothing.
+  -- so for any bytes, else for none, and a live line has answered its end then, whether or not it tells its bytes.
   pub taken : List ℕ
   pub gave : Gave (line_zero old) taken (line_zero new)
   pub more : Bool

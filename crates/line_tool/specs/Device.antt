@@ -15,6 +15,7 @@ pub record Device : Type 0 where
   pub bays : BaysView
   pub report : SinkView
 
+-- what is seen of these, by the ghosts of the plan's source, the report, and the ports of the places
 abbrev pub device : {P K I O : Type 0} → source.Ghosts P → sink.Ghosts K → source.Ghosts I → sink.Ghosts O → P → Rack I O → K → Device
 device p k i o plan bays report = record { plan = source_view p plan; bays = bays_view i o bays; report = sink_view k report }
 
@@ -27,7 +28,7 @@ pub record Stays (old new : Device) : Type 0 where
   pub plan : SourceLater old.plan new.plan
   pub report : SinkLater old.report new.report
 
--- No place but line input 0 was asked: all others are seen as they were. That one gave these bytes, or none, and dies only where its port's
+-- No place but line input 0 has changed: all others are seen as they were. That one gave these bytes, or none, and dies only where its port's
 -- count of faults rose or stands at its end.
 pub record OnlyLine (old new : Device) : Type 0 where
   pub line : (taken : List ℕ) × Gave (line_zero old) taken (line_zero new)

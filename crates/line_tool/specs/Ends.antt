@@ -28,6 +28,12 @@ check_status (Ok checked.PlanFault) = status.PlanFault
 check_status (Ok checked.ReportFault) = status.ReportFault
 check_status (Err memory) = status.Memory
 
+-- the same of `trial`
+abbrev pub trial_status : Result Written NoMemory → Status
+trial_status (Ok written.Whole) = status.Done
+trial_status (Ok written.Lost) = status.ReportFault
+trial_status (Err memory) = status.Memory
+
 -- a report's count of faults: it rose or stands at its end where a write failed, and else it is as it was
 abbrev pub FaultsBy : Option Ended → (old new : SinkView) → Type 0
 FaultsBy (Some ReportFault) old new = HasFailed old.faults new.faults

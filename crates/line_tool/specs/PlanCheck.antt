@@ -1,13 +1,14 @@
 -- What `check` reads, and what it answers.
-use Rattle.std.specs.Prelude.{◌≡◌, ◌≢◌, ◌<◌, ◌≤◌, ◌⊎◌, ℕ, List, [], ◌∷◌, ◌++◌, Option, Ok, Err, length, codes}
+use Rattle.std.specs.Prelude.{◌≡◌, ◌≤◌, ℕ, List, [], ◌∷◌, ◌++◌, Option, Ok, Err, length, codes}
 use Rattle.std.specs.Fmt.{decimal}
-use Rattle.otn_ports.specs.Bytes.{before, after, HasFailed}
-use Rattle.otn_ports.specs.Reads.{HasEnded}
+use Rattle.otn_ports.specs.Bytes.{before, after}
 use Rattle.plan_file.specs.Answer.{plan_of_text}
 use Rattle.plan_file.specs.declared.error.NoPlan.TheVariants.{Refused}
 use Rattle.plan_file.specs.declared.plan.Plan.{Plan}
 use Rattle.otn_ports.specs.PortViews.{SourceView, SinkView, SourceLater, SinkLater}
 use Rattle.line_tool.specs.Gains.{GainsPart}
+use Rattle.line_tool.specs.PlanReading.{WasRead, most_read}
+use Rattle.line_tool.specs.Runs.{CountsBy}
 use Rattle.line_tool.specs.declared.status.Status.{Status}
 use Rattle.line_tool.specs.declared.status.Status.TheVariants as status
 
@@ -31,27 +32,12 @@ CheckEnds status.Memory text old new = new ≡ old
 CheckEnds status.PlanFault text old new = new ≡ old
 CheckEnds other text old new = ⊥
 
--- all of a source came, or 1,048,577 bytes: one more than the longest plan has
-abbrev pub IsAll : List ℕ → SourceView → Type 0
-IsAll text source = HasEnded source.left source.ended ⊎ (length text ≡ 1048577)
-
--- what was read before an answer: all; a part of what would be all, where a read failed; all or nothing, where there was no memory
-abbrev pub WasRead : Status → List ℕ → SourceView → Type 0
-WasRead status.PlanFault text source = length text < 1048577
-WasRead status.Memory text source = (text ≡ []) ⊎ IsAll text source
-WasRead other text source = IsAll text source
-
--- a port's count of faults rose or stands at its end where this is the answer, and else it is as it was
-pub record CountsBy (failure answer : Status) (old new : ℕ) : Type 0 where
-  pub fault : answer ≡ failure → HasFailed old new
-  pub calm : answer ≢ failure → new ≡ old
-
 -- `check` from a plan's source and a report as they were to how they are
 pub record CheckRun (plan_old plan_new : SourceView) (old new : SinkView) (answer : Status) : Type 0 where
   -- this text was read, of a byte more than the longest plan has at most
   pub text : List ℕ
   pub read : plan_old.left ≡ before text plan_new.left
-  pub most : length text ≤ 1048577
+  pub most : length text ≤ most_read
   pub all : WasRead answer text plan_new
   -- and answered for
   pub ends : CheckEnds answer text old.got new.got

@@ -1,15 +1,31 @@
 -- What reading a plan's source comes to.
-use Rattle.std.specs.Prelude.{◌≡◌, ◌≤◌, ℕ, List, None, Result, Ok, Err, length}
+use Rattle.std.specs.Prelude.{◌≡◌, ◌<◌, ◌≤◌, ◌⊎◌, ◌+◌, ℕ, List, [], None, Result, Ok, Err, length}
+use Rattle.otn_base.specs.declared.limits.TheConstants.{MOST_PLAN_BYTES}
 use Rattle.otn_base.specs.declared.memory.Memory.{Memory as NoMemory}
 use Rattle.otn_ports.specs.Bytes.{before}
 use Rattle.otn_ports.specs.PortViews.{SourceView, SourceLater}
+use Rattle.otn_ports.specs.Reads.{HasEnded}
 use Rattle.plan_file.specs.Answer.{fault_in, plan_of_text}
 use Rattle.plan_file.specs.declared.error.NoPlan.TheVariants.{Refused}
-use Rattle.line_tool.specs.PlanCheck.{CountsBy, WasRead}
+use Rattle.line_tool.specs.Runs.{CountsBy}
 use Rattle.line_tool.specs.declared.plan_text.Planned.{Planned}
 use Rattle.line_tool.specs.declared.plan_text.Planned.TheVariants as planned
 use Rattle.line_tool.specs.declared.status.Status.{Status}
 use Rattle.line_tool.specs.declared.status.Status.TheVariants as status
+
+-- the most bytes that are read of a plan's source: one more than the longest plan has
+abbrev pub most_read : ℕ
+most_read = MOST_PLAN_BYTES + 1
+
+-- all of a source came, so that it has answered its end, or the most bytes that are read
+abbrev pub IsAll : List ℕ → SourceView → Type 0
+IsAll text source = HasEnded source.left source.ended ⊎ (length text ≡ most_read)
+
+-- what was read before an answer: all; a part of what would be all, where a read failed; all or nothing, where there was no memory
+abbrev pub WasRead : Status → List ℕ → SourceView → Type 0
+WasRead status.PlanFault text source = length text < most_read
+WasRead status.Memory text source = (text ≡ []) ⊎ IsAll text source
+WasRead other text source = IsAll text source
 
 -- what a command answers that only reads the plan
 abbrev pub reading_status : Result Planned NoMemory → Status
@@ -29,7 +45,7 @@ SaysOf (Err memory) text = Unit {0}
 pub record PlanReading (result : Result Planned NoMemory) (old new : SourceView) : Type 0 where
   pub text : List ℕ
   pub read : old.left ≡ before text new.left
-  pub most : length text ≤ 1048577
+  pub most : length text ≤ most_read
   pub all : WasRead (reading_status result) text new
   pub says : SaysOf result text
   pub later : SourceLater old new

@@ -8,9 +8,8 @@ use Rattle.plan_file.specs.declared.plan.Plan.{Plan}
 use Rattle.device_model.specs.Report.{Numbers, report_text}
 use Rattle.device_model.specs.declared.outcome.Outcome.{Outcome}
 use Rattle.node_core.specs.RunLeft.{Takings, RunLeft}
-use Rattle.line_tool.specs.PlanCheck.{CountsBy}
 use Rattle.line_tool.specs.RunAnswers.{outcome_status, pieces_in_all}
-use Rattle.line_tool.specs.Runs.{Reports}
+use Rattle.line_tool.specs.Runs.{CountsBy, Reports}
 use Rattle.line_tool.specs.declared.plan_run.Ran.{Ran}
 use Rattle.line_tool.specs.declared.plan_run.Ran.TheVariants as ran
 use Rattle.line_tool.specs.declared.status.Status.{Status}
@@ -25,10 +24,10 @@ run_status (Ok ran.ReportFault) = status.ReportFault
 run_status (Err memory) = status.Memory
 
 -- how a plan that was carried ended: by its outcome, or where a write of its report failed
-abbrev pub EndsBy : Outcome → Ran → Type 0
-EndsBy outcome (ran.Carried told) = told ≡ outcome
-EndsBy outcome ran.ReportFault = Unit {0}
-EndsBy outcome other = ⊥
+abbrev pub AnswersOutcome : Outcome → Ran → Type 0
+AnswersOutcome outcome (ran.Carried told) = told ≡ outcome
+AnswersOutcome outcome ran.ReportFault = Unit {0}
+AnswersOutcome outcome other = ⊥
 
 -- A plan was carried, from its places, the report and how often the chooser had been asked to how they are.
 pub record PlanCarried (plan : Plan) (first last : BaysView) (old new : SinkView) (asked asked_now : ℕ) (answer : Ran) : Type 0 where
@@ -38,5 +37,5 @@ pub record PlanCarried (plan : Plan) (first last : BaysView) (old new : SinkView
   pub wrote : Reports (run_status (Ok answer)) old.got new.got (report_text plan numbers last)
   pub later : SinkLater old new
   pub counts : CountsBy status.ReportFault (run_status (Ok answer)) old.faults new.faults
-  pub ends : EndsBy numbers.outcome answer
+  pub ends : AnswersOutcome numbers.outcome answer
   pub asked_each : asked_now ≡ raised asked (pieces_in_all plan)

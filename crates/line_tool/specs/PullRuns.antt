@@ -43,8 +43,8 @@ pub record StoppedInTurn (own : Tributary) (given : List ℕ) (count t : ℕ) (o
   pub last : count ≡ bytes_wanted given (t + 1)
   pub gained : GainsPart (after old (emitted_until own given t)) new (emitted_at own given t)
 
--- A command from the line and the report as they were to how they are. Where no more bytes may follow, a live line that tells
--- its bytes has ended.
+-- A command from the line and the report as they were to how they are. Where no more bytes may follow, a live line has answered
+-- its end.
 pub record PullRun (own : Tributary) (first now : InView) (old new : Option (List ℕ)) (ended : Ended) : Type 0 where
   pub taken : List ℕ
   pub gave : Gave first taken now

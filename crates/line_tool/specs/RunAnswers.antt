@@ -11,8 +11,8 @@ use Rattle.device_model.specs.declared.outcome.Outcome.{Outcome}
 use Rattle.device_model.specs.declared.outcome.Outcome.TheVariants as outcome
 use Rattle.node_core.specs.RunLeft.{Takings, RunLeft}
 use Rattle.line_tool.specs.Device.{Device}
-use Rattle.line_tool.specs.PlanCheck.{CountsBy, WasRead}
-use Rattle.line_tool.specs.Runs.{IsRefusal, Reports}
+use Rattle.line_tool.specs.PlanReading.{WasRead, most_read}
+use Rattle.line_tool.specs.Runs.{CountsBy, IsRefusal, Reports}
 use Rattle.line_tool.specs.declared.status.Status.{Status}
 use Rattle.line_tool.specs.declared.status.Status.TheVariants as status
 
@@ -52,7 +52,7 @@ pub record RunAnswers (old new : Device) (asked asked_now : ℕ) (reply : Status
   -- this text was read of the plan, of a byte more than the longest plan has at most
   pub text : List ℕ
   pub read : old.plan.left ≡ before text new.plan.left
-  pub most : length text ≤ 1048577
+  pub most : length text ≤ most_read
   pub all : WasRead reply text new.plan
   -- and answered for
   pub ran : TextRan reply text old new asked asked_now

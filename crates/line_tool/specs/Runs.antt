@@ -1,5 +1,5 @@
--- How a command answers, by what its line gave.
-use Rattle.std.specs.Prelude.{◌≡◌, ◌<◌, ◌*◌, ℕ, List, Option}
+-- Words that the records of all commands share: what a report gained, which answers a line has and which refuse, and faults.
+use Rattle.std.specs.Prelude.{◌≡◌, ◌≢◌, ◌<◌, ◌*◌, ℕ, List, Option}
 use Rattle.otn_base.specs.declared.limits.TheConstants.{LINE_FRAME_BYTES}
 use Rattle.otn_ports.specs.Bytes.{after, HasFailed}
 use Rattle.line_tool.specs.SlotReport.{whole_frames_used}
@@ -23,7 +23,7 @@ IsLineAnswer Words = ⊥
 IsLineAnswer PlanFault = ⊥
 IsLineAnswer (Plan error place) = ⊥
 
--- an answer that comes before anything was done
+-- an answer after which all places and the report are as they were
 abbrev pub IsRefusal : Status → Type 0
 IsRefusal Words = Unit {0}
 IsRefusal PlanFault = Unit {0}
@@ -41,3 +41,8 @@ HasRest bytes = whole_frames_used bytes * LINE_FRAME_BYTES < bytes
 -- a count of faults did not rise, and does not stand at its end
 abbrev pub IsWell : (old new : ℕ) → Type 0
 IsWell old new = HasFailed old new → ⊥
+
+-- a port's count of faults rose or stands at its end where this is the answer, and else it is as it was
+pub record CountsBy (failure answer : Status) (old new : ℕ) : Type 0 where
+  pub fault : answer ≡ failure → HasFailed old new
+  pub calm : answer ≢ failure → new ≡ old

@@ -47,6 +47,7 @@ StepEnds (Some Unfinished) slot taken first now old new =
     (0 < length taken) × (length taken < LINE_FRAME_BYTES) × (now.state ≡ first.state) × HasEnded now.left now.ended × (new ≡ old)
 StepEnds (Some Cut) slot taken first now old new = (length taken < LINE_FRAME_BYTES) × (now.state ≡ Dead) × (new ≡ old)
 
+-- a step: a frame was asked for, and where it came whole its slot's bytes were written
 pub record SlotStep (slot : ℕ) (first now : InView) (old new : Option (List ℕ)) (answer : Option Ended) : Type 0 where
   pub taken : List ℕ
   pub gave : Gave first taken now

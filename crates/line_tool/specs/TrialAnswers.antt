@@ -20,6 +20,7 @@ trial_pieces = 4 * run_pieces
 -- before; the report of these files and packets was written, whole, or a part of it from the front where a write failed; and the chooser was
 -- asked once for each piece.
 pub record TrialRan (number : ℕ) (answer : Written) (old new : SinkView) (asked asked_now : ℕ) : Type 0 where
+  -- what the inputs of each run were, and the frames of the line file that it made
   pub inputs : (run : ℕ) → Inputs
   pub frames : (run : ℕ) → List (List ℕ)
   pub runs : AreTrialRuns (packets_of_trial number) inputs frames

@@ -2,8 +2,8 @@
 ghost use Rattle.std.specs.Prelude.{◌≡◌, IfOk, string_bytes};
 ghost use Rattle.otn_ports.specs.PortViews.{source_view, sink_view, SinkLater};
 ghost use Rattle.line_tool.specs.Ends.{check_status};
-ghost use Rattle.line_tool.specs.PlanCheck.{CheckRun, CountsBy, PlanTold, plan_text};
-ghost use Rattle.line_tool.specs.Runs.{IsRefusal};
+ghost use Rattle.line_tool.specs.PlanCheck.{CheckRun, PlanTold, plan_text};
+ghost use Rattle.line_tool.specs.Runs.{CountsBy, IsRefusal};
 
 use crate::Status;
 use crate::plan_text::{Planned, read_plan};

@@ -1,7 +1,7 @@
 // The plan of a command, read of its source.
 ghost use Rattle.std.specs.Prelude.{◌≡◌, IfOk, vec_len};
 ghost use Rattle.otn_ports.specs.PortViews.{source_view};
-ghost use Rattle.line_tool.specs.PlanReading.{PlanReading};
+ghost use Rattle.line_tool.specs.PlanReading.{PlanReading, most_read};
 
 use otn_base::Memory;
 use otn_base::limits::MOST_PLAN_BYTES;
@@ -38,7 +38,7 @@ pub(crate) fn read_plan<P: Source>(alloc: Global, plan: &mut P) -> Result<Planne
 
 // Takes room for the longest plan and one byte more.
 fn plan_buffer(alloc: Global) -> Result<Vec<u8>, AllocError>
-    ensures { IfOk result (λ buffer. vec_len buffer ≡ 1048577) }
+    ensures { IfOk result (λ buffer. vec_len buffer ≡ most_read) }
 {
     vec![in alloc; 0; MOST_PLAN_BYTES + 1]
 }

@@ -11,7 +11,7 @@ use crate::ended::status_of;
 use crate::plan_run::{run_plan, status_of_run};
 use crate::pull::write_pull;
 use crate::slot::write_slot;
-use crate::trial::run_trial;
+use crate::trial::{run_trial, status_of_trial};
 use crate::words::command_of;
 use crate::{Command, Status};
 use otn_ports::{Chooser, Rack, Sink, Source};
@@ -34,9 +34,9 @@ use std::alloc::Global;
 /// check of each line file and what came back. It asks no place.
 ///
 /// `Answers` says, of each command, what it took, what it wrote and why it ended, of all that it was
-/// handed: `device` before and after. What follows from it for the bytes that the line gave, and for
-/// ports that do not fail, is said by the laws beside this call: `slot_of_given`, `pull_of_given`,
-/// `check_of_text`, `without_faults`.
+/// handed: `device` before and after. What follows from it is said by the laws beside this call: of what ports gave that
+/// tell it (`slot_of_given`, `pull_of_given`, `check_of_text`, `run_of_text`), of ports that do not fail (`without_faults`),
+/// and of a connection, whatever the others do (`headline`).
 pub fn run<P: Source, K: Sink, C: Chooser, I: Source, O: Sink>(
     alloc: Global,
     words: &[String],
@@ -45,7 +45,7 @@ pub fn run<P: Source, K: Sink, C: Chooser, I: Source, O: Sink>(
     chooser: &mut C,
     report: &mut K,
 ) -> Status
-    // The words say the command: Words is the answer exactly where they are the form of none, and then nothing was asked.
+    // The words say the command: Words is the answer exactly where they are the form of none, and then all is as it was.
     ensures words { (result ≡ Status.Words) ↔ IsNoForm (texts words.now) }
     ensures form { result ≢ Status.Words → (command : Command) × IsForm (texts words.now) command }
     ensures idle { result ≡ Status.Words → (plan.new ≡ plan.old) × (bays.new ≡ bays.old) × (report.new ≡ report.old) × (chooser.new ≡ chooser.old) }
@@ -55,7 +55,7 @@ pub fn run<P: Source, K: Sink, C: Chooser, I: Source, O: Sink>(
         → Answers command (device P.Source K.Sink I.Source O.Sink plan.old bays.old report.old)
         (device P.Source K.Sink I.Source O.Sink plan.new bays.new report.new) (C.asked chooser.old) (C.asked chooser.new) result }
 
-    // Before anything was done: after Words, PlanFault, Plan and Memory all places and the report are as they were.
+    // After Words, PlanFault, Plan and Memory all places and the report are as they were. The plan may have been read by then.
     ensures refused { IsRefusal result → (bays.new ≡ bays.old) × (report.new ≡ report.old) }
 
     // What stays.
@@ -78,7 +78,7 @@ pub fn run<P: Source, K: Sink, C: Chooser, I: Source, O: Sink>(
         Some(Command::RunOrdered(_number)) => {
             status_of_run(run_plan(alloc, plan, bays, chooser, report))
         }
-        Some(Command::Trial(seed)) => run_trial(alloc, seed, chooser, report),
+        Some(Command::Trial(seed)) => status_of_trial(run_trial(alloc, seed, chooser, report)),
         None => Status::Words,
     }
 }

@@ -2,7 +2,9 @@
 ghost use Rattle.std.specs.Prelude.{◌≡◌, IfErr, IfOk, string_bytes};
 ghost use Rattle.otn_ports.specs.PortViews.{sink_view};
 ghost use Rattle.otn_ports.specs.Racks.{bays_view};
-ghost use Rattle.line_tool.specs.TrialAnswers.{TrialAnswers, TrialRan};
+ghost use Rattle.line_tool.specs.Ends.{trial_status};
+ghost use Rattle.line_tool.specs.TrialAnswers.{TrialRan};
+ghost use Rattle.line_tool.specs.TrialPlans.{trial_clients};
 ghost use Rattle.line_tool.specs.TrialRuns.{ClientsTold};
 
 mod carried;
@@ -19,32 +21,24 @@ use lines::{line_of_check, line_of_client};
 use otn_base::Memory;
 use otn_ports::{Chooser, MemSink, MemSource, Sink, Source, Written, write_whole};
 use places::{Memories, text_of};
+use plans::CLIENTS;
 use std::alloc::Global;
 
-// Clients of the trial.
-const CLIENTS: u8 = 8;
-
-/// Does the trial of a number. After `Memory` the report is as it was; the chooser may have been asked by then.
-pub(crate) fn run_trial<C: Chooser, K: Sink>(
-    alloc: Global,
-    number: u64,
-    chooser: &mut C,
-    report: &mut K,
-) -> Status
-    ensures answers { TrialAnswers number (sink_view K.Sink report.old) (sink_view K.Sink report.new) (C.asked chooser.old) (C.asked chooser.new) result }
-    ensures refused { result ≡ Status.Memory → report.new ≡ report.old }
+/// The answer of the top call to a `trial` whose report was written so, or for which there was no memory.
+pub(crate) fn status_of_trial(answer: Result<Written, Memory>) -> Status
+    ensures { result ≡ trial_status answer }
 {
-    match write_trial(alloc, number, chooser, report) {
+    match answer {
         Ok(Written::Whole) => Status::Done,
         Ok(Written::Lost) => Status::ReportFault,
         Err(Memory) => Status::Memory,
     }
 }
 
-// Draws packets for eight clients by the number, carries them through four nodes in a row over ports in memory, in an order that the chooser
-// says, and writes the checks of the three line files and what came back. A place of the trial that died had no room: the answer is `Memory`
-// then, as it is for want of memory.
-fn write_trial<C: Chooser, K: Sink>(
+/// Draws packets for eight clients by the number, carries them through four nodes in a row over ports in memory, in an order that the chooser
+/// says, and writes the checks of the three line files and what came back. A place of the trial that died had no room: the answer is `Memory`
+/// then, as it is for want of memory. After `Memory` the report is as it was; the chooser may have been asked by then.
+pub(crate) fn run_trial<C: Chooser, K: Sink>(
     alloc: Global,
     number: u64,
     chooser: &mut C,
@@ -66,7 +60,7 @@ fn write_trial<C: Chooser, K: Sink>(
 
 // The lines of the clients, by the texts that they got.
 fn lines_of_clients(alloc: Global, bays: &Memories) -> Result<String, Memory>
-    ensures { IfOk result (λ lines. ClientsTold 8 (bays_view ⟦<MemSource as Source>⟧ ⟦<MemSink as Sink>⟧ bays.now) (string_bytes lines)) }
+    ensures { IfOk result (λ lines. ClientsTold trial_clients (bays_view ⟦<MemSource as Source>⟧ ⟦<MemSink as Sink>⟧ bays.now) (string_bytes lines)) }
 {
     let mut lines = String::new(alloc);
     for c in 0..CLIENTS {

@@ -28,6 +28,9 @@ pub enum Command {
 /// The most digits of a number among the words.
 const NUMBER_DIGITS: usize = 20;
 
+/// The digit of the last slot and the last tributary port of an OTU2.
+const LAST_DIGIT: u8 = b'0' + OTU2_SLOTS as u8;
+
 /// The command whose form these words are. None where they are no command.
 pub fn command_of(words: &[String]) -> Option<Command>
     ensures form { IfSome result (IsForm (texts words.now)) }
@@ -101,7 +104,7 @@ fn trial_command(number: &str) -> Option<Command>
     ensures form { IfSome result (IsForm (codes "trial" ∷ number.now ∷ [])) }
     ensures no_form { IfNone result (IsNoForm (codes "trial" ∷ number.now ∷ [])) }
 {
-    Some(Command::Trial(order_number(number)?))
+    Some(Command::Trial(number_of_digits(number)?))
 }
 
 // The command `pull` with these words after it.
@@ -119,13 +122,13 @@ fn run_command(option: &str, number: &str) -> Option<Command>
     ensures no_form { IfNone result (IsNoForm (codes "run" ∷ option.now ∷ number.now ∷ [])) }
 {
     match option {
-        "--order" => Some(Command::RunOrdered(order_number(number)?)),
+        "--order" => Some(Command::RunOrdered(number_of_digits(number)?)),
         _ => None,
     }
 }
 
-// The number that these digits write: 1 to 20 of them, with no sign, and a value of 64 bits.
-fn order_number(text: &str) -> Option<u64>
+// The number that these digits write, of `run --order` and of `trial`: 1 to 20 of them, with no sign, and a value of 64 bits.
+fn number_of_digits(text: &str) -> Option<u64>
     ensures number { IfSome result (IsNumberText text.now) }
     ensures none { IfNone result ((number : ℕ) → IsNumberText text.now number → ⊥) }
 {
@@ -144,7 +147,7 @@ fn one_digit(text: &[u8]) -> Option<u8>
     ensures none { IfNone result ((n : ℕ) → text.now ≡ digit n → 1 ≤ n → n ≤ OTU2_SLOTS → ⊥) }
 {
     match text {
-        [digit @ b'1'..=b'8'] => Some(*digit - b'0'),
+        [digit @ b'1'..=LAST_DIGIT] => Some(*digit - b'0'),
         _ => None,
     }
 }

@@ -1,6 +1,6 @@
 // The command `trial`.
 use crate::Status;
-use crate::trial::run_trial;
+use crate::trial::{run_trial, status_of_trial};
 use otn_base::Memory;
 use otn_ports::{Chooser, MemSink};
 use std::alloc::Global;
@@ -25,7 +25,7 @@ impl Chooser for LastReady {
 fn tried(alloc: Global, room: usize) -> Result<(Status, Vec<u8>, u64), Memory> {
     let mut report = MemSink::with_room(alloc, room)?;
     let mut chooser = LastReady { asked: 0 };
-    let status = run_trial(alloc, 7, &mut chooser, &mut report);
+    let status = status_of_trial(run_trial(alloc, 7, &mut chooser, &mut report));
     Ok((status, report.into_bytes(), chooser.asked))
 }
 

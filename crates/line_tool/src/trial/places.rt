@@ -7,6 +7,7 @@ ghost use Rattle.otn_ports.specs.Views.{Live, line_out_at};
 ghost use Rattle.line_tool.specs.TrialRuns.{FirstPlaces, MiddlePlaces, LastPlaces, holding, waiting};
 
 use crate::trial::draw::{draw_text, generator_of};
+use crate::trial::plans::CLIENTS;
 use otn_base::Memory;
 use otn_ports::{InPlaceOf, MemSink, MemSource, OutPlaceOf, Rack, Sink, Source};
 use std::alloc::Global;
@@ -19,9 +20,6 @@ pub(crate) type Memories = Rack<MemSource, MemSink>;
 const FILE_BYTES: usize = 2_088_960;
 
 const TEXT_BYTES: usize = 48_016;
-
-// Clients of the trial.
-const CLIENTS: u8 = 8;
 
 /// The places of the first run: the clients' texts, drawn by the number, and room for the file of line 0.
 pub(crate) fn first_places(alloc: Global, number: u64) -> Result<Memories, Memory>

@@ -1,16 +1,18 @@
 // The plans of the trial, as values.
 ghost use Rattle.std.specs.Prelude.{◌≡◌, ◌≤◌, ◌<◌, ◌+◌, [], ◌∷◌, None, IfOk, string_bytes};
 ghost use Rattle.plan_file.specs.Answer.{fault_in};
-ghost use Rattle.line_tool.specs.TrialPlans.{comes_from, goes_to, one_slot, trial_connection, trial_plan};
+ghost use Rattle.otn_base.specs.declared.limits.TheConstants.{OTU2_SLOTS};
+ghost use Rattle.line_tool.specs.TrialPlans.{comes_from, goes_to, one_slot, trial_clients, trial_connection, trial_plan};
 
-use otn_base::limits::NOMINAL;
+use otn_base::limits::{NOMINAL, OTU2_SLOTS};
 use otn_base::{Kind, LineKind, Memory, Slots, Trace};
 use plan_file::{Connection, Connections, FromEnd, LineList, Name, Pace, Plan, ToEnd};
 use std::alloc::Global;
 
-// Clients of the trial, and turns of each run.
-const CLIENTS: u8 = 8;
+/// Clients of the trial: one for each slot of an OTU2.
+pub(crate) const CLIENTS: u8 = OTU2_SLOTS as u8;
 
+// Turns of each run.
 const TURNS: u32 = 16;
 
 /// The plan of a run, from 0. It breaks no rule.
@@ -43,7 +45,7 @@ fn no_lines(alloc: Global) -> LineList
 // The connection of a client, from 0, in a run.
 fn connection(alloc: Global, run: u8, c: u8) -> Result<Connection, Memory>
     requires run { run < 4 }
-    requires client { c < 8 }
+    requires client { c < trial_clients }
     ensures { IfOk result (λ x. x ≡ trial_connection run c) }
 {
     let name = name_of(alloc, c)?;
@@ -64,7 +66,7 @@ fn connection(alloc: Global, run: u8, c: u8) -> Result<Connection, Memory>
 
 // A letter, a to h.
 fn name_of(alloc: Global, c: u8) -> Result<String, Memory>
-    requires { c < 8 }
+    requires { c < trial_clients }
     ensures { IfOk result (λ name. string_bytes name ≡ (97 + c) ∷ []) }
 {
     let mut name = String::new(alloc);
@@ -83,25 +85,25 @@ fn no_trace() -> Trace
 
 fn from_end(run: u8, c: u8) -> FromEnd
     requires run { run < 4 }
-    requires client { c < 8 }
+    requires client { c < trial_clients }
     ensures { result ≡ comes_from run c }
 {
     match run {
         0 => FromEnd::Client(c),
         1 => FromEnd::Line(0, c + 1, slot(c + 1)),
-        2 => FromEnd::Line(0, c + 1, slot(8 - c)),
+        2 => FromEnd::Line(0, c + 1, slot(CLIENTS - c)),
         _ => FromEnd::Line(0, c + 1, slot(c + 1)),
     }
 }
 
 fn to_end(run: u8, c: u8) -> ToEnd
     requires run { run < 4 }
-    requires client { c < 8 }
+    requires client { c < trial_clients }
     ensures { result ≡ goes_to run c }
 {
     match run {
         0 => ToEnd::Line(0, c + 1, slot(c + 1)),
-        1 => ToEnd::Line(1, c + 1, slot(8 - c)),
+        1 => ToEnd::Line(1, c + 1, slot(CLIENTS - c)),
         2 => ToEnd::Line(2, c + 1, slot(c + 1)),
         _ => ToEnd::Client(c),
     }
@@ -110,7 +112,7 @@ fn to_end(run: u8, c: u8) -> ToEnd
 // One slot of an OTU2.
 fn slot(slot: u8) -> Slots
     requires low { 1 ≤ slot }
-    requires high { slot ≤ 8 }
+    requires high { slot ≤ OTU2_SLOTS }
     ensures { result ≡ one_slot slot }
 {
     match Slots::new(&[slot], LineKind::Otu2) {

@@ -1,10 +1,10 @@
-use Rattle.std.proofs.Common.{refl, sym, subst}
+use Rattle.std.proofs.Common.{refl, sym, subst, ◌∙◌}
 use Rattle.otn_ports.proofs.PortLaws.{source_later_none}
 use Rattle.otn_ports.specs.PortViews.{sink_view, source_view}
 use Rattle.otn_ports.specs.Racks.{with_line_in}
 use Rattle.line_tool.specs.Answers.{Answers}
 use Rattle.line_tool.specs.Device.{device}
-use Rattle.line_tool.specs.Ends.{check_status}
+use Rattle.line_tool.specs.Ends.{check_status, trial_status}
 use Rattle.line_tool.specs.PullReport.{tributary}
 use Rattle.line_tool.specs.RunAnswers.{RunAnswers}
 use Rattle.line_tool.specs.Runs.{IsRefusal}
@@ -12,7 +12,7 @@ use Rattle.line_tool.specs.Words.{texts}
 use Rattle.line_tool.specs.declared.words.Command.TheVariants.{Slot, Pull, Run, RunOrdered, Trial}
 use Rattle.line_tool.proofs.Answered.{check_stays, line_stays, nothing_stays, pull_answered, refused_line, slot_answered}
 use Rattle.line_tool.proofs.Forms.{one_form}
-use Rattle.line_tool.proofs.TrialTold.{trial_answered, trial_later, trial_refused}
+use Rattle.line_tool.proofs.TrialTold.{trial_answered, trial_later, trial_refused, trial_told}
 use Rattle.line_tool.proofs.top.run.Goals as goal
 
 -- ---- `slot`
@@ -110,20 +110,26 @@ returns-in-Some-Trial-clause-answers g c = λ command form.
     let mine = rw c.in-Some-Trial.field-0-is at c.in-Some-Trial.ensures.form in
     let old = device g.P.Source g.K.Sink g.I.Source g.O.Sink c.args.plan.now c.args.bays.now c.args.report.now in
     let new = device g.P.Source g.K.Sink g.I.Source g.O.Sink c.args.plan.now c.args.bays.now c.run_trial.new.report in
-    subst (λ k. Answers k old new (g.C.Chooser.asked c.args.chooser.now) (g.C.Chooser.asked c.run_trial.new.chooser) c.run_trial.result) (one_form (texts c.args.words.now) (Trial c.in-Some-Trial.seed) command mine form)
-    c.run_trial.ensures.answers
+    let told = trial_told (sink_view g.K.Sink) c.run_trial.result c.in-Some-Trial.seed c.args.report.now c.run_trial.new.report (g.C.Chooser.asked c.args.chooser.now) (g.C.Chooser.asked c.run_trial.new.chooser)
+    c.run_trial.ensures.memory c.run_trial.ensures.ran in
+    subst (λ k. Answers k old new (g.C.Chooser.asked c.args.chooser.now) (g.C.Chooser.asked c.run_trial.new.chooser) c.status_of_trial.result) (one_form (texts c.args.words.now) (Trial c.in-Some-Trial.seed) command mine form)
+    (subst (λ answer. Answers (Trial c.in-Some-Trial.seed) old new (g.C.Chooser.asked c.args.chooser.now) (g.C.Chooser.asked c.run_trial.new.chooser) answer) (sym c.status_of_trial.ensures) told)
 
 pub returns-in-Some-Trial-clause-words : goal.returns-in-Some-Trial-clause-words
 returns-in-Some-Trial-clause-words g c = (
-  λ e. absurd (trial_answered c.run_trial.result c.in-Some-Trial.seed _ _ _ _ c.run_trial.ensures.answers e),
+  λ e. absurd (trial_answered c.run_trial.result (sym c.status_of_trial.ensures ∙ e)),
   λ none. absurd (none (Trial c.in-Some-Trial.seed) (rw c.in-Some-Trial.field-0-is at c.in-Some-Trial.ensures.form)),
 )
 
 pub returns-in-Some-Trial-clause-refused : goal.returns-in-Some-Trial-clause-refused
-returns-in-Some-Trial-clause-refused g c = λ refusal. (refl, c.run_trial.ensures.refused (trial_refused c.run_trial.result c.in-Some-Trial.seed _ _ _ _ c.run_trial.ensures.answers refusal))
+returns-in-Some-Trial-clause-refused g c = λ refusal.
+    (refl, trial_refused c.run_trial.result c.args.report.now c.run_trial.new.report c.run_trial.ensures.memory (subst IsRefusal c.status_of_trial.ensures refusal))
 
 pub returns-in-Some-Trial-clause-stays : goal.returns-in-Some-Trial-clause-stays
 returns-in-Some-Trial-clause-stays g c = record {
   plan = source_later_none (source_view g.P.Source c.args.plan.now);
-  report = trial_later c.run_trial.result c.in-Some-Trial.seed (sink_view g.K.Sink c.args.report.now) (sink_view g.K.Sink c.run_trial.new.report) _ _ c.run_trial.ensures.answers;
+  report =
+      trial_later (trial_status c.run_trial.result) c.in-Some-Trial.seed (sink_view g.K.Sink c.args.report.now) (sink_view g.K.Sink c.run_trial.new.report) _ _
+      (trial_told (sink_view g.K.Sink) c.run_trial.result c.in-Some-Trial.seed c.args.report.now c.run_trial.new.report (g.C.Chooser.asked c.args.chooser.now) (g.C.Chooser.asked c.run_trial.new.chooser)
+      c.run_trial.ensures.memory c.run_trial.ensures.ran);
 }

@@ -6,7 +6,7 @@ use Rattle.otn_ports.specs.contracts.mem_sink.MemSinkSink.TheImpl as sink
 use Rattle.otn_ports.specs.contracts.mem_source.MemSourceSource.TheImpl as source
 use Rattle.line_tool.specs.TrialReport.{check_line}
 use Rattle.line_tool.proofs.TrialAnswers.{trial_ran}
-use Rattle.line_tool.proofs.trial.write_trial.Goals as goal
+use Rattle.line_tool.proofs.trial.run_trial.Goals as goal
 
 pub returns-clause-ran : goal.returns-clause-ran
 returns-clause-ran g c =
