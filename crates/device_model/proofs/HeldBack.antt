@@ -24,7 +24,11 @@ use Rattle.tributary_model.proofs.Law.{state_is}
 use Rattle.tributary_model.proofs.Ranges.{none_between, joined, front_of, back_of, from_start}
 use Rattle.tributary_model.proofs.Totals.{sent_next, sent_up, groups_next, div_up}
 use Rattle.tributary_model.proofs.Unmarked.{unmarked_first, unmarked_next}
-use Rattle.device_model.specs.HeldBack.{Comes, emitted_after, IsNearlyAll}
+use Rattle.device_model.specs.HeldBack.{Comes, IsNearlyAll}
+
+-- how many bytes are emitted after n turns
+abbrev pub front_after : (m : ℕ) → (p : List ℕ) → (n : ℕ) → ℕ
+front_after m p n = min (sent p (n - 2)) (m * (sent p (n - 1) / m))
 
 -- ---- ranges
 
@@ -254,10 +258,10 @@ joins_held own ais bytes p views s u (suc n) c h =
     ∙ from_start bytes b
 
 pub emits_a_front : (own : Tributary) (ais : ℕ → ℕ) (bytes p : List ℕ) (views : ℕ → Option View) (s u n : ℕ) → Comes own bytes p views s u → s + n ≤ u + 1
-    → joined_back (emissions own ais (past_of views s n)) ≡ take (emitted_after (length own.slots) p n) bytes
-emits_a_front own ais bytes p views s u zero c h = ap (λ k. take k bytes) (let e : 0 ≡ emitted_after (length own.slots) p 0 = omega arith in e)
+    → joined_back (emissions own ais (past_of views s n)) ≡ take (front_after (length own.slots) p n) bytes
+emits_a_front own ais bytes p views s u zero c h = ap (λ k. take k bytes) (let e : 0 ≡ front_after (length own.slots) p 0 = omega arith in e)
 emits_a_front own ais bytes p views s u (suc zero) c h =
-    ap (λ e. [] ++ e) (emits_first own ais bytes p views s u c (omega arith)) ∙ ap (λ k. take k bytes) (let e : 0 ≡ emitted_after (length own.slots) p 1 = omega arith in e)
+    ap (λ e. [] ++ e) (emits_first own ais bytes p views s u c (omega arith)) ∙ ap (λ k. take k bytes) (let e : 0 ≡ front_after (length own.slots) p 1 = omega arith in e)
 emits_a_front own ais bytes p views s u (suc (suc n)) c h =
     let m = length own.slots in
     joins_held own ais bytes p views s u n c h
@@ -287,7 +291,7 @@ holds_back_less m p n h =
     let groups : m * (sent p (n - 2) / m) ≤ m * (sent p (n - 1) / m) = grind arith in
     record { most = omega arith; least = omega arith }
 
-pub catches_up : (m : ℕ) (p : List ℕ) (n : ℕ) → 0 < m → n < length p → m ≤ get_or p n 0 → emitted_after m p (n + 2) ≡ sent p n
+pub catches_up : (m : ℕ) (p : List ℕ) (n : ℕ) → 0 < m → n < length p → m ≤ get_or p n 0 → front_after m p (n + 2) ≡ sent p n
 catches_up m p n h within many =
     let next = sent_next p n within in
     let split = div-add-mod (sent p (n + 1)) m in

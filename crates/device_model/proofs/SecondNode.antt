@@ -16,19 +16,19 @@ use Rattle.tributary_model.specs.Puts.{lengths_of}
 use Rattle.tributary_model.proofs.OnLine.{is_tributary}
 use Rattle.device_model.specs.Carried.{GoesTo, IsMadeTo}
 use Rattle.device_model.specs.Entries.{first_turn}
-use Rattle.device_model.specs.HeldBack.{Comes, emitted_after}
+use Rattle.device_model.specs.HeldBack.{Comes}
 use Rattle.device_model.specs.LineViews.{view_at}
 use Rattle.device_model.specs.Through.{Inputs, own_input, got_by, arrived_by}
 use Rattle.device_model.proofs.Delivery.{joined_turns}
 use Rattle.device_model.proofs.GotTurns.{got_of_line}
 use Rattle.device_model.proofs.Healed.{carries_what_it_gets}
-use Rattle.device_model.proofs.HeldBack.{emits_a_front}
+use Rattle.device_model.proofs.HeldBack.{front_after, emits_a_front}
 use Rattle.device_model.proofs.LineViews.{whole_at}
 
 -- what a connection gets of a line that carries bytes to it
 gets_a_front : (inputs : Inputs) (x : Connection) (a port s u n : ℕ) (slots : LineSlots) (bytes p : List ℕ) → x.from ≡ from_end.Line a port slots → first_turn x ≡ s
     → Comes (tributary_of slots port) bytes p (view_at (tributary_of slots port) (inputs.line a)) s u → s + n ≤ u + 1
-    → arrived_by x (own_input inputs x) (n + 1) ≡ take (emitted_after (length slots.list) p n) bytes
+    → arrived_by x (own_input inputs x) (n + 1) ≡ take (front_after (length slots.list) p n) bytes
 gets_a_front inputs x a port s u n slots bytes p comes first carried within =
     let own = tributary_of slots port in
     let ais = signal_byte Ais in
@@ -43,7 +43,7 @@ pub passes_a_second_node : (plan : Plan) (inputs others : Inputs) (x y : Connect
     → IsSlotList (slots_of slots.kind) slots.list → GoesTo plan x b port next → length next.list ≡ length slots.list → IsMadeTo plan inputs x b u frames → first_turn x ≤ u
     → y.from ≡ from_end.Line c port next → others.line c ≡ concat frames → first_turn y ≡ first_turn x → first_turn x + n ≤ u + 1
     → arrived_by y (own_input others y) (n + 1)
-    ≡ take (emitted_after (length next.list) (lengths_of (got_by x (own_input inputs x) (u + 1 - first_turn x))) n) (arrived_by x (own_input inputs x) (u + 1 - first_turn x))
+    ≡ take (front_after (length next.list) (lengths_of (got_by x (own_input inputs x) (u + 1 - first_turn x))) n) (arrived_by x (own_input inputs x) (u + 1 - first_turn x))
 passes_a_second_node plan inputs others x y a from b port c u n slots next frames comes list goes same made low reads file first within =
     let own = tributary_of next port in
     let s = first_turn x in
