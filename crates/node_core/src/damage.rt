@@ -1,5 +1,5 @@
 // The laws of what a run leaves on a connection whose line was damaged, each the contract of a function.
-ghost use Rattle.node_core.specs.RunsDamaged.{RunsAgreeButForOne, RunsHeal};
+ghost use Rattle.node_core.specs.RunsDamaged.{RunsAgreeButForOne, RunsHandOnAFront, RunsHeal};
 
 /// Healing in a run, whatever came before: once its line carries a client's bytes to a connection, and a turn
 /// says its number without a former one while no slot is marked, from the third turn after it on the
@@ -13,4 +13,11 @@ pub fn runs_heal()
 /// two runs whose line shows a connection the same but for that, the same leaves on it, as far as both have gone.
 pub fn runs_agree_but_for_one()
     ensures { RunsAgreeButForOne }
+{}
+
+/// Behind a gap: a run reads the file that another wrote, whose own line may be damaged anyhow. What it gets of the
+/// other's connection is a front of what that one got: no byte is lost, doubled or out of order, and less than a
+/// group is held back.
+pub fn runs_hand_on_a_front()
+    ensures { RunsHandOnAFront }
 {}

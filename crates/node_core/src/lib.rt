@@ -35,7 +35,7 @@ mod tally;
 mod tests;
 mod turn;
 
-pub use damage::{runs_agree_but_for_one, runs_heal};
+pub use damage::{runs_agree_but_for_one, runs_hand_on_a_front, runs_heal};
 pub use device_model::{FromState, Outcome};
 pub use laws::{faultless_runs, outputs_through, run_of_given, runs_agree, runs_carry};
 pub use node::Node;
