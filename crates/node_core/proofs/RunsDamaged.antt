@@ -1,5 +1,5 @@
 -- What a run leaves on a connection whose line was damaged.
-use Rattle.std.proofs.Common.{◌≡◌, ◌<◌, ◌≤◌, ◌+◌, ◌-◌, ℕ, List, ◌++◌, length, take, refl, sym, ap, ◌∙◌, subst, arith}
+use Rattle.std.proofs.Common.{rules, ◌≡◌, ◌<◌, ◌≤◌, ◌+◌, ◌-◌, ℕ, List, ◌++◌, length, take, refl, sym, ap, ◌∙◌, subst, arith}
 use Rattle.std.specs.List.{Contains}
 use Rattle.otn_base.specs.LineSlots.{LineSlots}
 use Rattle.odu_client.specs.ClientOutput.{arriving_text}
@@ -14,6 +14,7 @@ use Rattle.device_model.specs.Entries.{first_turn}
 use Rattle.device_model.specs.Healing.{Heals}
 use Rattle.device_model.specs.HeldBack.{emitted_after}
 use Rattle.device_model.specs.LineViews.{view_at}
+use Rattle.device_model.specs.OneDamaged.{AgreeButForOne}
 use Rattle.device_model.specs.Through.{own_input, got_by, arrived_by}
 use Rattle.device_model.proofs.Accepted.{has_as_many_slots}
 use Rattle.device_model.proofs.Healed.{gets_what_healed, arrives_healed, carries_what_it_gets}
@@ -46,22 +47,31 @@ text_of_arrived : (world : World) (x : Connection) (is : IsWorld world) → Cont
     → (went_out world is).client n ≡ arriving_text (arrived_by x (own_input world.inputs x) (x.stop - first_turn x))
 text_of_arrived world x is has n to lived = text_lived world x n is has to lived ∙ text_in world x is has
 
+text_healed : (world : World) (x : Connection) (a from s b u h n : ℕ) (slots : LineSlots) (bytes p : List ℕ) (is : IsWorld world) → Contains world.plan.connections x → x.from ≡ from_end.Line a from slots
+    → Heals (world.inputs.line a) x from slots bytes p s b u h → x.to ≡ to_end.Client n → LivedIn world (state_of_client n) → h + 4 ≤ x.stop → x.stop ≤ u + 2
+    → (went_out world is).client n ≡ arriving_text (arrived_by x (own_input world.inputs x) (h + 4 - first_turn x) ++ slice_range bytes (sent p (h + 1 - s)) (sent p (x.stop - s - 3)))
+text_healed world x a from s b u h n slots bytes p is has comes heals to lived low most =
+    let input = own_input world.inputs x in
+    let f = first_turn x in
+    let w = x.stop - 2 in
+    text_of_arrived world x is has n to lived
+    ∙ ap (λ k. arriving_text (arrived_by x input (k - f))) (let e : x.stop ≡ w + 2 = omega arith in e)
+    ∙ ap arriving_text (arrives_healed world.inputs x a from s b u h w slots bytes p comes heals (omega arith) (omega arith))
+    ∙ ap (λ k. arriving_text (arrived_by x input (h + 4 - f) ++ slice_range bytes (sent p (h + 1 - s)) (sent p k))) (let e : w - s - 1 ≡ x.stop - s - 3 = omega arith in e)
+
 pub runs_heal : (world : World) (x : Connection) (a from s b u h : ℕ) (slots : LineSlots) (bytes p : List ℕ) (is : IsWorld world) → Contains world.plan.connections x → x.from ≡ from_end.Line a from slots
     → Heals (world.inputs.line a) x from slots bytes p s b u h → HealsIn world (went_out world is) x bytes p s u h
 runs_heal world x a from s b u h slots bytes p is has comes heals = record {
-  turn = λ t low high. gets_what_healed world.inputs x a from s b u h t slots bytes p comes heals low high;
-  line = λ line port w others to lived low less. heals_on_line world x is has a from line port w slots others comes to lived low less;
-  client = λ n to lived low most.
-      let input = own_input world.inputs x in
-      let f = first_turn x in
-      let w = x.stop - 2 in
-      text_of_arrived world x is has n to lived
-      ∙ ap (λ k. arriving_text (arrived_by x input (k - f))) (let e : x.stop ≡ w + 2 = omega arith in e)
-      ∙ ap arriving_text (arrives_healed world.inputs x a from s b u h w slots bytes p comes heals (omega arith) (omega arith))
-      ∙ ap (λ k. arriving_text (arrived_by x input (h + 4 - f) ++ slice_range bytes (sent p (h + 1 - s)) (sent p k))) (let e : w - s - 1 ≡ x.stop - s - 3 = omega arith in e);
+  turn = λ t low high. search (rules, gets_what_healed);
+  line = λ line port w others to lived low less. search (rules, heals_on_line);
+  client = λ n to lived low most. search (rules, text_healed);
 }
 
 -- ---- behind a gap
+
+reads_it : (one other : World) (x y : Connection) (b c : ℕ) (slots next : LineSlots) (first : IsWorld one) → Follows one other (went_out one first) x y b c slots next
+    → other.inputs.line c ≡ read_of one (went_out one first) b
+reads_it one other x y b c slots next first f = search rules
 
 front_arrived : (one other : World) (x y : Connection) (b c n : ℕ) (slots next : LineSlots) (first : IsWorld one) → IsWorld other → Follows one other (went_out one first) x y b c slots next → first_turn x + n ≤ y.stop
     → arrived_by y (own_input other.inputs y) (n + 1) ≡ front_got one x y (length next.list) n
@@ -80,12 +90,12 @@ front_arrived one other x y b c n slots next first second f within =
     let count : u + 1 - first_turn x ≡ y.stop - first_turn x = omega arith in
     subst (λ k. arrived_by y (own_input other.inputs y) (n + 1) ≡ take (emitted_after (length next.list) (lengths_of (got_by x (own_input one.inputs x) k)) n) (arrived_by x (own_input one.inputs x) k)) count
     (passes_a_second_node one.plan one.inputs other.inputs x y f.line f.from b f.port c u n slots next file.frames f.comes list (goes one x b f.port next first f.first f.goes).0 same
-    (made_to one x b u ((went_out one first).line b) first f.first file (omega arith)) (omega arith) f.reads (f.file ∙ read_back one b ((went_out one first).line b) file f.lived) turn (omega arith))
+    (made_to one x b u ((went_out one first).line b) first f.first file (omega arith)) (omega arith) f.reads (reads_it one other x y b c slots next first f ∙ read_back one b ((went_out one first).line b) file f.lived) turn (omega arith))
 
 pub hands_on_a_front : (one other : World) (x y : Connection) (b c : ℕ) (slots next : LineSlots) (first : IsWorld one) (second : IsWorld other) → Follows one other (went_out one first) x y b c slots next
     → HandsOnAFront one other (went_out other second) x y (length next.list)
 hands_on_a_front one other x y b c slots next first second f = record {
-  arrived = λ n within. front_arrived one other x y b c n slots next first second f within;
+  arrived = λ n within. search (rules, front_arrived);
   client = λ k to lived.
       let sound = sound_in other y second f.second in
       let low = sound.start in
@@ -101,12 +111,15 @@ hands_on_a_front one other x y b c slots next first second f = record {
 no_client : (world : World) (x : Connection) (a port n : ℕ) (slots : LineSlots) → x.from ≡ from_end.Line a port slots → x.from ≡ from_end.Client n → ⊥
 no_client world x a port n slots comes from = cc
 
+agreed : (one other : World) (x : Connection) → ShareButForOne one other x → AgreeButForOne one.inputs other.inputs x
+agreed one other x share = search rules
+
 pub agree_but_for_one : (one other : World) (x : Connection) (first : IsWorld one) (second : IsWorld other) → ShareButForOne one other x → LeftAlike one other (went_out one first) (went_out other second) x
 agree_but_for_one one other x first second share =
     left_as_alike one other x first second
     (record {
       first = share.first;
       second = share.second;
-      alike = leaves_as_if_repeated one.inputs other.inputs x share.agree;
+      alike = leaves_as_if_repeated one.inputs other.inputs x (agreed one other x share);
       client = λ n from. absurd (no_client one x share.agree.line share.agree.port n share.agree.slots share.agree.comes from);
     })
