@@ -1,5 +1,5 @@
 -- How a plan that was carried ended, by how the write of its report went.
-use Rattle.std.proofs.Common.{◌≡◌, ◌≢◌, ◌<◌, ◌∙◌, ℕ, List, Option, length, take, refl, sym, ap, subst, Result, Ok, Err, IfOk, IfErr, inr, ◌⊎◌}
+use Rattle.std.proofs.Common.{◌≡◌, ◌≢◌, ◌<◌, ℕ, List, Option, length, take, refl, sym, ap, subst, Result, Ok, Err, IfOk, IfErr, inr}
 use Rattle.otn_ports.specs.Bytes.{after, raised, HasFailed}
 use Rattle.otn_base.specs.declared.memory.Memory.{Memory as NoMemory}
 use Rattle.otn_ports.specs.PortViews.{SourceView, SinkGot, SinkLater, SinkView}
@@ -16,11 +16,10 @@ use Rattle.line_tool.specs.Device.{Device, Stays}
 use Rattle.line_tool.specs.PlanReading.{PlanReading}
 use Rattle.line_tool.specs.PlanRuns.{PlanCarried, run_status}
 use Rattle.line_tool.specs.RunAnswers.{PlanRan, RunAnswers, TextRan, outcome_status, pieces_in_all}
-use Rattle.line_tool.specs.Runs.{CountsBy, IsRefusal, Reports}
+use Rattle.line_tool.specs.Runs.{IsRefusal, Reports}
 use Rattle.line_tool.specs.declared.plan_run.Ran.{Ran}
 use Rattle.line_tool.specs.declared.plan_run.Ran.TheVariants as ran
 use Rattle.line_tool.specs.declared.plan_text.Planned.TheVariants as planned
-use Rattle.line_tool.specs.declared.status.Status.{Status}
 use Rattle.line_tool.specs.declared.status.Status.TheVariants as status
 
 -- no outcome is that a write of the report failed

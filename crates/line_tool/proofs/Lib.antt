@@ -35,5 +35,4 @@ pub mod TrialPlans
 pub mod TrialReport
 pub mod TrialRuns
 pub mod TrialTold
-pub mod TurnFrames
 pub mod TwoWorlds

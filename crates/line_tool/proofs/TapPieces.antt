@@ -11,28 +11,29 @@ use Rattle.multiframe.specs.TurnPieces.{in_hand}
 use Rattle.tributary_model.specs.Places.{Tributary, Taken, View}
 use Rattle.trib_sink.specs.Sink.{Sink, StandsAfter}
 use Rattle.device_model.specs.LineViews.{views_until}
-use Rattle.line_tool.specs.PullTurn.{member_of, frames_in, TapStands, TapMoves}
+use Rattle.node_core.specs.Stands.{member_of, frames_in}
+use Rattle.line_tool.specs.PullTurn.{TapStands, TapMoves}
 use Rattle.line_tool.specs.declared.tap.Tap.{Tap}
 
 frames_more : (given : List ℕ) (t k : ℕ)
-    → frames_in given t (k + 1) ≡ frames_in given t k ++ member_of given (in_hand 8 (mfas_of given) (standing 8 (mfas_of given) t) (k + 1))
+    → frames_in 8 given t (k + 1) ≡ frames_in 8 given t k ++ member_of given (in_hand 8 (mfas_of given) (standing 8 (mfas_of given) t) (k + 1))
 unfolding frames_in
 frames_more given t k = rw (add-one k) refl
 
 -- a piece with no frame in hand adds none
-no_frame : (given : List ℕ) (t k : ℕ) → is_some (in_hand 8 (mfas_of given) (standing 8 (mfas_of given) t) (k + 1)) ≡ false → frames_in given t (k + 1) ≡ frames_in given t k
+no_frame : (given : List ℕ) (t k : ℕ) → is_some (in_hand 8 (mfas_of given) (standing 8 (mfas_of given) t) (k + 1)) ≡ false → frames_in 8 given t (k + 1) ≡ frames_in 8 given t k
 no_frame given t k none =
     frames_more given t k ∙ by_hand (in_hand 8 (mfas_of given) (standing 8 (mfas_of given) t) (k + 1)) none
   where
-    by_hand : (hand : Option Lock) → is_some hand ≡ false → frames_in given t k ++ member_of given hand ≡ frames_in given t k
-    by_hand None e = append-nil (frames_in given t k)
+    by_hand : (hand : Option Lock) → is_some hand ≡ false → frames_in 8 given t k ++ member_of given hand ≡ frames_in 8 given t k
+    by_hand None e = append-nil (frames_in 8 given t k)
     by_hand (Some lock) e = absurd (cc)
 
 -- a piece with a frame in hand adds it
 one_frame : (given frame : List ℕ) (t k expected : ℕ) → is_some (in_hand 8 (mfas_of given) (standing 8 (mfas_of given) t) (k + 1)) ≡ true
     → IfSome (in_hand 8 (mfas_of given) (standing 8 (mfas_of given) t) (k + 1)) (λ member. frame ≡ frame_at given member.frame)
     → IfSome (in_hand 8 (mfas_of given) (standing 8 (mfas_of given) t) (k + 1)) (λ member. expected ≡ member.expected)
-    → frames_in given t k ++ record { frame = frame; expected = expected } ∷ [] ≡ frames_in given t (k + 1)
+    → frames_in 8 given t k ++ record { frame = frame; expected = expected } ∷ [] ≡ frames_in 8 given t (k + 1)
 one_frame given frame t k expected some hand number =
     by_hand (in_hand 8 (mfas_of given) (standing 8 (mfas_of given) t) (k + 1)) some hand number ∙ sym (frames_more given t k)
   where
@@ -40,11 +41,11 @@ one_frame given frame t k expected some hand number =
     taken f e = record { frame = f; expected = e }
 
     by_hand : (member : Option Lock) → is_some member ≡ true → IfSome member (λ m. frame ≡ frame_at given m.frame) → IfSome member (λ m. expected ≡ m.expected)
-        → frames_in given t k ++ taken frame expected ∷ [] ≡ frames_in given t k ++ member_of given member
+        → frames_in 8 given t k ++ taken frame expected ∷ [] ≡ frames_in 8 given t k ++ member_of given member
     by_hand None e h n = absurd (cc)
     by_hand (Some lock) e h n =
         let same : taken frame expected ≡ taken (frame_at given lock.frame) lock.expected = ap (λ f. taken f expected) h ∙ ap (taken (frame_at given lock.frame)) n in
-        ap (λ x. frames_in given t k ++ x ∷ []) same
+        ap (λ x. frames_in 8 given t k ++ x ∷ []) same
 
 -- after a piece that has no frame in hand the sink has taken no more
 pub piece_none : (own : Tributary) (first was now : InView) (taken : List ℕ) (t : ℕ) (tap : Tap) (line : LineView)
@@ -59,7 +60,7 @@ piece_none own first was now taken t tap line pieces none h p = record {
         let is = p.stands.is_line given may in
         let hand = subst (λ k. is_some (in_hand 8 (mfas_of given) (standing 8 (mfas_of given) t) k) ≡ false) pieces (sym is.member ∙ none) in
         let frames = no_frame given t tap.line.pieces hand in
-        subst (λ xs. StandsAfter own (views_until own given t) xs tap.sink) (sym (ap (frames_in given t) pieces ∙ frames)) (h.sink given (p.earlier given may));
+        subst (λ xs. StandsAfter own (views_until own given t) xs tap.sink) (sym (ap (frames_in 8 given t) pieces ∙ frames)) (h.sink given (p.earlier given may));
   };
   earlier = p.earlier;
 }
@@ -83,8 +84,8 @@ piece_frame own first was now taken t expected tap line sink pieces some h p num
         let there = subst (λ k. is_some (in_hand 8 (mfas_of given) (standing 8 (mfas_of given) t) k) ≡ true) pieces (sym is.member ∙ some) in
         let hand = subst (λ k. IfSome (in_hand 8 (mfas_of given) (standing 8 (mfas_of given) t) k) (λ member. line.reader.hand ≡ frame_at given member.frame)) pieces is.hand in
         let mfas = subst (λ k. IfSome (in_hand 8 (mfas_of given) (standing 8 (mfas_of given) t) k) (λ member. expected ≡ member.expected)) pieces (number given may) in
-        let frames = one_frame given line.reader.hand t tap.line.pieces expected there hand mfas ∙ sym (ap (frames_in given t) pieces) in
-        subst (λ xs. StandsAfter own (views_until own given t) xs sink) frames (takes (views_until own given t) (frames_in given t tap.line.pieces) (h.sink given (p.earlier given may)));
+        let frames = one_frame given line.reader.hand t tap.line.pieces expected there hand mfas ∙ sym (ap (frames_in 8 given t) pieces) in
+        subst (λ xs. StandsAfter own (views_until own given t) xs sink) frames (takes (views_until own given t) (frames_in 8 given t tap.line.pieces) (h.sink given (p.earlier given may)));
   };
   earlier = p.earlier;
 }

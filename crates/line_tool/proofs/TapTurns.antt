@@ -12,9 +12,10 @@ use Rattle.trib_sink.specs.Sink.{Sink, StandsAfter, ended_view}
 use Rattle.maintenance_signals.specs.Stream.{signal_byte}
 use Rattle.maintenance_signals.specs.declared.signal.Signal.TheVariants.{Ais}
 use Rattle.tributary_model.specs.Emission.{emission}
-use Rattle.line_tool.proofs.TurnFrames.{turn_frames}
+use Rattle.node_core.proofs.TurnFrames.{frames_none, turn_frames}
 use Rattle.device_model.specs.LineViews.{view_at, views_until, emitted_at}
-use Rattle.line_tool.specs.PullTurn.{frames_in, TapStands, TapMoves, TurnMoves}
+use Rattle.node_core.specs.Stands.{frames_in}
+use Rattle.line_tool.specs.PullTurn.{TapStands, TapMoves, TurnMoves}
 use Rattle.line_tool.specs.declared.tap.Tap.{Tap}
 
 -- nothing went by
@@ -46,7 +47,7 @@ unfolding views_until frames_in
 tap_begins own tap size between line sink first = record {
   size = size;
   line = line first;
-  sink = λ given may. subst (λ k. StandsAfter own [] (frames_in given 0 k) tap.sink) (sym between) sink;
+  sink = λ given may. subst (λ k. StandsAfter own [] (frames_in 8 given 0 k) tap.sink) (sym between) sink;
 }
 
 -- whether the line has ended
@@ -72,20 +73,10 @@ front_within new emitted old n e count same =
     let size : length new ≡ length emitted + length (drop n old) = ap length e ∙ length-append emitted (drop n old) in
     omega (arith, size, count, same)
 
--- before the first piece of a turn
-no_frames : (given : List ℕ) (t : ℕ) → frames_in given t 0 ≡ []
-unfolding frames_in
-no_frames given t = refl
-
 -- one turn more
 views_more : (own : Tributary) (given : List ℕ) (t : ℕ) → views_until own given (t + 1) ≡ view_at own given t ∷ views_until own given t
 unfolding views_until
 views_more own given t = rw (add-one t) refl
-
--- what a turn shows, by the frames that its pieces took
-shown : (own : Tributary) (given : List ℕ) (t : ℕ) (whole : Bool) → own.line_slots ≡ 8 → whole ≡ is_some (multiframe 8 (mfas_of given) t)
-    → ended_view own whole (frames_in given t 8) ≡ view_at own given t
-shown own given t whole size e = ap (λ b. ended_view own b (frames_in given t 8)) e ∙ turn_frames own given t size
 
 -- what it emits
 emission_at : (own : Tributary) (given : List ℕ) (t : ℕ) → emission own (signal_byte Ais) (views_until own given t) (view_at own given t) ≡ emitted_at own given t
@@ -107,26 +98,26 @@ pub turn_ends : (own : Tributary) (first now : InView) (taken : List ℕ) (t cou
 turn_ends own first now taken t count old mid whole line sink into room m eight none ending stands multi ends sinks bytes counts =
     let earlier : (given : List ℕ) → MayBe false line.reader.ending (taken ++ m.came) given → MayBe false mid.line.reader.ending (taken ++ m.came) given
     = λ given may. subst (λ e. MayBe false e (taken ++ m.came) given) ending may in
-    let took : (given : List ℕ) → MayBe false mid.line.reader.ending (taken ++ m.came) given → StandsAfter own (views_until own given t) (frames_in given t 8) mid.sink
-    = λ given may. subst (λ k. StandsAfter own (views_until own given t) (frames_in given t k) mid.sink) eight (m.stands.sink given may) in
+    let took : (given : List ℕ) → MayBe false mid.line.reader.ending (taken ++ m.came) given → StandsAfter own (views_until own given t) (frames_in 8 given t 8) mid.sink
+    = λ given may. subst (λ k. StandsAfter own (views_until own given t) (frames_in 8 given t k) mid.sink) eight (m.stands.sink given may) in
     record {
       came = m.came;
       stands = record {
         size = m.stands.size;
         line = stands;
         sink = λ given may.
-            let view = shown own given t whole m.stands.size (multi given (earlier given may)) in
+            let view = turn_frames own 8 given t whole m.stands.size (multi given (earlier given may)) in
             let views = ap (λ v. v ∷ views_until own given t) view ∙ sym (views_more own given t) in
-            let frames = sym (ap (frames_in given (t + 1)) none ∙ no_frames given (t + 1)) in
+            let frames = sym (ap (frames_in 8 given (t + 1)) none ∙ frames_none 8 given (t + 1)) in
             subst (λ fs. StandsAfter own (views_until own given (t + 1)) fs sink) frames
-            (subst (λ vs. StandsAfter own vs [] sink) views (sinks (views_until own given t) (frames_in given t 8) (took given (earlier given may))));
+            (subst (λ vs. StandsAfter own vs [] sink) views (sinks (views_until own given t) (frames_in 8 given t 8) (took given (earlier given may))));
       };
       earlier = λ given may. m.earlier given (earlier given may);
       emits = λ given may.
           let st = took given (earlier given may) in
-          let view = shown own given t whole m.stands.size (multi given (earlier given may)) in
-          front into (emission own (signal_byte Ais) (views_until own given t) (ended_view own whole (frames_in given t 8))) room count
-          (bytes (views_until own given t) (frames_in given t 8) st) (counts (views_until own given t) (frames_in given t 8) st)
+          let view = turn_frames own 8 given t whole m.stands.size (multi given (earlier given may)) in
+          front into (emission own (signal_byte Ais) (views_until own given t) (ended_view own whole (frames_in 8 given t 8))) room count
+          (bytes (views_until own given t) (frames_in 8 given t 8) st) (counts (views_until own given t) (frames_in 8 given t 8) st)
           ∙ ap (emission own (signal_byte Ais) (views_until own given t)) view ∙ emission_at own given t;
       ended = λ given may. ended_is (standing 8 (mfas_of given) (t + 1)) line.ended (ends given (earlier given may));
     }
@@ -142,5 +133,5 @@ turn_within own first now taken t count old mid whole into room m bytes counts s
     let given = taken ++ m.came in
     let may : MayBe false mid.line.reader.ending (taken ++ m.came) given = record { rest = []; over = λ _. refl; parts = sym (append-nil (taken ++ m.came)) } in
     let st = m.stands.sink given may in
-    front_within into (emission own (signal_byte Ais) (views_until own given t) (ended_view own whole (frames_in given t mid.line.pieces))) room count
-    (bytes (views_until own given t) (frames_in given t mid.line.pieces) st) (counts (views_until own given t) (frames_in given t mid.line.pieces) st) same
+    front_within into (emission own (signal_byte Ais) (views_until own given t) (ended_view own whole (frames_in 8 given t mid.line.pieces))) room count
+    (bytes (views_until own given t) (frames_in 8 given t mid.line.pieces) st) (counts (views_until own given t) (frames_in 8 given t mid.line.pieces) st) same

@@ -18,7 +18,7 @@ use Rattle.device_model.specs.LineFiles.{IsLineFile}
 use Rattle.device_model.specs.Moments.{touches, uses}
 use Rattle.device_model.specs.Report.{Numbers}
 use Rattle.device_model.specs.Through.{Inputs}
-use Rattle.node_core.specs.RunLeft.{Takings, MayFollow, MayBeInputs, InputLeft, OutputLeft, RunLeft}
+use Rattle.node_core.specs.RunLeft.{Takings, MayHave, MayBeInputs, InputLeft, OutputLeft, RunLeft}
 use Rattle.odu_client.specs.ClientInput.{AtEnd, input_given}
 use Rattle.packet_text.specs.PacketText.{hex_text}
 use Rattle.packet_text.proofs.ReadingBack.{reads_back}
@@ -61,7 +61,7 @@ known_client run c h =
 
 -- ---- an input in memory
 
-told_all : (given taken : List ℕ) (more : Bool) (l : Option (List ℕ)) (ended : Bool) → Some given ≡ before taken l → (more ≡ false → HasEnded l ended) → MayFollow more taken given
+told_all : (given taken : List ℕ) (more : Bool) (l : Option (List ℕ)) (ended : Bool) → Some given ≡ before taken l → (more ≡ false → HasEnded l ended) → MayHave more taken given
 told_all given taken more None ended e over = absurd (cc)
 told_all given taken more (Some rest) ended e over = record { rest = rest; over = λ m. (over m).nothing; parts = (let same : given ≡ taken ++ rest = cc in same) }
 
@@ -72,7 +72,7 @@ lives_on first now a b live none well (inr (was, dead, inr full)) = absurd (let 
 
 pub record Kept (given taken : List ℕ) (more : Bool) (last : InView) : Type 0 where
   pub lives : last.state ≡ Live
-  pub follow : MayFollow more taken given
+  pub follow : MayHave more taken given
 
 kept : (given taken : List ℕ) (more : Bool) (first last : InView) → first ≡ holding given → last.faults ≡ 0 → InputLeft first last taken more → Kept given taken more last
 kept given taken more first last is well left =
@@ -170,7 +170,7 @@ line_may run read first last takings numbers lines clients reads place left well
   line = λ a used.
       let zero_is : a ≡ 0 = zero_alone a (touches (port.LineIn a)) run (lines a) used in
       let k = kept read (takings.line 0) (takings.line_more 0) (line_in_at first 0) (line_in_at last 0) place (well.lines 0) (left.line_in 0 reads) in
-      (read, subst (λ b. MayFollow (takings.line_more b) (takings.line b) read) (sym zero_is) k.follow, refl);
+      (read, subst (λ b. MayHave (takings.line_more b) (takings.line b) read) (sym zero_is) k.follow, refl);
   client = λ n used. absurd (none_used run (touches (port.ClientIn n)) (λ k h. clients n k) used);
 }
 

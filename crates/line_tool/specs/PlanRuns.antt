@@ -1,7 +1,7 @@
 -- How `run` goes, and what the top call then answers.
 use Rattle.std.specs.Prelude.{◌≡◌, ℕ, Result, Ok, Err}
 use Rattle.otn_base.specs.declared.memory.Memory.{Memory as NoMemory}
-use Rattle.otn_ports.specs.Bytes.{raised, HasFailed}
+use Rattle.otn_ports.specs.Bytes.{raised}
 use Rattle.otn_ports.specs.PortViews.{SinkView, SinkLater}
 use Rattle.otn_ports.specs.Views.{BaysView}
 use Rattle.plan_file.specs.declared.plan.Plan.{Plan}

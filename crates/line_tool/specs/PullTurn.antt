@@ -1,35 +1,25 @@
 -- How `pull` stands within a turn and between turns: a sink on a line.
-use Rattle.std.specs.Prelude.{◌≡◌, ℕ, zero, suc, ◌+◌, false, List, [], ◌∷◌, ◌++◌, Option, Some, None}
+use Rattle.std.specs.Prelude.{◌≡◌, ℕ, ◌+◌, false, List, ◌++◌}
 use Rattle.otn_base.specs.declared.limits.TheConstants.{OTU2_SLOTS}
 use Rattle.otn_base.specs.declared.line_kind.LineKind.TheVariants.{Otu2}
 use Rattle.otn_ports.specs.Views.{InView}
-use Rattle.line_side.specs.LineFile.{frame_at, mfas_of}
+use Rattle.line_side.specs.LineFile.{mfas_of}
 use Rattle.line_side.specs.LineForm.{plain_otu2}
 use Rattle.line_side.specs.LineStands.{LineStands, members}
 use Rattle.line_side.specs.MayBe.{MayBe}
-use Rattle.multiframe.specs.LineTurns.{Lock, standing, has_ended}
-use Rattle.multiframe.specs.TurnPieces.{in_hand}
-use Rattle.tributary_model.specs.Places.{Tributary, Taken}
+use Rattle.multiframe.specs.LineTurns.{standing, has_ended}
+use Rattle.tributary_model.specs.Places.{Tributary}
 use Rattle.trib_sink.specs.Sink.{StandsAfter}
 use Rattle.device_model.specs.LineViews.{views_until, emitted_at}
+use Rattle.node_core.specs.Stands.{frames_in}
 use Rattle.line_tool.specs.declared.tap.Tap.{Tap}
-
--- a frame that is in hand
-abbrev pub member_of : List ℕ → Option Lock → List Taken
-member_of given None = []
-member_of given (Some member) = record { frame = frame_at given member.frame; expected = member.expected } ∷ []
-
--- the frames of turn t + 1's multiframe that the first k pieces of the turn took
-unfoldable pub frames_in : List ℕ → (t k : ℕ) → List Taken
-frames_in given t zero = []
-frames_in given t (suc k) = frames_in given t k ++ member_of given (in_hand OTU2_SLOTS (mfas_of given) (standing OTU2_SLOTS (mfas_of given) t) (suc k))
 
 -- The sink stands in turn t + 1 of its line, of whose place these bytes were taken: whatever else may come, it has seen the turns
 -- before, and of this one the frames that its pieces took.
 pub record TapStands (own : Tributary) (first now : InView) (taken : List ℕ) (t : ℕ) (tap : Tap) : Type 0 where
   pub size : own.line_slots ≡ OTU2_SLOTS
   pub line : LineStands plain_otu2 first now taken t tap.line
-  pub sink : (given : List ℕ) → MayBe false tap.line.reader.ending taken given → StandsAfter own (views_until own given t) (frames_in given t tap.line.pieces) tap.sink
+  pub sink : (given : List ℕ) → MayBe false tap.line.reader.ending taken given → StandsAfter own (views_until own given t) (frames_in OTU2_SLOTS given t tap.line.pieces) tap.sink
 
 -- it stands so in some turn of some tributary
 pub record StandsSomewhere (now : InView) (tap : Tap) : Type 0 where

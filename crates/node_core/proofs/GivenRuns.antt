@@ -19,7 +19,7 @@ use Rattle.device_model.specs.Moments.{touches, uses}
 use Rattle.device_model.specs.Report.{Numbers}
 use Rattle.device_model.specs.Through.{Inputs}
 use Rattle.node_core.specs.GivenRuns.{HasGiven}
-use Rattle.node_core.specs.RunLeft.{Takings, MayFollow, MayBeInputs, InputLeft, RunLeft, RunOf}
+use Rattle.node_core.specs.RunLeft.{Takings, MayHave, MayBeInputs, InputLeft, RunLeft, RunOf}
 use Rattle.node_core.specs.Stands.{after_retire}
 
 -- ---- the connection of a port
@@ -52,31 +52,31 @@ parts_of : (xs ys : List ℕ) → Some xs ≡ Some ys → xs ≡ ys
 parts_of xs ys e = cc
 
 -- nothing was given where nothing was taken of a place that was not live
-none_follows : (more : Bool) (taken given : List ℕ) → taken ≡ [] → given ≡ [] → MayFollow more taken given
+none_follows : (more : Bool) (taken given : List ℕ) → taken ≡ [] → given ≡ [] → MayHave more taken given
 none_follows more taken given t g = record { rest = []; over = λ e. refl; parts = g ∙ sym t ∙ sym (append-nil taken) }
 
 -- of one that died what was taken
-died_follows : (more : Bool) (taken given : List ℕ) (first now : Option (List ℕ)) → Took first now given → first ≡ before taken now → MayFollow more taken given
+died_follows : (more : Bool) (taken given : List ℕ) (first now : Option (List ℕ)) → Took first now given → first ≡ before taken now → MayHave more taken given
 died_follows more taken given first now took left =
     let e : Some (given ++ took.rest) ≡ Some (taken ++ took.rest) = sym took.had ∙ left ∙ ap (before taken) took.has in
     record { rest = []; over = λ e. refl; parts = append_cancel_right given taken took.rest (parts_of (given ++ took.rest) (taken ++ took.rest) e) ∙ sym (append-nil taken) }
 
 -- of one that is live what was taken and what is left
-live_follows : (more : Bool) (taken given : List ℕ) (first now : Option (List ℕ)) (answered : Bool) → first ≡ Some given → first ≡ before taken now → (more ≡ false → HasEnded now answered) → MayFollow more taken given
+live_follows : (more : Bool) (taken given : List ℕ) (first now : Option (List ℕ)) (answered : Bool) → first ≡ Some given → first ≡ before taken now → (more ≡ false → HasEnded now answered) → MayHave more taken given
 live_follows more taken given first None answered told left ended = absurd (cc)
 live_follows more taken given first (Some rest) answered told left ended =
     record { rest = rest; over = λ m. (ended m).nothing; parts = parts_of given (taken ++ rest) (sym told ∙ left) }
 
 -- a place that was in this state, and is in that
 follows_by : (first last : InView) (taken : List ℕ) (more : Bool) (given : List ℕ) (was is : State) → first.state ≡ was → last.state ≡ is → InputLeft first last taken more
-    → given_between was is first.left last.left given → MayFollow more taken given
+    → given_between was is first.left last.left given → MayHave more taken given
 follows_by first last taken more given Live Dead f l left told = died_follows more taken given first.left last.left told left.gave.takes.left
 follows_by first last taken more given Live Live f l left told = live_follows more taken given first.left last.left last.ended told left.gave.takes.left (λ m. left.over m l)
 follows_by first last taken more given Live Empty f l left told = elim left.gave.state [ inl t ↦ absurd (cc (t.0, f, l)) | inr t ↦ absurd (cc (t.1, l)) ]
 follows_by first last taken more given Empty is f l left told = none_follows more taken given (left.gave.idle (λ e. cc)).1 told
 follows_by first last taken more given Dead is f l left told = none_follows more taken given (left.gave.idle (λ e. cc)).1 told
 
-pub follows : (first last : InView) (taken : List ℕ) (more : Bool) (given : List ℕ) → InputLeft first last taken more → IsGiven first last given → MayFollow more taken given
+pub follows : (first last : InView) (taken : List ℕ) (more : Bool) (given : List ℕ) → InputLeft first last taken more → IsGiven first last given → MayHave more taken given
 follows first last taken more given left told = follows_by first last taken more given first.state last.state refl refl left told
 
 -- ---- a client's place, which may be emptied at the end

@@ -23,7 +23,7 @@ use Rattle.cross_matrix.specs.Parts.{IsInputOf}
 use Rattle.cross_matrix.specs.Pipes.{PipeView, PipeStands}
 use Rattle.node_core.specs.Links.{IsLinkOf, SameEntry, origin_of, is_on}
 use Rattle.node_core.specs.Moves.{LineEnds, Fences}
-use Rattle.node_core.specs.NodeMoves.{Turns, FenceMove, whole_for}
+use Rattle.node_core.specs.NodeMoves.{TurnsOver, FenceMove, whole_for}
 use Rattle.node_core.specs.NodeView.{NodeView, HasLineIn, HasLink, is_ready, done_at}
 use Rattle.node_core.specs.Pieces.{wanted_of}
 use Rattle.node_core.specs.Ports.{index_of}
@@ -53,7 +53,7 @@ same_entry x old new h s = record {
 pub record Turned (old : NodeView) (wholes : List Bool) (i : ℕ) (x : Connection) (link : Link) : Type 0 where
   pub before : Link
   pub had : HasLink old i before
-  pub turns : Turns old.past wholes before link
+  pub turns : TurnsOver old.past wholes before link
   pub was : IsLinkOf x before
   pub mid : IsLinkOf x turns.between
   pub is : IsLinkOf x link

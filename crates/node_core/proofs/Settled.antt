@@ -21,7 +21,8 @@ use Rattle.device_model.specs.Through.{Inputs, of_client}
 use Rattle.device_model.specs.SoundPlans.{IsSoundEntry}
 use Rattle.device_model.proofs.SoundPlans.{sound_plan}
 use Rattle.cross_matrix.specs.Parts.{MayShow}
-use Rattle.node_core.specs.Asking.{has_come, ByteAsked, is_seen, asks_line, LinesAsked, LinesAnswer, is_dead, is_cut, CutAnswer, SaysSpent, OpenLink, OpensAnswer, outcome_by}
+use Rattle.cross_matrix.specs.Receiving.{is_dead}
+use Rattle.node_core.specs.Asking.{has_come, ByteAsked, is_seen, asks_line, LinesAsked, LinesAnswer, is_cut, CutAnswer, SaysSpent, OpenLink, OpensAnswer, outcome_by}
 use Rattle.node_core.specs.Links.{origin_of}
 use Rattle.node_core.specs.Moves.{is_from_client}
 use Rattle.node_core.specs.NodeView.{NodeView, HasLineIn, HasLink, IsNode, done_at}

@@ -23,10 +23,10 @@ use Rattle.device_model.proofs.SoundPlans.{sound_plan}
 use Rattle.cross_matrix.specs.Parts.{ClientInStands, MayShow}
 use Rattle.cross_matrix.specs.declared.taking.TakingPart.{TakingPart}
 use Rattle.cross_matrix.specs.declared.taking.TakingPart.TheVariants as taking
-use Rattle.node_core.specs.Asking.{is_dead}
+use Rattle.cross_matrix.specs.Receiving.{is_dead}
 use Rattle.node_core.specs.Moves.{is_from_client}
 use Rattle.node_core.specs.NodeView.{NodeView, HasLink}
-use Rattle.node_core.specs.RunLeft.{MayFollow, InputLeft}
+use Rattle.node_core.specs.RunLeft.{MayHave, InputLeft}
 use Rattle.node_core.specs.Stands.{PlanStands, after_retire}
 use Rattle.node_core.specs.declared.link.Link.{Link}
 use Rattle.node_core.proofs.Retired.{entry_at, from_as, is_client, some_passes, one_passes}
@@ -183,7 +183,7 @@ text_among first was taken raw rest packets view h parts over = by_answer (is_lo
 
 -- what a client may turn out to be at the end its lines may tell
 pub text_may : (x : Connection) (first was : InView) (taken raw : List ℕ) (k : ℕ) (part : TakingPart) (more : Bool) (input : ClientInput) → ClientInStands x first was taken k part
-    → more ≡ more_in first.state was.state (goes_on part) → MayFollow more taken raw → input ≡ input_given (has_died first.state was.state) raw → MayShow part taken (of_client input)
+    → more ≡ more_in first.state was.state (goes_on part) → MayHave more taken raw → input ≡ input_given (has_died first.state was.state) raw → MayShow part taken (of_client input)
 text_may x first was taken raw k (taking.Client client) more input h e may is =
     let lines = h.stands.text.stands in record {
       died = has_died first.state was.state;

@@ -22,7 +22,7 @@ use Rattle.multiframe.specs.LineTurns.{Lock, Standing, Hunting, Locked, Ended, O
 use Rattle.device_model.specs.Moments.{line_taken}
 use Rattle.device_model.specs.Numbers.{ending_of, line_ending}
 use Rattle.node_core.specs.Asking.{ByteAsked, has_come, is_seen}
-use Rattle.node_core.specs.RunLeft.{MayFollow, InputLeft}
+use Rattle.node_core.specs.RunLeft.{MayHave, InputLeft}
 
 -- ---- between turns nothing more is wanted than by the turns before
 
@@ -99,7 +99,7 @@ ended_asked form first was is taken came t line h asked Died e closed = asked.ga
 
 -- what a line may turn out to be at the end it might be before
 pub may_at_end : (form : LineForm) (first was is : InView) (taken came raw given : List ℕ) (t : ℕ) (line : LineView) → LineStands form first was taken t line → ByteAsked (not (is_seen line.reader.ending)) was is came
-    → MayFollow (has_come came) (taken ++ came) raw → given ≡ through_mask form.scrambled raw → MayBe form.scrambled line.reader.ending taken given
+    → MayHave (has_come came) (taken ++ came) raw → given ≡ through_mask form.scrambled raw → MayBe form.scrambled line.reader.ending taken given
 may_at_end form first was is taken came raw given t line h asked may e = record {
   rest = came ++ may.rest;
   over = λ closed. (let none = (ended_asked form first was is taken came t line h asked line.reader.ending refl closed).1 in
@@ -108,7 +108,7 @@ may_at_end form first was is taken came raw given t line h asked may e = record 
 }
 
 -- how many bytes there are
-length_at_end : (form : LineForm) (taken came raw given : List ℕ) → (may : MayFollow (has_come came) (taken ++ came) raw) → given ≡ through_mask form.scrambled raw
+length_at_end : (form : LineForm) (taken came raw given : List ℕ) → (may : MayHave (has_come came) (taken ++ came) raw) → given ≡ through_mask form.scrambled raw
     → length given ≡ length taken + length came + length may.rest
 length_at_end form taken came raw given may e =
     ap length (e ∙ ap (through_mask form.scrambled) (may.parts ∙ append_assoc taken came may.rest)) ∙ length_parts form.scrambled taken came may.rest
@@ -130,7 +130,7 @@ end_by form taken came rest given t false e most over parts sum took =
     record { took = omega (arith, none, nothing, parts, sum, took); more = λ f. absurd (cc); none = λ _. omega (arith, none, nothing, parts, took) }
 
 pub end_of_line : (form : LineForm) (first was is : InView) (taken came raw given : List ℕ) (t : ℕ) (line : LineView) → LineStands form first was taken t line → line.pieces ≡ 0
-    → ByteAsked (not (is_seen line.reader.ending)) was is came → MayFollow (has_come came) (taken ++ came) raw → given ≡ through_mask form.scrambled raw → EndOfLine form taken came given t
+    → ByteAsked (not (is_seen line.reader.ending)) was is came → MayHave (has_come came) (taken ++ came) raw → given ≡ through_mask form.scrambled raw → EndOfLine form taken came given t
 end_of_line form first was is taken came raw given t line h none asked may e =
     end_by form taken came may.rest given t (has_come came) refl asked.most may.over (length_at_end form taken came raw given may e) (length-append taken came)
     (took_is form first was taken given t line h (may_at_end form first was is taken came raw given t line h asked may e) ∙ ap (line_taken form given t) none)

@@ -8,7 +8,7 @@ use Rattle.otn_base.specs.declared.kind.PortName.TheVariants as port
 use Rattle.line_side.specs.LineStands.{LineView}
 use Rattle.node_core.specs.LineEnds.{LinesEnd, ends_if}
 use Rattle.node_core.specs.Moves.{EachLink, LineEnds, Fences}
-use Rattle.node_core.specs.NodeMoves.{Starts, Turns, FenceMove, whole_for}
+use Rattle.node_core.specs.NodeMoves.{Starts, TurnsOver, FenceMove, whole_for}
 use Rattle.node_core.specs.NodeView.{NodeView, HasLineIn, IsNode, is_ready}
 use Rattle.node_core.specs.Pieces.{PiecesView, wanted_of, done_of, IsFresh}
 use Rattle.node_core.specs.Ports.{index_of}
@@ -61,7 +61,7 @@ line_stays pieces olds news wholes len ends a none =
 -- ---- connections
 
 both_turns : (past : ℕ) (wholes : List Bool) (olds mids news : List Link) → EachLink (λ link next. Fences past (whole_for link.from wholes) link next) olds mids → EachLink (λ link next. Starts (past + 1) link next) mids news
-    → EachLink (Turns past wholes) olds news
+    → EachLink (TurnsOver past wholes) olds news
 both_turns past wholes olds mids news fences starts = record {
   count = starts.count ∙ fences.count;
   each = λ i old new had has.

@@ -4,13 +4,14 @@ use Rattle.otn_base.specs.declared.kind.PortName.{PortName}
 use Rattle.otn_base.specs.declared.kind.PortName.TheVariants as port
 use Rattle.otn_ports.specs.Given.{Gave}
 use Rattle.otn_ports.specs.Reads.{HasEnded}
-use Rattle.otn_ports.specs.Views.{State, Empty, Live, Dead, InView, BaysView, line_in_at}
+use Rattle.otn_ports.specs.Views.{Live, InView, BaysView, line_in_at}
 use Rattle.line_side.specs.LineStands.{LineView}
 use Rattle.line_side.specs.declared.ending.Ending.{Ending}
 use Rattle.line_side.specs.declared.ending.Ending.TheVariants.{Open, Seen, Died}
 use Rattle.odu_client.specs.ClientInput.{ClientInput, is_spent, emitted_before}
 use Rattle.plan_file.specs.declared.connection.Connection.{Connection}
 use Rattle.cross_matrix.specs.Parts.{ClientInStands, MayShow}
+use Rattle.cross_matrix.specs.Receiving.{is_dead}
 use Rattle.device_model.specs.Outcomes.{place_state}
 use Rattle.device_model.specs.Through.{of_client}
 use Rattle.device_model.specs.declared.outcome.Outcome.{Outcome}
@@ -41,6 +42,7 @@ pub record ByteAnswer (asks : Bool) (was is : InView) (answer : Bool) : Type 0 w
   pub asked : ByteAsked asks was is came
   pub tells : answer ≡ has_come came
 
+-- a read came to the end of the bytes
 abbrev pub is_seen : Ending → Bool
 is_seen Open = false
 is_seen Seen = true
@@ -66,11 +68,6 @@ pub record LinesAnswer (n : ℕ) (pieces : PiecesView) (lines : List LineView) (
   pub none : more ≡ false → (a : ℕ) → has_come (asked.came a) ≡ false
 
 -- ---- places
-
-abbrev pub is_dead : State → Bool
-is_dead Empty = false
-is_dead Live = false
-is_dead Dead = true
 
 -- the port has pieces, and its place is dead
 abbrev pub is_cut : PiecesView → BaysView → PortName → Bool

@@ -59,5 +59,6 @@ abbrev pub first_of : (test : Link → Bool) → List Link → Option ℕ → Ty
 first_of test links (Some i) = (i < length links) × ((link : Link) → slice_get links i ≡ Some link → test link ≡ true)
 first_of test links None = (i : ℕ) (link : Link) → slice_get links i ≡ Some link → test link ≡ false
 
+-- the same as a record
 pub record FirstOf (test : Link → Bool) (links : List Link) (found : Option ℕ) : Type 0 where
   pub is : first_of test links found

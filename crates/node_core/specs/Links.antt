@@ -12,6 +12,7 @@ use Rattle.node_core.specs.declared.link.Origin.TheVariants as origin
 use Rattle.node_core.specs.declared.link.Target.{Target}
 use Rattle.node_core.specs.declared.link.Target.TheVariants as target
 
+-- what the node keeps of a from end, and of a to end
 abbrev pub origin_of : FromEnd → Origin
 origin_of (from_end.Line a port slots) = origin.Line a
 origin_of (from_end.Client n) = origin.Client n

@@ -1,10 +1,7 @@
 -- What a piece of a port, and the end of a turn, do to the parts of a node and to the port's place.
 use Rattle.std.specs.Prelude.{◌≡◌, ◌<◌, ◌+◌, ◌*◌, ◌%◌, ℕ, suc, Bool, true, false, ◌&&◌, ◌==◌, List, [], ◌∷◌, ◌++◌, Some, length, slice_get, is_some, Option}
 use Rattle.otn_base.specs.LineSlots.{LineSlots, slots_of}
-use Rattle.otn_base.specs.declared.kind.PortName.{PortName}
-use Rattle.otn_base.specs.declared.kind.PortName.TheVariants as port
-use Rattle.otn_ports.specs.OnePlace.{OnlyLineIn, OnlyLineOut, OnlyClientIn, OnlyClientOut}
-use Rattle.otn_ports.specs.Views.{InView, OutView, BaysView}
+use Rattle.otn_ports.specs.Views.{InView, OutView}
 use Rattle.line_side.specs.LineFile.{mfas_of}
 use Rattle.line_side.specs.LineForm.{LineForm, size_of}
 use Rattle.line_side.specs.LineOutput.{LineOutView, FramePut, LineMade}
@@ -36,6 +33,7 @@ pub record EachLink (Goes : Link → Link → Type 0) (olds news : List Link) : 
   pub count : length news ≡ length olds
   pub each : (i : ℕ) (old new : Link) → slice_get olds i ≡ Some old → slice_get news i ≡ Some new → Goes old new
 
+-- whether a link comes from line a or client n, or goes to line b or client n
 abbrev pub is_from_line : (a : ℕ) → Origin → Bool
 is_from_line a (origin.Line line) = line == a
 is_from_line a (origin.Client n) = false
@@ -139,13 +137,6 @@ pub record GivesClient (past n : ℕ) (was : OutView) (links : List Link) (is : 
       → ((j : ℕ) (other : Link) → slice_get links j ≡ Some other → gives_client past n other ≡ true → j ≡ i)
       → (x : Connection) (input : OwnInput) (first : OutView) (filled : ℕ) (frames : List Taken) (ended : Bool) → PipeStands x input (own_turn x past) frames ended filled link.pipe
       → ClientOutStands x input first was (own_turn x past) link.pipe.giving → ClientOutStands x input first is (own_turn x past + 1) then.pipe.giving
-
--- no place but the port's has changed
-abbrev pub OnlyPort : PortName → BaysView → BaysView → Type 0
-OnlyPort (port.LineIn n) old new = OnlyLineIn n old new
-OnlyPort (port.LineOut n) old new = OnlyLineOut n old new
-OnlyPort (port.ClientIn n) old new = OnlyClientIn n old new
-OnlyPort (port.ClientOut n) old new = OnlyClientOut n old new
 
 -- ---- the end of a turn
 

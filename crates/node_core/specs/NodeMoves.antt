@@ -94,7 +94,7 @@ whole_for (origin.Client n) wholes = false
 whole_for origin.Signal wholes = false
 
 -- a connection ends turn past + 1, and begins where turn past + 2 is its first
-pub record Turns (past : ℕ) (wholes : List Bool) (old new : Link) : Type 0 where
+pub record TurnsOver (past : ℕ) (wholes : List Bool) (old new : Link) : Type 0 where
   pub between : Link
   pub fences : Fences past (whole_for old.from wholes) old between
   pub starts : Starts (past + 1) between new
@@ -111,7 +111,7 @@ pub record FenceMove (old new : NodeView) : Type 0 where
   pub lines : length old.lines_in ≡ LINES
   pub count : length new.lines_in ≡ length old.lines_in
   pub lines_out : new.lines_out ≡ old.lines_out
-  pub links : EachLink (Turns old.past wholes) old.links new.links
+  pub links : EachLink (TurnsOver old.past wholes) old.links new.links
 
 -- some connection that stops in turn past + 1, and retires, comes from client n, or goes to client n
 abbrev pub ends_here : (past : ℕ) → Link → Bool

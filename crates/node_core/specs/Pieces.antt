@@ -1,6 +1,7 @@
 -- The pieces of a turn: how many each port has in it, and how many of them are done.
-use Rattle.std.specs.Prelude.{◌≡◌, ◌<◌, ◌+◌, ◌-◌, ℕ, zero, suc, Bool, true, false, ◌&&◌, nat_lt, List, get_or, set, length}
+use Rattle.std.specs.Prelude.{◌≡◌, ◌<◌, ◌+◌, ◌-◌, ℕ, zero, suc, Bool, true, ◌&&◌, nat_lt, List, get_or, set, length}
 use Rattle.otn_base.specs.declared.kind.PortName.{PortName}
+use Rattle.multiframe.specs.LineTurns.{one_if}
 use Rattle.node_core.specs.Ports.{index_of, port_count}
 
 -- by number of the port
@@ -8,6 +9,7 @@ pub record PiecesView : Type 0 where
   pub wants : List ℕ
   pub done : List ℕ
 
+-- how many pieces the port has in the turn, and how many of them are done
 abbrev pub wanted_of : PiecesView → PortName → ℕ
 wanted_of pieces name = get_or pieces.wants (index_of name) 0
 
@@ -17,10 +19,6 @@ done_of pieces name = get_or pieces.done (index_of name) 0
 -- the port has a piece to do in this turn
 abbrev pub is_open : PiecesView → PortName → Bool
 is_open pieces name = nat_lt (index_of name) port_count && nat_lt (done_of pieces name) (wanted_of pieces name)
-
-abbrev pub one_if : Bool → ℕ
-one_if true = 1
-one_if false = 0
 
 -- f 0 + .. + f (n - 1)
 unfoldable pub sum_below : (ℕ → ℕ) → (n : ℕ) → ℕ

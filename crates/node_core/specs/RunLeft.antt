@@ -30,7 +30,7 @@ pub record Takings : Type 0 where
   pub client_more : (n : ℕ) → Bool
 
 -- bytes that an input may turn out to have, of which these were taken: they begin with these, and are no others where no more may follow
-pub record MayFollow (more : Bool) (taken given : List ℕ) : Type 0 where
+pub record MayHave (more : Bool) (taken given : List ℕ) : Type 0 where
   pub rest : List ℕ
   pub over : more ≡ false → rest ≡ []
   pub parts : given ≡ taken ++ rest
@@ -39,15 +39,15 @@ pub record MayFollow (more : Bool) (taken given : List ℕ) : Type 0 where
 -- of what is left of it where its place died.
 pub record MayBeInputs (plan : Plan) (first last : BaysView) (takings : Takings) (inputs : Inputs) : Type 0 where
   pub line : (a : ℕ) → uses plan (port.LineIn a) ≡ true
-      → (given : List ℕ) × MayFollow (takings.line_more a) (takings.line a) given × (inputs.line a ≡ through_mask (form_in plan a).scrambled given)
+      → (given : List ℕ) × MayHave (takings.line_more a) (takings.line a) given × (inputs.line a ≡ through_mask (form_in plan a).scrambled given)
   pub client : (n : ℕ) → uses plan (port.ClientIn n) ≡ true
-      → (given : List ℕ) × MayFollow (takings.client_more n) (takings.client n) given
+      → (given : List ℕ) × MayHave (takings.client_more n) (takings.client n) given
       × (inputs.client n ≡ input_given (has_died (client_in_at first n).state (client_in_at last n).state) given)
 
 -- ---- inputs
 
--- These bytes were taken of an input place. More may stand behind them only where it is live; where none may, a live place that tells its
--- bytes has ended.
+-- These bytes were taken of an input place. More may stand behind them only where it is live; where none may, a live place has answered its
+-- end, whether or not it tells its bytes.
 pub record InputLeft (first last : InView) (taken : List ℕ) (more : Bool) : Type 0 where
   pub gave : Gave first taken last
   pub live : more ≡ true → last.state ≡ Live

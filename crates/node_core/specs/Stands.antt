@@ -53,7 +53,7 @@ unfoldable pub frames_in : (size : ℕ) → (given : List ℕ) → (past k : ℕ
 frames_in size given past zero = []
 frames_in size given past (suc k) = frames_in size given past k ++ member_of given (in_hand size (mfas_of given) (standing size (mfas_of given) past) (suc k))
 
--- what k pieces of a connection's own input took: the frames of a line, and whether a client was taken
+-- what k pieces of a connection's own input took: the frames of a line, and whether a client's turn was taken
 abbrev pub frames_by : Plan → Inputs → FromEnd → (past k : ℕ) → List Taken
 frames_by plan inputs (from_end.Line a port slots) past k = frames_in (size_of (form_in plan a)) (inputs.line a) past k
 frames_by plan inputs (from_end.Client n) past k = []
@@ -66,6 +66,7 @@ ended_by (from_end.Signal signal) k = false
 
 -- ---- places that were retired
 
+-- a client's place, input or output, after the stop of its connection, which retires or not
 abbrev pub after_retire : Bool → InView → InView
 after_retire retires place = if retires then retired_in place else place
 
@@ -113,6 +114,7 @@ pub record ClientInAt (first now : InView) (taken : List ℕ) (x : Connection) (
   pub stands : ClientInStands x first was taken (turns_done x past pieces) link.pipe.taking
   pub place : now ≡ after_retire (is_retired x past) was
 
+-- of all client inputs: as above once the connection has started, untouched before
 pub record ClientsIn (plan : Plan) (first : BaysView) (taken : Bytes) (node : NodeView) (now : BaysView) : Type 0 where
   pub started : (i n : ℕ) (x : Connection) (link : Link) → slice_get plan.connections i ≡ Some x → HasLink node i link → x.from ≡ from_end.Client n → x.start ≤ node.past + 1
       → ClientInAt (client_in_at first n) (client_in_at now n) (taken.client n) x node.past (done_at node (port.ClientIn n)) link
@@ -126,6 +128,7 @@ pub record ClientOutAt (inputs : Inputs) (first now : OutView) (x : Connection) 
   pub stands : ClientOutStands x (own_input inputs x) first was (turns_done x past pieces) link.pipe.giving
   pub place : now ≡ out_after_retire (is_retired x past) was
 
+-- of all client outputs: likewise
 pub record ClientsOut (plan : Plan) (first : BaysView) (taken : Bytes) (node : NodeView) (now : BaysView) : Type 0 where
   pub started : (inputs : Inputs) → MayGive plan taken node inputs → (i n : ℕ) (x : Connection) (link : Link) → slice_get plan.connections i ≡ Some x → HasLink node i link
       → x.to ≡ to_end.Client n → x.start ≤ node.past + 1 → ClientOutAt inputs (client_out_at first n) (client_out_at now n) x node.past (done_at node (port.ClientOut n)) link

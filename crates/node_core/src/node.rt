@@ -4,6 +4,7 @@ ghost use Rattle.otn_base.specs.declared.kind.PortName.{PortName};
 ghost use Rattle.otn_base.specs.declared.kind.PortName.TheVariants.{LineIn as line-in, LineOut as line-out, ClientIn as client-in, ClientOut as client-out};
 ghost use Rattle.otn_ports.specs.InPlace.{in_view};
 ghost use Rattle.otn_ports.specs.OutPlace.{out_view};
+ghost use Rattle.otn_ports.specs.Places.{OnlyPort};
 ghost use Rattle.otn_ports.specs.Racks.{bays_view};
 ghost use Rattle.otn_ports.specs.Views.{BaysView};
 ghost use Rattle.plan_file.specs.Answer.{fault_in};
@@ -13,7 +14,6 @@ ghost use Rattle.device_model.specs.Moments.{over_ports, pieces_of};
 ghost use Rattle.node_core.specs.NodeView.{NodeView, is_ready, left_of, ready_number};
 ghost use Rattle.node_core.specs.Pieces.{open_count, IsNth, IsCounted};
 ghost use Rattle.node_core.specs.Stands.{Bytes, StandsAt, Later, no_bytes};
-ghost use Rattle.node_core.specs.Moves.{OnlyPort};
 
 use crate::build::{new_lines_in, new_lines_out, new_links};
 use crate::clients::{give_client, take_client};
@@ -90,7 +90,7 @@ impl Node {
         self.past >= self.turns
     }
 
-    /// Whether the plan uses the port, the node is not finished, and the port has pieces left in this turn.
+    /// Whether the port may be stepped: the plan uses it, a turn is going, and it has pieces left in it.
     pub fn ready(&self, port: PortName) -> bool
         ensures { result ≡ is_ready self.now port }
     {
@@ -117,11 +117,11 @@ impl Node {
         self.pieces.nth_open(i)
     }
 
-    /// One piece of a port that is ready: a frame of a line, or what a client brings or gets in the turn.
+    /// One piece of a port that is ready: a frame of a line (and the lead-in before it, in a hunt), or what a client brings or gets in the turn.
     pub fn step<P: Source, K: Sink>(&mut self, port: PortName, bays: &mut Rack<P, K>)
         requires ready { is_ready self.old port ≡ true }
 
-        // from any moment of any plan this leads to the moment with one piece more of this port
+        // from any moment of any accepted plan this leads to the moment with one piece more of this port
         ensures stands { (plan : Plan) (first : BaysView) (taken : Bytes) → StandsAt plan first taken self.old (bays_view P.Source K.Sink bays.old)
             → Later plan first taken self.old self.new (bays_view P.Source K.Sink bays.new) }
         ensures piece { IsCounted port self.old.pieces self.new.pieces }
@@ -188,7 +188,7 @@ impl Node {
         requires going { self.old.past < self.old.turns }
         requires none { (port : PortName) → is_ready self.old port ≡ false }
 
-        // from any moment of any plan this leads to the next turn, of which no piece is done
+        // from any moment of any accepted plan this leads to the next turn, of which no piece is done
         ensures stands { (plan : Plan) (first : BaysView) (taken : Bytes) → StandsAt plan first taken self.old (bays_view P.Source K.Sink bays.old)
             → Later plan first taken self.old self.new (bays_view P.Source K.Sink bays.new) }
         ensures ends { FenceMove self.old self.new }

@@ -7,7 +7,8 @@ ghost use Rattle.otn_ports.specs.Racks.{bays_view};
 ghost use Rattle.otn_ports.specs.Views.{BaysView};
 ghost use Rattle.plan_file.specs.declared.plan.Plan.{Plan};
 ghost use Rattle.device_model.specs.Outcomes.{place_state};
-ghost use Rattle.node_core.specs.Asking.{ByteAnswer, LinesAsked, LinesAnswer, CutAnswer, OpenAnswer, OpensAnswer, asks_line, is_dead, is_cut, outcome_by};
+ghost use Rattle.cross_matrix.specs.Receiving.{is_dead};
+ghost use Rattle.node_core.specs.Asking.{ByteAnswer, LinesAsked, LinesAnswer, CutAnswer, OpenAnswer, OpensAnswer, asks_line, is_cut, outcome_by};
 ghost use Rattle.node_core.specs.Ports.{index_of, port_count};
 ghost use Rattle.node_core.specs.Settling.{Settled};
 ghost use Rattle.node_core.specs.Stands.{Bytes, StandsAt};
@@ -43,7 +44,7 @@ impl Node {
 
 // Asks each line for one byte, where it is to be asked, and says whether one came.
 fn ask_lines<P: Source, K: Sink>(lines: &[LineIn], pieces: &Pieces, bays: &mut Rack<P, K>) -> bool
-    requires four { length lines.now ≡ 4 }
+    requires four { length lines.now ≡ LINE_PORTS }
     ensures { LinesAnswer LINE_PORTS pieces.now lines.now (bays_view P.Source K.Sink bays.old) (bays_view P.Source K.Sink bays.new) result }
 {
     let mut more = false;

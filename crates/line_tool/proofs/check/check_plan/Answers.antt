@@ -1,4 +1,4 @@
-use Rattle.std.proofs.Common.{◌≡◌, ◌∙◌, Ok, ap, subst}
+use Rattle.std.proofs.Common.{◌∙◌, Ok, ap, subst}
 use Rattle.otn_ports.specs.PortViews.{sink_view, source_view}
 use Rattle.line_tool.specs.PlanReading.{PlanReading}
 use Rattle.line_tool.proofs.PlanChecks.{accepted_check}

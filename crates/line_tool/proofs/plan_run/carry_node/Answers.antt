@@ -1,4 +1,3 @@
-use Rattle.std.proofs.Common.{◌≡◌}
 use Rattle.otn_ports.specs.Racks.{bays_view}
 use Rattle.line_tool.proofs.plan_run.carry_node.Goals as goal
 

@@ -1,6 +1,6 @@
-use Rattle.std.proofs.Common.{◌≡◌, ◌∙◌, ap, sym, subst}
+use Rattle.std.proofs.Common.{◌∙◌, ap}
 use Rattle.otn_ports.specs.Bytes.{raised}
-use Rattle.otn_ports.specs.PortViews.{SinkWrites, sink_view}
+use Rattle.otn_ports.specs.PortViews.{sink_view}
 use Rattle.otn_ports.specs.Racks.{bays_view}
 use Rattle.node_core.specs.RunNumbers.{numbers_of_run}
 use Rattle.line_tool.proofs.CarriedPlans.{carried_whole, carried_lost}

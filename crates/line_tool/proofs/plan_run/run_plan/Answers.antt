@@ -1,4 +1,4 @@
-use Rattle.std.proofs.Common.{◌≡◌, ◌∙◌, Result, Ok, Err, IfErr, ap, subst}
+use Rattle.std.proofs.Common.{◌∙◌, Result, Ok, Err, IfErr, ap, subst}
 use Rattle.otn_base.specs.declared.memory.Memory.{Memory as NoMemory}
 use Rattle.otn_ports.specs.PortViews.{sink_view, source_view}
 use Rattle.line_tool.specs.Device.{device}

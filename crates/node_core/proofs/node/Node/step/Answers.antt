@@ -5,6 +5,7 @@ use Rattle.otn_ports.specs.OutPlace.{out_view}
 use Rattle.otn_ports.specs.Views.{line_in_at, line_out_at, client_in_at, client_out_at}
 use Rattle.otn_ports.specs.Racks.{bays_view, with_line_in, with_line_out, with_client_in, with_client_out}
 use Rattle.otn_ports.proofs.BaysLaws.{line_in_seen, line_in_set, only_line_in, line_out_seen, line_out_set, only_line_out, client_in_seen, client_in_set, only_client_in, client_out_seen, client_out_set, only_client_out}
+use Rattle.otn_ports.proofs.PlacesLaws.{only_line_in_port, only_line_out_port, only_client_in_port, only_client_out_port}
 use Rattle.node_core.specs.NodeView.{is_ready}
 use Rattle.node_core.specs.NodeMoves.{LineInMove, LineOutMove, ClientInMove, ClientOutMove}
 use Rattle.node_core.proofs.LineInMoves.{line_in_moves}
@@ -14,7 +15,10 @@ use Rattle.node_core.proofs.ClientOutMoves.{client_out_moves}
 use Rattle.node_core.proofs.node.Node.step.Goals as goal
 
 pub returns-in-LineIn-clause-only : goal.returns-in-LineIn-clause-only
-returns-in-LineIn-clause-only g c = rw c.in-LineIn.is (only_line_in g.P.Source g.K.Sink c.args.bays.now c.in-LineIn.a c.step_line_in.new.place)
+returns-in-LineIn-clause-only g c =
+    let old = bays_view g.P.Source g.K.Sink c.args.bays.now in
+    let new = bays_view g.P.Source g.K.Sink (with_line_in c.args.bays.now c.in-LineIn.a c.step_line_in.new.place) in
+    rw c.in-LineIn.is (only_line_in_port c.in-LineIn.a old new (only_line_in g.P.Source g.K.Sink c.args.bays.now c.in-LineIn.a c.step_line_in.new.place))
 
 pub returns-in-LineIn-clause-stands : goal.returns-in-LineIn-clause-stands
 returns-in-LineIn-clause-stands g c = λ plan first taken h.
@@ -28,7 +32,10 @@ returns-in-LineIn-clause-stands g c = λ plan first taken h.
     line_in_moves plan first taken n c.args.self.now c.step_line_in.new.self old new ready move (only_line_in g.P.Source g.K.Sink c.args.bays.now n c.step_line_in.new.place) h
 
 pub returns-in-LineOut-clause-only : goal.returns-in-LineOut-clause-only
-returns-in-LineOut-clause-only g c = rw c.in-LineOut.is (only_line_out g.P.Source g.K.Sink c.args.bays.now c.in-LineOut.b c.step_line_out.new.place)
+returns-in-LineOut-clause-only g c =
+    let old = bays_view g.P.Source g.K.Sink c.args.bays.now in
+    let new = bays_view g.P.Source g.K.Sink (with_line_out c.args.bays.now c.in-LineOut.b c.step_line_out.new.place) in
+    rw c.in-LineOut.is (only_line_out_port c.in-LineOut.b old new (only_line_out g.P.Source g.K.Sink c.args.bays.now c.in-LineOut.b c.step_line_out.new.place))
 
 pub returns-in-LineOut-clause-stands : goal.returns-in-LineOut-clause-stands
 returns-in-LineOut-clause-stands g c = λ plan first taken h.
@@ -42,7 +49,10 @@ returns-in-LineOut-clause-stands g c = λ plan first taken h.
     line_out_moves plan first taken n c.args.self.now c.step_line_out.new.self old new ready move (only_line_out g.P.Source g.K.Sink c.args.bays.now n c.step_line_out.new.place) h
 
 pub returns-in-ClientIn-clause-only : goal.returns-in-ClientIn-clause-only
-returns-in-ClientIn-clause-only g c = rw c.in-ClientIn.is (only_client_in g.P.Source g.K.Sink c.args.bays.now c.in-ClientIn.n c.step_client_in.new.place)
+returns-in-ClientIn-clause-only g c =
+    let old = bays_view g.P.Source g.K.Sink c.args.bays.now in
+    let new = bays_view g.P.Source g.K.Sink (with_client_in c.args.bays.now c.in-ClientIn.n c.step_client_in.new.place) in
+    rw c.in-ClientIn.is (only_client_in_port c.in-ClientIn.n old new (only_client_in g.P.Source g.K.Sink c.args.bays.now c.in-ClientIn.n c.step_client_in.new.place))
 
 pub returns-in-ClientIn-clause-stands : goal.returns-in-ClientIn-clause-stands
 returns-in-ClientIn-clause-stands g c = λ plan first taken h.
@@ -56,7 +66,10 @@ returns-in-ClientIn-clause-stands g c = λ plan first taken h.
     client_in_moves plan first taken n c.args.self.now c.step_client_in.new.self old new ready move (only_client_in g.P.Source g.K.Sink c.args.bays.now n c.step_client_in.new.place) h
 
 pub returns-in-ClientOut-clause-only : goal.returns-in-ClientOut-clause-only
-returns-in-ClientOut-clause-only g c = rw c.in-ClientOut.is (only_client_out g.P.Source g.K.Sink c.args.bays.now c.in-ClientOut.n c.step_client_out.new.place)
+returns-in-ClientOut-clause-only g c =
+    let old = bays_view g.P.Source g.K.Sink c.args.bays.now in
+    let new = bays_view g.P.Source g.K.Sink (with_client_out c.args.bays.now c.in-ClientOut.n c.step_client_out.new.place) in
+    rw c.in-ClientOut.is (only_client_out_port c.in-ClientOut.n old new (only_client_out g.P.Source g.K.Sink c.args.bays.now c.in-ClientOut.n c.step_client_out.new.place))
 
 pub returns-in-ClientOut-clause-stands : goal.returns-in-ClientOut-clause-stands
 returns-in-ClientOut-clause-stands g c = λ plan first taken h.
