@@ -1,7 +1,7 @@
 pub mod LineRows
 pub mod Rows
 pub mod Runs
-pub mod Ring
+pub mod Emitted
 pub mod Fits
 pub mod Bytes
 pub mod Msi

@@ -35,22 +35,28 @@ slots_inside kind slots list k d h =
     let line = few_of_kind kind in
     (omega arith, omega arith)
 
--- behind the bytes of some cycles there is room for those of further ones
-pub room_behind : (m end cycle run groups room : ℕ) → end ≤ m * cycle → cycle + run ≤ groups → m * groups ≤ room → end + m * run ≤ room
-room_behind m end cycle run groups room e l h =
+-- behind the bytes of some cycles, which stand behind others, there is room for those of further ones
+pub room_behind : (m at end cycle run groups room : ℕ) → end ≤ at + m * cycle → cycle + run ≤ groups → at + m * groups ≤ room → end + m * run ≤ room
+room_behind m at end cycle run groups room e l h =
     let wide : m * (cycle + run) ≤ m * groups = mul-le-mul_left m l in
     let apart : m * (cycle + run) ≡ m * cycle + m * run = omega arith in
     omega arith
 
--- the ring has room for the groups of a row more
-pub ring_room : (m asked n held many capacity : ℕ) → many ≤ held + m * asked → held ≤ m * 15232 → asked + n ≤ 15232 → capacity ≡ m * 30464 → many + m * n ≤ capacity
-ring_room m asked n held many capacity items low fits is =
+-- behind the bytes of this turn there is room for the groups of a row more
+pub row_room : (m asked n end room : ℕ) → end ≤ m * asked → asked + n ≤ 15232 → room ≡ m * 15232 → end + m * n ≤ room
+row_room m asked n end room few fits is =
     let wide : m * (asked + n) ≤ m * 15232 = mul-le-mul_left m fits in
     let apart : m * (asked + n) ≡ m * asked + m * n = omega arith in
     omega arith
 
--- and has no more then
-pub items_after : (m asked n held many now : ℕ) → many ≤ held + m * asked → now ≤ many + m * n → now ≤ held + m * (asked + n)
-items_after m asked n held many now items more =
+-- and there are no more then
+pub row_after : (m asked n end now : ℕ) → end ≤ m * asked → now ≤ end + m * n → now ≤ m * (asked + n)
+row_after m asked n end now few more =
     let apart : m * (asked + n) ≡ m * asked + m * n = omega arith in
+    omega arith
+
+-- the bytes of a turn are those of a multiframe at most
+pub turn_room : (m asked end : ℕ) → end ≤ m * asked → asked ≤ 15232 → end ≤ m * 15232
+turn_room m asked end few low =
+    let wide : m * asked ≤ m * 15232 = mul-le-mul_left m low in
     omega arith

@@ -33,14 +33,17 @@ row_data-run line c before payload slots x (suc n) h =
 pub behind : (into written : List ℕ) (at k end : ℕ) → at ≤ length into → end ≡ at + length written → take end (put_mid at k into written) ≡ take at into ++ written
 behind into written at k end room e = take-put_mid at k into written end e room
 
--- behind the first cycles of a row stand one that is data or not, and then a run of data cycles
-pub row_more : (line c before : ℕ) (payload slots into mid new : List ℕ) (end next last x run : ℕ) → take end into ≡ row_data line c before payload slots x
+-- behind some bytes and the first cycles of a row stand one that is data or not, and then a run of data cycles
+pub row_more : (line c before : ℕ) (payload slots front into mid new : List ℕ) (end next last x run : ℕ) → take end into ≡ front ++ row_data line c before payload slots x
     → take next mid ≡ take end into ++ cond (is_data_at c (before + x + 1)) (payload_group line payload slots x) []
     → take last new ≡ take next mid ++ run_groups line payload slots (x + 1) run
     → ((i : ℕ) → i < run → IsData c (before + x + 1 + i + 1))
-    → take last new ≡ row_data line c before payload slots (x + (run + 1))
-row_more line c before payload slots into mid new end next last x run first one rest each =
+    → take last new ≡ front ++ row_data line c before payload slots (x + (run + 1))
+row_more line c before payload slots front into mid new end next last x run first one rest each =
+    let here = cond (is_data_at c (before + x + 1)) (payload_group line payload slots x) [] in
+    let runs = run_groups line payload slots (x + 1) run in
     rest
-    ∙ ap (λ ys. ys ++ run_groups line payload slots (x + 1) run) (one ∙ ap (λ ys. ys ++ cond (is_data_at c (before + x + 1)) (payload_group line payload slots x) []) first ∙ sym (row_data-more line c before payload slots x))
-    ∙ sym (row_data-run line c before payload slots (x + 1) run (λ i l. subst (IsData c) (let e : before + x + 1 + i + 1 ≡ before + (x + 1) + i + 1 = omega arith in e) (each i l)))
-    ∙ ap (row_data line c before payload slots) (let e : x + 1 + run ≡ x + (run + 1) = omega arith in e)
+    ∙ ap (λ ys. ys ++ runs) (one ∙ ap (λ ys. ys ++ here) first ∙ append_assoc front (row_data line c before payload slots x) here ∙ ap (λ ys. front ++ ys) (sym (row_data-more line c before payload slots x)))
+    ∙ append_assoc front (row_data line c before payload slots (x + 1)) runs
+    ∙ ap (λ ys. front ++ ys) (sym (row_data-run line c before payload slots (x + 1) run (λ i l. subst (IsData c) (let e : before + x + 1 + i + 1 ≡ before + (x + 1) + i + 1 = omega arith in e) (each i l)))
+    ∙ ap (row_data line c before payload slots) (let e : x + 1 + run ≡ x + (run + 1) = omega arith in e))

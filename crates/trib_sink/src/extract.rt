@@ -23,20 +23,25 @@ pub(crate) fn groups_of_row(slots: &Slots) -> usize
     }
 }
 
-/// Writes the data groups of a row, one after the other, to the front of `into`, and says how many bytes
-/// they have. The next group that the runner is asked about is the first of the row.
+/// Writes the data groups of a row, one after the other, to `into` at `at`, and says where they end. What stands before
+/// them stays. The next group that the runner is asked about is the first of the row.
 #[tactic(auto, using(crate::proofs::Rows::row_steps))]
-pub(crate) fn take_row(runner: &mut Runner, payload: &[u8], slots: &Slots, into: &mut [u8]) -> usize
+pub(crate) fn take_row(
+    runner: &mut Runner,
+    payload: &[u8],
+    slots: &Slots,
+    into: &mut [u8],
+    at: usize,
+) -> usize
     requires payload { length payload.now ≡ PAYLOAD_COLUMNS }
-    requires room { length into.old ≡ PAYLOAD_COLUMNS }
+    requires room { at + length slots.now.list * row_cycles slots.now.kind ≤ length into.old }
     requires asked { runner.old.asked + row_cycles slots.now.kind ≤ GROUPS }
-    ensures count { result ≤ length slots.now.list * row_cycles slots.now.kind }
-    ensures inside { result ≤ PAYLOAD_COLUMNS }
-    ensures bytes { take result into.new ≡ row_data (slots_of slots.now.kind) runner.old.number runner.old.asked payload.now slots.now.list (row_cycles slots.now.kind) }
+    ensures count { result ≤ at + length slots.now.list * row_cycles slots.now.kind }
+    ensures bytes { take result into.new ≡ take at into.old ++ row_data (slots_of slots.now.kind) runner.old.number runner.old.asked payload.now slots.now.list (row_cycles slots.now.kind) }
     ensures runner { runner.new ≡ record runner.old { asked = runner.old.asked + row_cycles slots.now.kind } }
 {
     let groups = groups_of_row(slots);
-    let mut end = 0usize;
+    let mut end = at;
     let mut cycle = 0usize;
     while cycle < groups {
         end = take_cycle(runner, payload, cycle, slots, into, end);

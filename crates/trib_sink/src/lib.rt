@@ -4,7 +4,7 @@
 //! - `sink`: the sink itself, by turns of as many frames as the line has slots.
 //! - `turn`, `hear`, `said`, `watching`, `arrivals`: what a turn says to it: its message and its MSI bytes.
 //! - `follower`: how it goes on from turn to turn, without totals.
-//! - `payload`, `extract`: the bytes of the data groups, from the columns of a row into a ring.
+//! - `payload`, `extract`: the bytes of the data groups, from the columns of a row into a buffer.
 #![tactic(auto)]
 
 mod arrivals;

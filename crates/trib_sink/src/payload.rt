@@ -1,27 +1,30 @@
-// The bytes that a sink extracted and did not emit, in a ring.
-ghost use Rattle.std.specs.Prelude.{◌≡◌, ◌+◌, ◌*◌, ◌≤◌, [], ◌++◌, IfOk, length, take, drop};
+// The bytes that a sink extracted and did not emit, in two buffers.
+ghost use Rattle.std.specs.Prelude.{◌≡◌, ◌+◌, ◌*◌, ◌≤◌, [], ◌++◌, IfOk, length, take, drop, vec_len};
 ghost use Rattle.otn_base.specs.LineSlots.{slots_of};
 ghost use Rattle.otn_base.specs.declared.limits.TheConstants.{GROUPS, MOST_SLOTS, PAYLOAD_COLUMNS};
 ghost use Rattle.trib_sink.specs.Rows.{row_cycles, row_data, with_rows, after_frame};
 
 use crate::extract;
-use circular_buffer::HeapCircularBuffer;
 use frame_geometry::Frame;
 use gmp_rule::Runner;
 use otn_base::limits::{GROUPS, LINE_COLUMNS, PAYLOAD_COLUMNS};
 use otn_base::{Memory, Slots};
-use std::alloc::Global;
+use std::alloc::{AllocError, Global};
 use std::marker::Model;
+use std::mem;
 
 /// The bytes of a tributary's data groups: those that earlier turns left pending, and those that this
-/// turn extracted.
+/// turn extracted. The first stand in one buffer, from `first` to `last`, the others at the front of the other one, up to
+/// `end`; after a turn the buffers change places.
 #[derive(Drop)]
 pub(crate) struct Payload {
     slots: usize,
     runner: Runner,
-    held: usize,
-    ring: HeapCircularBuffer<u8>,
-    scratch: Vec<u8>,
+    kept: Vec<u8>,
+    first: usize,
+    last: usize,
+    fresh: Vec<u8>,
+    end: usize,
 }
 
 impl Model for Payload {
@@ -30,9 +33,9 @@ impl Model for Payload {
 
     ghost Value = { Extraction };
 
-    ghost view = { λ p. record { slots = p.slots; number = p.runner.number; asked = p.runner.asked; pending = take p.held p.ring.items; fresh = drop p.held p.ring.items } };
+    ghost view = { λ p. record { slots = p.slots; number = p.runner.number; asked = p.runner.asked; pending = drop p.first (take p.last p.kept.items); fresh = take p.end p.fresh.items } };
 
-    ghost invariant = { λ p. HasRoom p.slots p.runner.number p.runner.asked p.held p.ring.capacity (vec_len p.scratch) p.ring.items };
+    ghost invariant = { λ p. HasRoom p.slots p.runner.number p.runner.asked p.first p.last (vec_len p.kept) p.end (vec_len p.fresh) };
 }
 
 impl Payload {
@@ -41,14 +44,16 @@ impl Payload {
         requires { slots ≤ MOST_SLOTS }
         ensures { IfOk result (λ p. p ≡ record { slots = slots; number = 0; asked = 0; pending = []; fresh = [] }) }
     {
-        let ring = HeapCircularBuffer::with_capacity(alloc, slots * 2 * GROUPS)?;
-        let scratch = vec![in alloc; 0u8; PAYLOAD_COLUMNS]?;
+        let kept = room(alloc, slots * GROUPS)?;
+        let fresh = room(alloc, slots * GROUPS)?;
         Ok(Payload {
             slots,
             runner: Runner::start(0),
-            held: 0,
-            ring,
-            scratch,
+            kept,
+            first: 0,
+            last: 0,
+            fresh,
+            end: 0,
         })
     }
 
@@ -87,8 +92,9 @@ impl Payload {
         requires { number ≤ GROUPS }
         ensures { self.new ≡ record self.old { number = number; asked = 0; pending = []; fresh = [] } }
     {
-        self.ring.clear();
-        self.held = 0;
+        self.first = 0;
+        self.last = 0;
+        self.end = 0;
         self.runner = Runner::start(number as u32);
     }
 
@@ -98,7 +104,10 @@ impl Payload {
         requires first { self.old.pending ≡ [] }
         ensures { self.new ≡ record self.old { number = number; asked = 0; pending = self.old.pending ++ self.old.fresh; fresh = [] } }
     {
-        self.held = self.ring.len();
+        mem::swap(&mut self.kept, &mut self.fresh);
+        self.first = 0;
+        self.last = self.end;
+        self.end = 0;
         self.runner = Runner::start(number as u32);
     }
 
@@ -112,10 +121,13 @@ impl Payload {
         ensures count { result ≡ length (self.old.pending ++ take due self.old.fresh) }
         ensures most { result ≤ self.old.slots * GROUPS + due }
     {
-        let fresh = self.ring.len() - self.held;
-        let count = self.held + fresh.min(due as usize);
-        self.ring.read_into(&mut into[..count]);
-        self.held = self.ring.len();
+        let due = self.end.min(due as usize);
+        let held = copy_to(&self.kept[self.first..self.last], into, 0);
+        let count = copy_to(&self.fresh[..due], into, held);
+        mem::swap(&mut self.kept, &mut self.fresh);
+        self.first = due;
+        self.last = self.end;
+        self.end = 0;
         self.runner = Runner::start(number as u32);
         count
     }
@@ -128,9 +140,7 @@ impl Payload {
         ensures count { result ≡ length self.old.pending }
         ensures most { result ≤ self.old.slots * GROUPS }
     {
-        let count = self.held;
-        self.ring.read_into(&mut into[..count]);
-        self.held = 0;
+        let count = copy_to(&self.kept[self.first..self.last], into, 0);
         self.clear(0);
         count
     }
@@ -142,32 +152,24 @@ impl Payload {
         requires asked { self.old.asked + row_cycles slots.now.kind ≤ GROUPS }
         ensures { self.new ≡ record self.old { asked = self.old.asked + row_cycles slots.now.kind; fresh = self.old.fresh ++ row_data (slots_of slots.now.kind) self.old.number self.old.asked payload.now slots.now.list (row_cycles slots.now.kind) } }
     {
-        push_row(
-            &mut self.runner,
-            payload,
-            slots,
-            &mut self.scratch,
-            &mut self.ring,
-        );
+        self.end = extract::take_row(&mut self.runner, payload, slots, &mut self.fresh, self.end);
     }
 }
 
-// Extracts the data groups of a row into a ring that has room for them.
-fn push_row(
-    runner: &mut Runner,
-    payload: &[u8],
-    slots: &Slots,
-    scratch: &mut [u8],
-    ring: &mut HeapCircularBuffer<u8>,
-)
-    requires payload { length payload.now ≡ PAYLOAD_COLUMNS }
-    requires scratch { length scratch.old ≡ PAYLOAD_COLUMNS }
-    requires asked { runner.old.asked + row_cycles slots.now.kind ≤ GROUPS }
-    requires room { length ring.old.items + length slots.now.list * row_cycles slots.now.kind ≤ ring.old.capacity }
-    ensures ring { ring.new ≡ record ring.old { items = ring.old.items ++ row_data (slots_of slots.now.kind) runner.old.number runner.old.asked payload.now slots.now.list (row_cycles slots.now.kind) } }
-    ensures count { length ring.new.items ≤ length ring.old.items + length slots.now.list * row_cycles slots.now.kind }
-    ensures runner { runner.new ≡ record runner.old { asked = runner.old.asked + row_cycles slots.now.kind } }
+// So many bytes.
+fn room(alloc: Global, n: usize) -> Result<Vec<u8>, AllocError>
+    ensures { IfOk result (λ bytes. vec_len bytes ≡ n) }
 {
-    let count = extract::take_row(runner, payload, slots, scratch);
-    ring.fill_from_slice(&scratch[..count]);
+    vec![in alloc; 0u8; n]
+}
+
+// Writes these bytes at `at`, and says where they end; every other byte stays.
+fn copy_to(bytes: &[u8], into: &mut [u8], at: usize) -> usize
+    requires { at + length bytes.now ≤ length into.old }
+    ensures end { result ≡ at + length bytes.now }
+    ensures bytes { into.new ≡ take at into.old ++ bytes.now ++ drop result into.old }
+{
+    let end = at + bytes.len();
+    into[at..end].copy_from_slice(bytes);
+    end
 }

@@ -1,4 +1,4 @@
-use Rattle.std.proofs.Common.{◌≡◌, ◌+◌, ◌-◌, ◌*◌, ◌≤◌, length, take}
+use Rattle.std.proofs.Common.{◌≡◌, ◌+◌, ◌-◌, ◌*◌, ◌≤◌, ◌++◌, length, take}
 use Rattle.otn_base.specs.LineSlots.{slots_of}
 use Rattle.trib_sink.specs.Rows.{row_data}
 use Rattle.trib_sink.proofs.extract.take_row.Given as goal
@@ -7,8 +7,8 @@ abbrev pub invariant-loop-cycle : goal.invariant-loop-cycle
 invariant-loop-cycle l = record {
   cycles : l.cycle ≤ l.groups;
   runner : l.runner ≡ record l.initial.runner { asked = l.initial.runner.asked + l.cycle };
-  few : l.end ≤ length l.slots.list * l.cycle;
-  bytes : take l.end l.into ≡ row_data (slots_of l.slots.kind) l.initial.runner.number l.initial.runner.asked l.payload l.slots.list l.cycle;
+  few : l.end ≤ l.at + length l.slots.list * l.cycle;
+  bytes : take l.end l.into ≡ take l.at l.initial.into ++ row_data (slots_of l.slots.kind) l.initial.runner.number l.initial.runner.asked l.payload l.slots.list l.cycle;
 }
 
 abbrev pub decreases-loop-cycle : goal.decreases-loop-cycle

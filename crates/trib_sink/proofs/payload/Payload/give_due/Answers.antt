@@ -1,22 +1,24 @@
-use Rattle.std.proofs.Common.{◌≡◌, ◌+◌, ◌-◌, ◌≤◌, ◌++◌, arith, length, take, drop, ap, ◌∙◌}
-use Rattle.std.specs.Prelude.{min}
-use Rattle.std.proofs.lemmas.List.{length-take-le}
+use Rattle.std.proofs.Common.{◌≡◌, ◌-◌, ◌++◌, arith, take, drop, ap, sym, ◌∙◌}
 use Rattle.trib_sink.specs.Extraction.{Extraction}
-use Rattle.trib_sink.proofs.Ring.{given_due}
+use Rattle.trib_sink.proofs.LineRows.{turn_room}
+use Rattle.trib_sink.proofs.Emitted.{between, due_of, emitted}
 use Rattle.trib_sink.proofs.payload.Payload.give_due.Goals as goal
 
 pub returns-clause-bytes : goal.returns-clause-bytes
 returns-clause-bytes c =
-    let items = c.self.inside.ring.items in
-    let held = c.self.inside.held in
-    let count : c.min.result ≡ min (length items - held) c.args.due = c.min.ensures ∙ ap (λ n. min (n - held) c.args.due) c.len.ensures.len in
-    let front : length (take held items) ≡ held = length-take-le held items c.self.invariant.held_inside in
-    let pending : length (take held items) ≡ length c.args.self.now.pending = ap (λ (s : Extraction). length s.pending) c.self.view_is in
-    let slots : c.self.inside.slots ≡ c.args.self.now.slots = ap (λ (s : Extraction). s.slots) c.self.view_is in
-    let low = c.self.invariant.held_low in
-    let some = c.requires.room in
-    let least : c.min.result ≤ c.args.due = omega arith in
-    let room : held + c.min.result ≤ length c.args.into.now = omega arith in
-    rw (← c.self.view_is)
-    (ap (λ y. y ++ drop (held + c.min.result) c.args.into.now)
-    (given_due items c.args.into.now c.read_into.new.dst held c.args.due c.min.result c.read_into.result c.self.invariant.held_inside count room c.read_into.ensures.count c.read_into.ensures.read))
+    let i = c.self.inside in
+    let held = c.copy_to-held.ensures in
+    let count = c.copy_to-count.ensures in
+    let pending = take (i.last - i.first) (drop i.first c.deref.result.now) in
+    let due = take c.min-due.result c.deref-2.result.now in
+    let first : pending ≡ c.args.self.now.pending =
+    ap (λ xs. take (i.last - i.first) (drop i.first xs)) c.deref.ensures.value ∙ sym (between i.kept.items i.first i.last c.self.invariant.in_order) ∙ ap (λ (e : Extraction). e.pending) c.self.view_is in
+    let long = c.deref-2.ensures.len in
+    let full = c.self.invariant.fresh_is in
+    let few = turn_room i.slots i.runner.asked i.end c.self.invariant.end_low c.self.invariant.asked_low in
+    let second : due ≡ take c.args.due c.args.self.now.fresh =
+    due_of c.deref-2.result.now i.end c.args.due c.min-due.result (omega arith) c.min-due.ensures
+    ∙ ap (λ xs. take c.args.due (take i.end xs)) c.deref-2.ensures.value ∙ ap (λ (e : Extraction). take c.args.due e.fresh) c.self.view_is in
+    emitted pending due c.args.into.now c.copy_to-held.new.into c.copy_to-count.new.into c.copy_to-held.result c.copy_to-count.result held.bytes count.bytes (omega arith) count.end
+    ∙ ap (λ x. x ++ due ++ drop c.copy_to-count.result c.args.into.now) first
+    ∙ ap (λ y. c.args.self.now.pending ++ y ++ drop c.copy_to-count.result c.args.into.now) second
