@@ -12,26 +12,28 @@ use otn_base::limits::LINE_COLUMNS;
 use otu_overhead::OtuCheck;
 use std::marker::Model;
 
-/// Counts the frames with a wrong FAS, SM parity or PM parity. Contracts say which frames were taken so far.
+/// Counts the frames with a wrong FAS, SM parity or PM parity, where `COUNTS` is 1, and else nothing. Contracts say which
+/// frames were taken so far.
 #[derive(Drop)]
-pub(crate) struct FrameChecks {
+pub(crate) struct FrameChecks<const COUNTS: usize> {
     section: OtuCheck,
     path: PathCheck,
 }
 
-impl Model for FrameChecks {
+impl<const COUNTS: usize> Model for FrameChecks<COUNTS> {
+    ghost use Rattle.std.specs.Prelude.{◌==◌, if◌then◌else◌, Some, None};
     ghost use Rattle.line_side.specs.Counted.{Counted};
 
     ghost Value = { Counted };
 
-    ghost view = { λ c. record { section = c.section; path = c.path } };
+    ghost view = { λ c. if COUNTS == 1 then Some (record { section = c.section; path = c.path }) else None };
 }
 
-impl FrameChecks {
+impl<const COUNTS: usize> FrameChecks<COUNTS> {
     ghost use Rattle.line_side.specs.Counted.{HasCounted, CountsOn};
 
     /// No frame was taken.
-    pub(crate) fn new() -> FrameChecks
+    pub(crate) fn new() -> FrameChecks<COUNTS>
         ensures { HasCounted [] result }
     {
         FrameChecks {
@@ -44,10 +46,16 @@ impl FrameChecks {
     pub(crate) fn take(&mut self, frame: &Frame<LINE_COLUMNS>)
         ensures { CountsOn self.old frame.now self.new }
     {
-        let parity = parity(frame);
-        self.section.take_with(frame, parity);
-        self.path.take_with(frame, parity);
+        if COUNTS == 1 {
+            let parity = parity(frame);
+            self.section.take_with(frame, parity);
+            self.path.take_with(frame, parity);
+        }
     }
+}
+
+impl FrameChecks<1> {
+    ghost use Rattle.line_side.specs.Counted.{HasCounted};
 
     /// How many frames had a wrong FAS.
     pub(crate) fn fas(&self) -> u64

@@ -1,5 +1,5 @@
 //! The sides of a line of either kind, plain or scrambled. `LineIn` reads one: it finds the multiframes of its frames, one turn
-//! each. `LineOut` writes one, frame by frame.
+//! each. `UncountedLineIn` does the same and checks no overhead, so it has no numbers of it. `LineOut` writes a line, frame by frame.
 #![tactic(auto)]
 
 mod checks;
@@ -17,8 +17,13 @@ pub use laws::{
     frame_by_frame, frames_through_mask, given_is_among, masked_twice, one_line_file,
     parity_two_on, takes_the_wanted,
 };
-pub use line_in::LineIn;
 pub use line_out::LineOut;
+
+/// An input line of a node, with its numbers.
+pub type LineIn = line_in::LineIn<1>;
+
+/// An input line that checks no overhead of its frames, for a caller that doesn't report them.
+pub type UncountedLineIn = line_in::LineIn<0>;
 
 #[cfg(test)]
 mod tests;

@@ -20,11 +20,11 @@ use std::marker::Model;
 /// An input line of a node, of either kind, plain or scrambled. Each of its turns is one multiframe, of S frames where the
 /// line has S slots, done in S pieces of one frame each. It hunts for a multiframe, and passes over the frames before it as
 /// lead-in, which takes no turn; it is locked while at most half of the MFAS bytes of each multiframe differ from the
-/// expected ones (G.709 clause 15.6).
+/// expected ones (G.709 clause 15.6). It checks the overhead of the frames that it uses where `COUNTS` is 1.
 #[derive(Drop)]
-pub struct LineIn {
+pub struct LineIn<const COUNTS: usize> {
     phase: Phase,
-    reader: LineReader,
+    reader: LineReader<COUNTS>,
     pieces: u8,
     member: bool,
     ended: bool,
@@ -32,7 +32,7 @@ pub struct LineIn {
     lost: u64,
 }
 
-impl Model for LineIn {
+impl<const COUNTS: usize> Model for LineIn<COUNTS> {
     ghost use Rattle.std.specs.Prelude.{◌≡◌, ◌≤◌, true, IsSome, length};
     ghost use Rattle.std.specs.Option.{ForSome};
     ghost use Rattle.otn_base.specs.LineSlots.{slots_of};
@@ -49,18 +49,17 @@ impl Model for LineIn {
     } };
 }
 
-impl LineIn {
+impl<const COUNTS: usize> LineIn<COUNTS> {
     ghost use Rattle.line_side.specs.LineForm.{LineForm};
     ghost use Rattle.line_side.specs.LineStands.{LineStands, PieceStands, InEachTurn, OfMember, AwaitsTurn, TurnEnded, members};
-    ghost use Rattle.line_side.specs.LineNumbers.{numbers_of};
     ghost use Rattle.line_side.specs.LineMoves.{TakesNext, Tries, Hunts, StepMoves, EndMoves, TakesMember, is_locked};
-    ghost use Rattle.line_side.specs.Reader.{AsksNoMore};
+    ghost use Rattle.line_side.specs.Reader.{AsksNoMore, rest_of};
     ghost use Rattle.line_side.specs.LineFile.{frame_at};
     ghost use Rattle.multiframe.specs.LineTurns.{one_if};
     ghost use Rattle.line_side.specs.declared.ending.Ending.TheVariants.{Open, Seen};
 
     /// A line of this kind, scrambled or plain, before its first turn, of which nothing was read.
-    pub fn new(alloc: Global, kind: LineKind, scrambled: bool) -> Result<LineIn, Memory>
+    pub fn new(alloc: Global, kind: LineKind, scrambled: bool) -> Result<LineIn<COUNTS>, Memory>
         ensures stands { IfOk result (λ line. (first : InView) → LineStands (record { kind = kind; scrambled = scrambled }) first first [] 0 line) }
         ensures kind { IfOk result (λ line. line.kind ≡ kind) }
         ensures pieces { IfOk result (λ line. line.pieces ≡ 0) }
@@ -172,25 +171,12 @@ impl LineIn {
         self.reader.end_seen()
     }
 
-    /// The numbers of the line so far.
-    #[tactic(auto, using(crate::proofs::Numbers::numbers_are))]
-    pub fn counts(&self) -> LineCounts
-        ensures frames { result.frames ≡ self.now.reader.frames }
-        ensures lead_in { result.lead_in ≡ self.now.lead_in }
-        ensures lost { result.lost ≡ self.now.lost }
-        ensures rest { result.rest ≡ self.now.reader.rest }
-        ensures line { InEachTurn self.now (λ form given t. result ≡ numbers_of form self.now.reader.ending given t self.now.pieces) }
+    /// How many bytes came after the last whole frame, where the end was seen.
+    pub fn rest(&self) -> u64
+        ensures rest { result ≡ self.now.reader.rest }
+        ensures line { InEachTurn self.now (λ form given t. result ≡ rest_of self.now.reader.ending given) }
     {
-        let seen = self.reader.seen();
-        LineCounts {
-            frames: self.reader.frames(),
-            lead_in: self.lead_in,
-            lost: self.lost,
-            rest: self.reader.rest(),
-            fas: seen.fas(),
-            sm: seen.sm(),
-            pm: seen.pm(),
-        }
+        self.reader.rest()
     }
 
     // A piece of a line that has not ended takes the next frame of the turn, or hunts for the first one.
@@ -273,5 +259,31 @@ impl LineIn {
         self.phase.lock(mfas);
         self.phase.take(mfas);
         Tried::Locks
+    }
+}
+
+impl LineIn<1> {
+    ghost use Rattle.line_side.specs.LineStands.{InEachTurn};
+    ghost use Rattle.line_side.specs.LineNumbers.{numbers_of};
+
+    /// The numbers of the line so far.
+    #[tactic(auto, using(crate::proofs::Numbers::numbers_are))]
+    pub fn counts(&self) -> LineCounts
+        ensures frames { result.frames ≡ self.now.reader.frames }
+        ensures lead_in { result.lead_in ≡ self.now.lead_in }
+        ensures lost { result.lost ≡ self.now.lost }
+        ensures rest { result.rest ≡ self.now.reader.rest }
+        ensures line { InEachTurn self.now (λ form given t. result ≡ numbers_of form self.now.reader.ending given t self.now.pieces) }
+    {
+        let seen = self.reader.seen();
+        LineCounts {
+            frames: self.reader.frames(),
+            lead_in: self.lead_in,
+            lost: self.lost,
+            rest: self.reader.rest(),
+            fas: seen.fas(),
+            sm: seen.sm(),
+            pm: seen.pm(),
+        }
     }
 }

@@ -16,9 +16,9 @@ use std::alloc::Global;
 use std::marker::Model;
 use std::mem;
 
-/// A reader of a line's frames, which come through the line's mask.
+/// A reader of a line's frames, which come through the line's mask. It checks their overhead where `COUNTS` is 1.
 #[derive(Drop)]
-pub(crate) struct LineReader {
+pub(crate) struct LineReader<const COUNTS: usize> {
     mask: LineMask,
     hand: Frame<LINE_COLUMNS>,
     next: Frame<LINE_COLUMNS>,
@@ -26,10 +26,10 @@ pub(crate) struct LineReader {
     ending: Ending,
     frames: u64,
     rest: u64,
-    seen: FrameChecks,
+    seen: FrameChecks<COUNTS>,
 }
 
-impl Model for LineReader {
+impl<const COUNTS: usize> Model for LineReader<COUNTS> {
     ghost use Rattle.std.specs.Prelude.{if◌then◌else◌, Some, None};
     ghost use Rattle.line_side.specs.Reader.{ReaderView};
 
@@ -74,11 +74,11 @@ ghost use Rattle.line_side.specs.Reader.{Advances, LooksAhead, Begins, AsksNoMor
 ghost use Rattle.line_side.specs.LineFile.{frame_mfas};
 ghost use Rattle.line_side.specs.declared.ending.Ending.TheVariants.{Open, Seen};
 
-impl LineReader {
+impl<const COUNTS: usize> LineReader<COUNTS> {
     ghost use Rattle.line_side.specs.Counted.{HasCounted, CountsOn};
 
     /// A reader that has read nothing of a line, scrambled or plain.
-    pub(crate) fn new(alloc: Global, scrambled: bool) -> Result<LineReader, Memory>
+    pub(crate) fn new(alloc: Global, scrambled: bool) -> Result<LineReader<COUNTS>, Memory>
         ensures scrambled { IfOk result (λ r. r.scrambled ≡ scrambled) }
         ensures ahead { IfOk result (λ r. r.ahead ≡ None) }
         ensures ending { IfOk result (λ r. r.ending ≡ Open) }
@@ -180,7 +180,7 @@ impl LineReader {
     }
 
     /// What was counted of the overhead of the frames that were taken into the hand.
-    pub(crate) fn seen(&self) -> &FrameChecks
+    pub(crate) fn seen(&self) -> &FrameChecks<COUNTS>
         ensures { result.now ≡ self.now.seen }
     {
         &self.seen

@@ -12,7 +12,7 @@ ghost use Rattle.line_tool.specs.PullTurn.{TapStands, StandsSomewhere, IsBetween
 use crate::beyond::ask_for_more;
 use crate::ended::Ended;
 use crate::tap::Tap;
-use line_side::LineIn;
+use line_side::UncountedLineIn;
 use otn_base::limits::{GROUPS, MOST_TURNS};
 use otn_base::{LineKind, Memory, Slots};
 use otn_ports::{InPlaceOf, Sink, Source, Written, write_whole};
@@ -108,7 +108,7 @@ fn write_turn<I: Source, K: Sink>(
 }
 
 // How the command ends after its last turn.
-fn answer<I: Source>(line: &LineIn, place: &mut InPlaceOf<I>) -> Ended
+fn answer<I: Source>(line: &UncountedLineIn, place: &mut InPlaceOf<I>) -> Ended
     ensures { AnswerRun line.now (in_view I.Source place.old) (in_view I.Source place.new) result }
 {
     if let InPlaceOf::Dead(..) = place {
@@ -117,7 +117,7 @@ fn answer<I: Source>(line: &LineIn, place: &mut InPlaceOf<I>) -> Ended
     if !line.end_seen() {
         return ask_for_more(place);
     }
-    if line.counts().rest == 0 {
+    if line.rest() == 0 {
         Ended::Done
     } else {
         Ended::Unfinished

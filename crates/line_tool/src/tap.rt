@@ -6,7 +6,7 @@ ghost use Rattle.tributary_model.specs.Places.{Tributary};
 ghost use Rattle.otn_base.specs.declared.limits.TheConstants.{GROUPS, OTU2_SLOTS};
 ghost use Rattle.line_tool.specs.PullReport.{tributary};
 
-use line_side::LineIn;
+use line_side::UncountedLineIn;
 use otn_base::limits::OTU2_SLOTS;
 use otn_base::{LineKind, Memory, Slots};
 use otn_ports::{InPlaceOf, Source};
@@ -16,7 +16,7 @@ use trib_sink::TribSink;
 /// A sink that sees the turns of a line, from the first one on.
 #[derive(Drop)]
 pub(crate) struct Tap {
-    line: LineIn,
+    line: UncountedLineIn,
     sink: TribSink,
 }
 
@@ -33,7 +33,7 @@ impl Tap {
         ensures between { IfOk result IsBetweenTurns }
         ensures slots { IfOk result (λ tap. tap.sink.slots ≡ slots.now) }
     {
-        let line = LineIn::new(alloc, LineKind::Otu2, false)?;
+        let line = UncountedLineIn::new(alloc, LineKind::Otu2, false)?;
         let sink = TribSink::new(alloc, slots, port)?;
         Ok(Tap { line, sink })
     }
@@ -89,7 +89,7 @@ impl Tap {
     }
 
     /// The line.
-    pub(crate) fn line(&self) -> &LineIn
+    pub(crate) fn line(&self) -> &UncountedLineIn
         ensures { result.now ≡ self.now.line }
     {
         &self.line
