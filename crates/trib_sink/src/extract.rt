@@ -11,6 +11,9 @@ use odtu_columns::{cycle_group, cycle_groups};
 use otn_base::limits::{OTU2_SLOTS, OTU3_SLOTS, PAYLOAD_COLUMNS};
 use otn_base::{LineKind, Slots};
 
+// So many cycles in a row are taken one by one.
+const FEW_CYCLES: usize = 3;
+
 /// How many groups a row has on the line of these slots: 476, or 119.
 pub(crate) fn groups_of_row(slots: &Slots) -> usize
     ensures groups { result ≡ row_cycles slots.now.kind }
@@ -89,7 +92,8 @@ fn put_cycle(payload: &[u8], cycle: usize, slots: &Slots, into: &mut [u8], at: u
     end
 }
 
-// Writes the bytes of the slots in `count` cycles from `first` on at `at`, and says where they end.
+// Writes the bytes of the slots in `count` cycles from `first` on at `at`, and says where they end. What `cycle_groups`
+// does before its first cycle only pays for more than a few.
 fn put_cycles(
     payload: &[u8],
     first: usize,
@@ -104,7 +108,32 @@ fn put_cycles(
     ensures end { result ≡ at + length slots.now.list * count }
     ensures bytes { take result into.new ≡ take at into.old ++ run_groups (slots_of slots.now.kind) payload.now slots.now.list first count }
 {
+    if count <= FEW_CYCLES {
+        return put_few(payload, first, count, slots, into, at);
+    }
     let end = at + slots.count() as usize * count;
     cycle_groups(payload, first, count, slots, &mut into[at..end]);
+    end
+}
+
+// The same, cycle by cycle.
+fn put_few(
+    payload: &[u8],
+    first: usize,
+    count: usize,
+    slots: &Slots,
+    into: &mut [u8],
+    at: usize,
+) -> usize
+    requires payload { length payload.now ≡ PAYLOAD_COLUMNS }
+    requires cycles { first + count ≤ row_cycles slots.now.kind }
+    requires room { at + length slots.now.list * count ≤ length into.old }
+    ensures end { result ≡ at + length slots.now.list * count }
+    ensures bytes { take result into.new ≡ take at into.old ++ run_groups (slots_of slots.now.kind) payload.now slots.now.list first count }
+{
+    let mut end = at;
+    for i in 0..count {
+        end = put_cycle(payload, first + i, slots, into, end);
+    }
     end
 }
