@@ -48,7 +48,7 @@ RunsHeal = (world : World) (x : Connection) (a from s b u h : ℕ) (slots : Line
 -- ---- behind a gap
 
 -- A run reads as its line c the file that another wrote to line b, with the mask that it was written with. A connection of it comes from the slots, and
--- by the port, to which one of the other goes, from the same turn on and to a stop that is no later. The other's own line may be damaged anyhow.
+-- by the port, to which one of the other goes, from the same turn on and to a stop that is no later. How the other's own line is damaged is free.
 pub record Follows (one other : World) (went : Went) (x y : Connection) (b c : ℕ) (slots next : LineSlots) : Type 0 where
   pub first : Contains one.plan.connections x
   pub second : Contains other.plan.connections y

@@ -15,7 +15,7 @@ pub fn runs_agree_but_for_one()
     ensures { RunsAgreeButForOne }
 {}
 
-/// Behind a gap: a run reads the file that another wrote, whose own line may be damaged anyhow. What it gets of the
+/// Behind a gap: a run reads the file that another wrote, however that one's own line was damaged. What it gets of the
 /// other's connection is a front of what that one got: no byte is lost, doubled or out of order, and less than a
 /// group is held back.
 pub fn runs_hand_on_a_front()
