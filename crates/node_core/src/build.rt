@@ -1,6 +1,7 @@
 // The parts of a node before turn 1 of a plan.
 ghost use Rattle.std.specs.Prelude.{◌≡◌, ◌<◌, ℕ, [], None, Some, IfOk, length, slice_get, vec_len};
 ghost use Rattle.std.specs.List.{list_any};
+ghost use Rattle.otn_base.specs.declared.limits.TheConstants.{LINES as LINE_PORTS};
 ghost use Rattle.otn_ports.specs.Views.{InView, OutView};
 ghost use Rattle.line_side.specs.LineOutput.{LineMade};
 ghost use Rattle.line_side.specs.LineStands.{LineStands};
@@ -14,6 +15,7 @@ use crate::ports::{has_number, kind_by};
 use device_model::accepted_plans;
 use line_side::{LineIn, LineOut};
 use otn_base::Memory;
+use otn_base::limits::LINES;
 use plan_file::Plan;
 use std::alloc::Global;
 
@@ -22,7 +24,7 @@ pub(crate) fn new_lines_in(alloc: Global, plan: &Plan) -> Result<Vec<LineIn>, Me
     ensures { IfOk result (λ lines. AreNewLinesIn plan.now lines.items) }
 {
     let mut lines = Vec::new(alloc);
-    for a in 0..4_u8 {
+    for a in 0..LINES as u8 {
         lines.push(new_line_in(alloc, plan, a)?)?;
     }
     Ok(lines)
@@ -42,14 +44,14 @@ pub(crate) fn new_lines_out(alloc: Global, plan: &Plan) -> Result<Vec<LineOut>, 
     ensures { IfOk result (λ lines. AreNewLinesOut plan.now lines.items) }
 {
     let mut lines = Vec::new(alloc);
-    for b in 0..4_u8 {
+    for b in 0..LINES as u8 {
         lines.push(new_line_out(alloc, plan, b)?)?;
     }
     Ok(lines)
 }
 
 fn new_line_out(alloc: Global, plan: &Plan, b: u8) -> Result<LineOut, Memory>
-    requires { b < 4 }
+    requires { b < LINE_PORTS }
     ensures { IfOk result (λ line. (first : OutView) → LineMade b (form_out plan.now b) first first [] line) }
 {
     let kind = kind_by(plan.otu3_out.as_slice(), b);

@@ -3,49 +3,57 @@ ghost use Rattle.std.specs.Prelude.{◌≡◌, ◌<◌, ◌≤◌, ◌+◌, ◌=
 ghost use Rattle.std.specs.List.{list_any};
 ghost use Rattle.device_model.specs.Entries.{is_from_line, is_from_client, is_to_line, is_to_client, kind_by};
 ghost use Rattle.device_model.specs.Moments.{touches, uses, pieces_by, pieces_of};
-ghost use Rattle.node_core.specs.Ports.{index_of, port_at};
+ghost use Rattle.node_core.specs.Ports.{index_of, port_at, port_count};
 
+use otn_base::limits::{CLIENTS, LINES};
 use otn_base::{LineKind, PortName};
 use plan_file::{Connection, FromEnd, Plan, ToEnd};
 
-/// How many ports there are.
-pub(crate) const PORTS: usize = 40;
+/// How many ports there are: lines in, lines out, clients in, clients out.
+pub(crate) const PORTS: usize = 2 * (LINES + CLIENTS);
 
-/// The number of a port, from 0: lines in, lines out, clients in, clients out; 40 for a name of no port.
+// The numbers of the first line out, the first client in and the first client out.
+const LINES_OUT: usize = LINES;
+
+const CLIENTS_IN: usize = 2 * LINES;
+
+const CLIENTS_OUT: usize = CLIENTS_IN + CLIENTS;
+
+/// The number of a port, from 0, in this order; the number of all ports for a name of no port.
 pub(crate) fn index_of(name: PortName) -> usize
     ensures { result ≡ index_of name }
 {
     match name {
-        PortName::LineIn(n) => within(n, 4, 0),
-        PortName::LineOut(n) => within(n, 4, 4),
-        PortName::ClientIn(n) => within(n, 16, 8),
-        PortName::ClientOut(n) => within(n, 16, 24),
+        PortName::LineIn(n) => within(n, LINES as u8, 0),
+        PortName::LineOut(n) => within(n, LINES as u8, LINES_OUT),
+        PortName::ClientIn(n) => within(n, CLIENTS as u8, CLIENTS_IN),
+        PortName::ClientOut(n) => within(n, CLIENTS as u8, CLIENTS_OUT),
     }
 }
 
 // Number n of a kind of which there are so many, the first having this number.
 fn within(n: u8, count: u8, first: usize) -> usize
-    requires { first ≤ 24 }
-    ensures { result ≡ (if nat_lt n count then first + n else 40) }
+    requires { first ≤ port_count }
+    ensures { result ≡ (if nat_lt n count then first + n else port_count) }
 {
     if n < count { first + n as usize } else { PORTS }
 }
 
 /// The port of a number.
 pub(crate) fn port_at(i: u8) -> PortName
-    requires { i < 40 }
+    requires { i < port_count }
     ensures { result ≡ port_at i }
 {
-    if i < 4 {
+    if i < LINES_OUT as u8 {
         return PortName::LineIn(i);
     }
-    if i < 8 {
-        return PortName::LineOut(i - 4);
+    if i < CLIENTS_IN as u8 {
+        return PortName::LineOut(i - LINES_OUT as u8);
     }
-    if i < 24 {
-        return PortName::ClientIn(i - 8);
+    if i < CLIENTS_OUT as u8 {
+        return PortName::ClientIn(i - CLIENTS_IN as u8);
     }
-    PortName::ClientOut(i - 24)
+    PortName::ClientOut(i - CLIENTS_OUT as u8)
 }
 
 /// The kind of a line, by the list of the lines of its side that are OTU3 (G.709 clause 19.1).

@@ -44,7 +44,7 @@ impl Node {
 
 // Asks each line for one byte, where it is to be asked, and says whether one came.
 fn ask_lines<P: Source, K: Sink>(lines: &[LineIn], pieces: &Pieces, bays: &mut Rack<P, K>) -> bool
-    requires four { length lines.now ≡ 4 }
+    requires four { length lines.now ≡ LINE_PORTS }
     ensures { LinesAnswer LINE_PORTS pieces.now lines.now (bays_view P.Source K.Sink bays.old) (bays_view P.Source K.Sink bays.new) result }
 {
     let mut more = false;

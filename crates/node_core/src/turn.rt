@@ -2,6 +2,7 @@
 ghost use Rattle.std.specs.Prelude.{◌≡◌, ◌≤◌, ◌<◌, ℕ, true, length, slice_get, vec_len, Some};
 ghost use Rattle.otn_base.specs.LineSlots.{slots_of};
 ghost use Rattle.otn_base.specs.declared.kind.PortName.TheVariants.{LineIn as line-in};
+ghost use Rattle.otn_base.specs.declared.limits.TheConstants.{LINES as LINE_PORTS};
 ghost use Rattle.line_side.specs.LineStands.{LineView};
 ghost use Rattle.node_core.specs.LineEnds.{LinesEnd, ends_if};
 ghost use Rattle.node_core.specs.Moves.{Fences, EachLink};
@@ -12,16 +13,17 @@ use crate::link::Link;
 use crate::pieces::Pieces;
 use line_side::LineIn;
 use otn_base::PortName;
+use otn_base::limits::LINES;
 
 /// Ends the turn of each line input that is used, and says of each whether it has a multiframe in it.
-pub(crate) fn end_lines(lines: &mut Vec<LineIn>, pieces: &Pieces) -> [bool; 4]
-    requires four { vec_len lines.old ≡ 4 }
+pub(crate) fn end_lines(lines: &mut Vec<LineIn>, pieces: &Pieces) -> [bool; LINES]
+    requires four { vec_len lines.old ≡ LINE_PORTS }
     requires done { (a : ℕ) (line : LineView) → slice_get lines.old.items a ≡ Some line → 1 ≤ wanted_of pieces.now (line-in a) → line.pieces ≡ slots_of line.kind }
-    ensures four { vec_len lines.new ≡ 4 }
+    ensures four { vec_len lines.new ≡ LINE_PORTS }
     ensures ends { LinesEnd pieces.now lines.old.items lines.new.items result }
 {
-    let mut wholes = [false; 4];
-    for a in 0..4_u8 {
+    let mut wholes = [false; LINES];
+    for a in 0..LINES as u8 {
         wholes[a as usize] = end_line(&mut lines[a as usize], pieces.is_used(PortName::LineIn(a)));
     }
     wholes
