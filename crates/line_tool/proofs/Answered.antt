@@ -18,9 +18,9 @@ use Rattle.otn_ports.specs.PortViews.{SinkLater, sink_view, source_view}
 use Rattle.line_tool.specs.Device.{Device, OnlyLine, Stays, device, line_zero}
 use Rattle.line_tool.specs.Ends.{ReportAfter, line_status}
 use Rattle.line_tool.specs.PlanCheck.{CheckRun}
-use Rattle.line_tool.specs.PullRuns.{PullRun}
-use Rattle.line_tool.specs.Runs.{CountsBy, IsRefusal}
-use Rattle.line_tool.specs.SlotRuns.{SlotRun}
+use Rattle.line_tool.specs.PullRuns.{PullEnded}
+use Rattle.line_tool.specs.AnswerWords.{CountsBy, IsRefusal}
+use Rattle.line_tool.specs.SlotRuns.{SlotEnded}
 use Rattle.line_tool.specs.declared.ended.Ended.{Ended}
 use Rattle.line_tool.specs.declared.ended.Ended.TheVariants.{Done, Unfinished, ReportFault, Cut}
 use Rattle.line_tool.specs.declared.status.Status.{Status}
@@ -66,21 +66,21 @@ line_answers Ran (Ok ReportFault) old new same run counts alone = record { answe
 line_answers Ran (Ok Cut) old new same run counts alone = record { answer = tt; counts = counts; alone = alone; memory = λ e. absurd (cc); ran = λ _. run }
 
 slot_answers : (result : Result Ended NoMemory) (slot : ℕ) (old new : Device) → IfErr result (λ _. new ≡ old)
-    → IfOk result (λ ended. SlotRun slot (line_zero old) (line_zero new) old.report.got new.report.got ended) → IfOk result (λ ended. ReportAfter (Some ended) old.report new.report)
+    → IfOk result (λ ended. SlotEnded slot (line_zero old) (line_zero new) old.report.got new.report.got ended) → IfOk result (λ ended. ReportAfter (Some ended) old.report new.report)
     → OnlyLine old new → LineAnswers (SlotRan slot) old new (line_status result)
 slot_answers result slot old new same run report alone = line_answers (SlotRan slot) result old new same (ran result run) (line_counts result old new same report) alone
   where
-    ran : (result : Result Ended NoMemory) → IfOk result (λ ended. SlotRun slot (line_zero old) (line_zero new) old.report.got new.report.got ended)
+    ran : (result : Result Ended NoMemory) → IfOk result (λ ended. SlotEnded slot (line_zero old) (line_zero new) old.report.got new.report.got ended)
         → IfOk result (λ ended. SlotRan slot old new (line_status (Ok ended)))
     ran (Ok ended) run = slot_ran ended slot old new run
     ran (Err memory) run = tt
 
 pull_answers : (result : Result Ended NoMemory) (own : Tributary) (old new : Device) → IfErr result (λ _. new ≡ old)
-    → IfOk result (λ ended. PullRun own (line_zero old) (line_zero new) old.report.got new.report.got ended) → IfOk result (λ ended. ReportAfter (Some ended) old.report new.report)
+    → IfOk result (λ ended. PullEnded own (line_zero old) (line_zero new) old.report.got new.report.got ended) → IfOk result (λ ended. ReportAfter (Some ended) old.report new.report)
     → OnlyLine old new → LineAnswers (PullRan own) old new (line_status result)
 pull_answers result own old new same run report alone = line_answers (PullRan own) result old new same (ran result run) (line_counts result old new same report) alone
   where
-    ran : (result : Result Ended NoMemory) → IfOk result (λ ended. PullRun own (line_zero old) (line_zero new) old.report.got new.report.got ended)
+    ran : (result : Result Ended NoMemory) → IfOk result (λ ended. PullEnded own (line_zero old) (line_zero new) old.report.got new.report.got ended)
         → IfOk result (λ ended. PullRan own old new (line_status (Ok ended)))
     ran (Ok ended) run = pull_ran ended own old new run
     ran (Err memory) run = tt
@@ -109,12 +109,12 @@ line_gave i x y (Ok ended) same gave = gave
 line_gave i x y (Err memory) same gave = ([], subst (λ place. Gave (in_view i x) [] (in_view i place)) (sym same) (gave_none (in_view i x)))
 
 pub slot_gave : (result : Result Ended NoMemory) (slot : ℕ) {I : Type 0} (i : source.Ghosts I) (x y : InPlaceOf I) (old new : Option (List ℕ))
-    → IfOk result (λ ended. SlotRun slot (in_view i x) (in_view i y) old new ended) → IfOk result (λ ended. (taken : List ℕ) × Gave (in_view i x) taken (in_view i y))
+    → IfOk result (λ ended. SlotEnded slot (in_view i x) (in_view i y) old new ended) → IfOk result (λ ended. (taken : List ℕ) × Gave (in_view i x) taken (in_view i y))
 slot_gave (Ok ended) slot i x y old new run = (run.taken, run.gave)
 slot_gave (Err memory) slot i x y old new run = tt
 
 pub pull_gave : (result : Result Ended NoMemory) (own : Tributary) {I : Type 0} (i : source.Ghosts I) (x y : InPlaceOf I) (old new : Option (List ℕ))
-    → IfOk result (λ ended. PullRun own (in_view i x) (in_view i y) old new ended) → IfOk result (λ ended. (taken : List ℕ) × Gave (in_view i x) taken (in_view i y))
+    → IfOk result (λ ended. PullEnded own (in_view i x) (in_view i y) old new ended) → IfOk result (λ ended. (taken : List ℕ) × Gave (in_view i x) taken (in_view i y))
 pull_gave (Ok ended) own i x y old new run = (run.taken, run.gave)
 pull_gave (Err memory) own i x y old new run = tt
 
@@ -135,23 +135,23 @@ only_line p k i o plan rack x y report new result there memory gave = record {
 
 pub slot_answered : {P K I O : Type 0} (p : source.Ghosts P) (k : sink.Ghosts K) (i : source.Ghosts I) (o : sink.Ghosts O) (plan : P) (rack : Rack I O) (x y : InPlaceOf I) (report new : K)
     (result : Result Ended NoMemory) (slot : ℕ) → slice_get (line_ins rack) 0 ≡ Some x → IfErr result (λ _. (y ≡ x) × (new ≡ report))
-    → IfOk result (λ ended. SlotRun slot (in_view i x) (in_view i y) (k.got report) (k.got new) ended) → IfOk result (λ ended. ReportAfter (Some ended) (sink_view k report) (sink_view k new))
+    → IfOk result (λ ended. SlotEnded slot (in_view i x) (in_view i y) (k.got report) (k.got new) ended) → IfOk result (λ ended. ReportAfter (Some ended) (sink_view k report) (sink_view k new))
     → LineAnswers (SlotRan slot) (device p k i o plan rack report) (after_line p k i o plan rack y new) (line_status result)
 slot_answered p k i o plan rack x y report new result slot there memory run after =
     slot_answers result slot (device p k i o plan rack report) (after_line p k i o plan rack y new) (same_if p k i o plan rack x y report new result there memory)
-    (subst (λ first. IfOk result (λ ended. SlotRun slot first (line_in_at (bays_view i o (with_line_in rack 0 y)) 0) (k.got report) (k.got new) ended)) (sym (line_in_seen i o rack 0 x there))
-    (subst (λ now. IfOk result (λ ended. SlotRun slot (in_view i x) now (k.got report) (k.got new) ended)) (sym (line_in_set i o rack 0 x y there)) run))
+    (subst (λ first. IfOk result (λ ended. SlotEnded slot first (line_in_at (bays_view i o (with_line_in rack 0 y)) 0) (k.got report) (k.got new) ended)) (sym (line_in_seen i o rack 0 x there))
+    (subst (λ now. IfOk result (λ ended. SlotEnded slot (in_view i x) now (k.got report) (k.got new) ended)) (sym (line_in_set i o rack 0 x y there)) run))
     after
     (only_line p k i o plan rack x y report new result there memory (slot_gave result slot i x y (k.got report) (k.got new) run))
 
 pub pull_answered : {P K I O : Type 0} (p : source.Ghosts P) (k : sink.Ghosts K) (i : source.Ghosts I) (o : sink.Ghosts O) (plan : P) (rack : Rack I O) (x y : InPlaceOf I) (report new : K)
     (result : Result Ended NoMemory) (own : Tributary) → slice_get (line_ins rack) 0 ≡ Some x → IfErr result (λ _. (y ≡ x) × (new ≡ report))
-    → IfOk result (λ ended. PullRun own (in_view i x) (in_view i y) (k.got report) (k.got new) ended) → IfOk result (λ ended. ReportAfter (Some ended) (sink_view k report) (sink_view k new))
+    → IfOk result (λ ended. PullEnded own (in_view i x) (in_view i y) (k.got report) (k.got new) ended) → IfOk result (λ ended. ReportAfter (Some ended) (sink_view k report) (sink_view k new))
     → LineAnswers (PullRan own) (device p k i o plan rack report) (after_line p k i o plan rack y new) (line_status result)
 pull_answered p k i o plan rack x y report new result own there memory run after =
     pull_answers result own (device p k i o plan rack report) (after_line p k i o plan rack y new) (same_if p k i o plan rack x y report new result there memory)
-    (subst (λ first. IfOk result (λ ended. PullRun own first (line_in_at (bays_view i o (with_line_in rack 0 y)) 0) (k.got report) (k.got new) ended)) (sym (line_in_seen i o rack 0 x there))
-    (subst (λ now. IfOk result (λ ended. PullRun own (in_view i x) now (k.got report) (k.got new) ended)) (sym (line_in_set i o rack 0 x y there)) run))
+    (subst (λ first. IfOk result (λ ended. PullEnded own first (line_in_at (bays_view i o (with_line_in rack 0 y)) 0) (k.got report) (k.got new) ended)) (sym (line_in_seen i o rack 0 x there))
+    (subst (λ now. IfOk result (λ ended. PullEnded own (in_view i x) now (k.got report) (k.got new) ended)) (sym (line_in_set i o rack 0 x y there)) run))
     after
     (only_line p k i o plan rack x y report new result there memory (pull_gave result own i x y (k.got report) (k.got new) run))
 

@@ -16,7 +16,7 @@ use Rattle.line_tool.specs.Device.{Device, Stays}
 use Rattle.line_tool.specs.PlanReading.{PlanReading}
 use Rattle.line_tool.specs.PlanRuns.{PlanCarried, run_status}
 use Rattle.line_tool.specs.RunAnswers.{PlanRan, RunAnswers, TextRan, outcome_status, pieces_in_all}
-use Rattle.line_tool.specs.Runs.{IsRefusal, Reports}
+use Rattle.line_tool.specs.AnswerWords.{IsRefusal, Reports}
 use Rattle.line_tool.specs.declared.plan_run.Ran.{Ran}
 use Rattle.line_tool.specs.declared.plan_run.Ran.TheVariants as ran
 use Rattle.line_tool.specs.declared.plan_text.Planned.TheVariants as planned

@@ -14,7 +14,7 @@ use Rattle.line_tool.specs.Device.{Device}
 use Rattle.line_tool.specs.Ends.{check_status}
 use Rattle.line_tool.specs.PlanCheck.{CheckRun, CheckEnds, PlanTold}
 use Rattle.line_tool.specs.PlanReading.{IsAll, PlanReading, WasRead, most_read}
-use Rattle.line_tool.specs.Runs.{CountsBy, IsRefusal, IsWell}
+use Rattle.line_tool.specs.AnswerWords.{CountsBy, IsRefusal, IsWell}
 use Rattle.line_tool.specs.declared.check.Checked.{Checked}
 use Rattle.line_tool.specs.declared.check.Checked.TheVariants as checked
 use Rattle.line_tool.specs.declared.plan_text.Planned.TheVariants as planned

@@ -20,7 +20,7 @@ use Rattle.line_tool.specs.Ends.{ReportAfter}
 use Rattle.line_tool.specs.Gains.{GainsPart}
 use Rattle.device_model.specs.LineViews.{emitted_at}
 use Rattle.line_tool.specs.PullReport.{emitted_until, pull_report, frames_wanted, bytes_taken, LeavesBytes}
-use Rattle.line_tool.specs.PullRuns.{MayFollow, PullRun, TurnRun, AnswerRun}
+use Rattle.line_tool.specs.PullRuns.{MayFollow, PullEnded, TurnRun, AnswerRun}
 use Rattle.line_tool.specs.PullTurn.{TapStands}
 use Rattle.line_tool.specs.declared.pull.After.{After}
 use Rattle.line_tool.specs.declared.pull.After.TheVariants as next
@@ -135,7 +135,7 @@ closed_is Died e = λ f. cc
 -- with a write that failed
 pub turns_lost : (own : Tributary) (first was now : InView) (t : ℕ) (before later : Tap) (old gained new : Option (List ℕ))
     → (h : TurnsSoFar own first was t before old gained) → HasLast own first was t before old gained h false → t < 16384
-    → TurnRun own first now h.taken t before later gained new next.ReportFailed → later.line.pieces ≡ 0 → PullRun own first now old new ReportFault
+    → TurnRun own first now h.taken t before later gained new next.ReportFailed → later.line.pieces ≡ 0 → PullEnded own first now old new ReportFault
 turns_lost own first was now t before later old gained new h last few run none = record {
   taken = h.taken ++ run.moves.came;
   gave = run.moves.stands.line.gave;
@@ -245,7 +245,7 @@ more_least n more m frames a b c = omega (arith, a, b, c)
 -- the end was seen
 seen_ends : (own : Tributary) (first now : InView) (taken : List ℕ) (line : LineView) (old new : Option (List ℕ)) → AllTurns own taken line old new
     → Gave first taken now → now.state ≢ Dead → (now.state ≡ Live → HasEnded now.left now.ended) → line.reader.ending ≡ Seen
-    → ((line.reader.rest ≡ 0) → PullRun own first now old new Done) × ((0 < line.reader.rest) → PullRun own first now old new Unfinished)
+    → ((line.reader.rest ≡ 0) → PullEnded own first now old new Done) × ((0 < line.reader.rest) → PullEnded own first now old new Unfinished)
 seen_ends own first now taken line old new all gave alive over seen =
     let took = all.took taken (itself line.reader.ending taken) in
     let closed : line.reader.ending ≢ Open = λ e. let f : Seen ≡ Open = sym seen ∙ e in absurd (cc) in (
@@ -278,7 +278,7 @@ seen_ends own first now taken line old new all gave alive over seen =
 -- how the command ends with an answer
 pub turns_end : (ended : Ended) (own : Tributary) (first was now : InView) (t : ℕ) (tap : Tap) (old new : Option (List ℕ)) → (h : TurnsSoFar own first was t tap old new)
     → t ≤ 16384 → ((given : List ℕ) → MayBe false tap.line.reader.ending h.taken given → (has_ended (standing 8 (mfas_of given) t) ≡ true) ⊎ (t ≡ 16384))
-    → tap.line.pieces ≡ 0 → AnswerRun tap.line was now ended → PullRun own first now old new ended
+    → tap.line.pieces ≡ 0 → AnswerRun tap.line was now ended → PullEnded own first now old new ended
 turns_end Done own first was now t tap old new h few last none a = by_end a.ends.2
   where
     all : AllTurns own h.taken tap.line old new
@@ -287,7 +287,7 @@ turns_end Done own first was now t tap old new h few last none a = by_end a.ends
     gave : Gave first h.taken now
     gave = subst (λ xs. Gave first xs now) (ap (λ xs. h.taken ++ xs) a.ends.1 ∙ append-nil h.taken) (gave_twice first was now h.taken a.came h.stands.line.gave a.gave)
 
-    by_end : ((tap.line.reader.ending ≡ Seen) × (tap.line.reader.rest ≡ 0) × (now ≡ was)) ⊎ ((tap.line.reader.ending ≢ Seen) × HasEnded now.left now.ended) → PullRun own first now old new Done
+    by_end : ((tap.line.reader.ending ≡ Seen) × (tap.line.reader.rest ≡ 0) × (now ≡ was)) ⊎ ((tap.line.reader.ending ≢ Seen) × HasEnded now.left now.ended) → PullEnded own first now old new Done
     by_end (inl s) =
         let closed : tap.line.reader.ending ≢ Open = λ e. let f : Seen ≡ Open = sym s.0 ∙ e in absurd (cc) in
         (seen_ends own first now h.taken tap.line old new all gave a.ends.0 (λ live. subst (λ (v : InView). HasEnded v.left v.ended) (sym s.2) (h.stands.line.over closed (ap (λ (v : InView). v.state) (sym s.2) ∙ live))) s.0).0 s.1
@@ -310,7 +310,7 @@ turns_end Unfinished own first was now t tap old new h few last none a = by_end 
     all : AllTurns own h.taken tap.line old new
     all = all_turns own first was t tap old new h few last none
 
-    by_end : ((tap.line.reader.ending ≡ Seen) × (0 < tap.line.reader.rest) × (a.came ≡ []) × (now ≡ was)) ⊎ ((tap.line.reader.ending ≢ Seen) × (length a.came ≡ 1)) → PullRun own first now old new Unfinished
+    by_end : ((tap.line.reader.ending ≡ Seen) × (0 < tap.line.reader.rest) × (a.came ≡ []) × (now ≡ was)) ⊎ ((tap.line.reader.ending ≢ Seen) × (length a.came ≡ 1)) → PullEnded own first now old new Unfinished
     by_end (inl s) =
         let closed : tap.line.reader.ending ≢ Open = λ e. let f : Seen ≡ Open = sym s.0 ∙ e in absurd (cc) in
         let gave = subst (λ xs. Gave first xs now) (ap (λ xs. h.taken ++ xs) s.2 ∙ append-nil h.taken) (gave_twice first was now h.taken a.came h.stands.line.gave a.gave) in

@@ -9,8 +9,8 @@ use Rattle.line_tool.specs.Answers.{LineAnswers, PullRan}
 use Rattle.line_tool.specs.Device.{Device, line_zero}
 use Rattle.line_tool.specs.Ends.{line_status}
 use Rattle.line_tool.specs.PullReport.{LeavesBytes, bytes_taken, pull_report}
-use Rattle.line_tool.specs.PullRuns.{MayFollow, PullRun, StoppedInTurn}
-use Rattle.line_tool.specs.Runs.{IsWell, Reports}
+use Rattle.line_tool.specs.PullRuns.{MayFollow, PullEnded, StoppedInTurn}
+use Rattle.line_tool.specs.AnswerWords.{IsWell, Reports}
 use Rattle.line_tool.specs.declared.ended.Ended.{Ended}
 use Rattle.line_tool.specs.declared.ended.Ended.TheVariants.{Done, Unfinished, ReportFault, Cut}
 use Rattle.line_tool.specs.declared.status.Status.{Status}
@@ -50,7 +50,7 @@ followed own old new answer given h is =
 
 -- ---- what `pull` answers for
 
-pub pull_ran : (ended : Ended) (own : Tributary) (old new : Device) → PullRun own (line_zero old) (line_zero new) old.report.got new.report.got ended → PullRan own old new (line_status (Ok ended))
+pub pull_ran : (ended : Ended) (own : Tributary) (old new : Device) → PullEnded own (line_zero old) (line_zero new) old.report.got new.report.got ended → PullRan own old new (line_status (Ok ended))
 pull_ran Done own old new h = record {
   taken = h.taken;
   gave = h.gave;

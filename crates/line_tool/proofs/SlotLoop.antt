@@ -10,7 +10,7 @@ use Rattle.line_side.specs.LineFile.{frame_at}
 use Rattle.otn_ports.specs.PortViews.{SinkView}
 use Rattle.line_tool.specs.Ends.{ReportAfter}
 use Rattle.line_tool.specs.SlotReport.{slot_bytes, slot_bytes_until, slot_report, whole_frames_used}
-use Rattle.line_tool.specs.SlotRuns.{SlotRun, SlotStep, StoppedInFrame}
+use Rattle.line_tool.specs.SlotRuns.{SlotEnded, SlotStep, StoppedInFrame}
 use Rattle.line_tool.specs.Gains.{GainsPart}
 use Rattle.line_tool.specs.Beyond.{ByteRun}
 use Rattle.line_tool.specs.declared.ended.Ended.{Ended}
@@ -99,7 +99,7 @@ ended slot i first mid now old gained new more few h gave part same =
 
 -- how the command ends with a step
 pub ends_with : (ended : Ended) (slot i : ℕ) (first mid now : InView) (old gained new : Option (List ℕ)) → first.state ≢ Dead → i < 131072
-    → SoFar slot i first mid old gained → SlotStep slot mid now gained new (Some ended) → SlotRun slot first now old new ended
+    → SoFar slot i first mid old gained → SlotStep slot mid now gained new (Some ended) → SlotEnded slot first now old new ended
 ends_with Done slot i first mid now old gained new alive few h step =
     let none : length step.taken ≡ 0 = ap length step.ends.0 in
     let e = ended slot i first mid now old gained new step.taken (omega arith) h step.gave (omega arith) step.ends.3 in
@@ -131,7 +131,7 @@ ends_with ReportFault slot i first mid now old gained new alive few h step = rec
 
 -- how it ends once the most frames are written and a further byte was asked for
 pub ends_after : (ended : Ended) (slot : ℕ) (first mid now : InView) (old new : Option (List ℕ)) → first.state ≢ Dead
-    → SoFar slot 131072 first mid old new → ByteRun mid now ended → SlotRun slot first now old new ended
+    → SoFar slot 131072 first mid old new → ByteRun mid now ended → SlotEnded slot first now old new ended
 ends_after Done slot first mid now old new alive h byte =
     let none : length byte.taken ≡ 0 = ap length byte.ends.0 in
     let e = ended slot 131072 first mid now old new new byte.taken (lit≤ tt) h byte.gave (omega arith) refl in
@@ -156,7 +156,7 @@ ends_after Cut slot first mid now old new alive h byte =
 ends_after ReportFault slot first mid now old new alive h byte = absurd byte.ends
 
 -- a line that is dead gives nothing
-pub dead_run : (slot : ℕ) (line : InView) (report : Option (List ℕ)) → line.state ≡ Dead → SlotRun slot line line report report Cut
+pub dead_run : (slot : ℕ) (line : InView) (report : Option (List ℕ)) → line.state ≡ Dead → SlotEnded slot line line report report Cut
 dead_run slot line report dead = record {
   taken = [];
   gave = gave_none line;

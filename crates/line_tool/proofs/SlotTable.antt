@@ -9,10 +9,10 @@ use Rattle.otn_ports.specs.Views.{State, Empty, Live, Dead, InView}
 use Rattle.line_tool.specs.Answers.{LineAnswers, SlotRan}
 use Rattle.line_tool.specs.Device.{Device, line_zero}
 use Rattle.line_tool.specs.Ends.{line_status}
-use Rattle.line_tool.specs.Runs.{Reports, HasRest, IsWell}
+use Rattle.line_tool.specs.AnswerWords.{Reports, HasRest, IsWell}
 use Rattle.line_side.specs.LineFile.{frame_at}
 use Rattle.line_tool.specs.SlotReport.{slot_bytes, slot_bytes_until, slot_report, whole_frames_used}
-use Rattle.line_tool.specs.SlotRuns.{SlotRun, StoppedInFrame}
+use Rattle.line_tool.specs.SlotRuns.{SlotEnded, StoppedInFrame}
 use Rattle.line_tool.specs.Gains.{GainsPart}
 use Rattle.line_tool.specs.declared.ended.Ended.{Ended}
 use Rattle.line_tool.specs.declared.ended.Ended.TheVariants.{Done, Unfinished, ReportFault, Cut}
@@ -96,7 +96,7 @@ dead_given first now taken given h dead =
     h.parts ∙ ap (λ xs. taken ++ xs) (h.other no) ∙ append-nil taken
 
 -- a report fault comes after bytes were taken, so the line was not dead
-fault_alive : (slot : ℕ) (first now : InView) (old new : Option (List ℕ)) → SlotRun slot first now old new ReportFault → now.state ≢ Dead
+fault_alive : (slot : ℕ) (first now : InView) (old new : Option (List ℕ)) → SlotEnded slot first now old new ReportFault → now.state ≢ Dead
 fault_alive slot first now old new h dead =
     let before : first.state ≡ Dead = sym h.ends.1 ∙ dead in
     let no : first.state ≢ Live = λ live. let e : Dead ≡ Live = sym before ∙ live in absurd (cc) in
@@ -105,7 +105,7 @@ fault_alive slot first now old new h dead =
 
 -- ---- what `slot` answers for
 
-pub slot_ran : (ended : Ended) (slot : ℕ) (old new : Device) → SlotRun slot (line_zero old) (line_zero new) old.report.got new.report.got ended → SlotRan slot old new (line_status (Ok ended))
+pub slot_ran : (ended : Ended) (slot : ℕ) (old new : Device) → SlotEnded slot (line_zero old) (line_zero new) old.report.got new.report.got ended → SlotRan slot old new (line_status (Ok ended))
 slot_ran Done slot old new h = record {
   taken = h.taken;
   gave = h.gave;

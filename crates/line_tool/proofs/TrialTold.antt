@@ -6,7 +6,7 @@ use Rattle.otn_ports.specs.PortViews.{SinkLater, SinkView}
 use Rattle.otn_ports.specs.declared.drain.Written.{Written}
 use Rattle.otn_ports.specs.declared.drain.Written.TheVariants as written
 use Rattle.line_tool.specs.Ends.{trial_status}
-use Rattle.line_tool.specs.Runs.{IsRefusal}
+use Rattle.line_tool.specs.AnswerWords.{IsRefusal}
 use Rattle.line_tool.specs.TrialAnswers.{TrialAnswers, TrialRan}
 use Rattle.line_tool.specs.TrialReport.{trial_report}
 use Rattle.line_tool.specs.TrialDraw.{packets_of_trial}

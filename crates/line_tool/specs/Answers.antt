@@ -10,7 +10,7 @@ use Rattle.line_tool.specs.PlanCheck.{CheckRun}
 use Rattle.line_tool.specs.PullReport.{LeavesBytes, bytes_taken, pull_report, tributary}
 use Rattle.line_tool.specs.PullRuns.{MayFollow, StoppedInTurn}
 use Rattle.line_tool.specs.RunAnswers.{RunAnswers}
-use Rattle.line_tool.specs.Runs.{CountsBy, Reports, HasRest, IsLineAnswer}
+use Rattle.line_tool.specs.AnswerWords.{CountsBy, Reports, HasRest, IsLineAnswer}
 use Rattle.line_tool.specs.SlotReport.{slot_report, most_taken}
 use Rattle.line_tool.specs.SlotRuns.{StoppedInFrame}
 use Rattle.line_tool.specs.TrialAnswers.{TrialAnswers}

@@ -1,4 +1,5 @@
 pub mod Agreements
+pub mod AnswerWords
 pub mod Answers
 pub mod Beyond
 pub mod CarriedBack
@@ -20,7 +21,6 @@ pub mod PullTurn
 pub mod RunAnswers
 pub mod RunLaws
 pub mod RunReport
-pub mod Runs
 pub mod SlotReport
 pub mod SlotRuns
 pub mod TrialAnswers

@@ -8,7 +8,7 @@ use Rattle.plan_file.specs.declared.plan.Plan.{Plan}
 use Rattle.otn_ports.specs.PortViews.{SourceView, SinkView, SourceLater, SinkLater}
 use Rattle.line_tool.specs.Gains.{GainsPart}
 use Rattle.line_tool.specs.PlanReading.{WasRead, most_read}
-use Rattle.line_tool.specs.Runs.{CountsBy}
+use Rattle.line_tool.specs.AnswerWords.{CountsBy}
 use Rattle.line_tool.specs.declared.status.Status.{Status}
 use Rattle.line_tool.specs.declared.status.Status.TheVariants as status
 

@@ -7,7 +7,7 @@ use Rattle.otn_ports.specs.PortViews.{SourceView, SourceLater}
 use Rattle.otn_ports.specs.Reads.{HasEnded}
 use Rattle.plan_file.specs.Answer.{fault_in, plan_of_text}
 use Rattle.plan_file.specs.declared.error.NoPlan.TheVariants.{Refused}
-use Rattle.line_tool.specs.Runs.{CountsBy}
+use Rattle.line_tool.specs.AnswerWords.{CountsBy}
 use Rattle.line_tool.specs.declared.plan_text.Planned.{Planned}
 use Rattle.line_tool.specs.declared.plan_text.Planned.TheVariants as planned
 use Rattle.line_tool.specs.declared.status.Status.{Status}

@@ -9,7 +9,7 @@ use Rattle.device_model.specs.Report.{Numbers, report_text}
 use Rattle.device_model.specs.declared.outcome.Outcome.{Outcome}
 use Rattle.node_core.specs.RunLeft.{Takings, RunLeft}
 use Rattle.line_tool.specs.RunAnswers.{outcome_status, pieces_in_all}
-use Rattle.line_tool.specs.Runs.{CountsBy, Reports}
+use Rattle.line_tool.specs.AnswerWords.{CountsBy, Reports}
 use Rattle.line_tool.specs.declared.plan_run.Ran.{Ran}
 use Rattle.line_tool.specs.declared.plan_run.Ran.TheVariants as ran
 use Rattle.line_tool.specs.declared.status.Status.{Status}

@@ -15,7 +15,7 @@ use Rattle.line_tool.specs.Ends.{line_status}
 use Rattle.line_tool.specs.Gains.{GainsPart}
 use Rattle.line_tool.specs.PullReport.{emitted_until, pull_report, LeavesBytes, bytes_taken, bytes_wanted}
 use Rattle.line_tool.specs.PullTurn.{TurnMoves}
-use Rattle.line_tool.specs.Runs.{Reports}
+use Rattle.line_tool.specs.AnswerWords.{Reports}
 use Rattle.line_tool.specs.declared.pull.After.{After}
 use Rattle.line_tool.specs.declared.pull.After.TheVariants as next
 use Rattle.line_tool.specs.declared.ended.Ended.{Ended}
@@ -45,7 +45,7 @@ pub record StoppedInTurn (own : Tributary) (given : List ℕ) (count t : ℕ) (o
 
 -- A command from the line and the report as they were to how they are. Where no more bytes may follow, a live line has answered
 -- its end.
-pub record PullRun (own : Tributary) (first now : InView) (old new : Option (List ℕ)) (ended : Ended) : Type 0 where
+pub record PullEnded (own : Tributary) (first now : InView) (old new : Option (List ℕ)) (ended : Ended) : Type 0 where
   pub taken : List ℕ
   pub gave : Gave first taken now
   pub more : Bool

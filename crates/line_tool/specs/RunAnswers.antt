@@ -11,7 +11,7 @@ use Rattle.device_model.specs.declared.outcome.Outcome.TheVariants as outcome
 use Rattle.node_core.specs.RunLeft.{Takings, RunLeft}
 use Rattle.line_tool.specs.Device.{Device}
 use Rattle.line_tool.specs.PlanReading.{WasRead, most_read}
-use Rattle.line_tool.specs.Runs.{CountsBy, IsRefusal, Reports}
+use Rattle.line_tool.specs.AnswerWords.{CountsBy, IsRefusal, Reports}
 use Rattle.line_tool.specs.declared.status.Status.{Status}
 use Rattle.line_tool.specs.declared.status.Status.TheVariants as status
 

@@ -9,7 +9,7 @@ use Rattle.node_core.specs.FaultlessRuns.{AreWell}
 use Rattle.node_core.specs.RunLeft.{MayBeInputs}
 use Rattle.line_tool.specs.Device.{Device}
 use Rattle.line_tool.specs.RunAnswers.{PlanRan, RunAnswers, TextRan}
-use Rattle.line_tool.specs.Runs.{IsWell}
+use Rattle.line_tool.specs.AnswerWords.{IsWell}
 use Rattle.line_tool.specs.declared.status.Status.{Status}
 use Rattle.line_tool.specs.declared.status.Status.TheVariants as status
 

@@ -32,7 +32,7 @@ SlotEnds Cut slot taken first now old new = (new ≡ after old (slot_report slot
 SlotEnds ReportFault slot taken first now old new = StoppedInFrame slot taken (length taken) old new × (now.state ≡ first.state) × (length taken ≤ most_taken)
 
 -- a command from the line and the report as they were to how they are
-pub record SlotRun (slot : ℕ) (first now : InView) (old new : Option (List ℕ)) (ended : Ended) : Type 0 where
+pub record SlotEnded (slot : ℕ) (first now : InView) (old new : Option (List ℕ)) (ended : Ended) : Type 0 where
   pub taken : List ℕ
   pub gave : Gave first taken now
   pub ends : SlotEnds ended slot taken first now old new

@@ -3,7 +3,7 @@ ghost use Rattle.std.specs.Prelude.{◌≡◌, IfOk, string_bytes};
 ghost use Rattle.otn_ports.specs.PortViews.{source_view, sink_view, SinkLater};
 ghost use Rattle.line_tool.specs.Ends.{check_status};
 ghost use Rattle.line_tool.specs.PlanCheck.{CheckRun, PlanTold, plan_text};
-ghost use Rattle.line_tool.specs.Runs.{CountsBy, IsRefusal};
+ghost use Rattle.line_tool.specs.AnswerWords.{CountsBy, IsRefusal};
 
 use crate::Status;
 use crate::plan_text::{Planned, read_plan};

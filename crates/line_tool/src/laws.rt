@@ -15,7 +15,7 @@ ghost use Rattle.line_tool.specs.PullDamaged.{WritesAsIfRepeated};
 ghost use Rattle.line_tool.specs.PullReport.{LeavesBytes, bytes_taken, pull_report, tributary};
 ghost use Rattle.line_tool.specs.PullRuns.{StoppedInTurn};
 ghost use Rattle.line_tool.specs.RunLaws.{RunAnswersForItsText, RunEndsByInputs, RunIsComplete};
-ghost use Rattle.line_tool.specs.Runs.{HasRest, IsWell, Reports};
+ghost use Rattle.line_tool.specs.AnswerWords.{HasRest, IsWell, Reports};
 ghost use Rattle.line_tool.specs.SlotReport.{most_taken, slot_report};
 ghost use Rattle.line_tool.specs.SlotRuns.{StoppedInFrame};
 ghost use Rattle.line_tool.specs.Words.{IsForm};

@@ -13,7 +13,7 @@ ghost use Rattle.node_core.specs.Stands.{StandsAt, no_bytes};
 ghost use Rattle.line_tool.specs.Device.{Stays, device};
 ghost use Rattle.line_tool.specs.PlanRuns.{PlanCarried, run_status};
 ghost use Rattle.line_tool.specs.RunAnswers.{RunAnswers, outcome_status};
-ghost use Rattle.line_tool.specs.Runs.{IsRefusal};
+ghost use Rattle.line_tool.specs.AnswerWords.{IsRefusal};
 
 use crate::Status;
 use crate::plan_text::{Planned, read_plan};

@@ -25,7 +25,7 @@ enum After {
     ReportFailed,
 }
 
-ghost use Rattle.line_tool.specs.PullRuns.{PullRun, TurnRun, AnswerRun, fault_of};
+ghost use Rattle.line_tool.specs.PullRuns.{PullEnded, TurnRun, AnswerRun, fault_of};
 
 /// Writes what a sink of these slots and this tributary port, 1 to 8, emits in each turn of the line, up to and with
 /// the turn in which the line ended, of 16,384 turns at most. Where its end was not seen and it is not dead, it is then asked
@@ -41,7 +41,7 @@ pub(crate) fn write_pull<I: Source, K: Sink>(
     requires high { port ≤ OTU2_SLOTS }
     requires plain { slots.now.kind ≡ LineKind.Otu2 }
     ensures memory { IfErr result (λ _. (line.new ≡ line.old) × (report.new ≡ report.old)) }
-    ensures run { IfOk result (λ ended. PullRun (tributary port slots.now.list) (in_view I.Source line.old) (in_view I.Source line.new) (K.got report.old) (K.got report.new) ended) }
+    ensures run { IfOk result (λ ended. PullEnded (tributary port slots.now.list) (in_view I.Source line.old) (in_view I.Source line.new) (K.got report.old) (K.got report.new) ended) }
     ensures report { IfOk result (λ ended. ReportAfter (Some ended) (sink_view K.Sink report.old) (sink_view K.Sink report.new)) }
 {
     let mut tap = Tap::new(alloc, port, slots)?;
@@ -67,7 +67,7 @@ fn write_turns<I: Source, K: Sink>(
     requires stands { StandsSomewhere (in_view I.Source line.old) tap.old }
     requires room { length tap.old.sink.slots.list * (GROUPS + 1) ≤ length room.old }
     ensures run { (own : Tributary) → ((first : InView) → TapStands own first first [] 0 tap.old)
-        → PullRun own (in_view I.Source line.old) (in_view I.Source line.new) (K.got report.old) (K.got report.new) result }
+        → PullEnded own (in_view I.Source line.old) (in_view I.Source line.new) (K.got report.old) (K.got report.new) result }
     ensures report { ReportAfter (Some result) (sink_view K.Sink report.old) (sink_view K.Sink report.new) }
 {
     for _ in 0..MOST_TURNS {

@@ -6,7 +6,7 @@ ghost use Rattle.otn_ports.specs.Views.{Dead};
 ghost use Rattle.otn_ports.specs.PortViews.{sink_view};
 ghost use Rattle.line_tool.specs.Ends.{ReportAfter, step_of};
 ghost use Rattle.line_tool.specs.SlotReport.{slot_bytes};
-ghost use Rattle.line_tool.specs.SlotRuns.{SlotRun, SlotStep, SlotWritten};
+ghost use Rattle.line_tool.specs.SlotRuns.{SlotEnded, SlotStep, SlotWritten};
 
 use crate::beyond::ask_for_more;
 use crate::ended::Ended;
@@ -35,7 +35,7 @@ pub(crate) fn write_slot<I: Source, K: Sink>(
     requires low { 1 ≤ slot }
     requires high { slot ≤ OTU2_SLOTS }
     ensures memory { IfErr result (λ _. (line.new ≡ line.old) × (report.new ≡ report.old)) }
-    ensures run { IfOk result (λ ended. SlotRun slot (in_view I.Source line.old) (in_view I.Source line.new) (K.got report.old) (K.got report.new) ended) }
+    ensures run { IfOk result (λ ended. SlotEnded slot (in_view I.Source line.old) (in_view I.Source line.new) (K.got report.old) (K.got report.new) ended) }
     ensures report { IfOk result (λ ended. ReportAfter (Some ended) (sink_view K.Sink report.old) (sink_view K.Sink report.new)) }
 {
     let mut frame = Frame::new(alloc)?;
@@ -55,7 +55,7 @@ fn write_frames<I: Source, K: Sink>(
     requires low { 1 ≤ slot }
     requires high { slot ≤ OTU2_SLOTS }
     requires alive { (in_view I.Source line.old).state ≢ Dead }
-    ensures run { SlotRun slot (in_view I.Source line.old) (in_view I.Source line.new) (K.got report.old) (K.got report.new) result }
+    ensures run { SlotEnded slot (in_view I.Source line.old) (in_view I.Source line.new) (K.got report.old) (K.got report.new) result }
     ensures report { ReportAfter (Some result) (sink_view K.Sink report.old) (sink_view K.Sink report.new) }
 {
     for _ in 0..MOST_FRAMES {

@@ -2,7 +2,7 @@
 ghost use Rattle.std.specs.Prelude.{◌≡◌, ◌≢◌, ◌↔◌};
 ghost use Rattle.line_tool.specs.Answers.{Answers, LeavesBays, LeavesChooser, LeavesPlan};
 ghost use Rattle.line_tool.specs.Device.{Stays, device};
-ghost use Rattle.line_tool.specs.Runs.{IsRefusal};
+ghost use Rattle.line_tool.specs.AnswerWords.{IsRefusal};
 ghost use Rattle.line_tool.specs.Words.{IsForm, IsNoForm, texts};
 ghost use Rattle.line_tool.specs.declared.words.Command.{Command};
 

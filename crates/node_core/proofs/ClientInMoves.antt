@@ -22,7 +22,7 @@ use Rattle.node_core.specs.Links.{IsLinkOf, SameEntry, is_on, origin_of}
 use Rattle.node_core.specs.Moves.{EachLink, is_from_client, takes_client, TakesClient}
 use Rattle.node_core.specs.NodeMoves.{ClientInMove}
 use Rattle.node_core.specs.NodeView.{NodeView, HasLink, is_ready, done_at, taken_pieces, given_pieces}
-use Rattle.node_core.specs.Stands.{Bytes, MayGive, frames_by, ended_by, after_retire, PlanStands, PipesStand, ClientInAt, ClientsIn, StandsAt, Later}
+use Rattle.node_core.specs.Stands.{InputBytes, MayGive, frames_by, ended_by, after_retire, PlanStands, PipesStand, ClientInAt, ClientsIn, StandsAt, Later}
 use Rattle.node_core.specs.declared.link.Link.{Link}
 use Rattle.node_core.proofs.PieceCounts.{done_more, done_same}
 use Rattle.node_core.proofs.Parts.{and_none, not_over, one_at, known_at, each_goes, link_before, link_after, on_active, IsReady, ready, ready_used, plan_counted, lines_in_same, lines_out_same}
@@ -54,7 +54,7 @@ is_taker x past n old is from active =
 client_ended : (plan : Plan) (inputs : Inputs) (n past k : ℕ) (e : FromEnd) → e ≡ from_end.Client n → (frames_by plan inputs e past k ≡ []) × (ended_by e k ≡ (k == 1))
 client_ended plan inputs n past k e is = rw is (refl, refl)
 
-pipes_in : (plan : Plan) (taken more : Bytes) (old new : NodeView) (n : ℕ) → PlanStands plan old → EachLink (Took old.past n) old.links new.links → new.past ≡ old.past
+pipes_in : (plan : Plan) (taken more : InputBytes) (old new : NodeView) (n : ℕ) → PlanStands plan old → EachLink (Took old.past n) old.links new.links → new.past ≡ old.past
     → ((other : PortName) → other ≢ port.ClientIn n → done_at new other ≡ done_at old other) → done_at old (port.ClientIn n) ≡ 0 → done_at new (port.ClientIn n) ≡ 1
     → ((inputs : Inputs) → MayGive plan more new inputs → MayGive plan taken old inputs)
     → ((inputs : Inputs) → MayGive plan more new inputs → (i : ℕ) (x : Connection) (link next : Link) → slice_get plan.connections i ≡ Some x → HasLink old i link → HasLink new i next
@@ -96,7 +96,7 @@ client_at : (first now was : InView) (bytes taken : List ℕ) (x : Connection) (
     → ClientInAt first was taken x past k old → ClientInAt first now bytes x last m new
 client_at first now was bytes taken x past last k m old new place same turn done link h = rw (place, same, turn, done, link) h
 
-clients_in : (plan : Plan) (first : BaysView) (taken more : Bytes) (old new : NodeView) (was is : BaysView) (n : ℕ) → PlanStands plan old → EachLink (Took old.past n) old.links new.links → new.past ≡ old.past
+clients_in : (plan : Plan) (first : BaysView) (taken more : InputBytes) (old new : NodeView) (was is : BaysView) (n : ℕ) → PlanStands plan old → EachLink (Took old.past n) old.links new.links → new.past ≡ old.past
     → ((other : PortName) → other ≢ port.ClientIn n → done_at new other ≡ done_at old other) → done_at new (port.ClientIn n) ≡ 1 → uses plan (port.ClientIn n) ≡ true
     → ((c : ℕ) → c ≢ n → more.client c ≡ taken.client c) → OnlyClientIn n was is
     → ((i : ℕ) (x : Connection) (link next : Link) → slice_get plan.connections i ≡ Some x → HasLink old i link → HasLink new i next → x.from ≡ from_end.Client n → x.start ≤ old.past + 1
@@ -131,7 +131,7 @@ clients_in plan first taken more old new was is n p took past same one used othe
 }
 
 -- what the inputs may turn out to be from next on they might be before
-earlier_in : (plan : Plan) (taken more : Bytes) (old new : NodeView) (n : ℕ) → PlanStands plan old → EachLink (Took old.past n) old.links new.links → new.past ≡ old.past → new.lines_in ≡ old.lines_in
+earlier_in : (plan : Plan) (taken more : InputBytes) (old new : NodeView) (n : ℕ) → PlanStands plan old → EachLink (Took old.past n) old.links new.links → new.past ≡ old.past → new.lines_in ≡ old.lines_in
     → ((a : ℕ) → more.line a ≡ taken.line a) → ((c : ℕ) → c ≢ n → more.client c ≡ taken.client c) → (inputs : Inputs) → MayGive plan more new inputs
     → ((i : ℕ) (x : Connection) (link next : Link) → slice_get plan.connections i ≡ Some x → HasLink old i link → HasLink new i next → x.from ≡ from_end.Client n
     → MayShow next.pipe.taking (more.client n) (of_client (inputs.client n)) → MayShow link.pipe.taking (taken.client n) (of_client (inputs.client n)))
@@ -151,7 +151,7 @@ earlier_in plan taken more old new n p took past lines_in lines others inputs ma
 }
 
 -- the moment after the piece, of its parts
-later_in : (plan : Plan) (first : BaysView) (n : ℕ) (taken more : Bytes) (old new : NodeView) (was is : BaysView) → IsReady old (port.ClientIn n) → ClientInMove n old (client_in_at was n) new (client_in_at is n)
+later_in : (plan : Plan) (first : BaysView) (n : ℕ) (taken more : InputBytes) (old new : NodeView) (was is : BaysView) → IsReady old (port.ClientIn n) → ClientInMove n old (client_in_at was n) new (client_in_at is n)
     → OnlyClientIn n was is → EachLink (Took old.past n) old.links new.links → StandsAt plan first taken old was → ((a : ℕ) → more.line a ≡ taken.line a)
     → ((inputs : Inputs) → MayGive plan more new inputs → MayGive plan taken old inputs) → PipesStand plan more new → ClientsIn plan first more new is → Later plan first taken old new is
 later_in plan first n taken more old new was is r m only took h lines earlier pipes clients =
@@ -179,7 +179,7 @@ idle_from x past n link is from off =
     let idle : is_on past link ≡ false = left_off (is_on past link) (is_from_client n link.from) mine off in
     rw (is.start, is.stop) at idle
 
-none_takes : (plan : Plan) (first : BaysView) (n : ℕ) (taken : Bytes) (old new : NodeView) (was is : BaysView) → IsReady old (port.ClientIn n) → ClientInMove n old (client_in_at was n) new (client_in_at is n)
+none_takes : (plan : Plan) (first : BaysView) (n : ℕ) (taken : InputBytes) (old new : NodeView) (was is : BaysView) → IsReady old (port.ClientIn n) → ClientInMove n old (client_in_at was n) new (client_in_at is n)
     → OnlyClientIn n was is → StandsAt plan first taken old was → ((i : ℕ) (link : Link) → slice_get old.links i ≡ Some link → takes_client old.past n link ≡ false) → Later plan first taken old new is
 none_takes plan first n taken old new was is r m only h none =
     let p = h.plan_stands in
@@ -270,7 +270,7 @@ stands_as : (x : Connection) (first now was : InView) (bytes taken : List ℕ) (
 stands_as x first now was bytes taken k m part place same turns h = rw (place, same, turns) h
 
 -- what the client took
-took_of : (plan : Plan) (first : BaysView) (taken : Bytes) (old new : NodeView) (was is : BaysView) (n : ℕ) (t : Taker plan old new n) → PlanStands plan old → done_at old (port.ClientIn n) ≡ 0
+took_of : (plan : Plan) (first : BaysView) (taken : InputBytes) (old new : NodeView) (was is : BaysView) (n : ℕ) (t : Taker plan old new n) → PlanStands plan old → done_at old (port.ClientIn n) ≡ 0
     → TakesClient old.past n (client_in_at was n) old.links (client_in_at is n) new.links → ClientsIn plan first taken old was
     → ClientTook t.x (client_in_at first n) (client_in_at is n) (taken.client n) (own_turn t.x old.past) t.link.pipe t.next.pipe
 took_of plan first taken old new was is n t p none takes h =
@@ -281,13 +281,13 @@ took_of plan first taken old new was is n t p none takes h =
     (stands_as t.x (client_in_at first n) (client_in_at was n) c.was (taken.client n) (taken.client n) (turns_done t.x old.past (done_at old (port.ClientIn n))) (own_turn t.x old.past) t.link.pipe.taking here refl turns c.stands)
 
 -- the bytes that were taken
-abbrev more_of : (n : ℕ) → (came : List ℕ) → Bytes → Bytes
+abbrev more_of : (n : ℕ) → (came : List ℕ) → InputBytes → InputBytes
 more_of n came taken = record { line = taken.line; client = λ c. if c == n then taken.client c ++ came else taken.client c }
 
-more_here : (n : ℕ) (came : List ℕ) (taken : Bytes) → (more_of n came taken).client n ≡ taken.client n ++ came
+more_here : (n : ℕ) (came : List ℕ) (taken : InputBytes) → (more_of n came taken).client n ≡ taken.client n ++ came
 more_here n came taken = rw (eq-eqb n n refl) refl
 
-more_other : (n c : ℕ) (came : List ℕ) (taken : Bytes) → c ≢ n → (more_of n came taken).client c ≡ taken.client c
+more_other : (n c : ℕ) (came : List ℕ) (taken : InputBytes) → c ≢ n → (more_of n came taken).client c ≡ taken.client c
 more_other n c came taken differ = elim (eqb_tells c n) [
   | inl t ↦ absurd (differ t.1)
   | inr t ↦ rw t.0 refl
@@ -299,7 +299,7 @@ may_as part bytes taken input own same is h = rw (same, is) h
 by_now : (start past last : ℕ) → last ≡ past → start ≤ past + 1 → start ≤ last + 1
 by_now start past last same h = rw same h
 
-one_takes : (plan : Plan) (first : BaysView) (n : ℕ) (taken : Bytes) (old new : NodeView) (was is : BaysView) → IsReady old (port.ClientIn n) → ClientInMove n old (client_in_at was n) new (client_in_at is n)
+one_takes : (plan : Plan) (first : BaysView) (n : ℕ) (taken : InputBytes) (old new : NodeView) (was is : BaysView) → IsReady old (port.ClientIn n) → ClientInMove n old (client_in_at was n) new (client_in_at is n)
     → OnlyClientIn n was is → StandsAt plan first taken old was → HasSome (takes_client old.past n) old.links → Later plan first taken old new is
 one_takes plan first n taken old new was is r m only h some =
     let p = h.plan_stands in
@@ -343,7 +343,7 @@ one_takes plan first n taken old new was is r m only h some =
 
 -- ---- a piece of a client input
 
-pub client_in_moves : (plan : Plan) (first : BaysView) (taken : Bytes) (n : ℕ) (old new : NodeView) (was is : BaysView) → is_ready old (port.ClientIn n) ≡ true
+pub client_in_moves : (plan : Plan) (first : BaysView) (taken : InputBytes) (n : ℕ) (old new : NodeView) (was is : BaysView) → is_ready old (port.ClientIn n) ≡ true
     → ClientInMove n old (client_in_at was n) new (client_in_at is n) → OnlyClientIn n was is → StandsAt plan first taken old was → Later plan first taken old new is
 client_in_moves plan first taken n old new was is is_so m only h =
     let r = ready old (port.ClientIn n) is_so in

@@ -18,7 +18,7 @@ use Rattle.cross_matrix.specs.Pipes.{PipeView, PipeStands}
 use Rattle.node_core.specs.Links.{IsLinkOf, is_on, origin_of, target_of}
 use Rattle.node_core.specs.Moves.{EachLink, is_from_client, is_to_client}
 use Rattle.node_core.specs.NodeView.{NodeView, done_at, taken_pieces, given_pieces}
-use Rattle.node_core.specs.Stands.{Bytes, MayGive, PlanStands, ClientInAt, ClientsIn, ClientOutAt, ClientsOut}
+use Rattle.node_core.specs.Stands.{InputBytes, MayGive, PlanStands, ClientInAt, ClientsIn, ClientOutAt, ClientsOut}
 use Rattle.node_core.specs.declared.link.Link.{Link}
 use Rattle.node_core.specs.declared.link.Origin.{Origin}
 use Rattle.node_core.specs.declared.link.Origin.TheVariants as origin
@@ -180,7 +180,7 @@ client_out_as : (inputs : Inputs) (first now was : OutView) (x : Connection) (pa
 client_out_as inputs first now was x past k m old new place done part h = rw (place, done) (record { was = h.was; stands = rw part h.stands; place = h.place })
 
 -- what each connection takes of a client is as it was
-pub clients_in_as : (plan : Plan) (first : BaysView) (taken : Bytes) (old new : NodeView) (was is : BaysView) → EachLink (λ link next. next.pipe.taking ≡ link.pipe.taking) old.links new.links → new.past ≡ old.past
+pub clients_in_as : (plan : Plan) (first : BaysView) (taken : InputBytes) (old new : NodeView) (was is : BaysView) → EachLink (λ link next. next.pipe.taking ≡ link.pipe.taking) old.links new.links → new.past ≡ old.past
     → ((n : ℕ) → done_at new (port.ClientIn n) ≡ done_at old (port.ClientIn n)) → ((n : ℕ) → client_in_at is n ≡ client_in_at was n) → ClientsIn plan first taken old was → ClientsIn plan first taken new is
 clients_in_as plan first taken old new was is each past done place h = record {
   started = λ i n x link at_i has from start.
@@ -192,7 +192,7 @@ clients_in_as plan first taken old new was is each past done place h = record {
 }
 
 -- what each connection gives to a client is as it was
-pub clients_out_as : (plan : Plan) (first : BaysView) (taken more : Bytes) (old new : NodeView) (was is : BaysView) → EachLink (λ link next. next.pipe.giving ≡ link.pipe.giving) old.links new.links
+pub clients_out_as : (plan : Plan) (first : BaysView) (taken more : InputBytes) (old new : NodeView) (was is : BaysView) → EachLink (λ link next. next.pipe.giving ≡ link.pipe.giving) old.links new.links
     → ((inputs : Inputs) → MayGive plan more new inputs → MayGive plan taken old inputs) → new.past ≡ old.past
     → ((n : ℕ) → done_at new (port.ClientOut n) ≡ done_at old (port.ClientOut n)) → ((n : ℕ) → client_out_at is n ≡ client_out_at was n) → ClientsOut plan first taken old was → ClientsOut plan first more new is
 clients_out_as plan first taken more old new was is each earlier past done place h = record {

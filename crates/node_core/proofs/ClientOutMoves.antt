@@ -24,7 +24,7 @@ use Rattle.node_core.specs.Links.{IsLinkOf, SameEntry, is_on, target_of}
 use Rattle.node_core.specs.Moves.{EachLink, is_to_client, gives_client, GivesClient}
 use Rattle.node_core.specs.NodeMoves.{ClientOutMove}
 use Rattle.node_core.specs.NodeView.{NodeView, HasLink, is_ready, done_at, taken_pieces, given_pieces}
-use Rattle.node_core.specs.Stands.{Bytes, MayGive, frames_by, ended_by, out_after_retire, PlanStands, PipesStand, ClientOutAt, ClientsOut, StandsAt, Later}
+use Rattle.node_core.specs.Stands.{InputBytes, MayGive, frames_by, ended_by, out_after_retire, PlanStands, PipesStand, ClientOutAt, ClientsOut, StandsAt, Later}
 use Rattle.node_core.specs.declared.link.Link.{Link}
 use Rattle.node_core.proofs.PieceCounts.{done_more, done_same}
 use Rattle.node_core.proofs.Parts.{and_none, not_over, one_at, known_at, each_goes, link_before, link_after, on_active, IsReady, ready, ready_used, plan_counted, lines_in_same, lines_out_same}
@@ -63,7 +63,7 @@ pipe_any n x input j frames ended a b pipe to h = record { entry = h.entry; taki
 -- ---- the parts
 
 -- what the inputs may turn out to be from then on they might be before
-earlier_out : (plan : Plan) (taken : Bytes) (old new : NodeView) (n : ℕ) → EachLink (Gave old.past n) old.links new.links → new.past ≡ old.past → new.lines_in ≡ old.lines_in
+earlier_out : (plan : Plan) (taken : InputBytes) (old new : NodeView) (n : ℕ) → EachLink (Gave old.past n) old.links new.links → new.past ≡ old.past → new.lines_in ≡ old.lines_in
     → (inputs : Inputs) → MayGive plan taken new inputs → MayGive plan taken old inputs
 earlier_out plan taken old new n gave past lines_in inputs may = record {
   lines = λ a line had used. may.lines a line (ap (λ l. slice_get l a) lines_in ∙ had) used;
@@ -72,7 +72,7 @@ earlier_out plan taken old new n gave past lines_in inputs may = record {
       rw a.goes.taking at (may.clients i c x a.new at_i a.known from (rw past start));
 }
 
-pipes_out : (plan : Plan) (taken : Bytes) (old new : NodeView) (n : ℕ) → PlanStands plan old → EachLink (Gave old.past n) old.links new.links → new.past ≡ old.past
+pipes_out : (plan : Plan) (taken : InputBytes) (old new : NodeView) (n : ℕ) → PlanStands plan old → EachLink (Gave old.past n) old.links new.links → new.past ≡ old.past
     → ((other : PortName) → other ≢ port.ClientOut n → done_at new other ≡ done_at old other) → ((inputs : Inputs) → MayGive plan taken new inputs → MayGive plan taken old inputs)
     → (new.turns ≤ new.past → ⊥) → PipesStand plan taken old → PipesStand plan taken new
 pipes_out plan taken old new n p gave past same earlier going h = record {
@@ -103,7 +103,7 @@ client_at : (inputs : Inputs) (first now was : OutView) (x : Connection) (past k
     → ClientOutAt inputs first now x past m new
 client_at inputs first now was x past k m old new place done link h = rw (place, done, link) h
 
-clients_out : (plan : Plan) (first : BaysView) (taken : Bytes) (old new : NodeView) (was is : BaysView) (n : ℕ) → PlanStands plan old → EachLink (Gave old.past n) old.links new.links → new.past ≡ old.past
+clients_out : (plan : Plan) (first : BaysView) (taken : InputBytes) (old new : NodeView) (was is : BaysView) (n : ℕ) → PlanStands plan old → EachLink (Gave old.past n) old.links new.links → new.past ≡ old.past
     → ((other : PortName) → other ≢ port.ClientOut n → done_at new other ≡ done_at old other) → done_at new (port.ClientOut n) ≡ 1 → uses plan (port.ClientOut n) ≡ true → OnlyClientOut n was is
     → ((inputs : Inputs) → MayGive plan taken new inputs → MayGive plan taken old inputs)
     → ((inputs : Inputs) → MayGive plan taken new inputs → (i : ℕ) (x : Connection) (link next : Link) → slice_get plan.connections i ≡ Some x → HasLink old i link → HasLink new i next → x.to ≡ to_end.Client n
@@ -137,7 +137,7 @@ clients_out plan first taken old new was is n p gave past same one used only ear
 }
 
 -- the moment after the piece, of its parts
-later_out : (plan : Plan) (first : BaysView) (n : ℕ) (taken : Bytes) (old new : NodeView) (was is : BaysView) → IsReady old (port.ClientOut n) → ClientOutMove n old (client_out_at was n) new (client_out_at is n)
+later_out : (plan : Plan) (first : BaysView) (n : ℕ) (taken : InputBytes) (old new : NodeView) (was is : BaysView) → IsReady old (port.ClientOut n) → ClientOutMove n old (client_out_at was n) new (client_out_at is n)
     → OnlyClientOut n was is → EachLink (Gave old.past n) old.links new.links → StandsAt plan first taken old was → ((inputs : Inputs) → MayGive plan taken new inputs → MayGive plan taken old inputs)
     → ClientsOut plan first taken new is → Later plan first taken old new is
 later_out plan first n taken old new was is r m only gave h earlier clients =
@@ -169,7 +169,7 @@ client_idle : (inputs : Inputs) (first now was : OutView) (x : Connection) (past
     → ClientOutAt inputs first was x past k old → ClientOutAt inputs first now x past m new
 client_idle inputs first now was x past k m old new place turns link c = record { was = c.was; stands = rw (link, turns) c.stands; place = place ∙ c.place }
 
-none_gives : (plan : Plan) (first : BaysView) (n : ℕ) (taken : Bytes) (old new : NodeView) (was is : BaysView) → IsReady old (port.ClientOut n) → ClientOutMove n old (client_out_at was n) new (client_out_at is n)
+none_gives : (plan : Plan) (first : BaysView) (n : ℕ) (taken : InputBytes) (old new : NodeView) (was is : BaysView) → IsReady old (port.ClientOut n) → ClientOutMove n old (client_out_at was n) new (client_out_at is n)
     → OnlyClientOut n was is → StandsAt plan first taken old was → ((i : ℕ) (link : Link) → slice_get old.links i ≡ Some link → gives_client old.past n link ≡ false) → Later plan first taken old new is
 none_gives plan first n taken old new was is r m only h none =
     let p = h.plan_stands in
@@ -247,7 +247,7 @@ stands_as : (x : Connection) (input : OwnInput) (first now was : OutView) (k m :
 stands_as x input first now was k m part place turns h = rw (place, turns) h
 
 -- what has arrived at the client
-given_to : (plan : Plan) (first : BaysView) (taken : Bytes) (old new : NodeView) (was is : BaysView) (n : ℕ) (t : Giver plan old new n) → PlanStands plan old → done_at old (port.ClientOut n) ≡ 0
+given_to : (plan : Plan) (first : BaysView) (taken : InputBytes) (old new : NodeView) (was is : BaysView) (n : ℕ) (t : Giver plan old new n) → PlanStands plan old → done_at old (port.ClientOut n) ≡ 0
     → GivesClient old.past n (client_out_at was n) old.links (client_out_at is n) new.links → PipesStand plan taken old → ClientsOut plan first taken old was → (inputs : Inputs) → MayGive plan taken old inputs
     → ClientOutStands t.x (own_input inputs t.x) (client_out_at first n) (client_out_at is n) (own_turn t.x old.past + 1) t.next.pipe.giving
 given_to plan first taken old new was is n t p none gives pipes h inputs may =
@@ -258,7 +258,7 @@ given_to plan first taken old new was is n t p none gives pipes h inputs may =
     (ended_by t.x.from (taken_pieces old t.link.from)) (pipes.each inputs may t.i t.x t.link t.known t.had t.active)
     (stands_as t.x (own_input inputs t.x) (client_out_at first n) (client_out_at was n) c.was (turns_done t.x old.past (done_at old (port.ClientOut n))) (own_turn t.x old.past) t.link.pipe.giving here turns c.stands)
 
-one_gives : (plan : Plan) (first : BaysView) (n : ℕ) (taken : Bytes) (old new : NodeView) (was is : BaysView) → IsReady old (port.ClientOut n) → ClientOutMove n old (client_out_at was n) new (client_out_at is n)
+one_gives : (plan : Plan) (first : BaysView) (n : ℕ) (taken : InputBytes) (old new : NodeView) (was is : BaysView) → IsReady old (port.ClientOut n) → ClientOutMove n old (client_out_at was n) new (client_out_at is n)
     → OnlyClientOut n was is → StandsAt plan first taken old was → HasSome (gives_client old.past n) old.links → Later plan first taken old new is
 one_gives plan first n taken old new was is r m only h some =
     let p = h.plan_stands in
@@ -286,7 +286,7 @@ one_gives plan first n taken old new was is r m only h some =
 
 -- ---- a piece of a client output
 
-pub client_out_moves : (plan : Plan) (first : BaysView) (taken : Bytes) (n : ℕ) (old new : NodeView) (was is : BaysView) → is_ready old (port.ClientOut n) ≡ true
+pub client_out_moves : (plan : Plan) (first : BaysView) (taken : InputBytes) (n : ℕ) (old new : NodeView) (was is : BaysView) → is_ready old (port.ClientOut n) ≡ true
     → ClientOutMove n old (client_out_at was n) new (client_out_at is n) → OnlyClientOut n was is → StandsAt plan first taken old was → Later plan first taken old new is
 client_out_moves plan first taken n old new was is is_so m only h =
     let r = ready old (port.ClientOut n) is_so in

@@ -27,7 +27,7 @@ use Rattle.node_core.specs.Links.{origin_of}
 use Rattle.node_core.specs.NodeMoves.{FenceMove, RetiredBy, retires_in, retires_out}
 use Rattle.node_core.specs.NodeView.{NodeView, HasLineIn, HasLineOut, HasLink, is_ready, done_at, taken_pieces, given_pieces}
 use Rattle.node_core.specs.Ports.{index_of}
-use Rattle.node_core.specs.Stands.{Bytes, MayGive, PlanStands, LinesIn, PipesStand, LinesOut, ClientInAt, ClientsIn, ClientOutAt, ClientsOut, StandsAt, Later, after_retire, out_after_retire}
+use Rattle.node_core.specs.Stands.{InputBytes, MayGive, PlanStands, LinesIn, PipesStand, LinesOut, ClientInAt, ClientsIn, ClientOutAt, ClientsOut, StandsAt, Later, after_retire, out_after_retire}
 use Rattle.node_core.specs.declared.link.Link.{Link}
 use Rattle.node_core.specs.declared.link.Origin.{Origin}
 use Rattle.node_core.specs.declared.link.Origin.TheVariants as origin
@@ -47,7 +47,7 @@ started_before start past now e le differ = elim (eqb_tells start (past + 1 + 1)
 
 -- ---- what the inputs may be
 
-line_before : (old new : NodeView) (wholes : List Bool) (plan : Plan) (taken : Bytes) (inputs : Inputs) → PlanStands plan old → FenceMove old new → MayGive plan taken new inputs
+line_before : (old new : NodeView) (wholes : List Bool) (plan : Plan) (taken : InputBytes) (inputs : Inputs) → PlanStands plan old → FenceMove old new → MayGive plan taken new inputs
     → (a : ℕ) (line : LineView) → HasLineIn old a line → uses plan (port.LineIn a) ≡ true → MayBe (form_in plan a).scrambled line.reader.ending (taken.line a) (inputs.line a)
 line_before old new wholes plan taken inputs p m may a line had used =
     let next = known_at old.lines_in new.lines_in a line (sym m.count) had in
@@ -63,7 +63,7 @@ same_giving : (old : NodeView) (wholes : List Bool) (i n : ℕ) (x : Connection)
     → link.pipe.giving ≡ t.before.pipe.giving
 same_giving old wholes i n x link t differ to = ap (λ (l : Link). l.pipe.giving) (not_started old wholes i x link t differ) ∙ t.turns.fences.receiver x n t.was to
 
-client_before : (old new : NodeView) (plan : Plan) (taken : Bytes) (inputs : Inputs) → PlanStands plan old → FenceMove old new → MayGive plan taken new inputs
+client_before : (old new : NodeView) (plan : Plan) (taken : InputBytes) (inputs : Inputs) → PlanStands plan old → FenceMove old new → MayGive plan taken new inputs
     → (i n : ℕ) (x : Connection) (link : Link) → slice_get plan.connections i ≡ Some x → HasLink old i link → x.from ≡ from_end.Client n → x.start ≤ old.past + 1
     → MayShow link.pipe.taking (taken.client n) (of_client (inputs.client n))
 client_before old new plan taken inputs p m may i n x link at had from start =
@@ -75,7 +75,7 @@ client_before old new plan taken inputs p m may i n x link at had from start =
     let same : next.0.pipe.taking ≡ link.pipe.taking = ap (λ (l : Link). l.pipe.taking) unstarted ∙ t.fences.text x n was from in
     subst (λ part. MayShow part (taken.client n) (of_client (inputs.client n))) same (may.clients i n x next.0 at next.1 from (let past = m.past in omega arith))
 
-fence_earlier : (old new : NodeView) (plan : Plan) (taken : Bytes) → PlanStands plan old → FenceMove old new → (inputs : Inputs) → MayGive plan taken new inputs → MayGive plan taken old inputs
+fence_earlier : (old new : NodeView) (plan : Plan) (taken : InputBytes) → PlanStands plan old → FenceMove old new → (inputs : Inputs) → MayGive plan taken new inputs → MayGive plan taken old inputs
 fence_earlier old new plan taken p m inputs may = record {
   lines = line_before old new m.wholes plan taken inputs p m may;
   clients = client_before old new plan taken inputs p m may;
@@ -113,7 +113,7 @@ taken_all plan old done i x at (from_end.Signal signal) e = refl
 
 -- ---- lines in
 
-fence_lines_in : (plan : Plan) (first : BaysView) (taken : Bytes) (old new : NodeView) (was is : BaysView) → PlanStands plan old → FenceMove old new → RetiredBy old.past old.links was is
+fence_lines_in : (plan : Plan) (first : BaysView) (taken : InputBytes) (old new : NodeView) (was is : BaysView) → PlanStands plan old → FenceMove old new → RetiredBy old.past old.links was is
     → LinesIn plan first taken old was → LinesIn plan first taken new is
 fence_lines_in plan first taken old new was is p m retired h = record {
   used = λ a next has u.
@@ -132,14 +132,14 @@ fence_lines_in plan first taken old new was is p m retired h = record {
 -- ---- pipes
 
 -- whether a line has a multiframe in the turn is said of whatever the line may turn out to be
-has_multiframe : (plan : Plan) (first : BaysView) (taken : Bytes) (old new : NodeView) (was : BaysView) (inputs : Inputs) → PlanStands plan old → (m : FenceMove old new) → LinesIn plan first taken old was
+has_multiframe : (plan : Plan) (first : BaysView) (taken : InputBytes) (old new : NodeView) (was : BaysView) (inputs : Inputs) → PlanStands plan old → (m : FenceMove old new) → LinesIn plan first taken old was
     → MayGive plan taken old inputs → (a : ℕ) → uses plan (port.LineIn a) ≡ true → get_or m.wholes a false ≡ is_some (multiframe (size_of (form_in plan a)) (mfas_of (inputs.line a)) old.past)
 has_multiframe plan first taken old new was inputs p m h may a u =
     let l = used_line plan old new p m a u in
     l.ends.multiframe (form_in plan a) (line_in_at first a) (line_in_at was a) (taken.line a) (inputs.line a) old.past (h.used a l.line l.had u).0 (may.lines a l.line l.had u)
 
 -- the pipe of a connection that is active in the next turn too
-pipe_goes_on : (plan : Plan) (first : BaysView) (taken : Bytes) (old new : NodeView) (was : BaysView) (inputs : Inputs) → PlanStands plan old → (m : FenceMove old new)
+pipe_goes_on : (plan : Plan) (first : BaysView) (taken : InputBytes) (old new : NodeView) (was : BaysView) (inputs : Inputs) → PlanStands plan old → (m : FenceMove old new)
     → ((name : PortName) → uses plan name ≡ true → done_at old name ≡ pieces_by plan name) → LinesIn plan first taken old was → PipesStand plan taken old → MayGive plan taken old inputs
     → (i : ℕ) (x : Connection) (link : Link) → slice_get plan.connections i ≡ Some x → (t : Turned old m.wholes i x link) → IsActive x old.past
     → PipeStands x (own_input inputs x) (suc (own_turn x old.past)) [] false 0 t.turns.between.pipe
@@ -153,7 +153,7 @@ pipe_goes_on plan first taken old new was inputs p m done lines pipes may i x li
     (at_end plan inputs x old.past (own_turn x old.past) (given_pieces old t.before.to) (taken_pieces old t.before.from) x.from t.before.pipe refl pieces stood)
 
 -- the pipe of any connection that is active in the next turn
-pipe_next : (plan : Plan) (first : BaysView) (taken : Bytes) (old new : NodeView) (was : BaysView) (inputs : Inputs) → PlanStands plan old → (m : FenceMove old new)
+pipe_next : (plan : Plan) (first : BaysView) (taken : InputBytes) (old new : NodeView) (was : BaysView) (inputs : Inputs) → PlanStands plan old → (m : FenceMove old new)
     → ((name : PortName) → uses plan name ≡ true → done_at old name ≡ pieces_by plan name) → LinesIn plan first taken old was → PipesStand plan taken old → MayGive plan taken old inputs
     → (i : ℕ) (x : Connection) (link : Link) → slice_get plan.connections i ≡ Some x → (t : Turned old m.wholes i x link) → IsActive x (old.past + 1)
     → PipeStands x (own_input inputs x) (own_turn x (old.past + 1)) [] false 0 link.pipe
@@ -172,7 +172,7 @@ pipe_next plan first taken old new was inputs p m done lines pipes may i x link 
 ]
 
 -- the pipe of one whose last turn this was
-pipe_last : (plan : Plan) (first : BaysView) (taken : Bytes) (old new : NodeView) (was : BaysView) (inputs : Inputs) → PlanStands plan old → (m : FenceMove old new)
+pipe_last : (plan : Plan) (first : BaysView) (taken : InputBytes) (old new : NodeView) (was : BaysView) (inputs : Inputs) → PlanStands plan old → (m : FenceMove old new)
     → ((name : PortName) → uses plan name ≡ true → done_at old name ≡ pieces_by plan name) → LinesIn plan first taken old was → PipesStand plan taken old → MayGive plan taken old inputs
     → (i : ℕ) (x : Connection) (link : Link) → slice_get plan.connections i ≡ Some x → (t : Turned old m.wholes i x link) → x.stop ≡ old.past + 1
     → PipeStands x (own_input inputs x) (own_turn x (old.past + 1)) [] false 0 link.pipe
@@ -184,7 +184,7 @@ pipe_last plan first taken old new was inputs p m done lines pipes may i x link 
     (subst (λ (l : Link). PipeStands x (own_input inputs x) (suc (own_turn x old.past)) [] false 0 l.pipe) (sym same)
     (pipe_goes_on plan first taken old new was inputs p m done lines pipes may i x link at t before))
 
-fence_pipes : (plan : Plan) (first : BaysView) (taken : Bytes) (old new : NodeView) (was : BaysView) → PlanStands plan old → FenceMove old new
+fence_pipes : (plan : Plan) (first : BaysView) (taken : InputBytes) (old new : NodeView) (was : BaysView) → PlanStands plan old → FenceMove old new
     → ((name : PortName) → uses plan name ≡ true → done_at old name ≡ pieces_by plan name) → LinesIn plan first taken old was → PipesStand plan taken old → PipesStand plan taken new
 fence_pipes plan first taken old new was p m done lines pipes = record {
   each = λ inputs may i x link at has active.
@@ -203,7 +203,7 @@ fence_pipes plan first taken old new was p m done lines pipes = record {
 frames_next : (size past now d d' : ℕ) → now ≡ past + 1 → d' ≡ 0 → d ≡ size → size * past + d ≡ size * now + d'
 frames_next size past now d d' e none all = rw (e, none, all) (omega arith)
 
-fence_lines_out : (plan : Plan) (first : BaysView) (taken : Bytes) (old new : NodeView) (was is : BaysView) → PlanStands plan old → FenceMove old new → RetiredBy old.past old.links was is
+fence_lines_out : (plan : Plan) (first : BaysView) (taken : InputBytes) (old new : NodeView) (was is : BaysView) → PlanStands plan old → FenceMove old new → RetiredBy old.past old.links was is
     → ((name : PortName) → uses plan name ≡ true → done_at old name ≡ pieces_by plan name) → LinesOut plan first taken old was → LinesOut plan first taken new is
 fence_lines_out plan first taken old new was is p m retired done h = record {
   used = λ inputs may b line has u.
@@ -221,7 +221,7 @@ fence_lines_out plan first taken old new was is p m retired done h = record {
 
 -- ---- clients in
 
-client_in_next : (plan : Plan) (first : BaysView) (taken : Bytes) (old new : NodeView) (was is : BaysView) → PlanStands plan old → (m : FenceMove old new) → RetiredBy old.past old.links was is
+client_in_next : (plan : Plan) (first : BaysView) (taken : InputBytes) (old new : NodeView) (was is : BaysView) → PlanStands plan old → (m : FenceMove old new) → RetiredBy old.past old.links was is
     → ((name : PortName) → uses plan name ≡ true → done_at old name ≡ pieces_by plan name) → ClientsIn plan first taken old was
     → (i n : ℕ) (x : Connection) (link : Link) → slice_get plan.connections i ≡ Some x → (t : Turned old m.wholes i x link) → x.from ≡ from_end.Client n → x.start ≤ old.past + 1 + 1
     → ClientInAt (client_in_at first n) (client_in_at is n) (taken.client n) x (old.past + 1) 0 link
@@ -241,7 +241,7 @@ client_in_next plan first taken old new was is p m retired done h i n x link at 
           (h.started i n x t.before at t.had from (started_before x.start old.past (old.past + 1) refl start d.1))
     ]
 
-fence_clients_in : (plan : Plan) (first : BaysView) (taken : Bytes) (old new : NodeView) (was is : BaysView) → PlanStands plan old → FenceMove old new → RetiredBy old.past old.links was is
+fence_clients_in : (plan : Plan) (first : BaysView) (taken : InputBytes) (old new : NodeView) (was is : BaysView) → PlanStands plan old → FenceMove old new → RetiredBy old.past old.links was is
     → ((name : PortName) → uses plan name ≡ true → done_at old name ≡ pieces_by plan name) → ClientsIn plan first taken old was → ClientsIn plan first taken new is
 fence_clients_in plan first taken old new was is p m retired done h = record {
   started = λ i n x link at has from start.
@@ -262,7 +262,7 @@ fence_clients_in plan first taken old new was is p m retired done h = record {
 
 -- ---- clients out
 
-client_out_next : (plan : Plan) (first : BaysView) (taken : Bytes) (old new : NodeView) (was is : BaysView) (inputs : Inputs) → PlanStands plan old → (m : FenceMove old new) → RetiredBy old.past old.links was is
+client_out_next : (plan : Plan) (first : BaysView) (taken : InputBytes) (old new : NodeView) (was is : BaysView) (inputs : Inputs) → PlanStands plan old → (m : FenceMove old new) → RetiredBy old.past old.links was is
     → ((name : PortName) → uses plan name ≡ true → done_at old name ≡ pieces_by plan name) → ClientsOut plan first taken old was → MayGive plan taken old inputs
     → (i n : ℕ) (x : Connection) (link : Link) → slice_get plan.connections i ≡ Some x → (t : Turned old m.wholes i x link) → x.to ≡ to_end.Client n → x.start ≤ old.past + 1 + 1
     → ClientOutAt inputs (client_out_at first n) (client_out_at is n) x (old.past + 1) 0 link
@@ -281,7 +281,7 @@ client_out_next plan first taken old new was is inputs p m retired done h may i 
           (h.started inputs may i n x t.before at t.had to (started_before x.start old.past (old.past + 1) refl start d.1))
     ]
 
-fence_clients_out : (plan : Plan) (first : BaysView) (taken : Bytes) (old new : NodeView) (was is : BaysView) → PlanStands plan old → FenceMove old new → RetiredBy old.past old.links was is
+fence_clients_out : (plan : Plan) (first : BaysView) (taken : InputBytes) (old new : NodeView) (was is : BaysView) → PlanStands plan old → FenceMove old new → RetiredBy old.past old.links was is
     → ((name : PortName) → uses plan name ≡ true → done_at old name ≡ pieces_by plan name) → ClientsOut plan first taken old was → ClientsOut plan first taken new is
 fence_clients_out plan first taken old new was is p m retired done h = record {
   started = λ inputs may i n x link at has to start.
@@ -301,7 +301,7 @@ fence_clients_out plan first taken old new was is p m retired done h = record {
 -- ---- all parts
 
 -- The end of a turn leads from any moment at which no port is ready to the first one of the next turn.
-pub fence_moves : (plan : Plan) (first : BaysView) (taken : Bytes) (old new : NodeView) (was is : BaysView) → old.past < old.turns → ((name : PortName) → is_ready old name ≡ false) → FenceMove old new
+pub fence_moves : (plan : Plan) (first : BaysView) (taken : InputBytes) (old new : NodeView) (was is : BaysView) → old.past < old.turns → ((name : PortName) → is_ready old name ≡ false) → FenceMove old new
     → RetiredBy old.past old.links was is → StandsAt plan first taken old was → Later plan first taken old new is
 fence_moves plan first taken old new was is going none m retired h =
     let p = h.plan_stands in

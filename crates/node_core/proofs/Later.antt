@@ -8,15 +8,15 @@ use Rattle.plan_file.specs.declared.plan.Plan.{Plan}
 use Rattle.node_core.specs.NodeMoves.{FenceMove}
 use Rattle.node_core.specs.NodeView.{NodeView, is_ready, ready_number, left_of}
 use Rattle.node_core.specs.Pieces.{is_open, open_count, left_now, in_a_turn, IsCounted}
-use Rattle.node_core.specs.Stands.{Bytes, StandsAt, Later}
+use Rattle.node_core.specs.Stands.{InputBytes, StandsAt, Later}
 use Rattle.node_core.proofs.PieceCounts.{left_counted, turn_counted, left_fresh, turn_same, none_left, none_open}
 
 -- ---- moments
 
-pub later_none : (plan : Plan) (first : BaysView) (taken : Bytes) (node : NodeView) (now : BaysView) → StandsAt plan first taken node now → Later plan first taken node node now
+pub later_none : (plan : Plan) (first : BaysView) (taken : InputBytes) (node : NodeView) (now : BaysView) → StandsAt plan first taken node now → Later plan first taken node node now
 later_none plan first taken node now h = record { more = taken; stands = h; earlier = λ inputs may. may }
 
-pub later_twice : (plan : Plan) (first : BaysView) (taken : Bytes) (old mid new : NodeView) (was is : BaysView) → (l : Later plan first taken old mid was)
+pub later_twice : (plan : Plan) (first : BaysView) (taken : InputBytes) (old mid new : NodeView) (was is : BaysView) → (l : Later plan first taken old mid was)
     → (StandsAt plan first l.more mid was → Later plan first l.more mid new is) → Later plan first taken old new is
 later_twice plan first taken old mid new was is l next =
     let k = next l.stands in

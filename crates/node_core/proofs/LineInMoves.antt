@@ -29,7 +29,7 @@ use Rattle.node_core.specs.Links.{IsLinkOf, SameEntry, is_on, origin_of}
 use Rattle.node_core.specs.Moves.{EachLink, TookFrame, is_from_line, takes_line}
 use Rattle.node_core.specs.NodeMoves.{LineInMove}
 use Rattle.node_core.specs.NodeView.{NodeView, HasLineIn, is_ready, done_at, taken_pieces, given_pieces}
-use Rattle.node_core.specs.Stands.{Bytes, MayGive, member_of, frames_in, frames_by, ended_by, PlanStands, LinesIn, PipesStand, StandsAt, Later}
+use Rattle.node_core.specs.Stands.{InputBytes, MayGive, member_of, frames_in, frames_by, ended_by, PlanStands, LinesIn, PipesStand, StandsAt, Later}
 use Rattle.node_core.specs.declared.link.Link.{Link}
 use Rattle.node_core.specs.declared.link.Target.{Target}
 use Rattle.node_core.specs.declared.link.Target.TheVariants as target
@@ -74,7 +74,7 @@ hand_is given hand expected member (Some m) e h k = let is : expected ≡ m.expe
 
 -- ---- the bytes that were taken
 
-abbrev more_of : (a : ℕ) → (came : List ℕ) → Bytes → Bytes
+abbrev more_of : (a : ℕ) → (came : List ℕ) → InputBytes → InputBytes
 more_of a came taken = record { line = λ b. if b == a then taken.line b ++ came else taken.line b; client = taken.client }
 
 -- ---- connections that take nothing from the line
@@ -94,7 +94,7 @@ took_kept member past a frame old new t = record {
 
 -- ---- what the inputs may be
 
-line_in_earlier : (plan : Plan) (first was is : InView) (a : ℕ) (taken : Bytes) (old new : NodeView) → PlanStands plan old → uses plan (port.LineIn a) ≡ true → (m : LineInMove a old was new is)
+line_in_earlier : (plan : Plan) (first was is : InView) (a : ℕ) (taken : InputBytes) (old new : NodeView) → PlanStands plan old → uses plan (port.LineIn a) ≡ true → (m : LineInMove a old was new is)
     → (ps : PieceStands (form_in plan a) first is (taken.line a) old.past m.line m.next) → EachLink Kept old.links new.links
     → (inputs : Inputs) → MayGive plan (more_of a ps.came taken) new inputs → MayGive plan taken old inputs
 line_in_earlier plan first was is a taken old new p used m ps kept inputs may = record {
@@ -113,7 +113,7 @@ line_in_earlier plan first was is a taken old new p used m ps kept inputs may = 
 
 -- ---- the lines
 
-line_in_lines : (plan : Plan) (first : BaysView) (a : ℕ) (taken : Bytes) (old new : NodeView) (was is : BaysView) → uses plan (port.LineIn a) ≡ true → IsReady old (port.LineIn a)
+line_in_lines : (plan : Plan) (first : BaysView) (a : ℕ) (taken : InputBytes) (old new : NodeView) (was is : BaysView) → uses plan (port.LineIn a) ≡ true → IsReady old (port.LineIn a)
     → (m : LineInMove a old (line_in_at was a) new (line_in_at is a)) → OnlyLineIn a was is
     → (ps : PieceStands (form_in plan a) (line_in_at first a) (line_in_at is a) (taken.line a) old.past m.line m.next)
     → LinesIn plan first taken old was → LinesIn plan first (more_of a ps.came taken) new is
@@ -188,7 +188,7 @@ few_of : (plan : Plan) (i a number : ℕ) (slots : LineSlots) (x : Connection) (
     → slots_of slots.kind ≡ size_of (form_in plan a)
 few_of plan i a number slots x node p at_i from = ap slots_of (((sound_plan plan p.accepted).entries i x at_i).from_line a number slots from).kind
 
-line_in_pipes : (plan : Plan) (first was is : InView) (a : ℕ) (taken : Bytes) (old new : NodeView) → PlanStands plan old → IsReady old (port.LineIn a) → (m : LineInMove a old was new is)
+line_in_pipes : (plan : Plan) (first was is : InView) (a : ℕ) (taken : InputBytes) (old new : NodeView) → PlanStands plan old → IsReady old (port.LineIn a) → (m : LineInMove a old was new is)
     → m.line.pieces ≡ done_at old (port.LineIn a) → (ps : PieceStands (form_in plan a) first is (taken.line a) old.past m.line m.next) → EachLink Kept old.links new.links
     → PipesStand plan taken old → PipesStand plan (more_of a ps.came taken) new
 line_in_pipes plan first was is a taken old new p r m counted ps kept h = record {
@@ -222,7 +222,7 @@ line_in_pipes plan first was is a taken old new p r m counted ps kept h = record
 
 -- ---- the moment
 
-pub line_in_moves : (plan : Plan) (first : BaysView) (taken : Bytes) (a : ℕ) (old new : NodeView) (was is : BaysView) → is_ready old (port.LineIn a) ≡ true
+pub line_in_moves : (plan : Plan) (first : BaysView) (taken : InputBytes) (a : ℕ) (old new : NodeView) (was is : BaysView) → is_ready old (port.LineIn a) ≡ true
     → LineInMove a old (line_in_at was a) new (line_in_at is a) → OnlyLineIn a was is → StandsAt plan first taken old was → Later plan first taken old new is
 line_in_moves plan first taken a old new was is is_so m only h =
     let r = ready old (port.LineIn a) is_so in

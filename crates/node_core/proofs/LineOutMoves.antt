@@ -26,7 +26,7 @@ use Rattle.node_core.specs.Links.{IsLinkOf, SameEntry, is_on, target_of}
 use Rattle.node_core.specs.Moves.{EachLink, GaveFrame, FillLine, is_to_line, gives_line}
 use Rattle.node_core.specs.NodeMoves.{LineOutMove}
 use Rattle.node_core.specs.NodeView.{NodeView, HasLineIn, HasLineOut, is_ready, done_at, taken_pieces, given_pieces}
-use Rattle.node_core.specs.Stands.{Bytes, MayGive, frames_by, ended_by, PlanStands, PipesStand, LinesOut, StandsAt, Later}
+use Rattle.node_core.specs.Stands.{InputBytes, MayGive, frames_by, ended_by, PlanStands, PipesStand, LinesOut, StandsAt, Later}
 use Rattle.node_core.specs.declared.link.Link.{Link}
 use Rattle.node_core.specs.declared.link.Origin.{Origin}
 use Rattle.node_core.specs.declared.link.Origin.TheVariants as origin
@@ -51,7 +51,7 @@ gave_kept past b n old new g = record {
 
 -- ---- what the inputs may be
 
-line_out_earlier : (plan : Plan) (was is : OutView) (b : ℕ) (taken : Bytes) (old new : NodeView) → PlanStands plan old → LineOutMove b old was new is → EachLink Kept old.links new.links
+line_out_earlier : (plan : Plan) (was is : OutView) (b : ℕ) (taken : InputBytes) (old new : NodeView) → PlanStands plan old → LineOutMove b old was new is → EachLink Kept old.links new.links
     → (inputs : Inputs) → MayGive plan taken new inputs → MayGive plan taken old inputs
 line_out_earlier plan was is b taken old new p m kept inputs may = record {
   lines = λ a line has u.
@@ -96,7 +96,7 @@ many_of : (plan : Plan) (i b number : ℕ) (slots : LineSlots) (x : Connection) 
     → slots_of slots.kind ≡ size_of (form_out plan b)
 many_of plan i b number slots x node p at_i to = ap slots_of (((sound_plan plan p.accepted).entries i x at_i).to_line b number slots to).kind
 
-line_out_pipes : (plan : Plan) (was is : OutView) (b : ℕ) (taken : Bytes) (old new : NodeView) → PlanStands plan old → IsReady old (port.LineOut b) → LineOutMove b old was new is
+line_out_pipes : (plan : Plan) (was is : OutView) (b : ℕ) (taken : InputBytes) (old new : NodeView) → PlanStands plan old → IsReady old (port.LineOut b) → LineOutMove b old was new is
     → EachLink Kept old.links new.links → PipesStand plan taken old → PipesStand plan taken new
 line_out_pipes plan was is b taken old new p r m kept h = record {
   each = λ inputs may i x link at_i has on.
@@ -118,7 +118,7 @@ line_out_pipes plan was is b taken old new p r m kept h = record {
 -- ---- the frame
 
 -- the connections to the line stand at its frame
-filled : (plan : Plan) (inputs : Inputs) (b : ℕ) (taken : Bytes) (node : NodeView) → PlanStands plan node → PipesStand plan taken node → MayGive plan taken node inputs
+filled : (plan : Plan) (inputs : Inputs) (b : ℕ) (taken : InputBytes) (node : NodeView) → PlanStands plan node → PipesStand plan taken node → MayGive plan taken node inputs
     → FillLine plan inputs b node.past (done_at node (port.LineOut b)) node.links
 filled plan inputs b taken node p h may = record {
   count = p.count;
@@ -155,7 +155,7 @@ one_more plan inputs b past k puts put less h is = record {
 
 -- ---- the lines
 
-line_out_lines : (plan : Plan) (first : BaysView) (b : ℕ) (taken : Bytes) (old new : NodeView) (was is : BaysView) → PlanStands plan old → IsReady old (port.LineOut b)
+line_out_lines : (plan : Plan) (first : BaysView) (b : ℕ) (taken : InputBytes) (old new : NodeView) (was is : BaysView) → PlanStands plan old → IsReady old (port.LineOut b)
     → LineOutMove b old (line_out_at was b) new (line_out_at is b) → OnlyLineOut b was is → EachLink Kept old.links new.links → PipesStand plan taken old
     → LinesOut plan first taken old was → LinesOut plan first taken new is
 line_out_lines plan first b taken old new was is p r m only kept pipes h = record {
@@ -183,7 +183,7 @@ line_out_lines plan first b taken old new was is p r m only kept pipes h = recor
 
 -- ---- the moment
 
-pub line_out_moves : (plan : Plan) (first : BaysView) (taken : Bytes) (b : ℕ) (old new : NodeView) (was is : BaysView) → is_ready old (port.LineOut b) ≡ true
+pub line_out_moves : (plan : Plan) (first : BaysView) (taken : InputBytes) (b : ℕ) (old new : NodeView) (was is : BaysView) → is_ready old (port.LineOut b) ≡ true
     → LineOutMove b old (line_out_at was b) new (line_out_at is b) → OnlyLineOut b was is → StandsAt plan first taken old was → Later plan first taken old new is
 line_out_moves plan first taken b old new was is is_so m only h =
     let r = ready old (port.LineOut b) is_so in

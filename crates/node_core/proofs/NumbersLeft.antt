@@ -23,7 +23,7 @@ use Rattle.node_core.specs.NodeView.{NodeView, HasLineIn}
 use Rattle.node_core.specs.Ports.{index_of}
 use Rattle.node_core.specs.RunLeft.{OutputsLeft}
 use Rattle.node_core.specs.Settling.{ToldBy}
-use Rattle.node_core.specs.Stands.{Bytes, MayGive, StandsAt}
+use Rattle.node_core.specs.Stands.{InputBytes, MayGive, StandsAt}
 use Rattle.node_core.proofs.NodeReads.{entry_of}
 use Rattle.node_core.proofs.OutputsLeft.{AllWent, all_went, outputs_left}
 use Rattle.node_core.proofs.Parts.{known_at}
@@ -43,7 +43,7 @@ abbrev pub RestsLeft : Plan → NodeView → (last : BaysView) → Inputs → Ty
 RestsLeft plan node last inputs = (a : ℕ) (line : LineView) → HasLineIn node a line → uses plan (port.LineIn a) ≡ true
     → rest_of line.reader.ending (inputs.line a) ≡ rest_of (line_ending (place_state last (port.LineIn a)) (form_in plan a) (inputs.line a) plan.turns) (inputs.line a)
 
-line_in_numbers : (plan : Plan) (first : BaysView) (taken : Bytes) (node : NodeView) (was last : BaysView) (inputs : Inputs) (numbers : Numbers) → length node.lines_in ≡ LINES → StandsAt plan first taken node was
+line_in_numbers : (plan : Plan) (first : BaysView) (taken : InputBytes) (node : NodeView) (was last : BaysView) (inputs : Inputs) (numbers : Numbers) → length node.lines_in ≡ LINES → StandsAt plan first taken node was
     → node.turns ≤ node.past → MayGive plan taken node inputs → ToldBy plan node numbers → RestsLeft plan node last inputs → (a : ℕ) → uses plan (port.LineIn a) ≡ true
     → numbers.line_in a ≡ numbers_of (form_in plan a) (line_ending (place_state last (port.LineIn a)) (form_in plan a) (inputs.line a) plan.turns) (inputs.line a) plan.turns 0
 line_in_numbers plan first taken node was last inputs numbers lines h over may told rests a used =
@@ -74,7 +74,7 @@ two_numbers numbers frames packets e = ap of e
 -- ---- all
 
 -- whatever went to the outputs so
-numbers_are : (plan : Plan) (first : BaysView) (taken : Bytes) (node : NodeView) (was last : BaysView) (inputs : Inputs) (numbers : Numbers) (went : Went) → length node.lines_in ≡ LINES → StandsAt plan first taken node was
+numbers_are : (plan : Plan) (first : BaysView) (taken : InputBytes) (node : NodeView) (was last : BaysView) (inputs : Inputs) (numbers : Numbers) (went : Went) → length node.lines_in ≡ LINES → StandsAt plan first taken node was
     → node.turns ≤ node.past → MayGive plan taken node inputs → ToldBy plan node numbers → RestsLeft plan node last inputs → IsOutcome plan inputs last numbers.outcome → AllWent plan inputs first was node went
     → AreNumbers plan inputs went first last numbers
 numbers_are plan first taken node was last inputs numbers went lines h over may told rests outcome all = record {
@@ -106,7 +106,7 @@ outputs_kept plan inputs first was last went lines clients h = record {
   client = λ x n is_of to. rw clients (h.client x n is_of to);
 }
 
-pub outputs_told : (plan : Plan) (first : BaysView) (taken : Bytes) (node : NodeView) (was last : BaysView) (inputs : Inputs) (numbers : Numbers) → length node.lines_in ≡ LINES → length node.lines_out ≡ LINES
+pub outputs_told : (plan : Plan) (first : BaysView) (taken : InputBytes) (node : NodeView) (was last : BaysView) (inputs : Inputs) (numbers : Numbers) → length node.lines_in ≡ LINES → length node.lines_out ≡ LINES
     → StandsAt plan first taken node was → node.turns ≤ node.past → MayGive plan taken node inputs → ToldBy plan node numbers → RestsLeft plan node last inputs → IsOutcome plan inputs last numbers.outcome
     → last.line_out ≡ was.line_out → last.client_out ≡ was.client_out → OutputsTold plan inputs first last numbers
 outputs_told plan first taken node was last inputs numbers lines_in lines_out h over may told rests outcome lines clients =

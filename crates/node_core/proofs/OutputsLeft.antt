@@ -27,7 +27,7 @@ use Rattle.node_core.specs.NodeView.{NodeView, HasLineOut, HasLink, done_at}
 use Rattle.node_core.specs.Ports.{index_of}
 use Rattle.node_core.specs.RunLeft.{OutputLeft, LineOutLeft, ClientOutLeft, OutputsLeft}
 use Rattle.node_core.specs.Settling.{OutputsStand}
-use Rattle.node_core.specs.Stands.{Bytes, MayGive, StandsAt, out_after_retire}
+use Rattle.node_core.specs.Stands.{InputBytes, MayGive, StandsAt, out_after_retire}
 use Rattle.node_core.specs.declared.link.Link.{Link}
 use Rattle.node_core.proofs.ClientLinks.{to_client, one_or_none}
 use Rattle.node_core.proofs.NodeReads.{entry_of, entry_at, found_out, none_out, all_turns, is_past}
@@ -53,7 +53,7 @@ line_within b h = grind (arith, nat_tests)
 all_frames : (size past turns done : ℕ) → past ≡ turns → done ≡ 0 → size * past + done ≡ size * turns
 all_frames size past turns done e f = rw (e, f) (omega arith)
 
-pub line_at_end : (plan : Plan) (first : BaysView) (taken : Bytes) (node : NodeView) (now : BaysView) (inputs : Inputs) → length node.lines_out ≡ LINES → StandsAt plan first taken node now → node.turns ≤ node.past
+pub line_at_end : (plan : Plan) (first : BaysView) (taken : InputBytes) (node : NodeView) (now : BaysView) (inputs : Inputs) → length node.lines_out ≡ LINES → StandsAt plan first taken node now → node.turns ≤ node.past
     → MayGive plan taken node inputs → (b : ℕ) → uses plan (port.LineOut b) ≡ true → LineAtEnd plan inputs b (line_out_at first b) (line_out_at now b) node
 line_at_end plan first taken node now inputs lines h over may b used =
     let p = h.plan_stands in
@@ -100,7 +100,7 @@ line_went plan inputs b first now node l = record {
 }
 
 -- of any line, if it is used
-pub some_line : (plan : Plan) (first : BaysView) (taken : Bytes) (node : NodeView) (now : BaysView) (inputs : Inputs) → length node.lines_out ≡ LINES → StandsAt plan first taken node now → node.turns ≤ node.past
+pub some_line : (plan : Plan) (first : BaysView) (taken : InputBytes) (node : NodeView) (now : BaysView) (inputs : Inputs) → length node.lines_out ≡ LINES → StandsAt plan first taken node now → node.turns ≤ node.past
     → MayGive plan taken node inputs → (b : ℕ) → (v : Bool) → uses plan (port.LineOut b) ≡ v
     → (went : List ℕ) × (uses plan (port.LineOut b) ≡ true → LineWent plan inputs b (line_out_at first b) (line_out_at now b) node went)
 some_line plan first taken node now inputs lines h over may b true e =
@@ -133,7 +133,7 @@ retired_is x past over = let late : nat_le x.stop past ≡ true = grind (arith, 
     last true c e = e
     last false c e = refl
 
-pub client_at_end : (plan : Plan) (first : BaysView) (taken : Bytes) (node : NodeView) (now : BaysView) (inputs : Inputs) → StandsAt plan first taken node now → node.turns ≤ node.past → MayGive plan taken node inputs
+pub client_at_end : (plan : Plan) (first : BaysView) (taken : InputBytes) (node : NodeView) (now : BaysView) (inputs : Inputs) → StandsAt plan first taken node now → node.turns ≤ node.past → MayGive plan taken node inputs
     → (i n : ℕ) (x : Connection) (link : Link) → slice_get plan.connections i ≡ Some x → HasLink node i link → x.to ≡ to_end.Client n
     → ClientAtEnd plan inputs i x link (client_out_at first n) (client_out_at now n)
 client_at_end plan first taken node now inputs h over may i n x link at has to =
@@ -184,7 +184,7 @@ client_went plan inputs i x link first now node at has c = record {
     both e f = rw (e, f) refl
 
 -- of any client, if a connection goes to it
-pub some_client : (plan : Plan) (first : BaysView) (taken : Bytes) (node : NodeView) (now : BaysView) (inputs : Inputs) → StandsAt plan first taken node now → node.turns ≤ node.past → MayGive plan taken node inputs → (n : ℕ)
+pub some_client : (plan : Plan) (first : BaysView) (taken : InputBytes) (node : NodeView) (now : BaysView) (inputs : Inputs) → StandsAt plan first taken node now → node.turns ≤ node.past → MayGive plan taken node inputs → (n : ℕ)
     → (went : List ℕ) × ((x : Connection) → Contains plan.connections x → x.to ≡ to_end.Client n → ClientWent plan inputs x (client_out_at first n) (client_out_at now n) node went)
 some_client plan first taken node now inputs h over may n = elim (one_or_none (has_client_out n) node.links) [
   | inl s ↦
@@ -213,7 +213,7 @@ pub record AllWent (plan : Plan) (inputs : Inputs) (first now : BaysView) (node 
   pub line : (b : ℕ) → uses plan (port.LineOut b) ≡ true → LineWent plan inputs b (line_out_at first b) (line_out_at now b) node (went.line b)
   pub client : (x : Connection) (n : ℕ) → Contains plan.connections x → x.to ≡ to_end.Client n → ClientWent plan inputs x (client_out_at first n) (client_out_at now n) node (went.client n)
 
-pub all_went : (plan : Plan) (first : BaysView) (taken : Bytes) (node : NodeView) (now : BaysView) (inputs : Inputs) → length node.lines_out ≡ LINES → StandsAt plan first taken node now → node.turns ≤ node.past
+pub all_went : (plan : Plan) (first : BaysView) (taken : InputBytes) (node : NodeView) (now : BaysView) (inputs : Inputs) → length node.lines_out ≡ LINES → StandsAt plan first taken node now → node.turns ≤ node.past
     → MayGive plan taken node inputs → (went : Went) × AllWent plan inputs first now node went
 all_went plan first taken node now inputs lines h over may =
     let line = λ (b : ℕ). some_line plan first taken node now inputs lines h over may b (uses plan (port.LineOut b)) refl in
@@ -228,7 +228,7 @@ outputs_left plan inputs first now node went all = record {
   client = λ x n is_of to. (all.client x n is_of to).left;
 }
 
-pub outputs_stand : (plan : Plan) (first : BaysView) (taken : Bytes) (node : NodeView) (now : BaysView) (inputs : Inputs) → length node.lines_out ≡ LINES → StandsAt plan first taken node now → node.turns ≤ node.past
+pub outputs_stand : (plan : Plan) (first : BaysView) (taken : InputBytes) (node : NodeView) (now : BaysView) (inputs : Inputs) → length node.lines_out ≡ LINES → StandsAt plan first taken node now → node.turns ≤ node.past
     → MayGive plan taken node inputs → OutputsStand plan first taken node now inputs
 outputs_stand plan first taken node now inputs lines h over may =
     let all = all_went plan first taken node now inputs lines h over may in

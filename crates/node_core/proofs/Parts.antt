@@ -18,7 +18,7 @@ use Rattle.node_core.specs.Ports.{index_of}
 use Rattle.node_core.specs.Pieces.{wanted_of, is_open, IsCounted}
 use Rattle.node_core.specs.Links.{IsLinkOf, SameEntry, is_on}
 use Rattle.node_core.specs.NodeView.{NodeView, HasLink, is_ready, done_at}
-use Rattle.node_core.specs.Stands.{Bytes, MayGive, PlanStands, LinesIn, LinesOut, ClientsIn, ClientsOut, ClientInAt, ClientOutAt}
+use Rattle.node_core.specs.Stands.{InputBytes, MayGive, PlanStands, LinesIn, LinesOut, ClientsIn, ClientsOut, ClientInAt, ClientOutAt}
 use Rattle.node_core.specs.Moves.{EachLink}
 use Rattle.node_core.specs.declared.link.Link.{Link}
 use Rattle.node_core.proofs.PieceCounts.{opened}
@@ -150,7 +150,7 @@ plan_counted plan name old new r c turns past each h = record {
   links = λ i x link at_i has. let b = link_before SameEntry old.links new.links i link each has in link_of_entry x b.old link b.goes (h.links i x b.old at_i b.known);
 }
 
-pub lines_in_same : (plan : Plan) (first : BaysView) (taken more : Bytes) (old new : NodeView) (was is : BaysView) → new.past ≡ old.past
+pub lines_in_same : (plan : Plan) (first : BaysView) (taken more : InputBytes) (old new : NodeView) (was is : BaysView) → new.past ≡ old.past
     → ((a : ℕ) → done_at new (port.LineIn a) ≡ done_at old (port.LineIn a)) → new.lines_in ≡ old.lines_in → ((a : ℕ) → more.line a ≡ taken.line a)
     → ((a : ℕ) → line_in_at is a ≡ line_in_at was a) → LinesIn plan first taken old was → LinesIn plan first more new is
 lines_in_same plan first taken more old new was is past done lines same place h = record {
@@ -158,7 +158,7 @@ lines_in_same plan first taken more old new was is past done lines same place h 
   idle = λ a u. place a ∙ h.idle a u;
 }
 
-pub lines_out_same : (plan : Plan) (first : BaysView) (taken more : Bytes) (old new : NodeView) (was is : BaysView)
+pub lines_out_same : (plan : Plan) (first : BaysView) (taken more : InputBytes) (old new : NodeView) (was is : BaysView)
     → ((inputs : Inputs) → MayGive plan more new inputs → MayGive plan taken old inputs) → new.past ≡ old.past
     → ((b : ℕ) → done_at new (port.LineOut b) ≡ done_at old (port.LineOut b)) → new.lines_out ≡ old.lines_out
     → ((b : ℕ) → line_out_at is b ≡ line_out_at was b) → LinesOut plan first taken old was → LinesOut plan first more new is
@@ -176,7 +176,7 @@ client_out_kept : (inputs : Inputs) (first now : OutView) (x : Connection) (past
     → ClientOutAt inputs first now x past pieces new
 client_out_kept inputs first now x past pieces old new same h = record { was = h.was; stands = rw same h.stands; place = h.place }
 
-pub clients_in_same : (plan : Plan) (first : BaysView) (taken more : Bytes) (old new : NodeView) (was is : BaysView) → PlanStands plan old → EachLink Kept old.links new.links → new.past ≡ old.past
+pub clients_in_same : (plan : Plan) (first : BaysView) (taken more : InputBytes) (old new : NodeView) (was is : BaysView) → PlanStands plan old → EachLink Kept old.links new.links → new.past ≡ old.past
     → ((n : ℕ) → done_at new (port.ClientIn n) ≡ done_at old (port.ClientIn n)) → ((n : ℕ) → more.client n ≡ taken.client n)
     → ((n : ℕ) → client_in_at is n ≡ client_in_at was n) → ClientsIn plan first taken old was → ClientsIn plan first more new is
 clients_in_same plan first taken more old new was is p kept past done same place h = record {
@@ -189,7 +189,7 @@ clients_in_same plan first taken more old new was is p kept past done same place
   idle = λ n u. place n ∙ h.idle n u;
 }
 
-pub clients_out_same : (plan : Plan) (first : BaysView) (taken more : Bytes) (old new : NodeView) (was is : BaysView) → PlanStands plan old → EachLink Kept old.links new.links
+pub clients_out_same : (plan : Plan) (first : BaysView) (taken more : InputBytes) (old new : NodeView) (was is : BaysView) → PlanStands plan old → EachLink Kept old.links new.links
     → ((inputs : Inputs) → MayGive plan more new inputs → MayGive plan taken old inputs) → new.past ≡ old.past
     → ((n : ℕ) → done_at new (port.ClientOut n) ≡ done_at old (port.ClientOut n)) → ((n : ℕ) → client_out_at is n ≡ client_out_at was n)
     → ClientsOut plan first taken old was → ClientsOut plan first more new is
@@ -204,7 +204,7 @@ clients_out_same plan first taken more old new was is p kept earlier past done p
 }
 
 -- what the clients may show from then on they might show before
-pub clients_may : (plan : Plan) (taken more : Bytes) (old new : NodeView) (inputs : Inputs) → PlanStands plan old → EachLink Kept old.links new.links → ((n : ℕ) → more.client n ≡ taken.client n)
+pub clients_may : (plan : Plan) (taken more : InputBytes) (old new : NodeView) (inputs : Inputs) → PlanStands plan old → EachLink Kept old.links new.links → ((n : ℕ) → more.client n ≡ taken.client n)
     → new.past ≡ old.past → MayGive plan more new inputs → (i n : ℕ) (x : Connection) (link : Link) → slice_get plan.connections i ≡ Some x → HasLink old i link → x.from ≡ from_end.Client n
     → x.start ≤ old.past + 1 → MayShow link.pipe.taking (taken.client n) (of_client (inputs.client n))
 clients_may plan taken more old new inputs p kept same past may i n x link at_i has from start =

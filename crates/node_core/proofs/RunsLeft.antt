@@ -17,12 +17,12 @@ use Rattle.node_core.specs.Asking.{LinesAsked}
 use Rattle.node_core.specs.NodeView.{NodeView, HasLineIn}
 use Rattle.node_core.specs.RunLeft.{OutputsLeft, RunLeft}
 use Rattle.node_core.specs.Settling.{Settled, OutputsStand}
-use Rattle.node_core.specs.Stands.{Bytes, MayGive, StandsAt}
+use Rattle.node_core.specs.Stands.{InputBytes, MayGive, StandsAt}
 use Rattle.node_core.proofs.Settled.{turns_past, used_line_at}
 use Rattle.node_core.proofs.SettledLines.{rest_settled}
 
 -- the bytes after the last whole frame of a line that is used are counted as its place and the turns of the plan have it in the end
-pub rest_at_end : (plan : Plan) (first was last : BaysView) (taken : Bytes) (node : NodeView) (inputs : Inputs) (a : ℕ) (line : LineView) → node.turns ≤ node.past → StandsAt plan first taken node was
+pub rest_at_end : (plan : Plan) (first was last : BaysView) (taken : InputBytes) (node : NodeView) (inputs : Inputs) (a : ℕ) (line : LineView) → node.turns ≤ node.past → StandsAt plan first taken node was
     → LinesAsked LINES node.pieces node.lines_in was last → MayGive plan taken node inputs → uses plan (port.LineIn a) ≡ true → HasLineIn node a line
     → rest_of line.reader.ending (inputs.line a) ≡ rest_of (line_ending (place_state last (port.LineIn a)) (form_in plan a) (inputs.line a) plan.turns) (inputs.line a)
 rest_at_end plan first was last taken node inputs a line over st asked may used has =
@@ -31,7 +31,7 @@ rest_at_end plan first was last taken node inputs a line over st asked may used 
     ∙ ap (λ t. rest_of (line_ending (place_state last (port.LineIn a)) (form_in plan a) (inputs.line a) t) (inputs.line a)) (turns_past plan node st.plan_stands over)
 
 -- With what went to its outputs, and the numbers that it tells, a node that was settled so leaves what a run leaves.
-pub run_left : (plan : Plan) (first last : BaysView) (taken : Bytes) (node : NodeView) (outcome : Outcome) (numbers : Numbers) → (settled : Settled plan first taken node last outcome) → numbers.outcome ≡ outcome
+pub run_left : (plan : Plan) (first last : BaysView) (taken : InputBytes) (node : NodeView) (outcome : Outcome) (numbers : Numbers) → (settled : Settled plan first taken node last outcome) → numbers.outcome ≡ outcome
     → ((inputs : Inputs) → MayGive plan taken node inputs → OutputsStand plan first taken node last inputs)
     → ((inputs : Inputs) (went : Went) → MayGive plan taken node inputs → OutputsLeft plan inputs first went last → IsOutcome plan inputs last numbers.outcome → AreNumbers plan inputs went first last numbers)
     → RunLeft plan first last settled.takings numbers

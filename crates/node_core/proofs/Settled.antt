@@ -30,7 +30,7 @@ use Rattle.node_core.specs.Pieces.{wanted_of}
 use Rattle.node_core.specs.Ports.{index_of, port_count}
 use Rattle.node_core.specs.RunLeft.{Takings, MayBeInputs, ClientInLeft, SamePlace}
 use Rattle.node_core.specs.Settling.{Settled}
-use Rattle.node_core.specs.Stands.{Bytes, MayGive, PlanStands, ClientInAt, StandsAt, after_retire}
+use Rattle.node_core.specs.Stands.{InputBytes, MayGive, PlanStands, ClientInAt, StandsAt, after_retire}
 use Rattle.node_core.specs.declared.link.Link.{Link}
 use Rattle.node_core.specs.declared.link.Origin.TheVariants as origin
 use Rattle.node_core.proofs.Parts.{known_at}
@@ -58,12 +58,12 @@ contains xs i x at = (i, slice_get_within xs i x at, get_or_from_slice_get xs i 
 
 -- ---- a line that is used
 
-pub record LineUsed (plan : Plan) (first was is : BaysView) (taken : Bytes) (node : NodeView) (a : ℕ) (came : List ℕ) (line : LineView) : Type 0 where
+pub record LineUsed (plan : Plan) (first was is : BaysView) (taken : InputBytes) (node : NodeView) (a : ℕ) (came : List ℕ) (line : LineView) : Type 0 where
   pub stands : LineStands (form_in plan a) (line_in_at first a) (line_in_at was a) (taken.line a) node.past line
   pub none : line.pieces ≡ 0
   pub asked : ByteAsked (not (is_seen line.reader.ending)) (line_in_at was a) (line_in_at is a) came
 
-pub used_line_at : (plan : Plan) (first was is : BaysView) (taken : Bytes) (node : NodeView) (a : ℕ) (line : LineView) → node.turns ≤ node.past → StandsAt plan first taken node was
+pub used_line_at : (plan : Plan) (first was is : BaysView) (taken : InputBytes) (node : NodeView) (a : ℕ) (line : LineView) → node.turns ≤ node.past → StandsAt plan first taken node was
     → (asked : LinesAsked LINES node.pieces node.lines_in was is) → uses plan (port.LineIn a) ≡ true → HasLineIn node a line → LineUsed plan first was is taken node a (asked.came a) line
 used_line_at plan first was is taken node a line over st asked used has =
     let p = st.plan_stands in
@@ -77,12 +77,12 @@ used_line_at plan first was is taken node a line over st asked used has =
     }
 
 -- the line that it is
-pub record UsedLine (plan : Plan) (first was is : BaysView) (taken : Bytes) (node : NodeView) (a : ℕ) (came : List ℕ) : Type 0 where
+pub record UsedLine (plan : Plan) (first was is : BaysView) (taken : InputBytes) (node : NodeView) (a : ℕ) (came : List ℕ) : Type 0 where
   pub line : LineView
   pub has : HasLineIn node a line
   pub used : LineUsed plan first was is taken node a came line
 
-pub used_line : (plan : Plan) (first was is : BaysView) (taken : Bytes) (node : NodeView) (a : ℕ) → IsNode node → node.turns ≤ node.past → StandsAt plan first taken node was
+pub used_line : (plan : Plan) (first was is : BaysView) (taken : InputBytes) (node : NodeView) (a : ℕ) → IsNode node → node.turns ≤ node.past → StandsAt plan first taken node was
     → (asked : LinesAsked LINES node.pieces node.lines_in was is) → uses plan (port.LineIn a) ≡ true → UsedLine plan first was is taken node a (asked.came a)
 used_line plan first was is taken node a n over st asked used =
     let less : a < 4 = (line_in_index a (used_within plan (port.LineIn a) st.plan_stands.accepted used)).0 in
@@ -119,12 +119,12 @@ came_used plan was is node a n p asked less came = go (uses plan (port.LineIn a)
 -- ---- a client that is used
 
 -- what is known of the client of a connection
-pub record UsedClient (plan : Plan) (first was : BaysView) (taken : Bytes) (node : NodeView) (x : Connection) (n : ℕ) (link : Link) : Type 0 where
+pub record UsedClient (plan : Plan) (first was : BaysView) (taken : InputBytes) (node : NodeView) (x : Connection) (n : ℕ) (link : Link) : Type 0 where
   pub at_end : ClientInAt (client_in_at first n) (client_in_at was n) (taken.client n) x node.past (done_at node (port.ClientIn n)) link
   pub retired : is_retired x node.past ≡ x.retire
   pub done : turns_done x node.past (done_at node (port.ClientIn n)) ≡ x.stop - first_turn x
 
-used_client : (plan : Plan) (first was : BaysView) (taken : Bytes) (node : NodeView) (i n : ℕ) (x : Connection) (link : Link) → node.turns ≤ node.past → StandsAt plan first taken node was
+used_client : (plan : Plan) (first was : BaysView) (taken : InputBytes) (node : NodeView) (i n : ℕ) (x : Connection) (link : Link) → node.turns ≤ node.past → StandsAt plan first taken node was
     → slice_get plan.connections i ≡ Some x → HasLink node i link → x.from ≡ from_end.Client n → UsedClient plan first was taken node x n link
 used_client plan first was taken node i n x link over st at has from =
     let p = st.plan_stands in
@@ -144,13 +144,13 @@ link_at : (plan : Plan) (node : NodeView) (i : ℕ) (x : Connection) → PlanSta
 link_at plan node i x p at = let within = slice_get_within plan.connections i x at in let count = p.count in known_at node.links i (omega (arith, within, count))
 
 -- its place at the end
-client_place : (plan : Plan) (first was is : BaysView) (taken : Bytes) (node : NodeView) (x : Connection) (n : ℕ) (link : Link) → is.client_in ≡ was.client_in → (u : UsedClient plan first was taken node x n link)
+client_place : (plan : Plan) (first was is : BaysView) (taken : InputBytes) (node : NodeView) (x : Connection) (n : ℕ) (link : Link) → is.client_in ≡ was.client_in → (u : UsedClient plan first was taken node x n link)
     → client_in_at is n ≡ after_retire x.retire u.at_end.was
 client_place plan first was is taken node x n link same u = ap (λ l. get_or l n no_input) same ∙ u.at_end.place ∙ ap (λ b. after_retire b u.at_end.was) u.retired
 
 -- ---- what was taken
 
-abbrev takings_of : (taken : Bytes) → (came : ℕ → List ℕ) → NodeView → (first is : BaysView) → Takings
+abbrev takings_of : (taken : InputBytes) → (came : ℕ → List ℕ) → NodeView → (first is : BaysView) → Takings
 takings_of taken came node first is = record {
   line = λ a. taken.line a ++ came a;
   line_more = λ a. has_come (came a);
@@ -158,7 +158,7 @@ takings_of taken came node first is = record {
   client_more = λ n. more_of n node.links (client_in_at first n) (client_in_at is n);
 }
 
-client_left_at : (plan : Plan) (first was is : BaysView) (taken : Bytes) (node : NodeView) (i n : ℕ) (x : Connection) (link : Link) → node.turns ≤ node.past → StandsAt plan first taken node was
+client_left_at : (plan : Plan) (first was is : BaysView) (taken : InputBytes) (node : NodeView) (i n : ℕ) (x : Connection) (link : Link) → node.turns ≤ node.past → StandsAt plan first taken node was
     → is.client_in ≡ was.client_in → slice_get plan.connections i ≡ Some x → HasLink node i link → x.from ≡ from_end.Client n
     → ClientInLeft x.retire (client_in_at first n) (client_in_at is n) (taken.client n) (more_of n node.links (client_in_at first n) (client_in_at is n))
 client_left_at plan first was is taken node i n x link over st same at has from =
@@ -171,7 +171,7 @@ client_left_at plan first was is taken node i n x link over st same at has from 
       place = place;
     }
 
-client_may_at : (plan : Plan) (first was is : BaysView) (taken : Bytes) (came : ℕ → List ℕ) (node : NodeView) (inputs : Inputs) (i n : ℕ) (x : Connection) (link : Link) → node.turns ≤ node.past
+client_may_at : (plan : Plan) (first was is : BaysView) (taken : InputBytes) (came : ℕ → List ℕ) (node : NodeView) (inputs : Inputs) (i n : ℕ) (x : Connection) (link : Link) → node.turns ≤ node.past
     → StandsAt plan first taken node was → is.client_in ≡ was.client_in → MayBeInputs plan first is (takings_of taken came node first is) inputs → slice_get plan.connections i ≡ Some x → HasLink node i link
     → x.from ≡ from_end.Client n → MayShow link.pipe.taking (taken.client n) (of_client (inputs.client n))
 client_may_at plan first was is taken came node inputs i n x link over st same may at has from =
@@ -184,14 +184,14 @@ client_may_at plan first was is taken came node inputs i n x link over st same m
     m.1
     (m.2 ∙ ap (λ d. input_given d m.0) (died_before (client_in_at first n) u.at_end.was (client_in_at is n) x.retire place))
 
-line_end_at : (plan : Plan) (first was is : BaysView) (taken : Bytes) (node : NodeView) (inputs : Inputs) (a : ℕ) (came : ℕ → List ℕ) → UsedLine plan first was is taken node a (came a)
+line_end_at : (plan : Plan) (first was is : BaysView) (taken : InputBytes) (node : NodeView) (inputs : Inputs) (a : ℕ) (came : ℕ → List ℕ) → UsedLine plan first was is taken node a (came a)
     → MayBeInputs plan first is (takings_of taken came node first is) inputs → uses plan (port.LineIn a) ≡ true → EndOfLine (form_in plan a) (taken.line a) (came a) (inputs.line a) node.past
 line_end_at plan first was is taken node inputs a came u may used =
     let m = may.line a used in
     end_of_line (form_in plan a) (line_in_at first a) (line_in_at was a) (line_in_at is a) (taken.line a) (came a) m.0 (inputs.line a) node.past u.line u.used.stands u.used.none u.used.asked m.1 m.2
 
 -- what the inputs may turn out to be at the end they might be before it was settled
-may_before : (plan : Plan) (first was is : BaysView) (taken : Bytes) (node : NodeView) (inputs : Inputs) → node.turns ≤ node.past → StandsAt plan first taken node was
+may_before : (plan : Plan) (first was is : BaysView) (taken : InputBytes) (node : NodeView) (inputs : Inputs) → node.turns ≤ node.past → StandsAt plan first taken node was
     → (asked : LinesAsked LINES node.pieces node.lines_in was is) → MayBeInputs plan first is (takings_of taken asked.came node first is) inputs → MayGive plan taken node inputs
 may_before plan first was is taken node inputs over st asked may = record {
   lines = λ a line has used.
@@ -220,7 +220,7 @@ none_dead plan node is p none d =
     absurd (cc)
 
 -- what a connection says of its client is so
-says_at : (plan : Plan) (first was is : BaysView) (taken : Bytes) (came : ℕ → List ℕ) (node : NodeView) (inputs : Inputs) (i n : ℕ) (x : Connection) (link : Link) (says : Bool) → node.turns ≤ node.past
+says_at : (plan : Plan) (first was is : BaysView) (taken : InputBytes) (came : ℕ → List ℕ) (node : NodeView) (inputs : Inputs) (i n : ℕ) (x : Connection) (link : Link) (says : Bool) → node.turns ≤ node.past
     → StandsAt plan first taken node was → is.client_in ≡ was.client_in → MayBeInputs plan first is (takings_of taken came node first is) inputs → slice_get plan.connections i ≡ Some x → HasLink node i link
     → x.from ≡ from_end.Client n → SaysSpent link says → says ≡ is_spent (inputs.client n) x.fcs (emitted_in_all x)
 says_at plan first was is taken came node inputs i n x link says over st same may at has from h =
@@ -229,7 +229,7 @@ says_at plan first was is taken came node inputs i n x link says over st same ma
     (client_may_at plan first was is taken came node inputs i n x link over st same may at has from)
     ∙ ap (λ k. is_spent (inputs.client n) x.fcs (emitted_before x.pace k)) u.done
 
-some_open : (plan : Plan) (first was is : BaysView) (taken : Bytes) (came : ℕ → List ℕ) (node : NodeView) (inputs : Inputs) → node.turns ≤ node.past
+some_open : (plan : Plan) (first was is : BaysView) (taken : InputBytes) (came : ℕ → List ℕ) (node : NodeView) (inputs : Inputs) → node.turns ≤ node.past
     → StandsAt plan first taken node was → is.client_in ≡ was.client_in → MayBeInputs plan first is (takings_of taken came node first is) inputs → OpenLink node.links → HasOpen plan inputs
 some_open plan first was is taken came node inputs over st same may o =
     let e = entry_at plan node o.i o.link st.plan_stands o.known in
@@ -242,7 +242,7 @@ some_open plan first was is taken came node inputs over st same may o =
       unspent = sym (says_at plan first was is taken came node inputs o.i o.n e.0 o.link false over st same may e.1.0 o.known from o.unspent);
     }
 
-none_open : (plan : Plan) (first was is : BaysView) (taken : Bytes) (came : ℕ → List ℕ) (node : NodeView) (inputs : Inputs) → node.turns ≤ node.past
+none_open : (plan : Plan) (first was is : BaysView) (taken : InputBytes) (came : ℕ → List ℕ) (node : NodeView) (inputs : Inputs) → node.turns ≤ node.past
     → StandsAt plan first taken node was → is.client_in ≡ was.client_in → MayBeInputs plan first is (takings_of taken came node first is) inputs
     → ((i n : ℕ) (link : Link) → slice_get node.links i ≡ Some link → link.from ≡ origin.Client n → SaysSpent link true) → HasOpen plan inputs → ⊥
 none_open plan first was is taken came node inputs over st same may none o =
@@ -267,7 +267,7 @@ is_outcome plan inputs is true more d n m o = record { cut = (λ _. d refl, λ _
 is_outcome plan inputs is false true d n m o = record { cut = (λ e. absurd (cc), λ h. absurd (n refl h)); unfinished = (λ _. (n refl, m refl), λ _. refl) }
 is_outcome plan inputs is false false d n m o = record { cut = (λ e. absurd (cc), λ h. absurd (n refl h)); unfinished = (λ e. absurd (cc), λ u. absurd (o refl u.1)) }
 
-pub settled_is : (plan : Plan) (first was is : BaysView) (taken : Bytes) (node : NodeView) (dead more unspent : Bool) → IsNode node → node.turns ≤ node.past → StandsAt plan first taken node was
+pub settled_is : (plan : Plan) (first was is : BaysView) (taken : InputBytes) (node : NodeView) (dead more unspent : Bool) → IsNode node → node.turns ≤ node.past → StandsAt plan first taken node was
     → LinesAnswer LINES node.pieces node.lines_in was is more → CutAnswer node.pieces is dead → OpensAnswer node.links unspent → Settled plan first taken node is (outcome_by dead (more || unspent))
 settled_is plan first was is taken node dead more unspent n over st lines cut opens = record {
   takings = takings_of taken lines.asked.came node first is;

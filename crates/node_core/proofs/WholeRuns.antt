@@ -11,11 +11,11 @@ use Rattle.node_core.specs.Asking.{LinesAsked}
 use Rattle.node_core.specs.NodeView.{NodeView}
 use Rattle.node_core.specs.RunLeft.{MayBeInputs, RunLeft, RunOf}
 use Rattle.node_core.specs.Settling.{Settled, ToldBy}
-use Rattle.node_core.specs.Stands.{Bytes, StandsAt}
+use Rattle.node_core.specs.Stands.{InputBytes, StandsAt}
 use Rattle.node_core.proofs.NumbersLeft.{RestsLeft, outputs_told}
 use Rattle.node_core.proofs.RunsLeft.{rest_at_end}
 
-pub run_told : (plan : Plan) (first was last : BaysView) (taken : Bytes) (node : NodeView) (outcome : Outcome) (numbers : Numbers) → length node.lines_in ≡ LINES → length node.lines_out ≡ LINES
+pub run_told : (plan : Plan) (first was last : BaysView) (taken : InputBytes) (node : NodeView) (outcome : Outcome) (numbers : Numbers) → length node.lines_in ≡ LINES → length node.lines_out ≡ LINES
     → StandsAt plan first taken node was → node.turns ≤ node.past → (settled : Settled plan first taken node last outcome) → LinesAsked LINES node.pieces node.lines_in was last
     → ToldBy plan node numbers → numbers.outcome ≡ outcome → RunLeft plan first last settled.takings numbers
 run_told plan first was last taken node outcome numbers lines_in lines_out h over settled asked told same = record {

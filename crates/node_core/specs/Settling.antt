@@ -23,20 +23,20 @@ use Rattle.device_model.specs.declared.outcome.FromState.{FromState}
 use Rattle.device_model.specs.declared.outcome.Outcome.{Outcome}
 use Rattle.node_core.specs.NodeView.{NodeView, HasLineIn, HasLineOut, HasLink}
 use Rattle.node_core.specs.RunLeft.{Takings, MayBeInputs, InputLeft, ClientInLeft, SamePlace, TookOf, OutputsLeft}
-use Rattle.node_core.specs.Stands.{Bytes, MayGive, StandsAt}
+use Rattle.node_core.specs.Stands.{InputBytes, MayGive, StandsAt}
 use Rattle.node_core.specs.declared.link.Link.{Link}
 
 -- ---- settling
 
 -- what a run leaves, but for the numbers of its ports, where its inputs are these
-pub record SettledOf (plan : Plan) (first last : BaysView) (takings : Takings) (taken : Bytes) (node : NodeView) (outcome : Outcome) (inputs : Inputs) : Type 0 where
+pub record SettledOf (plan : Plan) (first last : BaysView) (takings : Takings) (taken : InputBytes) (node : NodeView) (outcome : Outcome) (inputs : Inputs) : Type 0 where
   pub may : MayGive plan taken node inputs
   pub took : (a : ℕ) → uses plan (port.LineIn a) ≡ true → TookOf plan inputs takings a
   pub outcome_is : IsOutcome plan inputs last outcome
 
 -- A node past its last turn, of whose inputs these bytes were taken, was settled: each line that is used, whose end was not seen and whose
 -- place is live was asked for one byte more, and no other place was asked.
-pub record Settled (plan : Plan) (first : BaysView) (taken : Bytes) (node : NodeView) (last : BaysView) (outcome : Outcome) : Type 0 where
+pub record Settled (plan : Plan) (first : BaysView) (taken : InputBytes) (node : NodeView) (last : BaysView) (outcome : Outcome) : Type 0 where
   pub takings : Takings
   pub line_in : (a : ℕ) → uses plan (port.LineIn a) ≡ true → InputLeft (line_in_at first a) (line_in_at last a) (takings.line a) (takings.line_more a)
   pub client_in : (x : Connection) (n : ℕ) → Contains plan.connections x → x.from ≡ from_end.Client n
@@ -45,7 +45,7 @@ pub record Settled (plan : Plan) (first : BaysView) (taken : Bytes) (node : Node
   pub of_inputs : (inputs : Inputs) → MayBeInputs plan first last takings inputs → SettledOf plan first last takings taken node outcome inputs
 
 -- what went to the outputs of a node past its last turn, whatever its inputs may turn out to be
-pub record OutputsStand (plan : Plan) (first : BaysView) (taken : Bytes) (node : NodeView) (last : BaysView) (inputs : Inputs) : Type 0 where
+pub record OutputsStand (plan : Plan) (first : BaysView) (taken : InputBytes) (node : NodeView) (last : BaysView) (inputs : Inputs) : Type 0 where
   pub went : Went
   pub outputs : OutputsLeft plan inputs first went last
 
@@ -53,7 +53,7 @@ pub record OutputsStand (plan : Plan) (first : BaysView) (taken : Bytes) (node :
 
 -- these are the counts of input line a, at whatever moment the node stands
 abbrev pub IsLineCounts : NodeView → (a : ℕ) → LineCounts → Type 0
-IsLineCounts node a counts = (plan : Plan) (first : BaysView) (taken : Bytes) (now : BaysView) (inputs : Inputs) (line : LineView) → StandsAt plan first taken node now → MayGive plan taken node inputs
+IsLineCounts node a counts = (plan : Plan) (first : BaysView) (taken : InputBytes) (now : BaysView) (inputs : Inputs) (line : LineView) → StandsAt plan first taken node now → MayGive plan taken node inputs
     → uses plan (port.LineIn a) ≡ true → HasLineIn node a line → counts ≡ numbers_of (form_in plan a) line.reader.ending (inputs.line a) node.past line.pieces
 
 -- so many frames of output line b count
@@ -62,17 +62,17 @@ IsFrameCount node b frames = (line : LineOutView) → HasLineOut node b line →
 
 -- these are the numbers of client input n, of a node past its last turn
 abbrev pub IsClientInCount : NodeView → (n : ℕ) → ClientInNumbers → Type 0
-IsClientInCount node n counts = (plan : Plan) (first : BaysView) (taken : Bytes) (now : BaysView) (inputs : Inputs) (x : Connection) → StandsAt plan first taken node now → node.turns ≤ node.past
+IsClientInCount node n counts = (plan : Plan) (first : BaysView) (taken : InputBytes) (now : BaysView) (inputs : Inputs) (x : Connection) → StandsAt plan first taken node now → node.turns ≤ node.past
     → MayGive plan taken node inputs → Contains plan.connections x → x.from ≡ from_end.Client n → counts ≡ client_numbers x (inputs.client n)
 
 -- these are the numbers of client output n: those of the receiver of the connection that goes to it
 abbrev pub IsClientOutCount : NodeView → (n : ℕ) → ClientOutNumbers → Type 0
-IsClientOutCount node n counts = (plan : Plan) (first : BaysView) (taken : Bytes) (now : BaysView) (i : ℕ) (x : Connection) (link : Link) → StandsAt plan first taken node now
+IsClientOutCount node n counts = (plan : Plan) (first : BaysView) (taken : InputBytes) (now : BaysView) (i : ℕ) (x : Connection) (link : Link) → StandsAt plan first taken node now
     → slice_get plan.connections i ≡ Some x → HasLink node i link → x.to ≡ to_end.Client n → IsReceived link.pipe.giving (counts.frames, counts.packets)
 
 -- this is what the from end of connection i was after the last turn, of a node past that
 abbrev pub IsLastState : NodeView → (i : ℕ) → Option FromState → Type 0
-IsLastState node i state = (plan : Plan) (first : BaysView) (taken : Bytes) (now : BaysView) (inputs : Inputs) (x : Connection) → StandsAt plan first taken node now → node.turns ≤ node.past
+IsLastState node i state = (plan : Plan) (first : BaysView) (taken : InputBytes) (now : BaysView) (inputs : Inputs) (x : Connection) → StandsAt plan first taken node now → node.turns ≤ node.past
     → MayGive plan taken node inputs → slice_get plan.connections i ≡ Some x → state ≡ last_state plan.turns x (own_input inputs x)
 
 -- the numbers that a node of a plan tells when it is past its last turn, and settled so

@@ -30,13 +30,13 @@ use Rattle.node_core.specs.Pieces.{wanted_of}
 use Rattle.node_core.specs.declared.link.Link.{Link}
 
 -- the bytes that were taken of all inputs
-pub record Bytes : Type 0 where
+pub record InputBytes : Type 0 where
   pub line : (a : ℕ) → List ℕ
   pub client : (n : ℕ) → List ℕ
 
 -- What the inputs of a node, of which these bytes were taken, may turn out to be, each for itself. A client whose connection has not started
 -- may turn out to be anything.
-pub record MayGive (plan : Plan) (taken : Bytes) (node : NodeView) (inputs : Inputs) : Type 0 where
+pub record MayGive (plan : Plan) (taken : InputBytes) (node : NodeView) (inputs : Inputs) : Type 0 where
   pub lines : (a : ℕ) (line : LineView) → HasLineIn node a line → uses plan (port.LineIn a) ≡ true → MayBe (form_in plan a).scrambled line.reader.ending (taken.line a) (inputs.line a)
   pub clients : (i n : ℕ) (x : Connection) (link : Link) → slice_get plan.connections i ≡ Some x → HasLink node i link → x.from ≡ from_end.Client n → x.start ≤ node.past + 1
       → MayShow link.pipe.taking (taken.client n) (of_client (inputs.client n))
@@ -87,14 +87,14 @@ pub record PlanStands (plan : Plan) (node : NodeView) : Type 0 where
   pub links : (i : ℕ) (x : Connection) (link : Link) → slice_get plan.connections i ≡ Some x → HasLink node i link → IsLinkOf x link
 
 -- each input line that is used has given what its pieces want, and was asked nothing more
-pub record LinesIn (plan : Plan) (first : BaysView) (taken : Bytes) (node : NodeView) (now : BaysView) : Type 0 where
+pub record LinesIn (plan : Plan) (first : BaysView) (taken : InputBytes) (node : NodeView) (now : BaysView) : Type 0 where
   pub used : (a : ℕ) (line : LineView) → HasLineIn node a line → uses plan (port.LineIn a) ≡ true
       → LineStands (form_in plan a) (line_in_at first a) (line_in_at now a) (taken.line a) node.past line × (line.pieces ≡ done_at node (port.LineIn a))
   pub idle : (a : ℕ) → uses plan (port.LineIn a) ≡ false → line_in_at now a ≡ line_in_at first a
 
 -- Each active connection stands where its own entry and its own input have it. Behind the last turn so does each whose last turn that was: all
 -- of its turns are done.
-pub record PipesStand (plan : Plan) (taken : Bytes) (node : NodeView) : Type 0 where
+pub record PipesStand (plan : Plan) (taken : InputBytes) (node : NodeView) : Type 0 where
   pub each : (inputs : Inputs) → MayGive plan taken node inputs → (i : ℕ) (x : Connection) (link : Link) → slice_get plan.connections i ≡ Some x → HasLink node i link → IsActive x node.past
       → PipeStands x (own_input inputs x) (own_turn x node.past) (frames_by plan inputs x.from node.past (taken_pieces node link.from)) (ended_by x.from (taken_pieces node link.from))
       (given_pieces node link.to) link.pipe
@@ -102,7 +102,7 @@ pub record PipesStand (plan : Plan) (taken : Bytes) (node : NodeView) : Type 0 w
       → x.stop ≡ node.past → PipeStands x (own_input inputs x) (own_turn x node.past) [] false 0 link.pipe
 
 -- of each output line that is used the first so many frames were made, and were due to its place
-pub record LinesOut (plan : Plan) (first : BaysView) (taken : Bytes) (node : NodeView) (now : BaysView) : Type 0 where
+pub record LinesOut (plan : Plan) (first : BaysView) (taken : InputBytes) (node : NodeView) (now : BaysView) : Type 0 where
   pub used : (inputs : Inputs) → MayGive plan taken node inputs → (b : ℕ) (line : LineOutView) → HasLineOut node b line → uses plan (port.LineOut b) ≡ true
       → (puts : List FramePut) × AreFramesOf plan inputs b (size_of (form_out plan b) * node.past + done_at node (port.LineOut b)) puts
       × LineMade b (form_out plan b) (line_out_at first b) (line_out_at now b) puts line
@@ -115,7 +115,7 @@ pub record ClientInAt (first now : InView) (taken : List ℕ) (x : Connection) (
   pub place : now ≡ after_retire (is_retired x past) was
 
 -- of all client inputs: as above once the connection has started, untouched before
-pub record ClientsIn (plan : Plan) (first : BaysView) (taken : Bytes) (node : NodeView) (now : BaysView) : Type 0 where
+pub record ClientsIn (plan : Plan) (first : BaysView) (taken : InputBytes) (node : NodeView) (now : BaysView) : Type 0 where
   pub started : (i n : ℕ) (x : Connection) (link : Link) → slice_get plan.connections i ≡ Some x → HasLink node i link → x.from ≡ from_end.Client n → x.start ≤ node.past + 1
       → ClientInAt (client_in_at first n) (client_in_at now n) (taken.client n) x node.past (done_at node (port.ClientIn n)) link
   pub waits : (i n : ℕ) (x : Connection) → slice_get plan.connections i ≡ Some x → x.from ≡ from_end.Client n → node.past + 1 < x.start
@@ -129,7 +129,7 @@ pub record ClientOutAt (inputs : Inputs) (first now : OutView) (x : Connection) 
   pub place : now ≡ out_after_retire (is_retired x past) was
 
 -- of all client outputs: likewise
-pub record ClientsOut (plan : Plan) (first : BaysView) (taken : Bytes) (node : NodeView) (now : BaysView) : Type 0 where
+pub record ClientsOut (plan : Plan) (first : BaysView) (taken : InputBytes) (node : NodeView) (now : BaysView) : Type 0 where
   pub started : (inputs : Inputs) → MayGive plan taken node inputs → (i n : ℕ) (x : Connection) (link : Link) → slice_get plan.connections i ≡ Some x → HasLink node i link
       → x.to ≡ to_end.Client n → x.start ≤ node.past + 1 → ClientOutAt inputs (client_out_at first n) (client_out_at now n) x node.past (done_at node (port.ClientOut n)) link
   pub waits : (i n : ℕ) (x : Connection) → slice_get plan.connections i ≡ Some x → x.to ≡ to_end.Client n → node.past + 1 < x.start → client_out_at now n ≡ client_out_at first n
@@ -137,7 +137,7 @@ pub record ClientsOut (plan : Plan) (first : BaysView) (taken : Bytes) (node : N
 
 -- The node and its bays stand at a moment of the plan: in turn node.past + 1, after so many pieces of each port. The bays were first so, and
 -- these bytes were taken of the inputs since.
-pub record StandsAt (plan : Plan) (first : BaysView) (taken : Bytes) (node : NodeView) (now : BaysView) : Type 0 where
+pub record StandsAt (plan : Plan) (first : BaysView) (taken : InputBytes) (node : NodeView) (now : BaysView) : Type 0 where
   pub plan_stands : PlanStands plan node
   pub lines_in : LinesIn plan first taken node now
   pub pipes : PipesStand plan taken node
@@ -146,11 +146,11 @@ pub record StandsAt (plan : Plan) (first : BaysView) (taken : Bytes) (node : Nod
   pub clients_out : ClientsOut plan first taken node now
 
 -- From one moment to a later one: more bytes were taken, and what the inputs may turn out to be from then on they might be before.
-pub record Later (plan : Plan) (first : BaysView) (taken : Bytes) (old new : NodeView) (now : BaysView) : Type 0 where
-  pub more : Bytes
+pub record Later (plan : Plan) (first : BaysView) (taken : InputBytes) (old new : NodeView) (now : BaysView) : Type 0 where
+  pub more : InputBytes
   pub stands : StandsAt plan first more new now
   pub earlier : (inputs : Inputs) → MayGive plan more new inputs → MayGive plan taken old inputs
 
 -- nothing was taken
-abbrev pub no_bytes : Bytes
+abbrev pub no_bytes : InputBytes
 no_bytes = record { line = λ a. []; client = λ n. [] }

@@ -13,7 +13,7 @@ ghost use Rattle.node_core.specs.NodeMoves.{LineInMove, LineOutMove, ClientInMov
 ghost use Rattle.device_model.specs.Moments.{over_ports, pieces_of};
 ghost use Rattle.node_core.specs.NodeView.{NodeView, is_ready, left_of, ready_number};
 ghost use Rattle.node_core.specs.Pieces.{open_count, IsNth, IsCounted};
-ghost use Rattle.node_core.specs.Stands.{Bytes, StandsAt, Later, no_bytes};
+ghost use Rattle.node_core.specs.Stands.{InputBytes, StandsAt, Later, no_bytes};
 
 use crate::build::{new_lines_in, new_lines_out, new_links};
 use crate::clients::{give_client, take_client};
@@ -122,7 +122,7 @@ impl Node {
         requires ready { is_ready self.old port ≡ true }
 
         // from any moment of any accepted plan this leads to the moment with one piece more of this port
-        ensures stands { (plan : Plan) (first : BaysView) (taken : Bytes) → StandsAt plan first taken self.old (bays_view P.Source K.Sink bays.old)
+        ensures stands { (plan : Plan) (first : BaysView) (taken : InputBytes) → StandsAt plan first taken self.old (bays_view P.Source K.Sink bays.old)
             → Later plan first taken self.old self.new (bays_view P.Source K.Sink bays.new) }
         ensures piece { IsCounted port self.old.pieces self.new.pieces }
         ensures turns { self.new.turns ≡ self.old.turns }
@@ -189,7 +189,7 @@ impl Node {
         requires none { (port : PortName) → is_ready self.old port ≡ false }
 
         // from any moment of any accepted plan this leads to the next turn, of which no piece is done
-        ensures stands { (plan : Plan) (first : BaysView) (taken : Bytes) → StandsAt plan first taken self.old (bays_view P.Source K.Sink bays.old)
+        ensures stands { (plan : Plan) (first : BaysView) (taken : InputBytes) → StandsAt plan first taken self.old (bays_view P.Source K.Sink bays.old)
             → Later plan first taken self.old self.new (bays_view P.Source K.Sink bays.new) }
         ensures ends { FenceMove self.old self.new }
         ensures retired { RetiredBy self.old.past self.old.links (bays_view P.Source K.Sink bays.old) (bays_view P.Source K.Sink bays.new) }

@@ -4,7 +4,7 @@ ghost use Rattle.otn_ports.specs.Bytes.{raised};
 ghost use Rattle.otn_ports.specs.Racks.{bays_view};
 ghost use Rattle.otn_ports.specs.Views.{BaysView};
 ghost use Rattle.plan_file.specs.declared.plan.Plan.{Plan};
-ghost use Rattle.node_core.specs.Stands.{Bytes, StandsAt, Later};
+ghost use Rattle.node_core.specs.Stands.{InputBytes, StandsAt, Later};
 ghost use Rattle.node_core.specs.NodeView.{left_of};
 
 use crate::Node;
@@ -17,7 +17,7 @@ pub fn carry<P: Source, K: Sink, C: Chooser>(
     bays: &mut Rack<P, K>,
     chooser: &mut C,
 )
-    ensures stands { (plan : Plan) (first : BaysView) (taken : Bytes) → StandsAt plan first taken node.old (bays_view P.Source K.Sink bays.old)
+    ensures stands { (plan : Plan) (first : BaysView) (taken : InputBytes) → StandsAt plan first taken node.old (bays_view P.Source K.Sink bays.old)
         → Later plan first taken node.old node.new (bays_view P.Source K.Sink bays.new) }
     ensures finished { node.new.turns ≤ node.new.past }
     ensures turns { node.new.turns ≡ node.old.turns }

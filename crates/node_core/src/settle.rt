@@ -11,7 +11,7 @@ ghost use Rattle.cross_matrix.specs.Receiving.{is_dead};
 ghost use Rattle.node_core.specs.Asking.{ByteAnswer, LinesAsked, LinesAnswer, CutAnswer, OpenAnswer, OpensAnswer, asks_line, is_cut, outcome_by};
 ghost use Rattle.node_core.specs.Ports.{index_of, port_count};
 ghost use Rattle.node_core.specs.Settling.{Settled};
-ghost use Rattle.node_core.specs.Stands.{Bytes, StandsAt};
+ghost use Rattle.node_core.specs.Stands.{InputBytes, StandsAt};
 
 use crate::Node;
 use crate::link::{Link, Origin};
@@ -31,7 +31,7 @@ impl Node {
         requires finished { self.now.turns ≤ self.now.past }
 
         // whatever plan it is of, and whatever was taken of the inputs, this settles it
-        ensures settled { (plan : Plan) (first : BaysView) (taken : Bytes) → StandsAt plan first taken self.now (bays_view P.Source K.Sink bays.old)
+        ensures settled { (plan : Plan) (first : BaysView) (taken : InputBytes) → StandsAt plan first taken self.now (bays_view P.Source K.Sink bays.old)
             → Settled plan first taken self.now (bays_view P.Source K.Sink bays.new) result }
         ensures asked { LinesAsked LINE_PORTS self.now.pieces self.now.lines_in (bays_view P.Source K.Sink bays.old) (bays_view P.Source K.Sink bays.new) }
     {

@@ -7,7 +7,7 @@ ghost use Rattle.node_core.specs.Asking.{LinesAsked};
 ghost use Rattle.node_core.specs.RunLeft.{Takings, RunLeft};
 ghost use Rattle.node_core.specs.RunNumbers.{client_in_numbers, client_out_numbers, no_client_in, no_client_out, no_counts, numbers_of_run};
 ghost use Rattle.node_core.specs.Settling.{IsLineCounts, IsFrameCount, IsClientInCount, IsClientOutCount, IsLastState, Settled, ToldBy};
-ghost use Rattle.node_core.specs.Stands.{Bytes, StandsAt};
+ghost use Rattle.node_core.specs.Stands.{InputBytes, StandsAt};
 
 use crate::numbers::{ClientInCounts, ClientOutCounts, RunNumbers};
 use crate::{FromState, Node, Outcome};
@@ -21,7 +21,7 @@ impl Node {
         ensures outcome { (numbers_of_run result).outcome ≡ outcome }
 
         // a node past its last turn that was settled with this outcome leaves what a run of its plan leaves, with these numbers
-        ensures left { (plan : Plan) (first was last : BaysView) (taken : Bytes) → StandsAt plan first taken self.now was → self.now.turns ≤ self.now.past
+        ensures left { (plan : Plan) (first was last : BaysView) (taken : InputBytes) → StandsAt plan first taken self.now was → self.now.turns ≤ self.now.past
             → Settled plan first taken self.now last outcome → LinesAsked LINE_PORTS self.now.pieces self.now.lines_in was last
             → (takings : Takings) × RunLeft plan first last takings (numbers_of_run result) }
     {

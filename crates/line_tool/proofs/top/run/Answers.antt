@@ -7,7 +7,7 @@ use Rattle.line_tool.specs.Device.{device}
 use Rattle.line_tool.specs.Ends.{check_status, trial_status}
 use Rattle.line_tool.specs.PullReport.{tributary}
 use Rattle.line_tool.specs.RunAnswers.{RunAnswers}
-use Rattle.line_tool.specs.Runs.{IsRefusal}
+use Rattle.line_tool.specs.AnswerWords.{IsRefusal}
 use Rattle.line_tool.specs.Words.{texts}
 use Rattle.line_tool.specs.declared.words.Command.TheVariants.{Slot, Pull, Run, RunOrdered, Trial}
 use Rattle.line_tool.proofs.Answered.{check_stays, line_stays, nothing_stays, pull_answered, refused_line, slot_answered}

@@ -4,12 +4,12 @@ use Rattle.otn_ports.specs.Racks.{bays_view}
 use Rattle.otn_ports.specs.Views.{BaysView}
 use Rattle.plan_file.specs.declared.plan.Plan.{Plan}
 use Rattle.node_core.specs.NodeView.{left_of}
-use Rattle.node_core.specs.Stands.{Bytes, StandsAt, Later}
+use Rattle.node_core.specs.Stands.{InputBytes, StandsAt, Later}
 use Rattle.node_core.proofs.runs.carry.Given as goal
 
 abbrev pub invariant-loop-node : goal.invariant-loop-node
 invariant-loop-node g l = record {
-  stands : (plan : Plan) (first : BaysView) (taken : Bytes) → StandsAt plan first taken l.fn.node (bays_view g.P.Source g.K.Sink l.fn.bays)
+  stands : (plan : Plan) (first : BaysView) (taken : InputBytes) → StandsAt plan first taken l.fn.node (bays_view g.P.Source g.K.Sink l.fn.bays)
       → Later plan first taken l.fn.node l.node (bays_view g.P.Source g.K.Sink l.bays);
   turns : l.node.turns ≡ l.fn.node.turns;
   asked : raised (g.C.Chooser.asked l.chooser) (left_of l.node) ≡ raised (g.C.Chooser.asked l.fn.chooser) (left_of l.fn.node);
