@@ -1,6 +1,7 @@
 // One slot of a row.
 ghost use Rattle.std.specs.Prelude.{◌≡◌, ◌≢◌, ℕ, ◌+◌, ◌-◌, ◌*◌, ◌%◌, ◌<◌, ◌≤◌, length, slice_index};
 ghost use Rattle.lane_kernels.specs.SlotPlaces.{IsSlotCount};
+ghost use Rattle.otn_base.specs.declared.limits.TheConstants.{OTU2_SLOTS};
 
 use crate::block::Block;
 use otn_base::limits::OTU2_SLOTS;
@@ -49,29 +50,29 @@ pub fn put_slot<const SLOTS: usize>(bytes: &[u8], k: u8, row: &mut [u8])
     }
 }
 
-// Sixteen cycles of 8 columns at a time, as far as a cycle stands behind them; says how many they are.
+// Sixteen cycles of an OTU2's columns at a time, as far as a cycle stands behind them; says how many they are.
 #[inline(always)]
 fn take_blocks(row: &[u8], first: usize, into: &mut [u8]) -> usize
-    requires first { first < 8 }
-    requires size { length row.now ≡ 8 * length into.old }
+    requires first { first < OTU2_SLOTS }
+    requires size { length row.now ≡ OTU2_SLOTS * length into.old }
     ensures count { result ≤ length into.old }
-    ensures bytes { (j : ℕ) → j < result → slice_index into.new j ≡ slice_index row.now (8 * j + first) }
+    ensures bytes { (j : ℕ) → j < result → slice_index into.new j ≡ slice_index row.now (OTU2_SLOTS * j + first) }
 {
     let blocks = into.len().saturating_sub(1) / 16;
     for block in 0..blocks {
-        take_block(row, 128 * block + first, into, 16 * block);
+        take_block(row, OTU2_SLOTS * 16 * block + first, into, 16 * block);
     }
     16 * blocks
 }
 
 #[inline(always)]
 fn take_block(row: &[u8], at: usize, into: &mut [u8], to: usize)
-    requires row { at + 128 ≤ length row.now }
+    requires row { at + OTU2_SLOTS * 16 ≤ length row.now }
     requires into { to + 16 ≤ length into.old }
     ensures below { (j : ℕ) → j < to → slice_index into.new j ≡ slice_index into.old j }
-    ensures here { (j : ℕ) → j < 16 → slice_index into.new (to + j) ≡ slice_index row.now (at + 8 * j) }
+    ensures here { (j : ℕ) → j < 16 → slice_index into.new (to + j) ≡ slice_index row.now (at + OTU2_SLOTS * j) }
 {
-    let bytes = Block::load_groups(row, at, 8).first_bytes();
+    let bytes = Block::load_groups(row, at, OTU2_SLOTS).first_bytes();
     bytes.copy_to_slice(&mut into[to..]);
 }
 
