@@ -11,7 +11,7 @@ use Rattle.otn_ports.specs.Writes.{Writes, state_after_write}
 use Rattle.otn_ports.specs.declared.drain.Written.{Written}
 use Rattle.otn_ports.specs.declared.drain.Written.TheVariants as written
 use Rattle.otn_ports.proofs.GivenLaws.{gained_twice, write_gained, empty_not_live, dead_not_live}
-use Rattle.packet_text.specs.LinesStand.{stopped}
+use Rattle.otn_base.specs.Counts.{saturated}
 use Rattle.packet_text.specs.PacketText.{packet_line, hex_text}
 use Rattle.device_model.specs.Numbers.{whole_lines, counted_packets}
 use Rattle.cross_matrix.specs.Receiving.{is_dead, LinesSent}
@@ -87,7 +87,7 @@ counts_all Empty packets went e = refl
 counts_all Live packets went e = absurd (empty_not_live (sym e))
 counts_all Dead packets went e = absurd (cc)
 
-one_more : (n : ℕ) → min (stopped n + 1) (2 ^ 64 - 1) ≡ stopped (n + 1)
+one_more : (n : ℕ) → min (saturated n + 1) (2 ^ 64 - 1) ≡ saturated (n + 1)
 one_more n = omega arith
 
 dead_not_empty : Dead ≢ Empty
@@ -122,7 +122,7 @@ line_dead first now packets packet count dead h =
     let some = not_empty first.state now.state first.faults now.faults h.sent.gained.state (λ e. dead_not_empty (sym dead ∙ e)) in
     record {
       sent = idle_text first now packets packet (λ l. dead_not_live (sym dead ∙ l)) h.sent;
-      counted = h.counted ∙ ap stopped (counts_went first.state packets h.sent.went some ∙ sym (counts_went first.state (packets ++ packet ∷ []) h.sent.went some));
+      counted = h.counted ∙ ap saturated (counts_went first.state packets h.sent.went some ∙ sym (counts_went first.state (packets ++ packet ∷ []) h.sent.went some));
     }
 
 -- of a line that is lost a part went out, without its line feed
@@ -141,7 +141,7 @@ lost_line first old new packets packet count live dead (n, less, gained) h =
         gained = gained_twice first old new h.sent.went part h.sent.gained gained;
         whole = λ alive. absurd (dead_not_live (sym dead ∙ alive));
       };
-      counted = h.counted ∙ ap stopped (
+      counted = h.counted ∙ ap saturated (
           counts_went first.state packets h.sent.went some
           ∙ (let both = lines-append h.sent.went part in let none = part_none packet n less in let same : whole_lines h.sent.went ≡ whole_lines (h.sent.went ++ part) = omega arith in same)
           ∙ sym (counts_went first.state (packets ++ packet ∷ []) (h.sent.went ++ part) some)
@@ -164,8 +164,8 @@ whole_line first old new packets packet count live (went, gained, all) h =
         whole = λ _. refl;
       };
       counted =
-          ap (λ n. min (n + 1) (2 ^ 64 - 1)) (h.counted ∙ ap stopped (counts_went first.state packets h.sent.went some)) ∙ one_more (whole_lines h.sent.went)
-          ∙ ap stopped (
+          ap (λ n. min (n + 1) (2 ^ 64 - 1)) (h.counted ∙ ap saturated (counts_went first.state packets h.sent.went some)) ∙ one_more (whole_lines h.sent.went)
+          ∙ ap saturated (
           sym (lines-append h.sent.went went ∙ ap (λ n. whole_lines h.sent.went + n) (ap whole_lines (all live) ∙ line_one packet))
           ∙ sym (counts_went first.state (packets ++ packet ∷ []) (h.sent.went ++ went) some)
           );
@@ -179,8 +179,8 @@ empty_line first now packets packet count empty h =
     record {
       sent = idle_text first now packets packet (λ l. empty_not_live (sym empty ∙ l)) h.sent;
       counted =
-          ap (λ n. min (n + 1) (2 ^ 64 - 1)) (h.counted ∙ ap stopped (counts_all first.state packets h.sent.went none)) ∙ one_more (length packets)
-          ∙ ap stopped (sym (length-append packets (packet ∷ [])) ∙ sym (counts_all first.state (packets ++ packet ∷ []) h.sent.went none));
+          ap (λ n. min (n + 1) (2 ^ 64 - 1)) (h.counted ∙ ap saturated (counts_all first.state packets h.sent.went none)) ∙ one_more (length packets)
+          ∙ ap saturated (sym (length-append packets (packet ∷ [])) ∙ sym (counts_all first.state (packets ++ packet ∷ []) h.sent.went none));
     }
   where
     was_empty : (s now : State) (f g : ℕ) → Lives s now f g → now ≡ Empty → s ≡ Empty

@@ -8,7 +8,8 @@ use Rattle.odu_client.specs.ClientInput.{ClientInput, input_of, input_emits, emi
 use Rattle.odu_client.specs.Framing.{FramerState, ClientStands, Fills, MayDie}
 use Rattle.odu_client.specs.FramerSteps.{fresh_framer}
 use Rattle.otn_ports.specs.Views.{InView}
-use Rattle.packet_text.specs.LinesStand.{LinesView, lines_view, fresh_lines, stopped, MayBe}
+use Rattle.packet_text.specs.LinesStand.{LinesView, lines_view, fresh_lines, MayBe}
+use Rattle.otn_base.specs.Counts.{saturated}
 use Rattle.packet_text.specs.PacketText.{packets_of}
 use Rattle.packet_text.specs.declared.line.Line.{Line}
 use Rattle.packet_text.specs.declared.line.Line.TheVariants as line
@@ -164,14 +165,14 @@ text_took x first was now taken n count old lines framer bytes pace size over fi
 
 pub text_counted : (x : Connection) (first now : InView) (taken : List ℕ) (n : ℕ) (input : ClientInput) (client : ClientText) (packets : ℕ) (spent : Bool) (bad : Option ℕ)
     → ((gone text : List ℕ) → ClientStands first now taken gone (lines_view client.lines) client.framer → MayBe (lines_view client.lines) taken text
-    → packets ≡ stopped (packets_begun (packets_of text).packets client.framer.stream.fcs (length gone)))
+    → packets ≡ saturated (packets_begun (packets_of text).packets client.framer.stream.fcs (length gone)))
     → ((gone : List ℕ) (died : Bool) (text : List ℕ) → ClientStands first now taken gone (lines_view client.lines) client.framer → MayBe (lines_view client.lines) taken text
     → MayDie (lines_view client.lines).answer died → spent ≡ is_spent (input_of died text) client.framer.stream.fcs (length gone))
     → ((gone : List ℕ) (died : Bool) (text : List ℕ) → ClientStands first now taken gone (lines_view client.lines) client.framer → MayBe (lines_view client.lines) taken text
-    → MayDie (lines_view client.lines).answer died → bad ≡ option_map stopped (bad_line (input_of died text) client.framer.stream.fcs (length gone)))
+    → MayDie (lines_view client.lines).answer died → bad ≡ option_map saturated (bad_line (input_of died text) client.framer.stream.fcs (length gone)))
     → TextStands x first now taken n client → MayTell (lines_view client.lines) taken input
     → ◌≡◌ {A = ℕ × Bool × Option ℕ} (packets, spent, bad)
-    (stopped (packets_begun input.packets x.fcs (emitted_before x.pace n)), is_spent input x.fcs (emitted_before x.pace n), option_map stopped (bad_line input x.fcs (emitted_before x.pace n)))
+    (saturated (packets_begun input.packets x.fcs (emitted_before x.pace n)), is_spent input x.fcs (emitted_before x.pace n), option_map saturated (bad_line input x.fcs (emitted_before x.pace n)))
 text_counted x first now taken n input client packets spent bad p s b h m =
     let fcs = client.framer.stream.fcs in
     let gone = length h.gone in
@@ -180,7 +181,7 @@ text_counted x first now taken n input client packets spent bad p s b h m =
     ∙ ap (λ f. all i f gone) h.fcs ∙ ap (all i x.fcs) h.count ∙ ap (λ j. all j x.fcs (emitted_before x.pace n)) (sym m.is)
   where
     all : ClientInput → Bool → ℕ → ℕ × Bool × Option ℕ
-    all j f k = (stopped (packets_begun j.packets f k), is_spent j f k, option_map stopped (bad_line j f k))
+    all j f k = (saturated (packets_begun j.packets f k), is_spent j f k, option_map saturated (bad_line j f k))
 
     pair : {p' : ℕ} {s' : Bool} {b' : Option ℕ} → packets ≡ p' → spent ≡ s' → bad ≡ b' → ◌≡◌ {A = ℕ × Bool × Option ℕ} (packets, spent, bad) (p', s', b')
     pair e1 e2 e3 = cc

@@ -16,7 +16,7 @@ use Rattle.odu_client.specs.View.{frames_after}
 use Rattle.odu_client.specs.declared.aligned.Aligned.{Aligned}
 use Rattle.otn_ports.specs.Views.{State, Empty, Live, Dead, OutView}
 use Rattle.otn_ports.proofs.GivenLaws.{gained_none}
-use Rattle.packet_text.specs.LinesStand.{stopped}
+use Rattle.otn_base.specs.Counts.{saturated}
 use Rattle.packet_text.specs.PacketText.{hex_text}
 use Rattle.device_model.specs.Numbers.{counted_packets}
 use Rattle.cross_matrix.specs.Receiving.{ReceiverView, last_run, ReceiverStands, LinesSent, RunRead, AllRead}
@@ -181,8 +181,8 @@ stands_none first aligner reader frames aligned read e = record {
   aligned = aligned;
   read = same_read [] (last_run (runs_of (arrivals []))) reader (sym run-none) read;
   sent = record { went = []; rest = []; parts = sym text-none; gained = gained_none first; whole = λ _. refl };
-  frames = e ∙ ap stopped (sym frames-none);
-  packets = sym (ap (λ ps. stopped (counted_packets first.state ps [])) packets-none ∙ ap stopped (none_counted first.state));
+  frames = e ∙ ap saturated (sym frames-none);
+  packets = sym (ap (λ ps. saturated (counted_packets first.state ps [])) packets-none ∙ ap saturated (none_counted first.state));
 }
 
 -- what stands of a receiver, without its aligner

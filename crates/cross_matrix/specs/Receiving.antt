@@ -7,7 +7,7 @@ use Rattle.gfp_frames.specs.Reader.{ReaderState, HasRead}
 use Rattle.odu_client.specs.AlignedRuns.{Arrival, arrivals, runs_of}
 use Rattle.odu_client.specs.Aligner.{AlignerState, HasAligned}
 use Rattle.odu_client.specs.ClientOutput.{arriving_packets, arriving_text, arriving_frames}
-use Rattle.packet_text.specs.LinesStand.{stopped}
+use Rattle.otn_base.specs.Counts.{saturated}
 use Rattle.device_model.specs.Numbers.{counted_packets}
 use Rattle.packet_text.specs.PacketText.{hex_text}
 
@@ -30,8 +30,8 @@ pub record ReceiverStands (first now : OutView) (arrived : List ℕ) (receiver :
   pub aligned : HasAligned arrived receiver.aligner
   pub read : HasRead (last_run (runs_of (arrivals arrived))) receiver.reader
   pub sent : IsSent first (arriving_text arrived) now
-  pub frames : receiver.frames ≡ stopped (arriving_frames arrived)
-  pub packets : receiver.packets ≡ stopped (counted_packets first.state (arriving_packets arrived) sent.went)
+  pub frames : receiver.frames ≡ saturated (arriving_frames arrived)
+  pub packets : receiver.packets ≡ saturated (counted_packets first.state (arriving_packets arrived) sent.went)
 
 -- ---- steps of a receiver
 
@@ -44,7 +44,7 @@ is_dead Dead = true
 -- the text of these packets was due to a place, and so many of them count
 pub record LinesSent (first now : OutView) (packets : List (List ℕ)) (count : ℕ) : Type 0 where
   pub sent : IsSent first (hex_text packets) now
-  pub counted : count ≡ stopped (counted_packets first.state packets sent.went)
+  pub counted : count ≡ saturated (counted_packets first.state packets sent.went)
 
 -- the reader has read these bytes of a run: behind earlier packets, the text of those that they deliver was due to the place
 pub record RunRead (first now : OutView) (earlier : List (List ℕ)) (taken : List ℕ) (reader : ReaderState) (count : ℕ) : Type 0 where

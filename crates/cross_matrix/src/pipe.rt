@@ -7,7 +7,7 @@ ghost use Rattle.odu_client.specs.ClientInput.{ClientInput, packets_begun, is_sp
 ghost use Rattle.otn_ports.specs.InPlace.{in_view};
 ghost use Rattle.otn_ports.specs.OutPlace.{out_view};
 ghost use Rattle.otn_ports.specs.Views.{InView, OutView};
-ghost use Rattle.packet_text.specs.LinesStand.{stopped};
+ghost use Rattle.otn_base.specs.Counts.{saturated};
 ghost use Rattle.plan_file.specs.declared.connection.Connection.{Connection};
 ghost use Rattle.plan_file.specs.declared.connection.FromEnd.TheVariants as from_end;
 ghost use Rattle.plan_file.specs.declared.connection.ToEnd.TheVariants as to_end;
@@ -180,7 +180,7 @@ impl Pipe {
         requires client { IsOfClient self.now.taking }
         ensures { (x : Connection) (first now : InView) (taken : List ℕ) (n : ℕ) (input : ClientInput) → ClientInStands x first now taken n self.now.taking
             → MayShow self.now.taking taken (of_client input)
-            → result ≡ (stopped (packets_begun input.packets x.fcs (emitted_before x.pace n)), is_spent input x.fcs (emitted_before x.pace n), option_map stopped (bad_line input x.fcs (emitted_before x.pace n))) }
+            → result ≡ (saturated (packets_begun input.packets x.fcs (emitted_before x.pace n)), is_spent input x.fcs (emitted_before x.pace n), option_map saturated (bad_line input x.fcs (emitted_before x.pace n))) }
     {
         text_numbers(&self.taking)
     }

@@ -5,7 +5,7 @@ ghost use Rattle.otn_base.specs.LineSlots.{LineSlots, slots_of};
 ghost use Rattle.otn_base.specs.declared.limits.TheConstants.{GROUPS};
 ghost use Rattle.otn_ports.specs.InPlace.{in_view};
 ghost use Rattle.otn_ports.specs.Views.{InView};
-ghost use Rattle.packet_text.specs.LinesStand.{stopped};
+ghost use Rattle.otn_base.specs.Counts.{saturated};
 ghost use Rattle.plan_file.specs.declared.connection.Connection.{Connection};
 ghost use Rattle.plan_file.specs.declared.connection.FromEnd.{FromEnd};
 ghost use Rattle.plan_file.specs.declared.connection.FromEnd.TheVariants as from_end;
@@ -180,7 +180,7 @@ fn of_sink(state: SinkState) -> FromState
 pub(crate) fn text_numbers(part: &TakingPart) -> (u64, bool, Option<u64>)
     requires client { IsOfClient part.now }
     ensures { (x : Connection) (first now : InView) (taken : List ℕ) (n : ℕ) (input : ClientInput) → ClientInStands x first now taken n part.now → MayShow part.now taken (of_client input)
-        → result ≡ (stopped (packets_begun input.packets x.fcs (emitted_before x.pace n)), is_spent input x.fcs (emitted_before x.pace n), option_map stopped (bad_line input x.fcs (emitted_before x.pace n))) }
+        → result ≡ (saturated (packets_begun input.packets x.fcs (emitted_before x.pace n)), is_spent input x.fcs (emitted_before x.pace n), option_map saturated (bad_line input x.fcs (emitted_before x.pace n))) }
 {
     match part {
         TakingPart::Client(client) => (

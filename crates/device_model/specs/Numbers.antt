@@ -7,7 +7,7 @@ use Rattle.line_side.specs.LineFile.{mfas_of}
 use Rattle.line_side.specs.LineForm.{LineForm, size_of}
 use Rattle.line_side.specs.LineNumbers.{numbers_of}
 use Rattle.line_side.specs.LineOutput.{counted_frames}
-use Rattle.line_side.specs.Reader.{stopped}
+use Rattle.otn_base.specs.Counts.{saturated}
 use Rattle.line_side.specs.declared.ending.Ending.{Ending}
 use Rattle.line_side.specs.declared.ending.Ending.TheVariants.{Open, Seen, Died}
 use Rattle.multiframe.specs.LineTurns.{wanted}
@@ -53,14 +53,14 @@ counted_packets Dead packets went = whole_lines went
 -- of the client input of a connection, when all its turns are done
 abbrev pub client_numbers : Connection → ClientInput → ClientInNumbers
 client_numbers x input = record {
-  packets = stopped (packets_begun input.packets x.fcs (emitted_in_all x));
+  packets = saturated (packets_begun input.packets x.fcs (emitted_in_all x));
   spent = is_spent input x.fcs (emitted_in_all x);
-  bad = option_map stopped (bad_line input x.fcs (emitted_in_all x));
+  bad = option_map saturated (bad_line input x.fcs (emitted_in_all x));
 }
 
 -- of its client output, to which this text went; a place that was so at first
 abbrev pub output_numbers : State → (arrived went : List ℕ) → ClientOutNumbers
-output_numbers first arrived went = record { frames = stopped (arriving_frames arrived); packets = stopped (counted_packets first (arriving_packets arrived) went) }
+output_numbers first arrived went = record { frames = saturated (arriving_frames arrived); packets = saturated (counted_packets first (arriving_packets arrived) went) }
 
 -- ---- of a connection
 
@@ -80,7 +80,7 @@ pub record AreNumbers (plan : Plan) (inputs : Inputs) (went : Went) (first last 
   pub line_in : (a : ℕ) → uses plan (port.LineIn a) ≡ true
       → numbers.line_in a ≡ numbers_of (form_in plan a) (line_ending (place_state last (port.LineIn a)) (form_in plan a) (inputs.line a) plan.turns) (inputs.line a) plan.turns 0
   pub line_out : (b : ℕ) (frames : List (List ℕ)) → uses plan (port.LineOut b) ≡ true → IsLineFile plan inputs b (size_of (form_out plan b) * plan.turns) frames
-      → numbers.line_out b ≡ stopped (counted_frames (place_state first (port.LineOut b)) frames (went.line b))
+      → numbers.line_out b ≡ saturated (counted_frames (place_state first (port.LineOut b)) frames (went.line b))
   pub client_in : (x : Connection) (n : ℕ) → Contains plan.connections x → x.from ≡ from_end.Client n → numbers.client_in n ≡ client_numbers x (inputs.client n)
   pub client_out : (x : Connection) (n : ℕ) → Contains plan.connections x → x.to ≡ to_end.Client n
       → numbers.client_out n ≡ output_numbers (place_state first (port.ClientOut n)) (arrived_by x (own_input inputs x) (turns_done x plan.turns 0)) (went.client n)

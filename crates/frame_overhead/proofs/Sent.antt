@@ -4,7 +4,8 @@ use Rattle.std.specs.Prelude.{min, reverse, Some, option_map, slice_index}
 use Rattle.frame_overhead.specs.Parity.{parity_of}
 use Rattle.std.proofs.lemmas.List.{reverse-append}
 use Rattle.frame_geometry.specs.Places.{place_of}
-use Rattle.frame_overhead.specs.TwoBefore.{first, second, parity_due, wrong_one, wrong_back, wrong_parities, stopped, Kept, HasSent, Checked, HasChecked}
+use Rattle.frame_overhead.specs.TwoBefore.{first, second, parity_due, wrong_one, wrong_back, wrong_parities, Kept, HasSent, Checked, HasChecked}
+use Rattle.otn_base.specs.Counts.{saturated}
 
 -- none of no frames
 pub none_wrong : (cols row col : ℕ) → wrong_parities cols row col [] ≡ 0
@@ -22,14 +23,14 @@ stopped_more a b = omega arith
 
 pub checked_more : (cols row col carried wrong : ℕ) (frames : List (List ℕ)) (frame : List ℕ) (old : Checked) (kept : Kept)
     → HasChecked cols row col frames old → HasSent cols (frames ++ frame ∷ []) kept
-    → carried ≡ slice_index frame (place_of cols row col) → wrong ≡ stopped (old.wrong + wrong_one (parity_due cols frames) carried)
+    → carried ≡ slice_index frame (place_of cols row col) → wrong ≡ saturated (old.wrong + wrong_one (parity_due cols frames) carried)
     → HasChecked cols row col (frames ++ frame ∷ []) (record { kept = kept; wrong = wrong })
 checked_more cols row col carried wrong frames frame old kept has sent byte is = record {
   kept = sent;
-  wrong = is ∙ ap (λ w. stopped (w + wrong_one (parity_due cols frames) carried)) has.wrong
+  wrong = is ∙ ap (λ w. saturated (w + wrong_one (parity_due cols frames) carried)) has.wrong
       ∙ stopped_more (wrong_parities cols row col frames) (wrong_one (parity_due cols frames) carried)
-      ∙ ap (λ b. stopped (wrong_one (parity_due cols frames) b + wrong_parities cols row col frames)) byte
-      ∙ sym (ap stopped (wrong_more cols row col frames frame));
+      ∙ ap (λ b. saturated (wrong_one (parity_due cols frames) b + wrong_parities cols row col frames)) byte
+      ∙ sym (ap saturated (wrong_more cols row col frames frame));
 }
 
 same_before : (cols : ℕ) (a b : List ℕ) (back : List (List ℕ)) → option_map (parity_of cols) (second (a ∷ back)) ≡ option_map (parity_of cols) (second (b ∷ back))

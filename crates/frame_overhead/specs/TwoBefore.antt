@@ -1,5 +1,6 @@
 -- The parity that a frame carries is that of the frame two before it.
 use Rattle.std.specs.Prelude.{◌≡◌, ℕ, ◌+◌, ◌-◌, ◌^◌, min, ◌==◌, if◌then◌else◌, List, [], ◌∷◌, reverse, Option, Some, None, option_map, slice_index}
+use Rattle.otn_base.specs.Counts.{saturated}
 use Rattle.frame_geometry.specs.Places.{place_of}
 use Rattle.frame_overhead.specs.Parity.{parity_of}
 
@@ -40,10 +41,6 @@ wrong_back cols row col (frame ∷ back) =
 abbrev pub wrong_parities : (cols row col : ℕ) → (frames : List (List ℕ)) → ℕ
 wrong_parities cols row col frames = wrong_back cols row col (reverse frames)
 
--- a count that stops at the end of a u64
-abbrev pub stopped : ℕ → ℕ
-stopped n = min n (2 ^ 64 - 1)
-
 -- what is kept of the frames so far: the parities of the last one and of the one before
 pub record Kept : Type 0 where
   pub last : Option ℕ
@@ -62,4 +59,4 @@ pub record Checked : Type 0 where
 -- These frames were checked, whose parity stands in this row and column.
 pub record HasChecked (cols row col : ℕ) (frames : List (List ℕ)) (checked : Checked) : Type 0 where
   pub kept : HasSent cols frames checked.kept
-  pub wrong : checked.wrong ≡ stopped (wrong_parities cols row col frames)
+  pub wrong : checked.wrong ≡ saturated (wrong_parities cols row col frames)

@@ -25,7 +25,8 @@ impl Model for ParityCheck {
 impl ParityCheck {
     ghost use Rattle.frame_geometry.specs.Places.{place_of};
     ghost use Rattle.frame_overhead.specs.Parity.{parity_of};
-    ghost use Rattle.frame_overhead.specs.TwoBefore.{HasChecked, wrong_parities, stopped};
+    ghost use Rattle.frame_overhead.specs.TwoBefore.{HasChecked, wrong_parities};
+    ghost use Rattle.otn_base.specs.Counts.{saturated};
 
     /// No frame was checked.
     pub fn new() -> ParityCheck
@@ -51,7 +52,7 @@ impl ParityCheck {
     /// How many frames carried another parity. The count stops at 2^64-1.
     pub fn wrong(&self) -> u64
         ensures { (cols row col : ℕ) (frames : List (List ℕ)) → HasChecked cols row col frames self.now
-            → result ≡ stopped (wrong_parities cols row col frames) }
+            → result ≡ saturated (wrong_parities cols row col frames) }
     {
         self.wrong
     }

@@ -5,9 +5,9 @@ ghost use Rattle.gfp_frames.specs.CoreHeader.{two_bytes};
 ghost use Rattle.gfp_frames.specs.Area.{type_bytes, client_area, is_client, pfi, last_four, packet_in};
 ghost use Rattle.crc_small.specs.LongDivision.{crc16_of, crc32_of};
 
-use crate::buffer::append;
 use crate::core_header::{bytes_of_16, bytes_of_32};
 use crc_small::{crc16, crc32};
+use otn_base::append;
 
 /// Puts the plain payload area of a packet at the end.
 #[tactic(auto, unfolding(crate::specs::Area::client_area))]

@@ -2,7 +2,6 @@
 #![tactic(auto)]
 
 mod area;
-mod buffer;
 mod core_header;
 mod laws;
 mod maker;

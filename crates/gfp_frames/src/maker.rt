@@ -8,10 +8,9 @@ ghost use Rattle.gfp_frames.specs.GfpText.{Frame, Idle, Client};
 ghost use Rattle.gfp_frames.specs.Maker.{MakerState, HasMade, begun, made_frame, in_hand, idles_begun, idle_bytes, fresh};
 
 use crate::area::append_client_area;
-use crate::buffer::append;
 use crate::core_header::{IDLE_FRAME, header_bytes};
 use gfp_scrambler::Scrambler;
-use otn_base::Memory;
+use otn_base::{Memory, append};
 use std::alloc::Global;
 use std::marker::Model;
 

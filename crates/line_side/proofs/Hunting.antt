@@ -6,7 +6,8 @@ use Rattle.otn_base.specs.declared.line_kind.LineKind.{LineKind}
 use Rattle.otn_ports.specs.Views.{InView}
 use Rattle.multiframe.specs.LineTurns.{one_if, looked_ahead, is_start, least_start, least_or}
 use Rattle.line_side.specs.LineFile.{whole_frames, mfas_of}
-use Rattle.line_side.specs.Reader.{ReaderView, HasRead, OnAnyLine, ReadStep, stopped}
+use Rattle.line_side.specs.Reader.{ReaderView, HasRead, OnAnyLine, ReadStep}
+use Rattle.otn_base.specs.Counts.{saturated}
 use Rattle.line_side.specs.LineStands.{LineView}
 use Rattle.line_side.specs.LineMoves.{Keeps, PassesOver, Tries, Hunts}
 use Rattle.line_side.specs.declared.tried.Tried.{Tried}
@@ -172,7 +173,7 @@ hunt_ends size old was m line new mid is few h t = record {
         alignment = l.alignment ∙ h.alignment;
         ended = l.ended ∙ sym (lt-ltb (length (mfas_of given)) (i + size) (omega arith));
         passes_over = λ before e. (let x = t.passes_over (before + m) (h.passes_over before e) in
-            x ∙ ap stopped (let y : before + m + 0 ≡ before + min size (length (mfas_of given) - i) = omega arith in y));
+            x ∙ ap saturated (let y : before + m + 0 ≡ before + min size (length (mfas_of given) - i) = omega arith in y));
       });
 }
 
@@ -192,7 +193,7 @@ hunt_fails size old was line is some opened h = record {
             (same_wanted given _ (i + size) _ _ line.reader (wanted_at size (mfas_of given) i size w some) a.read);
         alignment = h.alignment;
         ended = h.ended ∙ opened ∙ sym (le-ltb (length (mfas_of given)) (i + size) (omega arith));
-        passes_over = λ before e. h.passes_over before e ∙ ap stopped (let y : before + size ≡ before + min size (length (mfas_of given) - i) = omega arith in y);
+        passes_over = λ before e. h.passes_over before e ∙ ap saturated (let y : before + size ≡ before + min size (length (mfas_of given) - i) = omega arith in y);
       };
 }
 

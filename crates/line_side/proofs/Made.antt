@@ -11,7 +11,7 @@ use Rattle.otn_ports.specs.declared.drain.Written.{Written}
 use Rattle.otn_ports.specs.declared.drain.Written.TheVariants as written
 use Rattle.otn_ports.proofs.GivenLaws.{gained_none, gained_twice, write_gained}
 use Rattle.line_side.proofs.Giving.{dead_not_live, empty_not_live}
-use Rattle.line_side.specs.Reader.{stopped}
+use Rattle.otn_base.specs.Counts.{saturated}
 use Rattle.std.specs.Prelude.{slice_set, ◌&&◌}
 use Rattle.std.proofs.Common.{get_or, cond}
 use Rattle.frame_geometry.specs.Places.{place_of, same_place}
@@ -234,7 +234,7 @@ pub made_more : (n : ℕ) (form : LineForm) (put : FramePut) (first was is : Out
     → ((made : List (List ℕ)) → HasSent 4080 made old.section → IsOtuFrame old.sapi put.mfas (or_zero (parity_due 4080 made)) pathed frame)
     → ((made : List (List ℕ)) → HasSent 4080 made old.section → HasSent 4080 (made ++ frame ∷ []) new.section)
     → parity_of 4080 pathed ≡ parity_of 4080 frame → sent ≡ through_mask old.form.scrambled frame → length sent ≡ 16320
-    → Writes counts was sent is → new.frames ≡ stopped (old.frames + one_if counts) → new.sapi ≡ old.sapi → new.form ≡ old.form
+    → Writes counts was sent is → new.frames ≡ saturated (old.frames + one_if counts) → new.sapi ≡ old.sapi → new.form ≡ old.form
     → LineMade n form first was puts old → LineMade n form first is (puts ++ put ∷ []) new
 made_more n form put first was is puts old new set pathed frame sent counts here set_is path path_sent section section_sent same masked sized w frames sapi kept h =
     let pm = rw h.sapi at (path h.made h.path) in
@@ -266,14 +266,14 @@ made_more n form put first was is puts old new set pathed frame sent counts here
         gained = gained_twice first was is h.sent.went w.went h.sent.gained w.gained;
         whole = more.whole;
       };
-      frames = frames ∙ ap (λ k. stopped (k + one_if counts)) h.frames ∙ stopped_more (counted_frames first.state h.made h.sent.went) (one_if counts)
-          ∙ sym (ap stopped (counts_more counts first was is h.made due h.sent.went sent frame w h.sent.gained long sized all));
+      frames = frames ∙ ap (λ k. saturated (k + one_if counts)) h.frames ∙ stopped_more (counted_frames first.state h.made h.sent.went) (one_if counts)
+          ∙ sym (ap saturated (counts_more counts first was is h.made due h.sent.went sent frame w h.sent.gained long sized all));
       sapi = sapi ∙ h.sapi;
       section = section_sent h.made h.section;
       path = sent_as 4080 h.made pathed frame new.path same (path_sent h.made h.path);
     }
 
-pub none_count : (s : State) → 0 ≡ stopped (counted_frames s [] [])
+pub none_count : (s : State) → 0 ≡ saturated (counted_frames s [] [])
 none_count Empty = refl
 none_count Live = refl
 none_count Dead = refl

@@ -6,7 +6,8 @@ use Rattle.otn_ports.specs.Views.{InView}
 use Rattle.multiframe.specs.LineTurns.{one_if, looked_ahead, is_start}
 use Rattle.multiframe.specs.Alignment.{aligned_at, with_frame}
 use Rattle.line_side.specs.LineFile.{frame_at, frame_mfas, mfas_of}
-use Rattle.line_side.specs.Reader.{ReaderView, Advances, Begins, stopped}
+use Rattle.line_side.specs.Reader.{ReaderView, Advances, Begins}
+use Rattle.otn_base.specs.Counts.{saturated}
 use Rattle.line_side.specs.LineStands.{LineView}
 use Rattle.line_side.specs.LineMoves.{TakesNext, Tries}
 use Rattle.line_side.specs.declared.tried.Tried.TheVariants.{Locks, Passes, Ends}
@@ -44,10 +45,10 @@ takes_frame old was is r m a e = record {
 }
 
 -- a turn that takes no lead-in frame
-none_passed : (lead : ℕ) (before : ℕ) → lead ≡ stopped before → lead ≡ stopped (before + 0)
+none_passed : (lead : ℕ) (before : ℕ) → lead ≡ saturated before → lead ≡ saturated (before + 0)
 none_passed lead before e = omega arith
 
-one_passed : (lead : ℕ) (before : ℕ) → lead ≡ stopped before → min (lead + 1) (2 ^ 64 - 1) ≡ stopped (before + 1)
+one_passed : (lead : ℕ) (before : ℕ) → lead ≡ saturated before → min (lead + 1) (2 ^ 64 - 1) ≡ saturated (before + 1)
 one_passed lead before e = omega arith
 
 pub tries_ends : (size : ℕ) (old : LineView) (was is : InView) (r : ReaderView) → Advances false old.reader was r is → Tries size Ends old was (record old { reader = r; ended = true }) is

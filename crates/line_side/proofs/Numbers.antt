@@ -10,7 +10,7 @@ use Rattle.line_side.specs.LineForm.{LineForm}
 use Rattle.line_side.specs.LineNumbers.{numbers_of}
 use Rattle.line_side.specs.LineStands.{LineView, LineStands}
 use Rattle.line_side.specs.MayBe.{MayBe}
-use Rattle.line_side.specs.Reader.{stopped}
+use Rattle.otn_base.specs.Counts.{saturated}
 use Rattle.line_side.specs.declared.counts.LineCounts.{LineCounts}
 
 abbrev of : (frames lead_in lost rest fas sm pm : ℕ) → LineCounts
@@ -28,9 +28,9 @@ same_numbers a b frames lead_in lost rest fas sm pm =
 
 pub numbers_are : (form : LineForm) (first now : InView) (taken given : List ℕ) (t : ℕ) (line : LineView) (told : LineCounts) → told.frames ≡ line.reader.frames → told.lead_in ≡ line.lead_in → told.lost ≡ line.lost
     → told.rest ≡ line.reader.rest
-    → ((frames : List (List ℕ)) → HasCounted frames line.reader.seen → told.fas ≡ stopped (wrong_fas frames))
-    → ((frames : List (List ℕ)) → HasCounted frames line.reader.seen → told.sm ≡ stopped (wrong_parities LINE_COLUMNS SECTION_ROW SM_BIP8_COLUMN frames))
-    → ((frames : List (List ℕ)) → HasCounted frames line.reader.seen → told.pm ≡ stopped (wrong_parities LINE_COLUMNS PM_ROW PM_BIP8_COLUMN frames))
+    → ((frames : List (List ℕ)) → HasCounted frames line.reader.seen → told.fas ≡ saturated (wrong_fas frames))
+    → ((frames : List (List ℕ)) → HasCounted frames line.reader.seen → told.sm ≡ saturated (wrong_parities LINE_COLUMNS SECTION_ROW SM_BIP8_COLUMN frames))
+    → ((frames : List (List ℕ)) → HasCounted frames line.reader.seen → told.pm ≡ saturated (wrong_parities LINE_COLUMNS PM_ROW PM_BIP8_COLUMN frames))
     → LineStands form first now taken t line → MayBe form.scrambled line.reader.ending taken given → told ≡ numbers_of form line.reader.ending given t line.pieces
 numbers_are form first now taken given t line told frames lead_in lost rest fas sm pm h may =
     let is = h.is_line given may in

@@ -9,11 +9,12 @@ use Rattle.line_side.specs.declared.ending.Ending.TheVariants.{Open}
 use Rattle.line_side.specs.LineForm.{through_mask}
 use Rattle.line_side.specs.LineFile.{frame_at, first_frames, whole_frames}
 use Rattle.line_side.specs.Counted.{Counted, HasCounted, CountsOn}
-use Rattle.line_side.specs.Reader.{ReaderView, HasRead, FrameRead, Advanced, LookedAhead, Advances, LooksAhead, with_ahead, taking, with_reading, ending_after, left_after, stopped, count_of, rest_of, ReadStep, EndedAs}
+use Rattle.line_side.specs.Reader.{ReaderView, HasRead, FrameRead, Advanced, LookedAhead, Advances, LooksAhead, with_ahead, taking, with_reading, ending_after, left_after, count_of, rest_of, ReadStep, EndedAs}
+use Rattle.otn_base.specs.Counts.{saturated}
 use Rattle.line_side.proofs.Giving.{step_none, step_kept}
 use Rattle.line_side.proofs.Frames.{frame_here, whole_here, short_here}
 
-stopped_twice : (u f : ℕ) → f ≡ stopped u → min (f + 1) (2 ^ 64 - 1) ≡ stopped (u + 1)
+stopped_twice : (u f : ℕ) → f ≡ saturated u → min (f + 1) (2 ^ 64 - 1) ≡ saturated (u + 1)
 stopped_twice u f e = omega arith
 
 -- one frame more was counted
@@ -172,13 +173,13 @@ advance_short reading old was is frame new e opened other f same = let closed = 
 })
 
 pub advance_whole : (reading : Reading) (old : ReaderView) (was is : InView) (frame : List ℕ) (new : ReaderView) (seen : Counted) → CountsOn old.seen frame seen → old.ahead ≡ None → old.ending ≡ Open → reading ≡ Full → FrameRead old.scrambled reading was frame is
-    → new ≡ record { scrambled = old.scrambled; hand = frame; ahead = None; ending = old.ending; frames = stopped (old.frames + 1); rest = old.rest; seen = seen } → Advances true old was new is
+    → new ≡ record { scrambled = old.scrambled; hand = frame; ahead = None; ending = old.ending; frames = saturated (old.frames + 1); rest = old.rest; seen = seen } → Advances true old was new is
 advance_whole reading old was is frame new seen sees e opened full f same = rw same (record {
   came = f.came;
-  step = whole_step reading old (record { scrambled = old.scrambled; hand = frame; ahead = None; ending = old.ending; frames = stopped (old.frames + 1); rest = old.rest; seen = seen }) was is frame opened refl refl f;
+  step = whole_step reading old (record { scrambled = old.scrambled; hand = frame; ahead = None; ending = old.ending; frames = saturated (old.frames + 1); rest = old.rest; seen = seen }) was is frame opened refl refl f;
   alone = refl;
   line = λ given taken u w may h.
-      let P : List ℕ → Type 0 = λ g. HasRead g (length taken) u w old → Advanced g (length (taken ++ f.came)) u (max w (u + 1)) true (record { scrambled = old.scrambled; hand = frame; ahead = None; ending = old.ending; frames = stopped (old.frames + 1); rest = old.rest; seen = seen }) in
+      let P : List ℕ → Type 0 = λ g. HasRead g (length taken) u w old → Advanced g (length (taken ++ f.came)) u (max w (u + 1)) true (record { scrambled = old.scrambled; hand = frame; ahead = None; ending = old.ending; frames = saturated (old.frames + 1); rest = old.rest; seen = seen }) in
       subst P (sym (may.parts ∙ ap (through_mask old.scrambled) (append_assoc taken f.came may.rest))) (λ h.
       let whole = f.whole full in
       let size = h.still opened in

@@ -6,7 +6,8 @@ use Rattle.multiframe.specs.LineTurns.{Lock, Standing, Hunting, Locked, Ended, O
 use Rattle.multiframe.specs.Alignment.{taken_of, IsAlignmentOf}
 use Rattle.line_side.specs.LineFile.{first_frames, frame_at, mfas_of}
 use Rattle.line_side.specs.Counted.{HasCounted}
-use Rattle.line_side.specs.Reader.{ReaderView, HasRead, stopped, count_of, rest_of}
+use Rattle.line_side.specs.Reader.{ReaderView, HasRead, count_of, rest_of}
+use Rattle.otn_base.specs.Counts.{saturated}
 use Rattle.line_side.specs.declared.ending.Ending.TheVariants.{Open}
 use Rattle.multiframe.specs.TurnPieces.{ended_in, lead_in_by, AlignedIn}
 use Rattle.line_side.specs.LineStands.{LineView}
@@ -37,27 +38,27 @@ standing_none size ms = refl
 -- all pieces of a turn are done: u frames are used
 record AtEnd (size : ℕ) (given : List ℕ) (n t u : ℕ) (line : LineView) : Type 0 where
   read : HasRead given n u (wanted size (mfas_of given) (suc t)) line.reader
-  lead_in : line.lead_in ≡ stopped (lead_in size (mfas_of given) (suc t))
+  lead_in : line.lead_in ≡ saturated (lead_in size (mfas_of given) (suc t))
 
 at_end : (size : ℕ) (given : List ℕ) (n t : ℕ) (st : Standing) (p : ℕ) (line : LineView) → size ≡ suc p → standing size (mfas_of given) t ≡ st → LineIs size given n t st size line
     → AtEnd size given n t (used_in size (mfas_of given) st size) line
 at_end size given n t st p line q e h = record {
   read = same_wanted given n _ _ _ line.reader (sym (wanted_suc size (mfas_of given) t ∙ ap (λ s. max (wanted size (mfas_of given) t) (wanted_in size (mfas_of given) s size)) e)) h.read;
-  lead_in = h.lead_in ∙ ap (λ k. stopped (lead_in size (mfas_of given) t + lead_in_by size (mfas_of given) st k)) q
-      ∙ ap stopped (sym (lead_in_suc size (mfas_of given) t ∙ ap (λ s. lead_in size (mfas_of given) t + lead_in_of size (mfas_of given) s) e));
+  lead_in = h.lead_in ∙ ap (λ k. saturated (lead_in size (mfas_of given) t + lead_in_by size (mfas_of given) st k)) q
+      ∙ ap saturated (sym (lead_in_suc size (mfas_of given) t ∙ ap (λ s. lead_in size (mfas_of given) t + lead_in_of size (mfas_of given) s) e));
 }
 
 -- the next turn
 begin : (size : ℕ) (given : List ℕ) (n t u : ℕ) (st : Standing) (result : Bool) (old new : LineView) → AtEnd size given n t u old → EndMoves size result old new
     → u ≡ used_in size (mfas_of given) st 0 → wanted_in size (mfas_of given) st 0 ≤ wanted size (mfas_of given) (suc t) → AlignedIn size (mfas_of given) st 0 new.alignment
-    → new.ended ≡ ended_in size (mfas_of given) st 0 → new.lost ≡ stopped (lost_count size (mfas_of given) (suc t))
+    → new.ended ≡ ended_in size (mfas_of given) st 0 → new.lost ≡ saturated (lost_count size (mfas_of given) (suc t))
     → LineIs size given n (suc t) st 0 new
 begin size given n t u st result old new h m used cover alignment ended lost = record {
   read = (let P : ReaderView → Type 0 = λ r. HasRead given n (used_in size (mfas_of given) st 0) (max (wanted size (mfas_of given) (suc t)) (wanted_in size (mfas_of given) st 0)) r in
       subst P (sym m.reader) (same_used given n _ _ _ old.reader used (same_wanted given n _ _ _ old.reader (let e : wanted size (mfas_of given) (suc t) ≡ max (wanted size (mfas_of given) (suc t)) (wanted_in size (mfas_of given) st 0) = omega arith in e) h.read)));
   alignment = alignment;
   ended = ended;
-  lead_in = m.lead_in ∙ h.lead_in ∙ ap stopped (let e : lead_in size (mfas_of given) (suc t) ≡ lead_in size (mfas_of given) (suc t) + 0 = omega arith in e);
+  lead_in = m.lead_in ∙ h.lead_in ∙ ap saturated (let e : lead_in size (mfas_of given) (suc t) ≡ lead_in size (mfas_of given) (suc t) + 0 = omega arith in e);
   lost = lost;
 }
 
@@ -86,7 +87,7 @@ record LockedEnd (size : ℕ) (given : List ℕ) (n t : ℕ) (lock : Lock) (outc
   read : AtEnd size given n t (min (length (mfas_of given)) (lock.frame + size)) old
   alignment : old.alignment ≡ Some (taken_of size (mfas_of given) lock)
   ended : old.ended ≡ ltb (length (mfas_of given)) (lock.frame + size)
-  lost : old.lost ≡ stopped (lost_count size (mfas_of given) t)
+  lost : old.lost ≡ saturated (lost_count size (mfas_of given) t)
   cover : lock.frame + size ≤ wanted size (mfas_of given) (suc t)
   outcome_is : outcome_of size (mfas_of given) lock ≡ outcome
   more : lost_count size (mfas_of given) (suc t) ≡ lost_count size (mfas_of given) t + one_if (is_lost outcome)
@@ -99,7 +100,7 @@ cut_end size given n t lock result old new c h m =
     let more = h.more in
     record {
       line = begin size given n t _ Ended result old new h.read m (let x : min (length (mfas_of given)) (lock.frame + size) ≡ length (mfas_of given) = omega arith in x) (omega arith) tt (m.ended ∙ h.ended ∙ c)
-          (kept ∙ h.lost ∙ ap stopped (let e : lost_count size (mfas_of given) t ≡ lost_count size (mfas_of given) (suc t) = omega arith in e));
+          (kept ∙ h.lost ∙ ap saturated (let e : lost_count size (mfas_of given) t ≡ lost_count size (mfas_of given) (suc t) = omega arith in e));
       multiframe = answer;
     }
 
@@ -134,7 +135,7 @@ whole_end size given n t lock result old new c h m =
     record {
       line = begin size given n t _ (Locked next) result old new h.read m (let x : min (length (mfas_of given)) (lock.frame + size) ≡ min (length (mfas_of given)) (lock.frame + size + 0) = omega arith in x) (omega arith) after
           (m.ended ∙ h.ended ∙ c ∙ sym (le-ltb (length (mfas_of given)) (lock.frame + size + 0) (omega arith)))
-          (kept ∙ ap (λ b. cond b old.lost (min (old.lost + 1) (2 ^ 64 - 1))) some ∙ h.lost ∙ ap stopped (let e : lost_count size (mfas_of given) t ≡ lost_count size (mfas_of given) (suc t) = omega arith in e));
+          (kept ∙ ap (λ b. cond b old.lost (min (old.lost + 1) (2 ^ 64 - 1))) some ∙ h.lost ∙ ap saturated (let e : lost_count size (mfas_of given) t ≡ lost_count size (mfas_of given) (suc t) = omega arith in e));
       multiframe = some;
     }
 
@@ -172,8 +173,8 @@ hunt_end size given n t i None p result old new q e l h at cover m = (by_test (l
     none : (result ≡ false) × (new.lost ≡ old.lost) × (new.alignment ≡ None)
     none = m.hunted h.alignment
 
-    counted : new.lost ≡ stopped (lost_count size (mfas_of given) (suc t))
-    counted = none.1 ∙ h.lost ∙ ap stopped (let x = lost_more size (mfas_of given) t (Hunting i) None e (ap (lock_from (mfas_of given) i) l) in
+    counted : new.lost ≡ saturated (lost_count size (mfas_of given) (suc t))
+    counted = none.1 ∙ h.lost ∙ ap saturated (let x = lost_more size (mfas_of given) t (Hunting i) None e (ap (lock_from (mfas_of given) i) l) in
         let y : lost_count size (mfas_of given) t ≡ lost_count size (mfas_of given) (suc t) = omega arith in y)
 
     by_test : (b : Bool) → leb (i + size) (length (mfas_of given)) ≡ b → LineIs size given n (suc t) (cond (leb (i + size) (length (mfas_of given))) (Hunting (i + size)) Ended) 0 new
@@ -234,7 +235,7 @@ turn_end size given n t Ended p result old new q e h m =
     let x = lost_more size (mfas_of given) t Ended None e refl in
     record {
       line = begin size given n t _ Ended result old new at m refl (omega arith) tt (m.ended ∙ h.ended)
-          (kept ∙ h.lost ∙ ap stopped (let y : lost_count size (mfas_of given) t ≡ lost_count size (mfas_of given) (suc t) = omega arith in y));
+          (kept ∙ h.lost ∙ ap saturated (let y : lost_count size (mfas_of given) t ≡ lost_count size (mfas_of given) (suc t) = omega arith in y));
       multiframe = answer;
     }
 

@@ -5,7 +5,8 @@ use Rattle.std.proofs.lemmas.Bool.{lt-ltb, le-ltb}
 use Rattle.multiframe.specs.LineTurns.{Lock, Standing, Hunting, Locked, Ended, one_if, looked_ahead, least_start, lock_from, lock_of, used_in, used_at, wanted_in, wanted_from, wanted, lead_in, lead_in_from, lost_count}
 use Rattle.multiframe.specs.Alignment.{Alignment}
 use Rattle.line_side.specs.LineFile.{frame_at, mfas_of}
-use Rattle.line_side.specs.Reader.{HasRead, stopped}
+use Rattle.line_side.specs.Reader.{HasRead}
+use Rattle.otn_base.specs.Counts.{saturated}
 use Rattle.multiframe.specs.TurnPieces.{ended_at, ended_in, lead_in_by, aligned_by, AlignedIn}
 use Rattle.line_side.specs.LineStands.{LineView}
 use Rattle.line_side.specs.LineMoves.{TookFrame, FoundNone, HuntLocked, HuntFailed}
@@ -19,8 +20,8 @@ pub record LineIs (size : ℕ) (given : List ℕ) (n t : ℕ) (st : Standing) (k
   pub read : HasRead given n (used_in size (mfas_of given) st k) (max (wanted size (mfas_of given) t) (wanted_in size (mfas_of given) st k)) line.reader
   pub alignment : AlignedIn size (mfas_of given) st k line.alignment
   pub ended : line.ended ≡ ended_in size (mfas_of given) st k
-  pub lead_in : line.lead_in ≡ stopped (lead_in size (mfas_of given) t + lead_in_by size (mfas_of given) st k)
-  pub lost : line.lost ≡ stopped (lost_count size (mfas_of given) t)
+  pub lead_in : line.lead_in ≡ saturated (lead_in size (mfas_of given) t + lead_in_by size (mfas_of given) st k)
+  pub lost : line.lost ≡ saturated (lost_count size (mfas_of given) t)
 
 pub record MemberIs (size : ℕ) (given : List ℕ) (st : Standing) (k : ℕ) (result : Bool) (line : LineView) : Type 0 where
   pub member : result ≡ member_at (mfas_of given) (lock_of size (mfas_of given) st) k
@@ -31,8 +32,8 @@ pub record HuntIs (size : ℕ) (given : List ℕ) (n t i : ℕ) (least : Option 
   pub read : HasRead given n (used_at size (mfas_of given) (lock_from (mfas_of given) i least) i (suc k)) (max (wanted size (mfas_of given) t) (wanted_from size (mfas_of given) i least (suc k))) line.reader
   pub alignment : aligned_by (mfas_of given) (lock_from (mfas_of given) i least) (suc k) line.alignment
   pub ended : line.ended ≡ ended_at size (mfas_of given) (lock_from (mfas_of given) i least) i (suc k)
-  pub lead_in : line.lead_in ≡ stopped (lead_in size (mfas_of given) t + lead_in_from size (mfas_of given) i least)
-  pub lost : line.lost ≡ stopped (lost_count size (mfas_of given) t)
+  pub lead_in : line.lead_in ≡ saturated (lead_in size (mfas_of given) t + lead_in_from size (mfas_of given) i least)
+  pub lost : line.lost ≡ saturated (lost_count size (mfas_of given) t)
 
 pub record HuntMember (size : ℕ) (given : List ℕ) (i : ℕ) (least : Option ℕ) (k : ℕ) (result : Bool) (line : LineView) : Type 0 where
   pub member : result ≡ member_at (mfas_of given) (lock_from (mfas_of given) i least) k
@@ -115,7 +116,7 @@ first_locks size given n n' t i s result old new h m f x =
         alignment = x.locked.alignment ∙ ap (λ l. Some (record { expected = slice_index (mfas_of given) (i + s); taken = l }))
             (ap (λ u. slice_index (mfas_of given) u ∷ []) (sym here) ∙ fresh);
         ended = x.locked.ended ∙ h.ended ∙ sym (le-ltb (length (mfas_of given)) (i + s + 1) (omega arith));
-        lead_in = x.passes_over (lead_in size (mfas_of given) t + 0) h.lead_in ∙ ap stopped (let e : lead_in size (mfas_of given) t + 0 + s ≡ lead_in size (mfas_of given) t + s = omega arith in e);
+        lead_in = x.passes_over (lead_in size (mfas_of given) t + 0) h.lead_in ∙ ap saturated (let e : lead_in size (mfas_of given) t + 0 + s ≡ lead_in size (mfas_of given) t + s = omega arith in e);
         lost = m.lost ∙ h.lost;
       },
       record {
@@ -134,7 +135,7 @@ first_fails size given n n' t i result old new h m f x = (
     alignment = x.alignment ∙ h.alignment;
     ended = x.ended;
     lead_in = x.passes_over (lead_in size (mfas_of given) t + 0) h.lead_in
-        ∙ ap stopped (let e : lead_in size (mfas_of given) t + 0 + min size (length (mfas_of given) - i) ≡ lead_in size (mfas_of given) t + min size (length (mfas_of given) - i) = omega arith in e);
+        ∙ ap saturated (let e : lead_in size (mfas_of given) t + 0 + min size (length (mfas_of given) - i) ≡ lead_in size (mfas_of given) t + min size (length (mfas_of given) - i) = omega arith in e);
     lost = m.lost ∙ h.lost;
   },
   record { member = f; hand = λ t. absurd (cc) },
@@ -177,7 +178,7 @@ turn_piece size given n n' t (Locked lock) k result old new h m =
         read = x.0.read;
         alignment = x.0.alignment;
         ended = x.0.ended;
-        lead_in = m.lead_in _ h.alignment ∙ h.lead_in ∙ ap (λ x. stopped (lead_in size (mfas_of given) t + x)) (none_by k);
+        lead_in = m.lead_in _ h.alignment ∙ h.lead_in ∙ ap (λ x. saturated (lead_in size (mfas_of given) t + x)) (none_by k);
         lost = m.lost ∙ h.lost;
       },
       record { member = x.1.member; hand = x.1.hand },
@@ -192,7 +193,7 @@ turn_piece size given n n' t Ended k result old new h m =
         read = h.read;
         alignment = tt;
         ended = h.ended;
-        lead_in = h.lead_in ∙ ap (λ x. stopped (lead_in size (mfas_of given) t + x)) (none_by k);
+        lead_in = h.lead_in ∙ ap (λ x. saturated (lead_in size (mfas_of given) t + x)) (none_by k);
         lost = h.lost;
       }),
       record { member = answer; hand = λ t. absurd (cc) },

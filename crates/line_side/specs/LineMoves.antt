@@ -4,7 +4,8 @@ use Rattle.otn_ports.specs.Views.{InView}
 use Rattle.multiframe.specs.LineTurns.{Lock, one_if, looked_ahead, is_start, least_start}
 use Rattle.multiframe.specs.Alignment.{Alignment, aligned_at, with_frame, taken_of, EndsTurn}
 use Rattle.line_side.specs.LineFile.{frame_at, mfas_of, whole_frames}
-use Rattle.line_side.specs.Reader.{ReaderView, HasRead, OnAnyLine, ReadStep, stopped}
+use Rattle.line_side.specs.Reader.{ReaderView, HasRead, OnAnyLine, ReadStep}
+use Rattle.otn_base.specs.Counts.{saturated}
 use Rattle.line_side.specs.LineStands.{LineView, members}
 use Rattle.line_side.specs.declared.tried.Tried.{Tried}
 use Rattle.line_side.specs.declared.tried.Tried.TheVariants.{Locks, Passes, Ends}
@@ -23,7 +24,7 @@ pub record TakesMember (taken : Bool) (old new : LineView) : Type 0 where
 
 -- so many more lead-in frames were passed over
 abbrev pub PassesOver : LineView → ℕ → LineView → Type 0
-PassesOver old m new = (before : ℕ) → old.lead_in ≡ stopped before → new.lead_in ≡ stopped (before + m)
+PassesOver old m new = (before : ℕ) → old.lead_in ≡ saturated before → new.lead_in ≡ saturated (before + m)
 
 -- frame u is in hand, and taken into the alignment
 pub record TookFrame (given : List ℕ) (n u w : ℕ) (old new : LineView) : Type 0 where
@@ -127,6 +128,6 @@ pub record EndMoves (size : ℕ) (result : Bool) (old new : LineView) : Type 0 w
   pub over : old.ended ≡ true → (result ≡ false) × (new.lost ≡ old.lost)
   pub hunted : old.alignment ≡ None → (result ≡ false) × (new.lost ≡ old.lost) × (new.alignment ≡ None)
   pub locked : (ms : List ℕ) (lock : Lock) → old.ended ≡ false → old.alignment ≡ Some (taken_of size ms lock)
-      → EndsTurn size ms lock result new.alignment × (new.lost ≡ (if result then old.lost else min (old.lost + 1) (2 ^ 64 - 1)))
+      → EndsTurn size ms lock result new.alignment × (new.lost ≡ (if result then old.lost else saturated (old.lost + 1)))
   pub whole : result ≡ true → members old ≡ size
   pub none_taken : members new ≡ 0

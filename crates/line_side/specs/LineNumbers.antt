@@ -9,7 +9,8 @@ use Rattle.multiframe.specs.TurnPieces.{lead_in_so_far}
 use Rattle.line_side.specs.LineForm.{LineForm, size_of}
 use Rattle.line_side.specs.LineFile.{mfas_of}
 use Rattle.line_side.specs.LineStands.{used_frames}
-use Rattle.line_side.specs.Reader.{rest_of, stopped}
+use Rattle.line_side.specs.Reader.{rest_of}
+use Rattle.otn_base.specs.Counts.{saturated}
 use Rattle.line_side.specs.declared.counts.LineCounts.{LineCounts}
 use Rattle.line_side.specs.declared.ending.Ending.{Ending}
 
@@ -18,11 +19,11 @@ use Rattle.line_side.specs.declared.ending.Ending.{Ending}
 -- frames with a wrong FAS, a wrong SM parity and a wrong PM parity.
 abbrev pub numbers_of : (form : LineForm) → (ending : Ending) → (given : List ℕ) → (t pieces : ℕ) → LineCounts
 numbers_of form ending given t pieces = record {
-  frames = stopped (used_in (size_of form) (mfas_of given) (standing (size_of form) (mfas_of given) t) pieces);
-  lead_in = stopped (lead_in_so_far (size_of form) (mfas_of given) t pieces);
-  lost = stopped (lost_count (size_of form) (mfas_of given) t);
+  frames = saturated (used_in (size_of form) (mfas_of given) (standing (size_of form) (mfas_of given) t) pieces);
+  lead_in = saturated (lead_in_so_far (size_of form) (mfas_of given) t pieces);
+  lost = saturated (lost_count (size_of form) (mfas_of given) t);
   rest = rest_of ending given;
-  fas = stopped (wrong_fas (used_frames (size_of form) given t pieces));
-  sm = stopped (wrong_parities LINE_COLUMNS SECTION_ROW SM_BIP8_COLUMN (used_frames (size_of form) given t pieces));
-  pm = stopped (wrong_parities LINE_COLUMNS PM_ROW PM_BIP8_COLUMN (used_frames (size_of form) given t pieces));
+  fas = saturated (wrong_fas (used_frames (size_of form) given t pieces));
+  sm = saturated (wrong_parities LINE_COLUMNS SECTION_ROW SM_BIP8_COLUMN (used_frames (size_of form) given t pieces));
+  pm = saturated (wrong_parities LINE_COLUMNS PM_ROW PM_BIP8_COLUMN (used_frames (size_of form) given t pieces));
 }

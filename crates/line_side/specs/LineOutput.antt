@@ -13,7 +13,7 @@ use Rattle.msi_table.specs.Psi.{psi_of}
 use Rattle.odu_path.specs.Path.{path_byte}
 use Rattle.otu_overhead.specs.Section.{otu_byte}
 use Rattle.line_side.specs.LineForm.{LineForm, through_mask}
-use Rattle.line_side.specs.Reader.{stopped}
+use Rattle.otn_base.specs.Counts.{saturated}
 
 -- the source access point identifier of line n, 0 to 3, in SM and PM: LINE-n
 abbrev pub line_sapi : (n : ℕ) → List ℕ
@@ -84,7 +84,7 @@ pub record LineMade (n : ℕ) (form : LineForm) (first now : OutView) (puts : Li
   pub made : List (List ℕ)
   pub are_frames : AreLineFrames n [] puts made
   pub sent : IsSent first (through_mask form.scrambled (concat made)) now
-  pub frames : line.frames ≡ stopped (counted_frames first.state made sent.went)
+  pub frames : line.frames ≡ saturated (counted_frames first.state made sent.went)
   pub sapi : line.sapi ≡ line_sapi n
   pub section : HasSent LINE_COLUMNS made line.section
   pub path : HasSent LINE_COLUMNS made line.path

@@ -9,7 +9,8 @@ use Rattle.multiframe.specs.Alignment.{Alignment}
 use Rattle.line_side.specs.LineForm.{LineForm, size_of}
 use Rattle.line_side.specs.LineFile.{frame_at, first_frames, mfas_of}
 use Rattle.line_side.specs.MayBe.{MayBe}
-use Rattle.line_side.specs.Reader.{ReaderView, HasRead, EndedAs, stopped}
+use Rattle.line_side.specs.Reader.{ReaderView, HasRead, EndedAs}
+use Rattle.otn_base.specs.Counts.{saturated}
 use Rattle.line_side.specs.declared.ending.Ending.TheVariants.{Open}
 use Rattle.multiframe.specs.TurnPieces.{AlignedIn, in_hand, ended_in, lead_in_so_far}
 
@@ -50,8 +51,8 @@ pub record IsLine (size : ℕ) (given : List ℕ) (n t : ℕ) (line : LineView) 
   pub member : line.member ≡ is_some (in_hand size (mfas_of given) (standing size (mfas_of given) t) line.pieces)
   pub hand : IfSome (in_hand size (mfas_of given) (standing size (mfas_of given) t) line.pieces) (λ member. line.reader.hand ≡ frame_at given member.frame)
   pub ended : line.ended ≡ ended_in size (mfas_of given) (standing size (mfas_of given) t) line.pieces
-  pub lead_in : line.lead_in ≡ stopped (lead_in_so_far size (mfas_of given) t line.pieces)
-  pub lost : line.lost ≡ stopped (lost_count size (mfas_of given) t)
+  pub lead_in : line.lead_in ≡ saturated (lead_in_so_far size (mfas_of given) t line.pieces)
+  pub lost : line.lost ≡ saturated (lost_count size (mfas_of given) t)
 
 -- A line of this form stands in turn t + 1 after line.pieces of its pieces. `first` and `now` are views of its place, between
 -- which these bytes were taken: whatever it may turn out to have behind them, it is a line of all these bytes.

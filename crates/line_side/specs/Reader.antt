@@ -1,5 +1,6 @@
 -- The reader of a line: how far it has read.
 use Rattle.std.specs.Prelude.{◌≡◌, ◌≢◌, ◌<◌, ◌≤◌, ◌+◌, ◌-◌, ◌*◌, ◌%◌, ◌^◌, min, max, ℕ, Bool, true, false, List, [], ◌++◌, length, Option, Some, None, IfSome}
+use Rattle.otn_base.specs.Counts.{saturated}
 use Rattle.otn_base.specs.declared.limits.TheConstants.{LINE_FRAME_BYTES}
 use Rattle.otn_ports.specs.Views.{InView, Live, Dead}
 use Rattle.otn_ports.specs.Given.{Gave}
@@ -27,10 +28,6 @@ pub record ReaderView : Type 0 where
   pub rest : ℕ
   pub seen : Counted
 
--- a count that stops at the end of a u64
-abbrev pub stopped : ℕ → ℕ
-stopped n = min n (2 ^ 64 - 1)
-
 abbrev pub count_of : {A : Type 0} → Option A → ℕ
 count_of None = 0
 count_of (Some x) = 1
@@ -49,7 +46,7 @@ pub record HasRead (given : List ℕ) (n u w : ℕ) (r : ReaderView) : Type 0 wh
   pub ahead : IfSome r.ahead (λ frame. frame ≡ frame_at given u)
   pub still : r.ending ≡ Open → (n ≡ LINE_FRAME_BYTES * (u + count_of r.ahead)) × (u + count_of r.ahead ≡ w)
   pub over : r.ending ≢ Open → (u + count_of r.ahead ≡ whole_frames given) × (n ≡ length given) × (whole_frames given < w)
-  pub frames : r.frames ≡ stopped u
+  pub frames : r.frames ≡ saturated u
   pub rest : r.rest ≡ rest_of r.ending given
   pub seen : HasCounted (first_frames given u) r.seen
 
@@ -70,7 +67,7 @@ pub record FrameRead (scrambled : Bool) (reading : Reading) (was : InView) (fram
 
 abbrev pub taking : Option (List ℕ) → Counted → ReaderView → ReaderView
 taking None seen r = r
-taking (Some frame) seen r = record { scrambled = r.scrambled; hand = frame; ahead = None; ending = r.ending; frames = stopped (r.frames + 1); rest = r.rest; seen = seen }
+taking (Some frame) seen r = record { scrambled = r.scrambled; hand = frame; ahead = None; ending = r.ending; frames = saturated (r.frames + 1); rest = r.rest; seen = seen }
 
 -- the frame that was looked ahead at is in hand, and so much was counted with it
 abbrev pub with_ahead : Counted → ReaderView → ReaderView

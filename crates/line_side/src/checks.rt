@@ -2,7 +2,8 @@
 ghost use Rattle.std.specs.Prelude.{◌≡◌, ℕ, List, []};
 ghost use Rattle.otn_base.specs.declared.limits.TheConstants.{LINE_COLUMNS as COLUMNS};
 ghost use Rattle.frame_geometry.specs.declared.overhead.TheConstants.{SECTION_ROW, SM_BIP8_COLUMN, PM_ROW, PM_BIP8_COLUMN};
-ghost use Rattle.frame_overhead.specs.TwoBefore.{stopped, wrong_parities};
+ghost use Rattle.frame_overhead.specs.TwoBefore.{wrong_parities};
+ghost use Rattle.otn_base.specs.Counts.{saturated};
 ghost use Rattle.otu_overhead.specs.Section.{wrong_fas};
 
 use frame_geometry::Frame;
@@ -59,21 +60,21 @@ impl FrameChecks<1> {
 
     /// How many frames had a wrong FAS.
     pub(crate) fn fas(&self) -> u64
-        ensures { (frames : List (List ℕ)) → HasCounted frames self.now → result ≡ stopped (wrong_fas frames) }
+        ensures { (frames : List (List ℕ)) → HasCounted frames self.now → result ≡ saturated (wrong_fas frames) }
     {
         self.section.fas()
     }
 
     /// How many frames had a wrong SM parity.
     pub(crate) fn sm(&self) -> u64
-        ensures { (frames : List (List ℕ)) → HasCounted frames self.now → result ≡ stopped (wrong_parities COLUMNS SECTION_ROW SM_BIP8_COLUMN frames) }
+        ensures { (frames : List (List ℕ)) → HasCounted frames self.now → result ≡ saturated (wrong_parities COLUMNS SECTION_ROW SM_BIP8_COLUMN frames) }
     {
         self.section.sm()
     }
 
     /// How many frames had a wrong PM parity.
     pub(crate) fn pm(&self) -> u64
-        ensures { (frames : List (List ℕ)) → HasCounted frames self.now → result ≡ stopped (wrong_parities COLUMNS PM_ROW PM_BIP8_COLUMN frames) }
+        ensures { (frames : List (List ℕ)) → HasCounted frames self.now → result ≡ saturated (wrong_parities COLUMNS PM_ROW PM_BIP8_COLUMN frames) }
     {
         self.path.pm()
     }

@@ -46,7 +46,7 @@ impl LineOut {
     ghost use Rattle.line_side.specs.Rows.{frame_row};
     ghost use Rattle.line_side.specs.LineForm.{LineForm};
     ghost use Rattle.line_side.specs.LineOutput.{FramePut, LineMade};
-    ghost use Rattle.line_side.specs.Reader.{stopped};
+    ghost use Rattle.otn_base.specs.Counts.{saturated};
     ghost use Rattle.otn_ports.specs.Given.{Gained};
 
     /// Line output n, 0 to 3, of this kind, scrambled or plain, before its first frame.
@@ -92,7 +92,7 @@ impl LineOut {
         // bytes go to a live place, which may die of its own port's fault, and any other place is asked nothing
         ensures gained { (went : List ℕ) × Gained (out_view K.Sink place.old) went (out_view K.Sink place.new) }
         ensures quiet { (out_view K.Sink place.old).state ≢ Live → place.new ≡ place.old }
-        ensures frames { self.new.frames ≡ stopped (self.old.frames + one_of (frame_counts (out_view K.Sink place.old).state (out_view K.Sink place.new).state)) }
+        ensures frames { self.new.frames ≡ saturated (self.old.frames + one_of (frame_counts (out_view K.Sink place.old).state (out_view K.Sink place.new).state)) }
     {
         self.frame.set(PSI_ROW, PSI_COLUMN, psi_byte(mfas, map));
         let parity = parity(&self.frame);

@@ -12,7 +12,7 @@ use Rattle.line_side.specs.LineOutput.{LineOutView}
 use Rattle.line_side.specs.LineStands.{LineView, InEachTurn}
 use Rattle.line_side.specs.declared.counts.LineCounts.{LineCounts}
 use Rattle.odu_client.specs.ClientInput.{ClientInput, packets_begun, is_spent, bad_line, emitted_before}
-use Rattle.packet_text.specs.LinesStand.{stopped}
+use Rattle.otn_base.specs.Counts.{saturated}
 use Rattle.plan_file.specs.declared.connection.Connection.{Connection}
 use Rattle.plan_file.specs.declared.connection.FromEnd.TheVariants as from_end
 use Rattle.plan_file.specs.declared.connection.ToEnd.TheVariants as to_end
@@ -138,13 +138,13 @@ is_past plan node i x p over at =
 -- ---- clients
 
 text_numbers : (x : Connection) (input : ClientInput) (k : ℕ) (t : ℕ × Bool × Option ℕ) → k ≡ x.stop - first_turn x
-    → t ≡ (stopped (packets_begun input.packets x.fcs (emitted_before x.pace k)), is_spent input x.fcs (emitted_before x.pace k), option_map stopped (bad_line input x.fcs (emitted_before x.pace k)))
+    → t ≡ (saturated (packets_begun input.packets x.fcs (emitted_before x.pace k)), is_spent input x.fcs (emitted_before x.pace k), option_map saturated (bad_line input x.fcs (emitted_before x.pace k)))
     → ◌≡◌ {A = ClientInNumbers} (record { packets = t.0; spent = t.1; bad = t.2 }) (client_numbers x input)
 text_numbers x input k t e told = rw (told, e) refl
 
 pub client_in_told : (node : NodeView) (n i : ℕ) (link : Link) (t : ℕ × Bool × Option ℕ) → FirstOf (has_client_in n) node.links (Some i) → HasLink node i link
     → ((x : Connection) (first now : InView) (taken : List ℕ) (k : ℕ) (input : ClientInput) → ClientInStands x first now taken k link.pipe.taking → MayShow link.pipe.taking taken (of_client input)
-    → t ≡ (stopped (packets_begun input.packets x.fcs (emitted_before x.pace k)), is_spent input x.fcs (emitted_before x.pace k), option_map stopped (bad_line input x.fcs (emitted_before x.pace k))))
+    → t ≡ (saturated (packets_begun input.packets x.fcs (emitted_before x.pace k)), is_spent input x.fcs (emitted_before x.pace k), option_map saturated (bad_line input x.fcs (emitted_before x.pace k))))
     → IsClientInCount node n (record { packets = t.0; spent = t.1; bad = t.2 })
 client_in_told node n i link t found has told = λ plan first taken now inputs x h over may is_of from.
     let p = h.plan_stands in

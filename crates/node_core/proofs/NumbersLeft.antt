@@ -8,7 +8,8 @@ use Rattle.line_side.specs.LineForm.{LineForm, size_of}
 use Rattle.line_side.specs.LineNumbers.{numbers_of}
 use Rattle.line_side.specs.LineOutput.{counted_frames}
 use Rattle.line_side.specs.LineStands.{LineView}
-use Rattle.line_side.specs.Reader.{rest_of, stopped}
+use Rattle.line_side.specs.Reader.{rest_of}
+use Rattle.otn_base.specs.Counts.{saturated}
 use Rattle.line_side.specs.declared.ending.Ending.{Ending}
 use Rattle.plan_file.specs.declared.plan.Plan.{Plan}
 use Rattle.device_model.specs.Entries.{form_in, form_out}
@@ -82,7 +83,7 @@ numbers_are plan first taken node was last inputs numbers went lines h over may 
   line_out = λ b frames used file.
       let l = all.line b used in
       let same : l.frames ≡ frames = only_file plan inputs b (size_of (form_out plan b) * plan.turns) l.frames frames l.file file in
-      told.line_out b used l.line l.has ∙ l.counts ∙ ap (λ fs. stopped (counted_frames (line_out_at first b).state fs (went.line b))) same;
+      told.line_out b used l.line l.has ∙ l.counts ∙ ap (λ fs. saturated (counted_frames (line_out_at first b).state fs (went.line b))) same;
   client_in = λ x n is_of from. told.client_in n (from_client_used plan is_of.0 n x (entry_of plan x is_of) from) plan first taken was inputs x h over may is_of from;
   client_out = λ x n is_of to.
       let c = all.client x n is_of to in

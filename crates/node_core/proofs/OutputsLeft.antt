@@ -8,7 +8,7 @@ use Rattle.otn_ports.specs.Sent.{IsSent}
 use Rattle.otn_ports.specs.Views.{OutView, BaysView, line_out_at, client_out_at}
 use Rattle.line_side.specs.LineForm.{size_of, through_mask}
 use Rattle.line_side.specs.LineOutput.{LineOutView, FramePut, LineMade, counted_frames}
-use Rattle.line_side.specs.Reader.{stopped}
+use Rattle.otn_base.specs.Counts.{saturated}
 use Rattle.odu_client.specs.ClientOutput.{arriving_packets, arriving_frames}
 use Rattle.plan_file.specs.declared.connection.Connection.{Connection}
 use Rattle.plan_file.specs.declared.connection.ToEnd.TheVariants as to_end
@@ -87,7 +87,7 @@ pub record LineWent (plan : Plan) (inputs : Inputs) (b : ℕ) (first now : OutVi
   pub has : HasLineOut node b line
   pub frames : List (List ℕ)
   pub file : IsLineFile plan inputs b (size_of (form_out plan b) * plan.turns) frames
-  pub counts : line.frames ≡ stopped (counted_frames first.state frames went)
+  pub counts : line.frames ≡ saturated (counted_frames first.state frames went)
 
 line_went : (plan : Plan) (inputs : Inputs) (b : ℕ) (first now : OutView) (node : NodeView) → (l : LineAtEnd plan inputs b first now node) → LineWent plan inputs b first now node l.made.sent.went
 line_went plan inputs b first now node l = record {
@@ -166,7 +166,7 @@ pub record ClientWent (plan : Plan) (inputs : Inputs) (x : Connection) (first no
   pub at_i : slice_get plan.connections i ≡ Some x
   pub has : HasLink node i link
   pub counts : (numbers : ℕ × ℕ) → IsReceived link.pipe.giving numbers
-      → numbers ≡ (stopped (arriving_frames (arrived_by x (own_input inputs x) (turns_done x plan.turns 0))), stopped (counted_packets first.state (arriving_packets (arrived_by x (own_input inputs x) (turns_done x plan.turns 0))) went))
+      → numbers ≡ (saturated (arriving_frames (arrived_by x (own_input inputs x) (turns_done x plan.turns 0))), saturated (counted_packets first.state (arriving_packets (arrived_by x (own_input inputs x) (turns_done x plan.turns 0))) went))
 
 client_went : (plan : Plan) (inputs : Inputs) (i : ℕ) (x : Connection) (link : Link) (first now : OutView) (node : NodeView) → slice_get plan.connections i ≡ Some x → HasLink node i link
     → (c : ClientAtEnd plan inputs i x link first now) → ClientWent plan inputs x first now node c.at.stands.sent.went

@@ -5,7 +5,7 @@ use Rattle.std.proofs.lemmas.Grind.{flat_map-append}
 use Rattle.gfp_frames.specs.Delivered.{delivered}
 use Rattle.gfp_frames.specs.Delineation.{sync_areas, from_hunt}
 use Rattle.gfp_frames.proofs.Reading.{hunt_short, none_to_come}
-use Rattle.packet_text.specs.LinesStand.{stopped}
+use Rattle.otn_base.specs.Counts.{saturated}
 use Rattle.packet_text.specs.PacketText.{packet_line, hex_text}
 use Rattle.odu_client.specs.AlignedRuns.{Arrival, Handed, Broken, arrivals, searching, payload_of, with_payload, runs_of}
 use Rattle.odu_client.specs.Aligner.{news}
@@ -169,7 +169,7 @@ count_behind [] ys = omega arith
 count_behind (Handed frame ∷ xs) ys = let e = count_behind xs ys in omega (arith, e)
 count_behind (Broken ∷ xs) ys = count_behind xs ys
 
-count_news : (n frames : ℕ) (answer : Aligned) (frame : List ℕ) → frames ≡ stopped n → frames_after frames answer ≡ stopped (n + handed_count (news answer frame))
+count_news : (n frames : ℕ) (answer : Aligned) (frame : List ℕ) → frames ≡ saturated n → frames_after frames answer ≡ saturated (n + handed_count (news answer frame))
 unfolding handed_count
 count_news n frames aligned.Nothing frame e = omega (arith, e)
 count_news n frames aligned.Whole frame e = omega (arith, e)
@@ -177,4 +177,4 @@ count_news n frames aligned.Break frame e = omega (arith, e)
 
 pub frames_go_on : FramesGoOn
 frames_go_on arrived came frame answer next frames a e =
-    count_news (arriving_frames arrived) frames answer frame e ∙ ap stopped (sym (ap handed_count a.arrived ∙ count_behind (arrivals arrived) (news answer frame)))
+    count_news (arriving_frames arrived) frames answer frame e ∙ ap saturated (sym (ap handed_count a.arrived ∙ count_behind (arrivals arrived) (news answer frame)))

@@ -9,7 +9,8 @@ use Rattle.gfp_frames.specs.Maker.{MakerState, HasMade, made_frame, fresh}
 use Rattle.gfp_frames.specs.CoreHeader.{core_header}
 use Rattle.gfp_scrambler.specs.Register.{scrambled}
 use Rattle.gfp_frames.proofs.Texts.{frame_made, fresh_made, header_size}
-use Rattle.packet_text.specs.LinesStand.{LinesView, LinesStand, TakeStands, is_packet, given_by, stopped}
+use Rattle.packet_text.specs.LinesStand.{LinesView, LinesStand, TakeStands, is_packet, given_by}
+use Rattle.otn_base.specs.Counts.{saturated}
 use Rattle.packet_text.specs.declared.line.Line.{Line}
 use Rattle.packet_text.specs.declared.line.Line.TheVariants as line
 use Rattle.odu_client.specs.ClientInput.{gfp_length}
@@ -72,7 +73,7 @@ all_given packets given s h going none =
     let t : given ++ s.maker.hand ≡ text_of (stream_frames packets s.fcs 0) = h.made.text ∙ ap (λ k. text_of (stream_frames packets s.fcs k)) (h.going going) in
     ap length (sym t ∙ ap (λ y. given ++ y) none ∙ append-nil given)
 
-counted : (n m : ℕ) → m ≡ stopped n → stopped (m + 1) ≡ stopped (n + 1)
+counted : (n m : ℕ) → m ≡ saturated n → saturated (m + 1) ≡ saturated (n + 1)
 counted n m e = omega arith
 
 -- the next packet is in hand, or there is none
@@ -102,7 +103,7 @@ asked_ready first now taken given packets lines next old new going none some h a
           begun = λ before last f. (let same = snoc_same packets before next.packet last (ap (λ m. packets ++ m) (sym p.0) ∙ f) in
               let size : gfp_length before new.fcs ≡ gfp_length packets old.fcs = ap (λ ps. gfp_length ps new.fcs) (sym same) ∙ ap (gfp_length packets) a.goes.same in omega (arith, all));
           seen = λ f. absurd (f e);
-          count = p.2 ∙ counted (length packets) old.packets h.count ∙ ap stopped (let n = length-append packets (next.packet ∷ []) in let m : length packets + 1 ≡ length (packets ++ next.packet ∷ []) = omega arith in m ∙ ap (λ ps. length (packets ++ ps)) (sym p.0));
+          count = p.2 ∙ counted (length packets) old.packets h.count ∙ ap saturated (let n = length-append packets (next.packet ∷ []) in let m : length packets + 1 ≡ length (packets ++ next.packet ∷ []) = omega arith in m ∙ ap (λ ps. length (packets ++ ps)) (sym p.0));
         }
 
     without : new.answer ≢ line.Packet → StreamReady (packets ++ a.goes.more) given new
@@ -193,7 +194,7 @@ asked_text first was now taken packets lines next old new h going stands answer 
 -- what the lines answered
 pub asked_by : (first was now : InView) (taken : List ℕ) (packets : List (List ℕ)) (lines next : LinesView) (old new : StreamState) → old.answer ≡ line.Packet
     → (LinesStand first was taken packets lines → TakeStands first taken packets lines next now) → next.answer ≡ new.answer → new.fcs ≡ old.fcs
-    → (new.answer ≡ line.Packet → (new.maker ≡ made_frame (client_area next.packet old.fcs) old.maker.register) × (new.packets ≡ stopped (old.packets + 1)))
+    → (new.answer ≡ line.Packet → (new.maker ≡ made_frame (client_area next.packet old.fcs) old.maker.register) × (new.packets ≡ saturated (old.packets + 1)))
     → (new.answer ≢ line.Packet → (new.maker ≡ old.maker) × (new.packets ≡ old.packets))
     → TextStands first was taken packets lines old → Asked first now taken packets lines next old new
 asked_by first was now taken packets lines next old new going stands answer fcs one none h =

@@ -7,7 +7,8 @@ use Rattle.std.proofs.lemmas.Bool.Decides.{nat_tests}
 use Rattle.otn_ports.specs.Views.{InView}
 use Rattle.gfp_frames.specs.GfpText.{stream_frames, text_of, gfp_text}
 use Rattle.gfp_frames.proofs.Streams.{given_is_stream}
-use Rattle.packet_text.specs.LinesStand.{LinesView, MayBe, Told, GoesOnWith, HasBad, stopped}
+use Rattle.packet_text.specs.LinesStand.{LinesView, MayBe, Told, GoesOnWith, HasBad}
+use Rattle.otn_base.specs.Counts.{saturated}
 use Rattle.packet_text.specs.PacketText.{Packets, Ended, packets_of}
 use Rattle.packet_text.specs.declared.line.Line.{Line}
 use Rattle.packet_text.specs.declared.line.Line.TheVariants as line
@@ -110,10 +111,10 @@ framed_from first now taken gone lines f h =
 -- ---- the counts
 
 pub packets_are : (first now : InView) (taken gone : List ℕ) (lines : LinesView) (f : FramerState) (text : List ℕ) → ClientStands first now taken gone lines f → MayBe lines taken text
-    → f.stream.packets ≡ stopped (packets_begun (packets_of text).packets f.stream.fcs (length gone))
+    → f.stream.packets ≡ saturated (packets_begun (packets_of text).packets f.stream.fcs (length gone))
 packets_are first now taken gone lines f text h may =
     let w = of_whole first now taken h.packets h.given lines f.stream text h.text h.framed.stream may in
-    h.framed.stream.count ∙ ap stopped (sym w.begun ∙ ap (λ n. begun_within n (stream_frames (packets_of text).packets f.stream.fcs 0)) h.framed.size)
+    h.framed.stream.count ∙ ap saturated (sym w.begun ∙ ap (λ n. begun_within n (stream_frames (packets_of text).packets f.stream.fcs 0)) h.framed.size)
 
 yes_lt : (a b : ℕ) → a < b → nat_lt a b ≡ true
 yes_lt a b h = grind (arith, nat_tests)
@@ -230,25 +231,25 @@ spent_end first now taken gone lines f died text result end is_gone is_left h ma
 
 -- the bad line, once it is seen
 pub bad_is : (first now : InView) (taken gone : List ℕ) (lines : LinesView) (f : FramerState) (died : Bool) (text : List ℕ) (number : ℕ) → f.stream.answer ≡ line.Bad number → ClientStands first now taken gone lines f
-    → MayBe lines taken text → Some number ≡ option_map stopped (bad_line (input_of died text) f.stream.fcs (length gone))
+    → MayBe lines taken text → Some number ≡ option_map saturated (bad_line (input_of died text) f.stream.fcs (length gone))
 bad_is first now taken gone lines f died text number bad h may =
     let told = told_bad lines.answer h.packets (packets_of text) number (h.text.stands.told text may) (sym h.text.answer ∙ bad) in
     let counts = counts_of first now taken gone lines f text h may in
     let seen = yes_lt (gfp_length (packets_of text).packets f.stream.fcs) (payload_begun (length gone)) (counts.seen (λ e. (let g = sym bad ∙ e in cc))) in
-    sym (ap (λ (b : Bool). option_map stopped (if b then bad_at (input_ending died (packets_of text).ending) else None)) seen
-    ∙ ap (λ t. option_map stopped (bad_at (input_ending died t))) (ap (λ q. q.ending) told.ends)
+    sym (ap (λ (b : Bool). option_map saturated (if b then bad_at (input_ending died (packets_of text).ending) else None)) seen
+    ∙ ap (λ t. option_map saturated (bad_at (input_ending died t))) (ap (λ q. q.ending) told.ends)
     ∙ ap Some (sym told.counted))
 
 none_bad : (died : Bool) → bad_at (input_ending died Ended) ≡ None
 none_bad true = refl
 none_bad false = refl
 
-not_bad : (b : Bool) (died : Bool) → option_map stopped (if b then bad_at (input_ending died Ended) else None) ≡ None
-not_bad true died = ap (option_map stopped) (none_bad died)
+not_bad : (b : Bool) (died : Bool) → option_map saturated (if b then bad_at (input_ending died Ended) else None) ≡ None
+not_bad true died = ap (option_map saturated) (none_bad died)
 not_bad false died = refl
 
 pub no_bad : (first now : InView) (taken gone : List ℕ) (lines : LinesView) (f : FramerState) (died : Bool) (text : List ℕ) → ((n : ℕ) → f.stream.answer ≢ line.Bad n) → ClientStands first now taken gone lines f
-    → MayBe lines taken text → None ≡ option_map stopped (bad_line (input_of died text) f.stream.fcs (length gone))
+    → MayBe lines taken text → None ≡ option_map saturated (bad_line (input_of died text) f.stream.fcs (length gone))
 no_bad first now taken gone lines f died text other h may = sym (by_answer lines.answer refl)
   where
     told : Told lines.answer h.packets (packets_of text)
@@ -257,13 +258,13 @@ no_bad first now taken gone lines f died text other h may = sym (by_answer lines
     seen : Bool
     seen = nat_lt (gfp_length (packets_of text).packets f.stream.fcs) (payload_begun (length gone))
 
-    by_answer : (a : Line) → lines.answer ≡ a → option_map stopped (if seen then bad_at (input_ending died (packets_of text).ending) else None) ≡ None
+    by_answer : (a : Line) → lines.answer ≡ a → option_map saturated (if seen then bad_at (input_ending died (packets_of text).ending) else None) ≡ None
     by_answer line.Packet e =
         let counts = counts_of first now taken gone lines f text h may in
-        ap (λ (b : Bool). option_map stopped (if b then bad_at (input_ending died (packets_of text).ending) else None)) (no_lt (gfp_length (packets_of text).packets f.stream.fcs) (payload_begun (length gone)) (counts.going (h.text.answer ∙ e)))
-    by_answer line.End e = ap (λ t. option_map stopped (if seen then bad_at (input_ending died t) else None)) (told_end lines.answer h.packets (packets_of text) told e) ∙ not_bad seen died
+        ap (λ (b : Bool). option_map saturated (if b then bad_at (input_ending died (packets_of text).ending) else None)) (no_lt (gfp_length (packets_of text).packets f.stream.fcs) (payload_begun (length gone)) (counts.going (h.text.answer ∙ e)))
+    by_answer line.End e = ap (λ t. option_map saturated (if seen then bad_at (input_ending died t) else None)) (told_end lines.answer h.packets (packets_of text) told e) ∙ not_bad seen died
     by_answer (line.Bad n) e = absurd (other n (h.text.answer ∙ e))
-    by_answer line.Lost e = ap (λ t. option_map stopped (if seen then bad_at (input_ending died t) else None)) (told_lost lines.answer h.packets (packets_of text) told e) ∙ not_bad seen died
+    by_answer line.Lost e = ap (λ t. option_map saturated (if seen then bad_at (input_ending died t) else None)) (told_lost lines.answer h.packets (packets_of text) told e) ∙ not_bad seen died
 
 -- ---- a whole call
 

@@ -5,7 +5,8 @@ use Rattle.otn_ports.specs.Views.{InView}
 use Rattle.frame_overhead.specs.TwoBefore.{Kept, HasSent}
 use Rattle.gfp_frames.specs.GfpText.{stream_frames}
 use Rattle.gfp_frames.specs.Maker.{MakerState, HasMade}
-use Rattle.packet_text.specs.LinesStand.{LinesView, LinesStand, MayBe, stopped}
+use Rattle.packet_text.specs.LinesStand.{LinesView, LinesStand, MayBe}
+use Rattle.otn_base.specs.Counts.{saturated}
 use Rattle.packet_text.specs.PacketText.{packets_of}
 use Rattle.packet_text.specs.declared.line.Line.{Line}
 use Rattle.packet_text.specs.declared.line.Line.TheVariants.{Packet, End, Lost}
@@ -39,7 +40,7 @@ pub record StreamMade (packets : List (List ℕ)) (given : List ℕ) (stream : S
   pub going : stream.answer ≡ Packet → idles ≡ 0
   pub begun : (before : List (List ℕ)) (last : List ℕ) → packets ≡ before ++ last ∷ [] → gfp_length before stream.fcs < length given
   pub seen : stream.answer ≢ Packet → gfp_length packets stream.fcs < length given
-  pub count : stream.packets ≡ stopped (length packets)
+  pub count : stream.packets ≡ saturated (length packets)
 
 -- the same where the next byte may be that of a packet's frame that is not begun, or of the first idle frame behind the packets
 pub record StreamReady (packets : List (List ℕ)) (given : List ℕ) (stream : StreamState) : Type 0 where
@@ -48,7 +49,7 @@ pub record StreamReady (packets : List (List ℕ)) (given : List ℕ) (stream : 
   pub going : stream.answer ≡ Packet → (idles ≡ 0) × (stream.maker.hand ≢ [])
   pub begun : (before : List (List ℕ)) (last : List ℕ) → packets ≡ before ++ last ∷ [] → gfp_length before stream.fcs ≤ length given
   pub seen : stream.answer ≢ Packet → gfp_length packets stream.fcs ≤ length given
-  pub count : stream.packets ≡ stopped (length packets)
+  pub count : stream.packets ≡ saturated (length packets)
 
 -- `first` and `now` are views of the text's place, between which these bytes were taken, and these packets given
 pub record TextStands (first now : InView) (taken : List ℕ) (packets : List (List ℕ)) (lines : LinesView) (stream : StreamState) : Type 0 where

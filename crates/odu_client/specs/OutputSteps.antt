@@ -3,7 +3,7 @@
 use Rattle.std.specs.Prelude.{◌≡◌, ℕ, List, [], ◌∷◌, ◌++◌}
 use Rattle.gfp_frames.specs.Delivered.{delivered}
 use Rattle.gfp_frames.specs.Reader.{ReaderState, HasRead}
-use Rattle.packet_text.specs.LinesStand.{stopped}
+use Rattle.otn_base.specs.Counts.{saturated}
 use Rattle.packet_text.specs.PacketText.{hex_text}
 use Rattle.odu_client.specs.AlignedRuns.{arrivals, payload_of, runs_of}
 use Rattle.odu_client.specs.Aligner.{AlignerState, HasAligned, Aligns, AlignsBy}
@@ -55,4 +55,4 @@ OutputTextGoesOn = (arrived came : List ℕ) (packets more : List (List ℕ)) (a
 -- a count of the whole frames that were handed on goes on as the aligner's does
 abbrev pub FramesGoOn : Type 0
 FramesGoOn = (arrived came frame : List ℕ) (answer : Aligned) (next : AlignerState) (frames : ℕ)
-    → AlignsBy arrived came answer frame next → frames ≡ stopped (arriving_frames arrived) → frames_after frames answer ≡ stopped (arriving_frames (arrived ++ came))
+    → AlignsBy arrived came answer frame next → frames ≡ saturated (arriving_frames arrived) → frames_after frames answer ≡ saturated (arriving_frames (arrived ++ came))

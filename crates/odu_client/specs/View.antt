@@ -1,5 +1,6 @@
 -- What is seen of an aligner.
-use Rattle.std.specs.Prelude.{ℕ, ◌+◌, ◌-◌, ◌^◌, min, List}
+use Rattle.std.specs.Prelude.{ℕ, ◌+◌, List}
+use Rattle.otn_base.specs.Counts.{saturated}
 use Rattle.odu_client.specs.Aligner.{AlignerState}
 use Rattle.odu_client.specs.declared.aligned.Aligned.{Aligned}
 use Rattle.odu_client.specs.declared.aligned.Aligned.TheVariants.{Nothing, Whole, Break}
@@ -16,5 +17,5 @@ handed a = a.frame
 -- a count of whole frames, which stops at its end
 abbrev pub frames_after : ℕ → Aligned → ℕ
 frames_after frames Nothing = frames
-frames_after frames Whole = min (frames + 1) (2 ^ 64 - 1)
+frames_after frames Whole = saturated (frames + 1)
 frames_after frames Break = frames

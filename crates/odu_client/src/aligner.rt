@@ -5,11 +5,10 @@ ghost use Rattle.odu_client.specs.AlignedRuns.{misses_after};
 ghost use Rattle.otn_base.specs.declared.limits.TheConstants.{CLIENT_FRAME_BYTES};
 
 use crate::Aligned;
-use crate::buffer::append;
 use crate::fas::{FAS_BYTES, begins, count, has_signal, is_given_up};
 use frame_geometry::Frame;
-use otn_base::Memory;
 use otn_base::limits::{CLIENT_COLUMNS, CLIENT_FRAME_BYTES};
+use otn_base::{Memory, append};
 use std::alloc::Global;
 
 /// Finds client frames in the bytes that arrive. In a search it looks for the first FAS; then frames follow one another, until five

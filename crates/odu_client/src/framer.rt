@@ -2,7 +2,8 @@
 ghost use Rattle.std.specs.Prelude.{◌≡◌, ◌≢◌, ◌<◌, ◌≤◌, ◌+◌, ◌⊎◌, ℕ, Bool, List, [], ◌∷◌, ◌++◌, true, false, length, take, drop, vec_len, IfOk, Option, option_map};
 ghost use Rattle.otn_ports.specs.InPlace.{in_view};
 ghost use Rattle.otn_ports.specs.Views.{InView};
-ghost use Rattle.packet_text.specs.LinesStand.{LinesView, lines_view, fresh_lines, LinesStand, MayBe, stopped};
+ghost use Rattle.packet_text.specs.LinesStand.{LinesView, lines_view, fresh_lines, LinesStand, MayBe};
+ghost use Rattle.otn_base.specs.Counts.{saturated};
 ghost use Rattle.packet_text.specs.PacketText.{packets_of};
 ghost use Rattle.odu_client.specs.ClientInput.{input_of, is_spent, bad_line, packets_begun};
 ghost use Rattle.odu_client.specs.Framing.{FramerState, ClientStands, Fills, MayDie, TextStands};
@@ -120,7 +121,7 @@ impl ClientFramer {
     /// How many packets are begun: the first byte of their GFP frame stands in a frame that was made. The count stops at 2^64-1.
     pub fn packets(&self) -> u64
         ensures { (first now : InView) (taken gone : List ℕ) (lines : LinesView) (text : List ℕ) → ClientStands first now taken gone lines self.now
-            → MayBe lines taken text → result ≡ stopped (packets_begun (packets_of text).packets self.now.stream.fcs (length gone)) }
+            → MayBe lines taken text → result ≡ saturated (packets_begun (packets_of text).packets self.now.stream.fcs (length gone)) }
     {
         self.stream.packets()
     }
@@ -128,7 +129,7 @@ impl ClientFramer {
     /// The number of the bad line, from 1, once it is seen.
     pub fn bad(&self) -> Option<u64>
         ensures { (first now : InView) (taken gone : List ℕ) (lines : LinesView) (died : Bool) (text : List ℕ) → ClientStands first now taken gone lines self.now
-            → MayBe lines taken text → MayDie lines.answer died → result ≡ option_map stopped (bad_line (input_of died text) self.now.stream.fcs (length gone)) }
+            → MayBe lines taken text → MayDie lines.answer died → result ≡ option_map saturated (bad_line (input_of died text) self.now.stream.fcs (length gone)) }
     {
         match self.stream.answer() {
             Line::Bad(number) => Some(number),

@@ -3,7 +3,6 @@
 
 mod aligned;
 mod aligner;
-mod buffer;
 mod client_frame;
 mod fas;
 mod framer;

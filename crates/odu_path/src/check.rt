@@ -26,7 +26,8 @@ impl Model for PathCheck {
 }
 
 impl PathCheck {
-    ghost use Rattle.frame_overhead.specs.TwoBefore.{HasChecked, stopped, wrong_parities};
+    ghost use Rattle.frame_overhead.specs.TwoBefore.{HasChecked, wrong_parities};
+    ghost use Rattle.otn_base.specs.Counts.{saturated};
 
     /// No frame was taken.
     pub fn new() -> PathCheck
@@ -55,7 +56,7 @@ impl PathCheck {
 
     /// How many frames had a wrong PM parity. The count stops at 2^64-1.
     pub fn pm(&self) -> u64
-        ensures { (cols : ℕ) (frames : List (List ℕ)) → HasChecked cols PM_ROW PM_BIP8_COLUMN frames self.now → result ≡ stopped (wrong_parities cols PM_ROW PM_BIP8_COLUMN frames) }
+        ensures { (cols : ℕ) (frames : List (List ℕ)) → HasChecked cols PM_ROW PM_BIP8_COLUMN frames self.now → result ≡ saturated (wrong_parities cols PM_ROW PM_BIP8_COLUMN frames) }
     {
         self.pm.wrong()
     }

@@ -1,7 +1,8 @@
 //! What every layer of the device shares: kinds of lines and of tributaries, lists of tributary slots, trail
-//! traces, the names of ports, the answer for want of memory, and the numbers of the formats.
+//! traces, the names of ports, the answer for want of memory, bytes at the end of a buffer, and the numbers of the formats.
 #![tactic(auto)]
 
+mod buffer;
 mod kind;
 pub mod limits;
 mod line_kind;
@@ -9,6 +10,7 @@ mod memory;
 mod slots;
 mod trace;
 
+pub use buffer::append;
 pub use kind::{Kind, PortName};
 pub use line_kind::LineKind;
 pub use memory::Memory;

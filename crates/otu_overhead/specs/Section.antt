@@ -4,7 +4,8 @@ use Rattle.otn_base.specs.declared.limits.TheConstants.{LINE_COLUMNS}
 use Rattle.frame_geometry.specs.declared.overhead.TheConstants.{FAS, FAS_COLUMN, FEC_COLUMN, OPU_COLUMN, SECTION_ROW, SM_BIP8_COLUMN}
 use Rattle.otn_base.specs.TrailTrace.{trail_trace}
 use Rattle.frame_overhead.specs.Runs.{IsPlace, byte_of}
-use Rattle.frame_overhead.specs.TwoBefore.{Checked, HasChecked, stopped}
+use Rattle.frame_overhead.specs.TwoBefore.{Checked, HasChecked}
+use Rattle.otn_base.specs.Counts.{saturated}
 
 -- G.709 clauses 15.6 and 15.7: row 1, columns 1 to 14, of a frame with this MFAS: the FAS, the MFAS, SM of a TTI byte and
 -- a BIP-8 with no BEI, BDI and IAE, GCC0 and two reserved bytes
@@ -47,5 +48,5 @@ pub record Taken : Type 0 where
 
 -- These frames were taken. The SM parity stands in row 1, column 9.
 pub record HasTaken (frames : List (List ℕ)) (taken : Taken) : Type 0 where
-  pub fas : taken.fas ≡ stopped (wrong_fas frames)
+  pub fas : taken.fas ≡ saturated (wrong_fas frames)
   pub sm : HasChecked LINE_COLUMNS SECTION_ROW SM_BIP8_COLUMN frames taken.sm

@@ -27,7 +27,8 @@ impl Model for OtuCheck {
 }
 
 impl OtuCheck {
-    ghost use Rattle.frame_overhead.specs.TwoBefore.{stopped, wrong_parities};
+    ghost use Rattle.frame_overhead.specs.TwoBefore.{wrong_parities};
+    ghost use Rattle.otn_base.specs.Counts.{saturated};
     ghost use Rattle.otu_overhead.specs.Section.{HasTaken, wrong_fas};
 
     /// No frame was taken.
@@ -58,14 +59,14 @@ impl OtuCheck {
 
     /// How many frames had a wrong FAS. The count stops at 2^64-1.
     pub fn fas(&self) -> u64
-        ensures { (frames : List (List ℕ)) → HasTaken frames self.now → result ≡ stopped (wrong_fas frames) }
+        ensures { (frames : List (List ℕ)) → HasTaken frames self.now → result ≡ saturated (wrong_fas frames) }
     {
         self.fas
     }
 
     /// How many frames had a wrong SM parity. The count stops at 2^64-1.
     pub fn sm(&self) -> u64
-        ensures { (frames : List (List ℕ)) → HasTaken frames self.now → result ≡ stopped (wrong_parities LINE_COLUMNS SECTION_ROW SM_BIP8_COLUMN frames) }
+        ensures { (frames : List (List ℕ)) → HasTaken frames self.now → result ≡ saturated (wrong_parities LINE_COLUMNS SECTION_ROW SM_BIP8_COLUMN frames) }
     {
         self.sm.wrong()
     }

@@ -5,7 +5,8 @@ use Rattle.std.proofs.lemmas.List.{drop_at}
 use Rattle.otn_ports.specs.Views.{InView}
 use Rattle.packet_text.specs.TextLines.{has_lf, lines_of, full_lines, begun_line}
 use Rattle.packet_text.specs.PacketText.{line_gives, TextEnding, Ended, BadAt, Packets, packets_of, is_bad, shows_bad}
-use Rattle.packet_text.specs.LinesStand.{LinesView, stopped, came_short, GoesOn, ReadAsNeeded, HasBad}
+use Rattle.packet_text.specs.LinesStand.{LinesView, came_short, GoesOn, ReadAsNeeded, HasBad}
+use Rattle.otn_base.specs.Counts.{saturated}
 use Rattle.packet_text.specs.Finding.{answer_of, Rests}
 use Rattle.packet_text.specs.Cutting.{CutView, NoneRead, LastRead, Cuts}
 use Rattle.packet_text.specs.declared.cutter.Cut.{Cut}
@@ -53,7 +54,7 @@ shown_long bytes line e long = rw e (shown_by_length (is_bad (packets_of (full_l
 
 -- the line behind the lines so far is bad, and has its LF
 pub shown_by_lf : {taken came : List ℕ} {packets : List (List ℕ)} {old : LinesView} {cnew : CutView} {was is : InView} → (h : GoesOn taken packets old) → Cuts cut.Line (start old) was came cnew is → cnew.ended ≡ false
-    → line_gives h.lines cnew.line ≡ None → (number : ℕ) → number ≡ stopped (length h.lines + 1) → shows_bad (taken ++ came) ≡ true
+    → line_gives h.lines cnew.line ≡ None → (number : ℕ) → number ≡ saturated (length h.lines + 1) → shows_bad (taken ++ came) ≡ true
 unfolding has_lf
 shown_by_lf {taken = taken} {came = came} {packets = packets} {old = old} {cnew = cnew} h k still gives number counted =
     let line = cnew.line in

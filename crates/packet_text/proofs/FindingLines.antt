@@ -3,7 +3,8 @@ use Rattle.std.proofs.Common.{◌≡◌, ◌+◌, ◌%◌, ◌⊎◌, inl, inr, 
 use Rattle.otn_ports.specs.Views.{InView}
 use Rattle.otn_ports.proofs.GivenLaws.{dead_not_live, gave_none, gave_twice}
 use Rattle.packet_text.specs.TextLines.{has_lf, lines_of, full_lines, whole_blocks, text_of_dead}
-use Rattle.packet_text.specs.LinesStand.{LinesView, stopped, GoesOn, came_short, ReadAsNeeded}
+use Rattle.packet_text.specs.LinesStand.{LinesView, GoesOn, came_short, ReadAsNeeded}
+use Rattle.otn_base.specs.Counts.{saturated}
 use Rattle.packet_text.specs.Finding.{answer_of, Counts, Judges, Rests, Finds}
 use Rattle.packet_text.specs.Cutting.{CutView, CutsSome}
 use Rattle.packet_text.specs.declared.cutter.Cut.TheVariants as cut
@@ -67,7 +68,7 @@ find_last taken packets r old new cnew was is h s judges hand ended =
     }
 
 pub find_long : (taken : List ℕ) (packets : List (List ℕ)) (r : Found) (old new : LinesView) (cnew : CutView) (was is : InView) → r ≡ found.Bad → (h : GoesOn taken packets old) → CutsSome cut.Long (start old) was cnew is
-    → new.number ≡ stopped (old.number + 1) → new.ended ≡ cnew.ended → Finds r taken packets old was new is
+    → new.number ≡ saturated (old.number + 1) → new.ended ≡ cnew.ended → Finds r taken packets old was new is
 unfolding has_lf
 find_long taken packets r old new cnew was is bad h s number ended =
     let k = s.cuts in

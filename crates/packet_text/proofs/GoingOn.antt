@@ -3,7 +3,8 @@ use Rattle.std.proofs.Common.{◌≡◌, ◌≢◌, ◌+◌, ℕ, Bool, true, fa
 use Rattle.otn_ports.specs.Views.{InView}
 use Rattle.packet_text.specs.TextLines.{has_lf, lines_of, full_lines}
 use Rattle.packet_text.specs.PacketText.{line_gives, Packets, Ended, BadAt, behind, with_line, packets_behind, packets_of}
-use Rattle.packet_text.specs.LinesStand.{LinesView, stopped, Begins, HasBad, GoesOn}
+use Rattle.packet_text.specs.LinesStand.{LinesView, Begins, HasBad, GoesOn}
+use Rattle.otn_base.specs.Counts.{saturated}
 use Rattle.packet_text.specs.Finding.{Counts}
 use Rattle.packet_text.specs.Cutting.{CutView, Cuts}
 use Rattle.packet_text.specs.declared.cutter.Cut.{Cut}
@@ -72,7 +73,7 @@ sound_packet lines line packet packets h gives some later =
 
 -- the text has a bad line behind the lines so far
 pub has_bad : {taken : List ℕ} {packets : List (List ℕ)} {old : LinesView} → (h : GoesOn taken packets old) → (text line : List ℕ) (later : List (List ℕ)) (number : ℕ)
-    → lines_of text ≡ h.lines ++ (line ∷ later) → line_gives h.lines line ≡ None → number ≡ stopped (length h.lines + 1) → HasBad packets number (packets_of text)
+    → lines_of text ≡ h.lines ++ (line ∷ later) → line_gives h.lines line ≡ None → number ≡ saturated (length h.lines + 1) → HasBad packets number (packets_of text)
 unfolding packets_of packets_behind
 has_bad {packets = packets} h text line later number lines none counted = record {
   line = length h.lines + 1;

@@ -9,7 +9,8 @@ use Rattle.hex.specs.declared.error.FromHexError.{FromHexError}
 use Rattle.hex.proofs.HexLemmas.{decode_of-ok}
 use Rattle.packet_text.specs.PacketText.{without_cr, decoded, bytes_of_line, is_nothing, is_empty_line, empty_lines, line_gives}
 use Rattle.packet_text.proofs.LineEnds.{cr_length}
-use Rattle.packet_text.specs.LinesStand.{LinesView, stopped}
+use Rattle.packet_text.specs.LinesStand.{LinesView}
+use Rattle.otn_base.specs.Counts.{saturated}
 use Rattle.packet_text.specs.Finding.{Counts, Judges}
 use Rattle.packet_text.specs.declared.found.Found.{Found}
 use Rattle.packet_text.specs.declared.found.Found.TheVariants as found
@@ -79,7 +80,7 @@ judge_empty lines line text packet n r old new same zero_n gives h bad empty num
     is_empty : is_empty_line line ≡ true
     is_empty = empty_from line none
 
-    count : new.number ≡ stopped (length lines + 1)
+    count : new.number ≡ saturated (length lines + 1)
     count = (let e = h.number in omega (arith, number, e))
 
     by_test : (t : Bool) → nat_le 65536 (empty_lines lines) ≡ t → Judges r lines line new

@@ -5,7 +5,8 @@ use Rattle.otn_ports.specs.Given.{Gave}
 use Rattle.otn_ports.specs.Reads.{HasEnded}
 use Rattle.packet_text.specs.TextLines.{text_of_dead}
 use Rattle.packet_text.specs.PacketText.{Ended, line_gives, packets_of, shows_bad, empty_lines}
-use Rattle.packet_text.specs.LinesStand.{LinesView, stopped, Begins, HasBad, GoesOn, came_short, ReadAsNeeded}
+use Rattle.packet_text.specs.LinesStand.{LinesView, Begins, HasBad, GoesOn, came_short, ReadAsNeeded}
+use Rattle.otn_base.specs.Counts.{saturated}
 use Rattle.packet_text.specs.declared.line.Line.{Line}
 use Rattle.packet_text.specs.declared.line.Line.TheVariants as line
 use Rattle.packet_text.specs.declared.found.Found.{Found}
@@ -21,14 +22,14 @@ answer_of Empty number = line.Bad number
 
 -- the lines up to these are counted
 pub record Counts (lines : List (List ℕ)) (view : LinesView) : Type 0 where
-  pub number : view.number ≡ stopped (length lines)
+  pub number : view.number ≡ saturated (length lines)
   pub empty : view.empty ≡ empty_lines lines
 
 -- what a line behind these was found to be
 pub record Judges (result : Found) (lines : List (List ℕ)) (line : List ℕ) (new : LinesView) : Type 0 where
   pub empty : result ≡ Empty → (line_gives lines line ≡ Some []) × Counts (lines ++ line ∷ []) new
   pub packet : result ≡ Packet → (line_gives lines line ≡ Some new.packet) × (new.packet ≢ []) × Counts (lines ++ line ∷ []) new
-  pub bad : result ≡ Bad → (line_gives lines line ≡ None) × (new.number ≡ stopped (length lines + 1))
+  pub bad : result ≡ Bad → (line_gives lines line ≡ None) × (new.number ≡ saturated (length lines + 1))
   pub open_place : (result ≢ End) × (result ≢ Lost)
 
 -- nothing was read

@@ -1,5 +1,6 @@
 -- Where the lines of a place stand.
 use Rattle.std.specs.Prelude.{◌≡◌, ◌≢◌, ◌<◌, ◌≤◌, ◌%◌, ◌^◌, ◌-◌, if◌then◌else◌, min, ℕ, Bool, true, false, List, [], ◌∷◌, ◌++◌, length, take}
+use Rattle.otn_base.specs.Counts.{saturated}
 use Rattle.otn_ports.specs.Views.{InView, Live, Dead}
 use Rattle.otn_ports.specs.Given.{Gave}
 use Rattle.otn_ports.specs.Reads.{HasEnded}
@@ -23,10 +24,6 @@ pub record LinesView : Type 0 where
 -- the lines of a place as they are seen
 abbrev pub lines_view : PacketLines → LinesView
 lines_view p = record { hand = (cut_view p.cutter).hand; ended = p.cutter.ended; answer = p.answer; packet = take p.len p.packet.items; number = p.number; empty = p.empty }
-
--- a count that stops at the end of a u64
-abbrev pub stopped : ℕ → ℕ
-stopped n = min n (2 ^ 64 - 1)
 
 -- a text that begins with these bytes
 pub record Begins (bytes text : List ℕ) : Type 0 where
@@ -54,7 +51,7 @@ pub record GoesOnWith (packets : List (List ℕ)) (text : Packets) : Type 0 wher
 -- the text ends behind these packets with a bad line, whose number is this one as far as it counts
 pub record HasBad (packets : List (List ℕ)) (number : ℕ) (text : Packets) : Type 0 where
   pub line : ℕ
-  pub counted : number ≡ stopped line
+  pub counted : number ≡ saturated line
   pub ends : text ≡ record { packets = packets; ending = BadAt line }
 
 -- what an answer says of the packets of a text, when these were given
@@ -73,7 +70,7 @@ pub record GoesOn (taken : List ℕ) (packets : List (List ℕ)) (view : LinesVi
   pub full : view.ended ≡ false → (rest : List ℕ) → full_lines (used ++ rest) ≡ used ++ full_lines rest
   pub over : view.ended ≡ true → lines_of taken ≡ lines ++ lines_of view.hand
   pub sound : (later : List (List ℕ)) → packets_behind [] (lines ++ later) ≡ behind packets (packets_behind lines later)
-  pub number : view.number ≡ stopped (length lines)
+  pub number : view.number ≡ saturated (length lines)
   pub empty : view.empty ≡ empty_lines lines
   pub blocks : view.ended ≡ false → length taken % 4096 ≡ 0
 

@@ -5,9 +5,8 @@ ghost use Rattle.otn_ports.specs.InPlace.{in_view};
 ghost use Rattle.packet_text.specs.Blocks.{BlockRead};
 ghost use Rattle.packet_text.specs.Carrying.{NoneCarried, Carried};
 
-use crate::buffer::append;
 use crate::line_feed::first_lf;
-use otn_base::Memory;
+use otn_base::{Memory, append};
 use otn_ports::{InPlaceOf, Reading, Source};
 use std::alloc::Global;
 

@@ -1,7 +1,6 @@
 //! Packets as text: lines of hex digits, read from a place and written to one.
 #![tactic(auto)]
 
-mod buffer;
 mod cutter;
 mod digits;
 mod found;

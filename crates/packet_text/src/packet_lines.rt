@@ -35,7 +35,8 @@ pub struct PacketLines {
 }
 
 impl PacketLines {
-    ghost use Rattle.packet_text.specs.LinesStand.{stopped, LinesView, lines_view, fresh_lines, LinesStand, MayBe, Told, TakeStands, GoesOn};
+    ghost use Rattle.packet_text.specs.LinesStand.{LinesView, lines_view, fresh_lines, LinesStand, MayBe, Told, TakeStands, GoesOn};
+    ghost use Rattle.otn_base.specs.Counts.{saturated};
     ghost use Rattle.packet_text.specs.Cutting.{cut_view};
     ghost use Rattle.packet_text.specs.Finding.{Finds, Judges, Counts};
     ghost use Rattle.packet_text.specs.PacketText.{packets_of};
@@ -187,7 +188,7 @@ impl PacketLines {
     // A line with too many bytes was met.
     fn too_long(&mut self) -> Found
         ensures result { result ≡ Found.Bad }
-        ensures number { (lines_view self.new).number ≡ stopped ((lines_view self.old).number + 1) }
+        ensures number { (lines_view self.new).number ≡ saturated ((lines_view self.old).number + 1) }
         ensures cutter { self.new.cutter ≡ self.old.cutter }
         ensures kept { (lines_view self.new).packet ≡ (lines_view self.old).packet }
     {

@@ -1,7 +1,7 @@
 use Rattle.std.proofs.Common.{ap, sym}
-use Rattle.frame_overhead.specs.TwoBefore.{stopped}
+use Rattle.otn_base.specs.Counts.{saturated}
 use Rattle.frame_overhead.proofs.Sent.{none_wrong}
 use Rattle.frame_overhead.proofs.check.ParityCheck.new.Goals as goal
 
 pub returns : goal.returns
-returns c = λ cols row col. record { kept = c.new.ensures cols; wrong = sym (ap stopped (none_wrong cols row col)) }
+returns c = λ cols row col. record { kept = c.new.ensures cols; wrong = sym (ap saturated (none_wrong cols row col)) }

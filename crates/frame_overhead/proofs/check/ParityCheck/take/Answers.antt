@@ -1,5 +1,6 @@
 use Rattle.std.proofs.Common.{ap, sym, ◌∙◌, ◌+◌}
-use Rattle.frame_overhead.specs.TwoBefore.{stopped, wrong_one, parity_due}
+use Rattle.frame_overhead.specs.TwoBefore.{wrong_one, parity_due}
+use Rattle.otn_base.specs.Counts.{saturated}
 use Rattle.frame_overhead.proofs.Sent.{checked_more}
 use Rattle.frame_overhead.proofs.check.ParityCheck.take.Goals as goal
 
@@ -10,5 +11,5 @@ returns c = λ cols row col frames frame has byte parity.
     checked_more cols row col c.args.carried c.saturating_add-self-inside.result frames frame c.args.self.now c.send.new.self has
     (c.send.ensures cols frames frame kept parity) byte
     (c.saturating_add-self-inside.ensures
-    ∙ ap (λ w. stopped (inside.wrong + w)) (c.is_wrong-wrong.ensures ∙ ap (λ d. wrong_one d c.args.carried) (c.due.ensures cols frames kept))
-    ∙ ap (λ v. stopped (v.wrong + wrong_one (parity_due cols frames) c.args.carried)) c.self.view_is)
+    ∙ ap (λ w. saturated (inside.wrong + w)) (c.is_wrong-wrong.ensures ∙ ap (λ d. wrong_one d c.args.carried) (c.due.ensures cols frames kept))
+    ∙ ap (λ v. saturated (v.wrong + wrong_one (parity_due cols frames) c.args.carried)) c.self.view_is)

@@ -1,5 +1,6 @@
 use Rattle.std.proofs.Common.{ap, ◌∙◌, refl, ◌+◌}
-use Rattle.line_side.specs.Reader.{ReaderView, ending_after, left_after, stopped}
+use Rattle.line_side.specs.Reader.{ReaderView, ending_after, left_after}
+use Rattle.otn_base.specs.Counts.{saturated}
 use Rattle.line_side.proofs.Steps.{advance_over, advance_short, advance_whole, same_view, not_open, is_opened, not_full, is_full}
 use Rattle.line_side.proofs.reader.LineReader.read_next.Goals as goal
 
@@ -24,4 +25,4 @@ returns-clause-advances g c =
     let sees = rw (ap (λ (r : ReaderView). r.seen) v) at c.take.ensures in
     advance_whole c.read_frame-reading.result _ _ _ c.read_frame-reading.new.frame _ c.take.new.self sees c.requires (is_opened _ _ c.if-not-is_open.false c.is_open.ensures) full read
     (same_view _ _ (ap (λ (r : ReaderView). r.scrambled) v) refl (ap (λ (r : ReaderView). r.ahead) v ∙ c.requires) (e.ending ∙ ap (λ r. ending_after r c.self.inside.ending) full ∙ ap (λ (r : ReaderView). r.ending) v)
-    (c.saturating_add-self-inside.ensures ∙ ap (λ (r : ReaderView). stopped (r.frames + 1)) v) (e.rest ∙ ap (λ r. left_after r c.self.inside.rest) full ∙ ap (λ (r : ReaderView). r.rest) v) refl)
+    (c.saturating_add-self-inside.ensures ∙ ap (λ (r : ReaderView). saturated (r.frames + 1)) v) (e.rest ∙ ap (λ r. left_after r c.self.inside.rest) full ∙ ap (λ (r : ReaderView). r.rest) v) refl)
