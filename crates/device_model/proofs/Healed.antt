@@ -1,5 +1,5 @@
 -- What a connection gets once its line carries a client's bytes again, and what carries it on.
-use Rattle.std.proofs.Common.{rules, ◌≡◌, ◌<◌, ◌≤◌, ◌+◌, ◌-◌, ◌/◌, ℕ, zero, suc, List, [], ◌∷◌, ◌++◌, Option, Some, length, map, take, refl, sym, ap, ◌∙◌, subst, arith, append-nil, add-one}
+use Rattle.std.proofs.Common.{rules, ◌≡◌, ◌<◌, ◌≤◌, ◌+◌, ◌-◌, ◌/◌, ℕ, zero, suc, List, [], ◌∷◌, ◌++◌, Option, length, take, sym, ap, ◌∙◌, subst, arith, append-nil, add-one}
 use Rattle.std.specs.Prelude.{sum, slice_range}
 use Rattle.std.specs.List.{concat}
 use Rattle.std.proofs.lemmas.List.{take-map, map-append, append_assoc}
@@ -15,7 +15,7 @@ use Rattle.plan_file.specs.declared.plan.Plan.{Plan}
 use Rattle.tributary_model.specs.Carries.{sent, number_in, Carries, past_of}
 use Rattle.tributary_model.specs.Carriage.{EmitsTwoLater, SaysAnew}
 use Rattle.tributary_model.specs.Emission.{emission, emitted_so_far}
-use Rattle.tributary_model.specs.Places.{Tributary, tributary_of, View, turn_view, IsWholeTurn, AreWholeTurns}
+use Rattle.tributary_model.specs.Places.{Tributary, tributary_of, View, IsWholeTurn, AreWholeTurns}
 use Rattle.tributary_model.specs.Puts.{lengths_of}
 use Rattle.tributary_model.specs.Sending.{ShowsTurn, Sends}
 use Rattle.tributary_model.proofs.Groups.{total_next, total_start, few_groups}

@@ -1,14 +1,14 @@
 -- What a sink emits of bytes that are carried in numbers which are not steady.
-use Rattle.std.proofs.Common.{rules, ◌≡◌, ◌<◌, ◌≤◌, ◌⊎◌, inl, inr, ◌+◌, ◌-◌, ◌*◌, ◌/◌, ◌%◌, ℕ, zero, suc, min, List, [], ◌∷◌, ◌++◌, Bool, true, false, Option, Some, None, length, take, drop, get_or, refl, sym, ap, ◌∙◌, subst, arith}
+use Rattle.std.proofs.Common.{◌≡◌, ◌<◌, ◌≤◌, ◌⊎◌, inl, inr, ◌+◌, ◌-◌, ◌*◌, ◌/◌, ◌%◌, ℕ, zero, suc, min, List, [], ◌++◌, Bool, true, false, Option, Some, None, length, take, drop, get_or, refl, sym, ap, ◌∙◌, subst, arith}
 use Rattle.std.specs.Prelude.{slice_range}
 use Rattle.std.specs.Option.{ForSome}
 use Rattle.std.proofs.lemmas.Bool.{cases_lt}
 use Rattle.std.proofs.lemmas.List.{take_all, drop_all, length-take}
-use Rattle.std.proofs.Math.Nat.{div-add-mod, mod-lt, lt-mul-div-succ}
+use Rattle.std.proofs.Math.Nat.{div-add-mod, mod-lt}
 use Rattle.tributary_model.specs.declared.turns.Hearing.TheVariants.{Pair}
 use Rattle.tributary_model.specs.declared.turns.Said.{Said}
 use Rattle.tributary_model.specs.declared.turns.SinkState.TheVariants.{Up as StateUp}
-use Rattle.tributary_model.specs.Carriage.{IsUpAfter, HasEqualIndicators}
+use Rattle.tributary_model.specs.Carriage.{IsUpAfter}
 use Rattle.tributary_model.specs.Carries.{sent, number_in, rest_in, CarriesTurn, past_of}
 use Rattle.tributary_model.specs.Damage.{emissions}
 use Rattle.tributary_model.specs.Emission.{data_bytes, emission}

@@ -26,4 +26,5 @@ pub mod RunsInARow
 pub mod Healed
 pub mod OneDamaged
 pub mod HeldBack
+pub mod HeldBackExamples
 pub mod SecondNode

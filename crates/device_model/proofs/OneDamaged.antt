@@ -18,7 +18,7 @@ use Rattle.tributary_model.proofs.OneDamaged.{as_if_repeated}
 use Rattle.device_model.specs.Entries.{first_turn}
 use Rattle.device_model.specs.LineViews.{view_at}
 use Rattle.device_model.specs.OneDamaged.{DifferInOneMessage, AgreeButForOne, LeavesAlikeInItsTurns}
-use Rattle.device_model.specs.Through.{Inputs, OwnInput, own_of, own_input, emits, got_in, got_by, sink_state, state_by, state_in}
+use Rattle.device_model.specs.Through.{Inputs, own_of, own_input, emits, got_in, got_by, sink_state, state_by, state_in}
 use Rattle.device_model.proofs.GotTurns.{emits_line}
 
 -- ---- two lists of views

@@ -1,5 +1,5 @@
 -- What a second node gets of a line on which a first one's connection goes.
-use Rattle.std.proofs.Common.{◌≡◌, ◌≤◌, ◌+◌, ◌-◌, ℕ, suc, List, take, length, refl, sym, ap, ◌∙◌, subst, arith, add-one}
+use Rattle.std.proofs.Common.{◌≡◌, ◌≤◌, ◌+◌, ◌-◌, ℕ, List, take, length, sym, ap, ◌∙◌, subst, add-one}
 use Rattle.std.specs.List.{concat}
 use Rattle.otn_base.specs.LineSlots.{LineSlots, slots_of}
 use Rattle.otn_base.specs.SlotList.{IsSlotList}

@@ -11,11 +11,10 @@ use Rattle.tributary_model.specs.Carriage.{IsUpAfter}
 use Rattle.tributary_model.specs.Carries.{sent, Carries, past_of}
 use Rattle.tributary_model.specs.Damage.{emissions}
 use Rattle.tributary_model.specs.Passing.{joined_back}
-use Rattle.tributary_model.specs.Places.{Tributary, tributary_of, View, IsWholeTurn}
+use Rattle.tributary_model.specs.Places.{Tributary, View, IsWholeTurn}
 use Rattle.tributary_model.specs.Puts.{lengths_of}
 use Rattle.device_model.specs.Carried.{GoesTo, IsMadeTo}
 use Rattle.device_model.specs.Entries.{first_turn}
-use Rattle.device_model.specs.LineViews.{view_at}
 use Rattle.device_model.specs.Through.{Inputs, own_input, got_by, arrived_by}
 
 -- ---- a sink
@@ -55,7 +54,7 @@ CatchesUp = (m : ℕ) (p : List ℕ) (n : ℕ) → 0 < m → n < length p → m 
 
 -- ---- a second node
 
--- A connection comes from the file of a line to which another node's connection goes, whatever that one gets and however its own line is damaged,
+-- A connection comes from the file of a line to which another node's connection goes, whatever that one gets and however the line is damaged from which that comes,
 -- on the slots and by the port that were written, from the same turn on. What it has after n turns and one more is a front of what the other got.
 abbrev pub PassesASecondNode : Type 0
 PassesASecondNode = (plan : Plan) (inputs others : Inputs) (x y : Connection) (a from b port c u n : ℕ) (slots next : LineSlots) (frames : List (List ℕ))

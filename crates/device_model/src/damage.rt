@@ -3,8 +3,8 @@ ghost use Rattle.device_model.specs.Healing.{ArrivesHealed, CarriesWhatItGets, G
 ghost use Rattle.device_model.specs.HeldBack.{CatchesUp, EmitsAFront, HoldsBackLessThanAGroup, PassesASecondNode, StaysUp};
 ghost use Rattle.device_model.specs.OneDamaged.{LeavesAsIfRepeated};
 
-/// Healing, whatever its line showed before: once it carries a client's bytes to a connection, and a turn says
-/// its number without a former one while no slot is marked, from the third turn after it on the connection's
+/// Healing, whatever its line showed before: once it carries a client's bytes to a connection in steady numbers, and a
+/// turn says its number without a former one while no slot is marked, from the third turn after it on the connection's
 /// to end gets exactly these bytes, each turn's three turns later. The file of a line to which it goes carries
 /// all that it gets, these bytes among it.
 pub fn healing()
@@ -20,9 +20,10 @@ pub fn one_damaged_message()
 {}
 
 /// Behind a gap: bytes that are carried in numbers which are not steady, as those of a sender behind a sink that
-/// began a stretch anew. The sink is never Down, and what it has emitted is a front of them: none is lost,
+/// began a stretch anew. The sink is Up after each turn, and what it has emitted is a front of them: none is lost,
 /// doubled or out of order. Less than a group may be held back, until a turn brings one. So a second node gets a
-/// front of what the first got, whatever its own line does.
+/// front of what the first got, on the slots that were written and from the same turn on, however the line of the
+/// first was damaged.
 pub fn behind_a_gap()
     ensures front { EmitsAFront }
     ensures state { StaysUp }

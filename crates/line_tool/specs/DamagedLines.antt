@@ -9,8 +9,8 @@ use Rattle.node_core.specs.RunsAlike.{LeftAlike}
 use Rattle.node_core.specs.RunsDamaged.{HealsIn, Follows, HandsOnAFront, ShareButForOne}
 use Rattle.line_tool.specs.Headline.{Call, HasCarried, world_of, went_of}
 
--- Healed: once its line carries a client's bytes to it, whatever came before, and a turn says its number anew while no slot is marked, from the
--- third turn after it on it hands on exactly these bytes.
+-- Healed: once its line carries a client's bytes to it in steady numbers, whatever came before, and a turn says its number anew while no slot is
+-- marked, from the third turn after it on it hands on exactly these bytes, as far as its output lived.
 abbrev pub IsHealed : Type 0
 IsHealed = (call : Call) (x : Connection) (a from s b u h : ℕ) (slots : LineSlots) (bytes p : List ℕ) (has : HasCarried call) → Contains call.plan.connections x
     → x.from ≡ from_end.Line a from slots → Heals (call.inputs.line a) x from slots bytes p s b u h
@@ -22,8 +22,8 @@ abbrev pub IsAsRepeated : Type 0
 IsAsRepeated = (one other : Call) (x : Connection) (first : HasCarried one) (second : HasCarried other) → ShareButForOne (world_of one first) (world_of other second) x
     → LeftAlike (world_of one first) (world_of other second) (went_of one first) (went_of other second) x
 
--- Handed on: of two calls, of which the second reads the file that the first wrote, what the second gets of a connection of the first is a front of what
--- that one got, however its own line was damaged: none of it is lost, doubled or out of order.
+-- Handed on: of two calls, of which the second reads the file that the first wrote, what the second gets of a connection of the first, on the slots that
+-- were written, is a front of what that one got, however the line was damaged from which that came: none of it is lost, doubled or out of order.
 abbrev pub IsHandedOn : Type 0
 IsHandedOn = (one other : Call) (x y : Connection) (b c : ℕ) (slots next : LineSlots) (first : HasCarried one) (second : HasCarried other)
     → Follows (world_of one first) (world_of other second) (went_of one first) x y b c slots next

@@ -36,7 +36,7 @@ use std::alloc::Global;
 /// `Answers` says, of each command, what it took, what it wrote and why it ended, of all that it was
 /// handed: `device` before and after. What follows from it is said by the laws beside this call: of what ports gave that
 /// tell it (`slot_of_given`, `pull_of_given`, `check_of_text`, `run_of_text`), of ports that do not fail (`without_faults`),
-/// and of a connection, whatever the others do (`headline`).
+/// and of a connection, whatever the others do (`headline`) and where its own line was damaged (`damaged_lines`).
 pub fn run<P: Source, K: Sink, C: Chooser, I: Source, O: Sink>(
     alloc: Global,
     words: &[String],

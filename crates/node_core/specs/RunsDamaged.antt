@@ -28,9 +28,9 @@ CarriesAllGot world went x b port slots u =
     let n = u + 1 - first_turn x in
     Carries (tributary_of slots port) (arrived_by x input n) (lengths_of (got_by x input n)) (view_at (tributary_of slots port) (read_of world went b)) (first_turn x) (first_turn x) u
 
--- A connection of a run comes from a line that carries a client's bytes to it from turn b + 1 to turn u + 1, whatever came before, and says its
--- number anew in turn h + 1. From the third turn after it on it hands on exactly what is carried: in turn t + 2 it gets the bytes that the
--- sender took in turn t - 1. A line to which it goes carries what it got in all its turns, these bytes among it. A client gets what the
+-- A connection of a run comes from a line that carries a client's bytes to it in steady numbers from turn b + 1 to turn u + 1, whatever came before,
+-- and says its number anew in turn h + 1. From the third turn after it on it hands on exactly what is carried: in turn t + 2 it gets the bytes that the
+-- sender took in turn t - 1. Where its output lived, a line to which it goes carries what it got in all its turns, these bytes among it, and a client gets what the
 -- bytes that had arrived by turn h + 4 and then these, up to those that the sender took three turns before the connection's last turn, deliver.
 pub record HealsIn (world : World) (went : Went) (x : Connection) (bytes p : List ℕ) (s u h : ℕ) : Type 0 where
   pub turn : (t : ℕ) → h + 3 ≤ t → t ≤ u
@@ -48,7 +48,7 @@ RunsHeal = (world : World) (x : Connection) (a from s b u h : ℕ) (slots : Line
 -- ---- behind a gap
 
 -- A run reads as its line c the file that another wrote to line b, with the mask that it was written with. A connection of it comes from the slots, and
--- by the port, to which one of the other goes, from the same turn on and to a stop that is no later. How the other's own line is damaged is free.
+-- by the port, to which one of the other goes, from the same turn on and to a stop that is no later. How the line is damaged from which that comes is free.
 pub record Follows (one other : World) (went : Went) (x y : Connection) (b c : ℕ) (slots next : LineSlots) : Type 0 where
   pub first : Contains one.plan.connections x
   pub second : Contains other.plan.connections y

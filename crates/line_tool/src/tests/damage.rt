@@ -6,42 +6,13 @@ use super::plan_runs::{
     FROM_LINE, LINE_ROOM, REPORT_ROOM, TO_LINE, carried, input, kept, output, packets, plan_of,
     text_of, to_line,
 };
-use super::pull::{DATA_GROUPS, ais_byte};
+use super::pull::{DATA_GROUPS, ais_byte, line};
 use super::ran;
 use crate::Status;
 use otn_base::Memory;
 use otn_ports::{InPlaceOf, ListedSink, MemSource, Rack, SpoiledSource};
 use std::alloc::Global;
 use std::test::Fail;
-
-// A byte of frame n, from 0, of a line that carries a tributary of port 1 in slot 3 from turn 1 on: 15,168 groups, said in
-// full in turn 1, and no change after it. Its payload is the turn's number, from 1. All else is 0.
-fn byte_of(frame: u32, row: u32, column: u32) -> u8 {
-    let said = frame % 8 == 2;
-    match (row, column) {
-        (1, 7) => (frame % 256) as u8,
-        (4, 15) if frame % 256 == 4 => 0x80,
-        (1, 16) if said => 0xED,
-        (2, 16) if frame == 2 => 0x03,
-        (3, 16) if frame == 2 => 0x2E,
-        (3, 16) if said => 0x39,
-        (_, 17..=3824) if column % 8 == 3 => (frame / 8 % 255 + 1) as u8,
-        _ => 0,
-    }
-}
-
-// So many turns of it.
-fn line(alloc: Global, turns: u8) -> Result<Vec<u8>, Memory> {
-    let mut bytes = Vec::new(alloc);
-    for frame in 0..8 * turns as u32 {
-        for row in 1..5_u32 {
-            for column in 1..4081_u32 {
-                bytes.push(byte_of(frame, row, column))?;
-            }
-        }
-    }
-    Ok(bytes)
-}
 
 // A part of what a sink emits, 15,168 bytes a turn: the payload of the turns from one to another, or so many turns of AIS from its first
 // byte on.
@@ -88,11 +59,11 @@ fn spoiled(
     Ok(SpoiledSource::new(MemSource::new(bytes), places.to_vec(alloc)?))
 }
 
-// Whether `pull` of so many turns of the line, with bytes spoiled at these places, writes exactly these parts.
-fn pulls(alloc: Global, turns: u8, places: &[(u64, u8)], parts: &[Part]) -> Result<bool, Memory>
+// Whether `pull` of so many frames of the line of `pull`'s tests, with bytes spoiled at these places, writes exactly these parts.
+fn pulls(alloc: Global, frames: u32, places: &[(u64, u8)], parts: &[Part]) -> Result<bool, Memory>
     requires { rises_from 0 places.now ≡ true }
 {
-    let source = spoiled(alloc, line(alloc, turns)?, places)?;
+    let source = spoiled(alloc, line(alloc, None, &[], frames, 0)?, places)?;
     let outcome = ran(alloc, &["pull", "1", "3"], source, 1_000_000)?;
     let wanted = emitted(alloc, parts)?;
     Ok(outcome.status == Status::Done && outcome.written.as_slice() == wanted.as_slice())
@@ -117,7 +88,7 @@ fn a_marked_slot_is_down_until_its_msi_byte_is_right(rt: HostRuntime) -> Result<
     let alloc = rt.alloc();
     let wrong = [(MSI, 1), (MSI + 32 * TURN, 1)];
     let parts = [Part::Payload(2, 32), Part::Ais(31), Part::Payload(66, 67)];
-    assert!(rt; pulls(alloc, 67, &wrong, &parts)?);
+    assert!(rt; pulls(alloc, 8 * 67, &wrong, &parts)?);
     Ok(())
 }
 
@@ -125,7 +96,7 @@ fn a_marked_slot_is_down_until_its_msi_byte_is_right(rt: HostRuntime) -> Result<
 fn three_damaged_messages_are_one_too_many(rt: HostRuntime) -> Result<(), Fail> {
     let alloc = rt.alloc();
     let turn_10 = JC3 + 9 * TURN;
-    assert!(rt; pulls(alloc, 18, &[(turn_10, 1)], &[Part::Payload(2, 18)])?);
+    assert!(rt; pulls(alloc, 8 * 18, &[(turn_10, 1)], &[Part::Payload(2, 18)])?);
     let six = [
         (turn_10, 1),
         (turn_10 + TURN, 1),
@@ -135,7 +106,7 @@ fn three_damaged_messages_are_one_too_many(rt: HostRuntime) -> Result<(), Fail> 
         (turn_10 + 5 * TURN, 1),
     ];
     let parts = [Part::Payload(2, 11), Part::Ais(3), Part::Payload(17, 18)];
-    assert!(rt; pulls(alloc, 18, &six, &parts)?);
+    assert!(rt; pulls(alloc, 8 * 18, &six, &parts)?);
     Ok(())
 }
 
@@ -149,7 +120,7 @@ fn five_wrong_mfas_bytes_are_one_too_many(rt: HostRuntime) -> Result<(), Fail> {
         (first + 2 * FRAME, 0x80),
         (first + 3 * FRAME, 0x80),
     ];
-    assert!(rt; pulls(alloc, 18, &four, &[Part::Payload(2, 18)])?);
+    assert!(rt; pulls(alloc, 8 * 18, &four, &[Part::Payload(2, 18)])?);
     let five = [
         (first, 0x80),
         (first + FRAME, 0x80),
@@ -158,7 +129,7 @@ fn five_wrong_mfas_bytes_are_one_too_many(rt: HostRuntime) -> Result<(), Fail> {
         (first + 4 * FRAME, 0x80),
     ];
     let parts = [Part::Payload(2, 9), Part::Payload(12, 18)];
-    assert!(rt; pulls(alloc, 18, &five, &parts)?);
+    assert!(rt; pulls(alloc, 8 * 18, &five, &parts)?);
     Ok(())
 }
 

@@ -51,13 +51,13 @@ fn push_frame(bytes: &mut Vec<u8>, fill: Option<u8>, turn: u8, mfas: u8) -> Resu
     Ok(())
 }
 
-// A line: frames of these MFAS bytes, like those of turn 1 but with payload 0; so many frames of MFAS 0, 1, 2 and so on, of
-// the turns 1, 2 and so on; and then some more bytes.
-fn line(
+/// A line: frames of these MFAS bytes, like those of turn 1 but with payload 0; so many frames of MFAS 0, 1, 2 and so on, of
+/// the turns 1, 2 and so on; and then some more bytes.
+pub fn line(
     alloc: Global,
     fill: Option<u8>,
     lead: &[u8],
-    frames: u8,
+    frames: u32,
     more: usize,
 ) -> Result<Vec<u8>, Memory> {
     let mut bytes = Vec::new(alloc);
@@ -65,7 +65,7 @@ fn line(
         push_frame(&mut bytes, fill, 0, *mfas)?;
     }
     for n in 0..frames {
-        push_frame(&mut bytes, fill, n / 8 + 1, n)?;
+        push_frame(&mut bytes, fill, (n / 8 % 255 + 1) as u8, (n % 256) as u8)?;
     }
     for _ in 0..more {
         bytes.push(7)?;
@@ -103,7 +103,7 @@ fn pull_writes_what_the_sink_emits(rt: HostRuntime) -> Result<(), Fail> {
     let alloc = rt.alloc();
     let all = 100_000;
     let again = [0, 1, 2, 3, 4, 5, 6, 7, 0, 1, 2, 3, 4, 5, 6, 7];
-    let cases: [(&str, &[u8], u8, usize, usize, Status, &[u8]); 19] = [
+    let cases: [(&str, &[u8], u32, usize, usize, Status, &[u8]); 19] = [
         // Ends of the line.
         ("1", &[], 0, 0, all, Status::Done, &[]),
         ("1", &[], 0, 1, all, Status::Unfinished, &[]),
