@@ -1,5 +1,5 @@
 -- Where a pipe stands in a turn, the next frame that it fills is the one behind those that were filled.
-use Rattle.std.proofs.Common.{◌≡◌, ◌<◌, ◌∙◌, ◌&&◌, ℕ, suc, Bool, true, List, length, nat_lt, Some, is_some, refl, sym, ap, subst, arith}
+use Rattle.std.proofs.Common.{◌≡◌, ◌<◌, ◌∙◌, ℕ, suc, Bool, true, List, length, nat_lt, Some, refl, ap, subst, arith}
 use Rattle.std.proofs.lemmas.Bool.Decides.{nat_tests}
 use Rattle.otn_base.specs.LineSlots.{LineSlots, slots_of}
 use Rattle.plan_file.specs.declared.connection.Connection.{Connection}
@@ -8,7 +8,7 @@ use Rattle.tributary_model.specs.Carries.{former_of}
 use Rattle.tributary_model.specs.Places.{Taken}
 use Rattle.tributary_model.specs.Puts.{lengths_of}
 use Rattle.device_model.specs.Through.{OwnInput, got_by}
-use Rattle.cross_matrix.specs.InTurn.{some_if, next_filled}
+use Rattle.cross_matrix.specs.InTurn.{next_filled}
 use Rattle.cross_matrix.specs.Parts.{GivesTo, GivingStands}
 use Rattle.cross_matrix.specs.Pipes.{PipeView, PipeStands}
 use Rattle.cross_matrix.specs.declared.giving.GivingPart.{GivingPart}

@@ -1,5 +1,5 @@
 -- The parity that a frame carries is that of the frame two before it.
-use Rattle.std.specs.Prelude.{◌≡◌, ℕ, ◌+◌, ◌-◌, ◌^◌, min, ◌==◌, if◌then◌else◌, List, [], ◌∷◌, reverse, Option, Some, None, option_map, slice_index}
+use Rattle.std.specs.Prelude.{◌≡◌, ℕ, ◌+◌, ◌==◌, if◌then◌else◌, List, [], ◌∷◌, reverse, Option, Some, None, option_map, slice_index}
 use Rattle.otn_base.specs.Counts.{saturated}
 use Rattle.frame_geometry.specs.Places.{place_of}
 use Rattle.frame_overhead.specs.Parity.{parity_of}

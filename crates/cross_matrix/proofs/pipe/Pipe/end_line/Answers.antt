@@ -1,4 +1,3 @@
-use Rattle.std.proofs.Common.{◌≡◌}
 use Rattle.cross_matrix.proofs.pipe.Pipe.end_line.Goals as goal
 
 pub returns-then-may_end-clause-stands : goal.returns-then-may_end-clause-stands

@@ -1,4 +1,4 @@
-use Rattle.std.proofs.Common.{◌≡◌, ◌+◌, ◌∙◌, ℕ, suc, sym, subst}
+use Rattle.std.proofs.Common.{◌≡◌, ◌∙◌, suc, sym, subst}
 use Rattle.tributary_model.specs.Places.{tributary_of}
 use Rattle.tributary_model.specs.Puts.{WasPut}
 use Rattle.device_model.specs.Through.{got_by}

@@ -1,4 +1,3 @@
-use Rattle.std.proofs.Common.{◌≡◌}
 use Rattle.cross_matrix.proofs.pipe.Pipe.take_next.Goals as goal
 
 pub returns-in-Some-clause-stands : goal.returns-in-Some-clause-stands
