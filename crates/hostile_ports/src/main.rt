@@ -33,7 +33,9 @@ const NO_TRIAL: u8 = 8;
 fn main(rt: HostRuntime) -> ExitCode {
     match serve(&rt) {
         Ok(status) => {
-            let _ = complain(&rt, status);
+            if status != Status::Done {
+                let _ = eprintln!(rt; "otn: {status}");
+            }
             ExitCode::from(status.code())
         }
         Err(error) => {
@@ -114,18 +116,4 @@ fn print(rt: &HostRuntime, written: &Got) -> io::Result<()> {
         .map_err(|_| io::Error::from(ErrorKind::Other))?;
     let _ = write_whole(&mut StdoutSink::of(rt.stdout()), bytes.as_slice());
     Ok(())
-}
-
-// Says on standard error what the answer is, as `otn` does.
-fn complain(rt: &HostRuntime, status: Status) -> io::Result<()> {
-    match status {
-        Status::Done => Ok(()),
-        Status::Unfinished => eprintln!(rt; "otn: unfinished"),
-        Status::Words => eprintln!(rt; "otn: words"),
-        Status::Plan(error, place) => eprintln!(rt; "otn: plan {} at {place}", error.code()),
-        Status::PlanFault => eprintln!(rt; "otn: plan fault"),
-        Status::ReportFault => eprintln!(rt; "otn: report fault"),
-        Status::Cut => eprintln!(rt; "otn: cut"),
-        Status::Memory => eprintln!(rt; "otn: memory"),
-    }
 }

@@ -3,6 +3,7 @@ ghost use Rattle.std.specs.Prelude.{◌≡◌};
 ghost use Rattle.line_tool.specs.Codes.{code_of};
 
 use plan_file::PlanError;
+use std::fmt;
 
 /// How a command ended. `ReportFault` goes before `Cut`, `Cut` before `Unfinished`, and `Done` is the answer
 /// where no other is. Want of memory is answered where it is met.
@@ -46,6 +47,22 @@ impl Status {
             Status::ReportFault => 5,
             Status::Cut => 6,
             Status::Memory => 7,
+        }
+    }
+}
+
+/// The answer in words, as programs complain of it.
+impl fmt::Display for Status {
+    fn fmt<W: fmt::Write>(&self, f: &mut fmt::Formatter<W>) -> fmt::Result {
+        match *self {
+            Status::Done => write!(f, "done"),
+            Status::Unfinished => write!(f, "unfinished"),
+            Status::Words => write!(f, "words"),
+            Status::Plan(error, place) => write!(f, "plan {} at {place}", error.code()),
+            Status::PlanFault => write!(f, "plan fault"),
+            Status::ReportFault => write!(f, "report fault"),
+            Status::Cut => write!(f, "cut"),
+            Status::Memory => write!(f, "memory"),
         }
     }
 }

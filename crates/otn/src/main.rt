@@ -16,7 +16,7 @@ use std::env::FillError;
 use std::io::ErrorKind;
 use std::process::ExitCode;
 use std::rt::Env;
-use std::{fs, io, str};
+use std::{fs, str};
 
 const HELP: &str = "\
 otn, an ODU2 multiplexer and cross-connect (ITU-T G.709)
@@ -44,22 +44,10 @@ const LONGEST_WORD: usize = 4096;
 
 fn main(rt: HostRuntime) -> ExitCode {
     let status = serve(&rt).unwrap_or(Status::Memory);
-    let _ = complain(&rt, status);
-    ExitCode::from(status.code())
-}
-
-// Says on standard error what the answer is, where it is not that all was done.
-fn complain(rt: &HostRuntime, status: Status) -> io::Result<()> {
-    match status {
-        Status::Done => Ok(()),
-        Status::Unfinished => eprintln!(rt; "otn: unfinished"),
-        Status::Words => eprintln!(rt; "otn: words"),
-        Status::Plan(error, place) => eprintln!(rt; "otn: plan {} at {place}", error.code()),
-        Status::PlanFault => eprintln!(rt; "otn: plan fault"),
-        Status::ReportFault => eprintln!(rt; "otn: report fault"),
-        Status::Cut => eprintln!(rt; "otn: cut"),
-        Status::Memory => eprintln!(rt; "otn: memory"),
+    if status != Status::Done {
+        let _ = eprintln!(rt; "otn: {status}");
     }
+    ExitCode::from(status.code())
 }
 
 // Answers `--help` and `--version`, and hands all other words on.

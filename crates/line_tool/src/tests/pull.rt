@@ -2,7 +2,7 @@
 use super::{FailsAt, ran};
 use crate::Status;
 use otn_base::Memory;
-use otn_ports::MemSource;
+use otn_ports::{MemSource, Source};
 use std::alloc::Global;
 use std::test::Fail;
 
@@ -130,20 +130,28 @@ fn pull_writes_what_the_sink_emits(rt: HostRuntime) -> Result<(), Fail> {
     ];
     for (port, lead, frames, more, room, status, turns) in cases {
         let source = MemSource::new(line(alloc, None, lead, frames, more)?);
-        let outcome = ran(alloc, &["pull", port, "3"], source, room)?;
+        let answer = answered(alloc, port, source, turns, room)?;
         assert_eq!(rt;
-            outcome.status,
-            status,
+            answer,
+            (status, true, false),
             "port {port}: {lead:?}, {frames} frames and {more} bytes into {room}"
         );
-        let wanted = emitted(alloc, turns, room)?;
-        assert!(rt;
-            outcome.written.as_slice() == wanted.as_slice(),
-            "port {port}: {lead:?}, {frames} frames and {more} bytes into {room}"
-        );
-        assert!(rt; !outcome.dead);
     }
     Ok(())
+}
+
+// How `pull` of slot 3 ends, whether it wrote what is emitted in these turns, and whether the line is dead.
+fn answered<I: Source>(
+    alloc: Global,
+    port: &str,
+    source: I,
+    turns: &[u8],
+    room: usize,
+) -> Result<(Status, bool, bool), Memory> {
+    let outcome = ran(alloc, &["pull", port, "3"], source, room)?;
+    let wanted = emitted(alloc, turns, room)?;
+    let same = outcome.written.as_slice() == wanted.as_slice();
+    Ok((outcome.status, same, outcome.dead))
 }
 
 #[test]
@@ -182,14 +190,8 @@ fn pull_ends_where_its_line_fails(rt: HostRuntime) -> Result<(), Fail> {
     ];
     for (lead, call, room, status, turns) in cases {
         let source = FailsAt::new(line(alloc, None, lead, 40, 0)?, call);
-        let outcome = ran(alloc, &["pull", "1", "3"], source, room)?;
-        assert_eq!(rt; outcome.status, status, "at call {call} into {room}");
-        let wanted = emitted(alloc, turns, room)?;
-        assert!(rt;
-            outcome.written.as_slice() == wanted.as_slice(),
-            "at call {call} into {room}"
-        );
-        assert!(rt; outcome.dead, "at call {call} into {room}");
+        let answer = answered(alloc, "1", source, turns, room)?;
+        assert_eq!(rt; answer, (status, true, true), "at call {call} into {room}");
     }
     Ok(())
 }
