@@ -124,11 +124,11 @@ fresh own bytes p views s i h t low =
 -- ---- the machine
 
 up_after : (m : ℕ) (said : Said) (pending : List ℕ) (view : View) (c d : ℕ) (equal : Bool) → hears_message (Some said.number) m view.message ≡ Pair c d equal
-    → after m false (Some view) (up_at said pending) ≡ up_at (said_now c d (Some said.rest)) (kept_of said.former pending (data_bytes said.number view.groups))
+    → after m false (Some view) (up_at said pending) ≡ up_at (said_now c d (Some said.rest)) (kept_of said.due pending (data_bytes said.number view.groups))
 up_after m said pending view c d equal e = ap (λ h. went_on (next_said said h) said pending (data_bytes said.number view.groups)) e
 
 up_emits : (m : ℕ) (ais : ℕ → ℕ) (said : Said) (pending : List ℕ) (view : View) (c d : ℕ) (equal : Bool) → hears_message (Some said.number) m view.message ≡ Pair c d equal
-    → gives m ais false (Some view) (up_at said pending) ≡ given_of said.former pending (data_bytes said.number view.groups)
+    → gives m ais false (Some view) (up_at said pending) ≡ given_of said.due pending (data_bytes said.number view.groups)
 up_emits m ais said pending view c d equal e = ap (λ h. up_gives (next_said said h) said pending (data_bytes said.number view.groups)) e
 
 kept : (own : Tributary) (bytes p : List ℕ) (views : ℕ → Option View) (s u i : ℕ) (former : Option ℕ) (pending : List ℕ) → Comes own bytes p views s u → s + suc i ≤ u

@@ -121,7 +121,7 @@ pub fn pull_two_worlds()
         → pull_report (tributary port slots) one ≡ pull_report (tributary port slots) other }
 {}
 
-/// Intact carriage, of a line on which a tributary carries a client's bytes: from turn 1 on, `pull` writes exactly these
+/// Intact carriage, of a line on which a tributary carries a client's bytes in steady numbers: from turn 1 on, `pull` writes exactly these
 /// bytes from the first on, and where the line ends after these turns, all whole groups that came. Whatever came before such
 /// turns, it writes exactly these bytes from the third turn on after one that says its number without a former one.
 pub fn pull_of_carried()
@@ -130,7 +130,7 @@ pub fn pull_of_carried()
     ensures healed { HasWhatIsCarriedAfterDamage }
 {}
 
-/// One damaged message, of a line on which no three in a row of a tributary are damaged, is as the pair of the turn before,
+/// One damaged message, while the sink is Up and on a line where no three in a row of a tributary are damaged, is as the pair of the turn before,
 /// said again: `pull` writes the same.
 pub fn pull_of_one_damaged()
     ensures { WritesAsIfRepeated }

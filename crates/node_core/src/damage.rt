@@ -9,7 +9,7 @@ pub fn runs_heal()
     ensures { RunsHeal }
 {}
 
-/// One damaged message, where no three in a row are damaged, is as the pair of the turn before, said again: of
+/// One damaged message, while the sink is Up and where no three in a row are damaged, is as the pair of the turn before, said again: of
 /// two runs whose line shows a connection the same but for that, the same leaves on it, as far as both have gone.
 pub fn runs_agree_but_for_one()
     ensures { RunsAgreeButForOne }

@@ -7,32 +7,32 @@ use Rattle.tributary_model.proofs.Heard.{small_message}
 use Rattle.tributary_model.specs.declared.turns.Said.{Said}
 use Rattle.tributary_model.specs.declared.turns.Standing.{Standing}
 use Rattle.tributary_model.specs.declared.turns.Standing.TheVariants.{Up}
-use Rattle.trib_sink.specs.Following.{FitsStanding, FitsFormer, IsSmallSaid, FitsNext, IsSmallHearing}
+use Rattle.trib_sink.specs.Following.{FitsStanding, FitsDue, IsSmallSaid, FitsNext, IsSmallHearing}
 
-fits_up : (slots : ℕ) (pending : List ℕ) (standing : Standing) (said : Said) → standing ≡ Up said → FitsStanding slots pending standing → IsSmallSaid slots said × FitsFormer slots pending said.former
+fits_up : (slots : ℕ) (pending : List ℕ) (standing : Standing) (said : Said) → standing ≡ Up said → FitsStanding slots pending standing → IsSmallSaid slots said × FitsDue slots pending said.due
 fits_up slots pending standing said e h = subst (FitsStanding slots pending) e h
 
 -- a remainder that is due is less than a group
-pub later_due : (slots due : ℕ) (pending : List ℕ) (standing : Standing) (said : Said) → standing ≡ Up said → FitsStanding slots pending standing → said.former ≡ Some due → due < slots
-later_due slots due pending standing said e h is = subst (FitsFormer slots pending) is (fits_up slots pending standing said e h).1
+pub later_due : (slots due : ℕ) (pending : List ℕ) (standing : Standing) (said : Said) → standing ≡ Up said → FitsStanding slots pending standing → said.due ≡ Some due → due < slots
+later_due slots due pending standing said e h is = subst (FitsDue slots pending) is (fits_up slots pending standing said e h).1
 
 -- nothing is pending where none is due
-pub first_pending : (slots : ℕ) (pending : List ℕ) (standing : Standing) (said : Said) → standing ≡ Up said → FitsStanding slots pending standing → said.former ≡ None → pending ≡ []
-first_pending slots pending standing said e h is = subst (FitsFormer slots pending) is (fits_up slots pending standing said e h).1
+pub first_pending : (slots : ℕ) (pending : List ℕ) (standing : Standing) (said : Said) → standing ≡ Up said → FitsStanding slots pending standing → said.due ≡ None → pending ≡ []
+first_pending slots pending standing said e h is = subst (FitsDue slots pending) is (fits_up slots pending standing said e h).1
 
 -- so it is with the next turn
 pub next_due : (slots : ℕ) (pending left : List ℕ) (standing : Standing) (said next : Said) (o : Option Said) → standing ≡ Up said → FitsStanding slots pending standing
-    → FitsNext slots o said.rest → o ≡ Some next → FitsFormer slots left next.former
-next_due slots pending left standing said next o e h fits is = subst (FitsFormer slots left) (sym (fits.former next is)) (fits_up slots pending standing said e h).0.1
+    → FitsNext slots o said.rest → o ≡ Some next → FitsDue slots left next.due
+next_due slots pending left standing said next o e h fits is = subst (FitsDue slots left) (sym (fits.due next is)) (fits_up slots pending standing said e h).0.1
 
 -- a message that is heard says a pair of a multiframe, if any
 pub heard_is_small : (slots : ℕ) (former : Option ℕ) (bytes : List ℕ) (heard : Hearing) → heard ≡ hears_message former slots bytes → IsSmallHearing slots (Some heard)
 heard_is_small slots former bytes heard e =
     let small = small_message former slots bytes in
     record {
-      number_low = λ number rest equal f. small.number_at_most number rest equal (sym e ∙ (let h : heard ≡ Pair number rest equal = cc in h));
-      rest_low = λ number rest equal f. small.rest_below number rest equal (sym e ∙ (let h : heard ≡ Pair number rest equal = cc in h));
+      number_high = λ number rest equal f. small.number_at_most number rest equal (sym e ∙ (let h : heard ≡ Pair number rest equal = cc in h));
+      rest_high = λ number rest equal f. small.rest_below number rest equal (sym e ∙ (let h : heard ≡ Pair number rest equal = cc in h));
     }
 
 pub nothing_is_small : (slots : ℕ) → IsSmallHearing slots None
-nothing_is_small slots = record { number_low = λ number rest equal f. cc; rest_low = λ number rest equal f. cc }
+nothing_is_small slots = record { number_high = λ number rest equal f. cc; rest_high = λ number rest equal f. cc }

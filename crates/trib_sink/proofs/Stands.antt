@@ -165,7 +165,7 @@ is_next s frame message expected n msi number low few slots h = record {
   port_low = h.port_low;
   port_high = h.port_high;
   count = h.count;
-  taken_low = omega arith;
+  taken_high = omega arith;
   asked = frame_asked s.slots.kind s.following.extraction.asked s.taken h.asked;
   keeps = h.keeps;
   msi_few = (let f = h.msi_few in omega arith);

@@ -15,10 +15,10 @@ pub record Extraction : Type 0 where
 -- buffer has room for a multiframe of them.
 pub record HasRoom (slots number asked first last kept end fresh : ℕ) : Type 0 where
   pub few : slots ≤ MOST_SLOTS
-  pub number_low : number ≤ GROUPS
-  pub asked_low : asked ≤ GROUPS
+  pub number_high : number ≤ GROUPS
+  pub asked_high : asked ≤ GROUPS
   pub in_order : first ≤ last
-  pub last_low : last ≤ slots * GROUPS
+  pub last_high : last ≤ slots * GROUPS
   pub kept_is : kept ≡ slots * GROUPS
-  pub end_low : end ≤ slots * asked
+  pub end_high : end ≤ slots * asked
   pub fresh_is : fresh ≡ slots * GROUPS

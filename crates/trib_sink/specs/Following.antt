@@ -11,7 +11,8 @@ use Rattle.tributary_model.specs.declared.turns.Standing.TheVariants.{Waiting, D
 use Rattle.tributary_model.specs.Machine.{Machine, former_of, number_of}
 use Rattle.trib_sink.specs.Extraction.{Extraction}
 
--- how it stands, the number that it hears the next message after, its bytes, and the place in the AIS stream
+-- how it stands, the number that its listener keeps (outside a stretch it is dropped before the next message), its bytes, and the place in
+-- the AIS stream
 pub record Following : Type 0 where
   pub standing : Standing
   pub listener : Option ℕ
@@ -24,16 +25,16 @@ kept_after former (Pair number rest equal) = Some number
 kept_after former Damaged = former
 kept_after former Lost = None
 
--- within a stretch it is that of the last turn
+-- within a stretch a listener keeps the number of the last turn; outside one, anything
 abbrev pub Keeps : Standing → Option ℕ → Type 0
 Keeps (Waiting n) former = Unit {0}
 Keeps Down former = Unit {0}
 Keeps (Up said) former = former ≡ Some said.number
 
 -- nothing is pending after the turn that began a stretch, and remainders are less than a group
-abbrev pub FitsFormer : (slots : ℕ) → (pending : List ℕ) → Option ℕ → Type 0
-FitsFormer slots pending None = pending ≡ []
-FitsFormer slots pending (Some due) = due < slots
+abbrev pub FitsDue : (slots : ℕ) → (pending : List ℕ) → Option ℕ → Type 0
+FitsDue slots pending None = pending ≡ []
+FitsDue slots pending (Some due) = due < slots
 
 -- what a turn says is small: no more groups than a multiframe has, and a remainder less than a group
 abbrev pub IsSmallSaid : (slots : ℕ) → Said → Type 0
@@ -43,22 +44,22 @@ IsSmallSaid slots said = (said.number ≤ GROUPS) × (said.rest < slots)
 abbrev pub FitsStanding : (slots : ℕ) → (pending : List ℕ) → Standing → Type 0
 FitsStanding slots pending (Waiting n) = n ≤ 2
 FitsStanding slots pending Down = Unit {0}
-FitsStanding slots pending (Up said) = IsSmallSaid slots said × FitsFormer slots pending said.former
+FitsStanding slots pending (Up said) = IsSmallSaid slots said × FitsDue slots pending said.due
 
--- the pair of a message is one of a multiframe
+-- a pair that was heard is small: no more groups than a multiframe has, and a remainder less than a group
 pub record IsSmallHearing (slots : ℕ) (heard : Option Hearing) : Type 0 where
-  pub number_low : (number rest : ℕ) (equal : Bool) → heard ≡ Some (Pair number rest equal) → number ≤ GROUPS
-  pub rest_low : (number rest : ℕ) (equal : Bool) → heard ≡ Some (Pair number rest equal) → rest < slots
+  pub number_high : (number rest : ℕ) (equal : Bool) → heard ≡ Some (Pair number rest equal) → number ≤ GROUPS
+  pub rest_high : (number rest : ℕ) (equal : Bool) → heard ≡ Some (Pair number rest equal) → rest < slots
 
 -- what the first turn of a stretch says: small numbers, and no turn before
 pub record FitsFirst (slots : ℕ) (first : Option Said) : Type 0 where
   pub small : (said : Said) → first ≡ Some said → IsSmallSaid slots said
-  pub former : (said : Said) → first ≡ Some said → said.former ≡ None
+  pub due : (said : Said) → first ≡ Some said → said.due ≡ None
 
 -- what a later turn of a stretch says: small numbers, and this remainder of the turn before
-pub record FitsNext (slots : ℕ) (next : Option Said) (due : ℕ) : Type 0 where
+pub record FitsNext (slots : ℕ) (next : Option Said) (left : ℕ) : Type 0 where
   pub small : (said : Said) → next ≡ Some said → IsSmallSaid slots said
-  pub former : (said : Said) → next ≡ Some said → said.former ≡ Some due
+  pub due : (said : Said) → next ≡ Some said → said.due ≡ Some left
 
 -- it stands as the machine without totals
 pub record IsAt (machine : Machine) (f : Following) : Type 0 where
@@ -66,7 +67,7 @@ pub record IsAt (machine : Machine) (f : Following) : Type 0 where
   pub pending : f.extraction.pending ≡ machine.pending
   pub stream : HasGiven Ais machine.place f.stream
 
--- a turn is over, and none of the next one was taken
+-- a turn is over, none of the next one was taken, and its groups are data by the number of how the sink stands now
 pub record IsBetween (before now : Following) : Type 0 where
   pub slots : now.extraction.slots ≡ before.extraction.slots
   pub listener : now.listener ≡ before.listener
@@ -74,7 +75,7 @@ pub record IsBetween (before now : Following) : Type 0 where
   pub number : now.extraction.number ≡ number_of now.standing
   pub fresh : now.extraction.fresh ≡ []
 
--- after a message was heard
+-- what the listener keeps after a turn in which this was heard: where nothing was, what it kept
 abbrev pub listener_after : Following → Option Hearing → Option ℕ
 listener_after f None = f.listener
 listener_after f (Some heard) = kept_after (former_of f.standing) heard

@@ -29,7 +29,7 @@ pub record IsSink (s : Sink) : Type 0 where
   pub port_low : 1 ≤ s.port
   pub port_high : s.port ≤ slots_of s.slots.kind
   pub count : s.following.extraction.slots ≡ length s.slots.list
-  pub taken_low : s.taken ≤ slots_of s.slots.kind
+  pub taken_high : s.taken ≤ slots_of s.slots.kind
   pub asked : s.following.extraction.asked ≡ 4 * row_cycles s.slots.kind * s.taken
   pub keeps : Keeps s.following.standing s.following.listener
   pub msi_few : length s.msi ≤ s.taken
@@ -49,11 +49,11 @@ pub record StandsAfter (own : Tributary) (past : List (Option View)) (frames : L
   pub message : greatest own.slots ≤ length frames → s.message ≡ message_in (slice_get frames (greatest own.slots - 1))
   pub msi : s.msi ≡ flat_map (msi_in own) frames
 
--- What holds of a sink after whatever turns it stands: it is one of this tributary, these are the views of the turns that ended, the
--- last first, and these the frames that it has taken of the turn after them.
+-- This holds of every tributary, past and frames after which the sink stands (StandsAfter). `new` and `restart` give such ones, and each
+-- call takes them to the next.
 abbrev pub AfterAnyTurns : Sink → ((own : Tributary) → (past : List (Option View)) → (frames : List Taken) → Type 0) → Type 0
 AfterAnyTurns sink Holds = (own : Tributary) (past : List (Option View)) (frames : List Taken) → StandsAfter own past frames sink → Holds own past frames
 
--- the view of a turn of these frames, where it has a multiframe
+-- the view of a turn in which these frames were taken: none where it has no multiframe (whole is false)
 abbrev pub ended_view : Tributary → (whole : Bool) → List Taken → Option View
 ended_view own whole frames = turn_view own (if whole then Some frames else None)

@@ -7,7 +7,7 @@ ghost use Rattle.tributary_model.specs.declared.turns.Standing.TheVariants.{Wait
 ghost use Rattle.tributary_model.specs.Emission.{stream_bytes};
 ghost use Rattle.tributary_model.specs.Messages.{hears_message};
 ghost use Rattle.tributary_model.specs.Machine.{Machine, start, opened, waits_on, went_on, down_gives, up_gives, former_of, number_of, after_heard, gives_heard};
-ghost use Rattle.trib_sink.specs.Following.{Keeps, FitsStanding, FitsFormer, FitsFirst, FitsNext, IsSmallHearing, IsAt, IsBetween, kept_after};
+ghost use Rattle.trib_sink.specs.Following.{Keeps, FitsStanding, FitsDue, FitsFirst, FitsNext, IsSmallHearing, IsAt, IsBetween, kept_after};
 ghost use Rattle.trib_sink.specs.Rows.{row_cycles, after_frame};
 
 use crate::hear::hear_message;
@@ -102,7 +102,8 @@ impl Follower {
     }
 
     /// Ends a turn in which this was heard: `into` has at its front what the turn emits, and the answer is
-    /// how many bytes that is.
+    /// how many bytes that is. How it stands then does not depend on its place in the AIS stream (`standing`, where 0 is any
+    /// place).
     pub(crate) fn pass(&mut self, heard: Option<Hearing>, into: &mut [u8]) -> usize
         requires small { IsSmallHearing self.old.extraction.slots heard }
         requires room { self.old.extraction.slots * (GROUPS + 1) ≤ length into.old }
@@ -120,7 +121,7 @@ impl Follower {
         }
     }
 
-    // Ends a turn of waiting: emits nothing.
+    // Ends a turn before which it was Waiting: emits nothing.
     fn wait(&mut self, n: u8, first: Option<Said>) -> usize
         requires standing { self.old.standing ≡ Waiting n }
         requires first { FitsFirst self.old.extraction.slots first }
@@ -150,7 +151,7 @@ impl Follower {
         }
     }
 
-    // Ends a Down turn: emits nothing where it begins a stretch, else the next bytes of AIS.
+    // Ends a turn before which it was Down: emits nothing where it begins a stretch, else the next bytes of AIS.
     fn stay_down(&mut self, first: Option<Said>, into: &mut [u8]) -> usize
         requires standing { self.old.standing ≡ StandingDown }
         requires first { FitsFirst self.old.extraction.slots first }
@@ -189,7 +190,7 @@ impl Follower {
         count
     }
 
-    // Ends a turn after one of a stretch: by what it says where the stretch goes on.
+    // Ends a turn before which it was Up: as `next` says where the stretch goes on, else as its ending turn.
     fn stay_up(&mut self, said: Said, next: Option<Said>, into: &mut [u8]) -> usize
         requires standing { self.old.standing ≡ Up said }
         requires next { FitsNext self.old.extraction.slots next said.rest }
@@ -203,7 +204,7 @@ impl Follower {
     {
         let _opened = &self.payload;
         match next {
-            Some(next) => match said.former {
+            Some(next) => match said.due {
                 Some(due) => self.go_on(due, next, into),
                 None => self.go_first(next),
             },
@@ -215,7 +216,7 @@ impl Follower {
     fn go_first(&mut self, next: Said) -> usize
         requires pending { self.old.extraction.pending ≡ [] }
         requires next { (next.number ≤ GROUPS) × (next.rest < self.old.extraction.slots) }
-        requires former { FitsFormer self.old.extraction.slots (self.old.extraction.pending ++ self.old.extraction.fresh) next.former }
+        requires left { FitsDue self.old.extraction.slots (self.old.extraction.pending ++ self.old.extraction.fresh) next.due }
         ensures standing { self.new.standing ≡ Up next }
         ensures at { (s : Machine) → IsAt s self.old → IsAt (record { standing = Up next; pending = s.pending ++ self.old.extraction.fresh; place = 0 }) self.new }
         ensures between { IsBetween self.old self.new }
@@ -230,7 +231,7 @@ impl Follower {
     // A later one emits all pending bytes and as many of its own as are due.
     fn go_on(&mut self, due: u16, next: Said, into: &mut [u8]) -> usize
         requires next { (next.number ≤ GROUPS) × (next.rest < self.old.extraction.slots) }
-        requires former { FitsFormer self.old.extraction.slots (drop due self.old.extraction.fresh) next.former }
+        requires left { FitsDue self.old.extraction.slots (drop due self.old.extraction.fresh) next.due }
         requires due { due < self.old.extraction.slots }
         requires room { self.old.extraction.slots * (GROUPS + 1) ≤ length into.old }
         ensures standing { self.new.standing ≡ Up next }

@@ -1,5 +1,5 @@
 //! The sink of a tributary: it takes a client's bytes out of the multiframes of a line (G.709 clause 19
-//! and Annex D).
+//! and Annex D). docs/FORMATS.md, "A sink's turns", says in words what it emits.
 //!
 //! - `sink`: the sink itself, by turns of as many frames as the line has slots.
 //! - `turn`, `hear`, `said`, `watching`, `arrivals`: what a turn says to it: its message and its MSI bytes.

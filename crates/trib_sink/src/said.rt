@@ -15,7 +15,7 @@ pub(crate) fn begun(heard: Option<Hearing>) -> Option<Said>
             number,
             rest,
             damaged: 0,
-            former: None,
+            due: None,
         }),
         _ => None,
     }
@@ -39,7 +39,7 @@ pub(crate) fn gone_on(said: Said, heard: Option<Hearing>) -> Option<Said>
                     number: said.number,
                     rest: said.rest,
                     damaged: said.damaged + 1,
-                    former: Some(said.rest),
+                    due: Some(said.rest),
                 })
             }
         }
@@ -47,7 +47,7 @@ pub(crate) fn gone_on(said: Said, heard: Option<Hearing>) -> Option<Said>
             number,
             rest,
             damaged: 0,
-            former: Some(said.rest),
+            due: Some(said.rest),
         }),
     }
 }

@@ -48,8 +48,8 @@ impl TribSink {
     ghost use Rattle.trib_sink.specs.Sink.{AfterAnyTurns, StandsAfter, ended_view};
 
     /// A sink of these slots and this tributary port (1 to the number of the line's slots), before its
-    /// first turn. Takes all memory that it will ever need, 30,464 bytes a slot and 3,808 more; answers
-    /// `Memory` where there is none.
+    /// first turn. Takes all memory that it will ever need, 30,464 bytes a slot; answers `Memory` where there
+    /// is none.
     pub fn new(alloc: Global, slots: &Slots, port: u8) -> Result<TribSink, Memory>
         requires low { 1 ≤ port }
         requires high { port ≤ slots_of slots.now.kind }

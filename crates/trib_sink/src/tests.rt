@@ -91,8 +91,8 @@ fn message_of(turn: Turn, t: u8) -> [u8; 6] {
 type Row = (Turn, usize, u8, SinkState);
 
 // A steady ODU0. A damaged message changes nothing. Of six in a row the third ends the stretch, and AIS follows
-// until a turn accepts. A turn without a multiframe ends a stretch at once; after another one, which emits AIS
-// from its beginning, the next turn accepts.
+// until a turn begins a stretch. A turn without a multiframe ends a stretch at once; after another one, which emits AIS
+// from its beginning, the next turn begins one.
 const ROWS: [Row; 20] = [
     (Turn::Steady, 0, 0, SinkState::Up),
     (Turn::Steady, 0, 0, SinkState::Up),

@@ -34,9 +34,9 @@ frames_low line w n even low =
 -- the turn's groups that were not put are at most all of them
 put_low : (s : Source) (capacity scratch stored : ℕ) → IsSource s capacity scratch stored → length s.slots.list * data_count s.number s.asked ≤ length s.slots.list * s.number
 put_low s capacity scratch stored h =
-    let most = frames_low (slots_of s.slots.kind) (3808 / slots_of s.slots.kind) s.filled (evenly s.slots.kind) h.filled_low in
+    let most = frames_low (slots_of s.slots.kind) (3808 / slots_of s.slots.kind) s.filled (evenly s.slots.kind) h.filled_high in
     let asked = h.asked_is in
-    mul-le-mul_left (length s.slots.list) (count_low s.number s.asked h.number_low (omega arith))
+    mul-le-mul_left (length s.slots.list) (count_low s.number s.asked h.number_high (omega arith))
 
 -- so behind them are the bytes of the last turn's groups and those over
 kept_long : (s : Source) (capacity scratch stored : ℕ) → IsSource s capacity scratch stored
@@ -66,10 +66,10 @@ pub ring_begun : (s : Source) (capacity scratch stored m number r : ℕ) (bytes 
     → (s.rest + length bytes) / length s.slots.list ≤ 15232 → kept ≡ keep_last (m * number + s.rest) s.left → r ≡ min (length bytes) (capacity - length kept) → items ≡ kept ++ take r bytes
     → items ≡ keep_last (length s.slots.list * said_number s.said + s.rest) s.left ++ bytes
 ring_begun s capacity scratch stored m number r bytes kept items h many said fits is count put =
-    let some : 0 < length s.slots.list = (let low = h.rest_low in omega arith) in
+    let some : 0 < length s.slots.list = (let low = h.rest_high in omega arith) in
     let same : kept ≡ keep_last (length s.slots.list * said_number s.said + s.rest) s.left = is ∙ ap (λ k. keep_last (k * number + s.rest) s.left) many ∙ ap (λ k. keep_last (length s.slots.list * k + s.rest) s.left) said in
     let long : length kept ≡ length s.slots.list * said_number s.said + s.rest = ap length same ∙ kept_long s capacity scratch stored h in
-    let wide = room (length s.slots.list) (said_number s.said) s.rest (length bytes) some (said_low s.said h.said_low) fits in
+    let wide = room (length s.slots.list) (said_number s.said) s.rest (length bytes) some (said_low s.said h.said_high) fits in
     let size = h.capacity_is in
     put ∙ ap (λ y. kept ++ y) (all_taken bytes capacity (length kept) r count (omega arith)) ∙ ap (λ y. y ++ bytes) same
 
@@ -91,8 +91,8 @@ pub is_begun : (s : Source) (capacity scratch stored m number : ℕ) (r : Progre
     → (s.rest + length bytes) / length s.slots.list ≤ 15232 → items ≡ keep_last (length s.slots.list * said_number s.said + s.rest) s.left ++ bytes → r.number ≡ number → r.asked ≡ 0
     → IsSource (begun s m r bytes items message) capacity scratch number
 is_begun s capacity scratch stored m number r bytes items message h many said fits is by none =
-    let some : 0 < length s.slots.list = (let low = h.rest_low in omega arith) in
-    let low = said_low s.said h.said_low in
+    let some : 0 < length s.slots.list = (let low = h.rest_high in omega arith) in
+    let low = said_low s.said h.said_high in
     let kept = kept_long s capacity scratch stored h in
     let long : length items ≡ length s.slots.list * said_number s.said + s.rest + length bytes = ap length is ∙ length-append (keep_last (length s.slots.list * said_number s.said + s.rest) s.left) bytes ∙ omega arith in
     let split : length s.slots.list * ((s.rest + length bytes) / length s.slots.list) + (s.rest + length bytes) % length s.slots.list ≡ s.rest + length bytes = div-add-mod (s.rest + length bytes) (length s.slots.list) in
@@ -100,11 +100,11 @@ is_begun s capacity scratch stored m number r bytes items message h many said fi
     let nothing_out : length s.slots.list * data_count r.number r.asked ≡ 0 = ap (λ k. length s.slots.list * k) nothing ∙ omega arith in
     let groups : length s.slots.list * r.number ≡ length s.slots.list * said_number s.said = ap (λ k. length s.slots.list * k) (by ∙ said) in
     subst (λ k. IsSource (begun s k r bytes items message) capacity scratch number) (sym many) (record {
-      said_low = λ x e. (let same : (s.rest + length bytes) / length s.slots.list ≡ x = ap said_number e in omega arith);
-      number_low = omega arith;
-      filled_low = omega arith;
+      said_high = λ x e. (let same : (s.rest + length bytes) / length s.slots.list ≡ x = ap said_number e in omega arith);
+      number_high = omega arith;
+      filled_high = omega arith;
       asked_is = omega arith;
-      rest_low = mod-lt (s.rest + length bytes) some;
+      rest_high = mod-lt (s.rest + length bytes) some;
       left_is = omega arith;
       capacity_is = h.capacity_is;
       scratch_is = h.scratch_is;
@@ -164,7 +164,7 @@ left_begun : (s : Source) (capacity scratch stored : ℕ) (p bytes all : List �
     → keep_last (length s.slots.list * said_number s.said + s.rest) s.left ++ bytes ≡ drop (length s.slots.list * (sent p t / length s.slots.list)) (all ++ bytes)
 left_begun s capacity scratch stored p bytes all t h short number left enough =
     let m = length s.slots.list in
-    let some : 0 < m = (let low = h.rest_low in omega arith) in
+    let some : 0 < m = (let low = h.rest_high in omega arith) in
     let k = m * said_number s.said + s.rest in
     let q = sent p (t - 1) / m in
     let d = data_count s.number s.asked in

@@ -44,11 +44,11 @@ groups_in_frames line_slots frames = ROWS * groups_in_row line_slots * frames
 
 -- what holds of every source, with a ring for so many bytes, room for so many in which rows are laid out, and the number of its groups kept
 pub record IsSource (s : Source) (capacity scratch kept : ℕ) : Type 0 where
-  pub said_low : ForSome s.said (λ n. n ≤ GROUPS)
-  pub number_low : s.number ≤ GROUPS
-  pub filled_low : s.filled ≤ slots_of s.slots.kind
+  pub said_high : ForSome s.said (λ n. n ≤ GROUPS)
+  pub number_high : s.number ≤ GROUPS
+  pub filled_high : s.filled ≤ slots_of s.slots.kind
   pub asked_is : s.asked ≡ groups_in_frames (slots_of s.slots.kind) s.filled
-  pub rest_low : s.rest < slots_in s
+  pub rest_high : s.rest < slots_in s
   pub left_is : length s.left + slots_in s * data_count s.number s.asked ≡ slots_in s * s.number + (slots_in s * said_number s.said + s.rest)
   pub capacity_is : capacity ≡ slots_in s * (2 * GROUPS + 1)
   pub scratch_is : scratch ≡ 2 * (slots_in s * groups_in_row (slots_of s.slots.kind))

@@ -1,5 +1,5 @@
 //! The source of a tributary: it puts a client's bytes into the multiframes of a line (G.709 clause 19
-//! and Annex D).
+//! and Annex D). docs/FORMATS.md, "A source's turns", says in words what it puts.
 //!
 //! - `source`: the source itself, by turns of one multiframe each.
 //! - `message`: what it says in a turn.

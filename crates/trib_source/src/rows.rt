@@ -36,7 +36,7 @@ pub(crate) fn put_rows(
     frame: &mut Frame<LINE_COLUMNS>,
 )
     requires number { number ≡ runner.old.number }
-    requires low { number ≤ GROUPS }
+    requires most { number ≤ GROUPS }
     requires asked { asked ≡ runner.old.asked }
     requires high { asked + ROWS * groups_in_row (slots_of slots.now.kind) ≤ GROUPS }
     requires scratch { length scratch.old ≡ 2 * (length slots.now.list * groups_in_row (slots_of slots.now.kind)) }
@@ -96,7 +96,7 @@ fn take_fresh(
     m: usize,
     into: &mut [u8],
 ) -> usize
-    requires low { number ≤ GROUPS }
+    requires most { number ≤ GROUPS }
     requires asked { asked + cycles ≤ GROUPS }
     requires room { length into.old ≡ m * cycles }
     requires enough { AreEnough m number asked ring.old.items }
@@ -112,7 +112,7 @@ fn take_fresh(
 
 // How many of the next `cycles` groups, behind `asked`, are data.
 fn data_between(number: u32, asked: u32, cycles: u32) -> u32
-    requires low { number ≤ GROUPS }
+    requires most { number ≤ GROUPS }
     requires asked { asked + cycles ≤ GROUPS }
     ensures count { result + data_count number asked ≡ data_count number (asked + cycles) }
     ensures few { result ≤ cycles }

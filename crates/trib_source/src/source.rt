@@ -108,7 +108,7 @@ impl TribSource {
 
     /// Begins a turn that takes these bytes. What was left of the turn before, where not all of its frames
     /// were filled, is dropped as if it had been put. The groups that the bytes complete are at most
-    /// 15,232: those of a sink's emission are.
+    /// 15,232: those of what a sink of as many slots emits are (`most_groups`).
     pub fn begin_turn(&mut self, bytes: &[u8])
         requires fits { (self.old.rest + length bytes.now) / length self.old.slots.list ≤ GROUPS }
         ensures stands { (own : Tributary) (turns : List (List ℕ)) (filled : ℕ) → StandsAfter own turns filled self.old → StandsAfter own (turns ++ bytes.now ∷ []) 0 self.new }
@@ -143,8 +143,9 @@ impl TribSource {
     }
 
     /// Puts the turn's groups and message into its frame `n`, from 0 and below the number of the line's
-    /// slots, where `n` frames of it were filled: into the payload columns of the slots, and into the
-    /// message bytes where the frame is one of theirs. Every other byte stays.
+    /// slots, where `n` frames of it were filled: the groups into the payload columns of the slots; the message into the
+    /// frame of the greatest slot, and bytes 0 into the same places of the frames of the others. Every other byte stays: `put`
+    /// says so after known turns, `kept` of any source.
     pub fn fill(&mut self, n: u8, frame: &mut Frame<LINE_COLUMNS>)
         requires number { n < slots_of self.old.slots.kind }
         requires filled { n ≡ self.old.filled }

@@ -28,14 +28,14 @@ up_at said pending = record { standing = Up said; pending = pending; place = 0 }
 
 -- what is said after a turn with this pair
 abbrev pub said_now : (c d : ℕ) → Option ℕ → Said
-said_now c d former = record { number = c; rest = d; damaged = 0; former = former }
+said_now c d former = record { number = c; rest = d; damaged = 0; due = former }
 
 up_after : (m : ℕ) (said : Said) (pending : List ℕ) (view : View) (c d : ℕ) (equal : Bool) → hears_message (Some said.number) m view.message ≡ Pair c d equal
-    → after m false (Some view) (up_at said pending) ≡ up_at (said_now c d (Some said.rest)) (kept_of said.former pending (data_bytes said.number view.groups))
+    → after m false (Some view) (up_at said pending) ≡ up_at (said_now c d (Some said.rest)) (kept_of said.due pending (data_bytes said.number view.groups))
 up_after m said pending view c d equal e = ap (λ h. went_on (next_said said h) said pending (data_bytes said.number view.groups)) e
 
 up_emits : (m : ℕ) (ais : ℕ → ℕ) (said : Said) (pending : List ℕ) (view : View) (c d : ℕ) (equal : Bool) → hears_message (Some said.number) m view.message ≡ Pair c d equal
-    → gives m ais false (Some view) (up_at said pending) ≡ given_of said.former pending (data_bytes said.number view.groups)
+    → gives m ais false (Some view) (up_at said pending) ≡ given_of said.due pending (data_bytes said.number view.groups)
 up_emits m ais said pending view c d equal e = ap (λ h. up_gives (next_said said h) said pending (data_bytes said.number view.groups)) e
 
 -- a machine that is Up with this pair
@@ -67,7 +67,7 @@ anew_after m view c d s heard = go s.standing s.pending s.place
     }
     go (Up said) pending place = record {
       said = said_now c d (Some said.rest);
-      pending = kept_of said.former pending (data_bytes said.number view.groups);
+      pending = kept_of said.due pending (data_bytes said.number view.groups);
       is = ap (λ h. went_on (next_said said h) said pending (data_bytes said.number view.groups)) (heard (Some said.number));
       number = refl;
       rest = refl;
@@ -234,17 +234,17 @@ pub near_next : (own : Tributary) (bytes p : List ℕ) (views : ℕ → Option V
 near_next own bytes p views a n i h t low unmarked kept =
     let m = length own.slots in
     let s = machine_after own (past_of views a n) in
-    let said : s ≡ up_at (record { number = number_in m p i; rest = rest_in m p i; damaged = kept.said.damaged; former = kept.said.former }) kept.pending =
+    let said : s ≡ up_at (record { number = number_in m p i; rest = rest_in m p i; damaged = kept.said.damaged; due = kept.said.due }) kept.pending =
     kept.is
-    ∙ ap (λ x. up_at (record { number = x; rest = kept.said.rest; damaged = kept.said.damaged; former = kept.said.former }) kept.pending) kept.number
-    ∙ ap (λ x. up_at (record { number = number_in m p i; rest = x; damaged = kept.said.damaged; former = kept.said.former }) kept.pending) kept.rest in
+    ∙ ap (λ x. up_at (record { number = x; rest = kept.said.rest; damaged = kept.said.damaged; due = kept.said.due }) kept.pending) kept.number
+    ∙ ap (λ x. up_at (record { number = number_in m p i; rest = x; damaged = kept.said.damaged; due = kept.said.due }) kept.pending) kept.rest in
     let heard = heard_next own bytes p views a n i h t low in
     record {
-      pending = kept_of kept.said.former kept.pending (data_bytes (number_in m p i) t.view.groups);
+      pending = kept_of kept.said.due kept.pending (data_bytes (number_in m p i) t.view.groups);
       machine =
           machine_on own views a n t.view t.is unmarked
           ∙ ap (after m false (Some t.view)) said
-          ∙ up_after m (record { number = number_in m p i; rest = rest_in m p i; damaged = kept.said.damaged; former = kept.said.former }) kept.pending t.view (number_in m p (suc i)) (rest_in m p (suc i)) heard.0 heard.1;
+          ∙ up_after m (record { number = number_in m p i; rest = rest_in m p i; damaged = kept.said.damaged; due = kept.said.due }) kept.pending t.view (number_in m p (suc i)) (rest_in m p (suc i)) heard.0 heard.1;
     }
 
 -- and to the one after it

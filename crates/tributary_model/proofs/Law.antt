@@ -26,7 +26,7 @@ damaged_run [] = 0
 damaged_run (last ∷ before) = cond (is_damaged last.heard) (damaged_run before + 1) 0
 
 abbrev pub said_of : Member → List Member → Said
-said_of last before = record { number = last.number; rest = last.rest; damaged = damaged_run (last ∷ before); former = former_rest before }
+said_of last before = record { number = last.number; rest = last.rest; damaged = damaged_run (last ∷ before); due = former_rest before }
 
 abbrev pub up_machine : (m : ℕ) → List Member → Machine
 up_machine m [] = start
@@ -90,7 +90,7 @@ next_is v last before Lost = refl
 next_is v last before Damaged = go (nat_le 2 (damaged_run (last ∷ before))) (two_damaged (last ∷ before)) (two_is (last ∷ before))
   where
     go : (s t : Bool) → s ≡ t
-        → cond {A = Option Said} s None (Some (record { number = last.number; rest = last.rest; damaged = damaged_run (last ∷ before) + 1; former = Some last.rest }))
+        → cond {A = Option Said} s None (Some (record { number = last.number; rest = last.rest; damaged = damaged_run (last ∷ before) + 1; due = Some last.rest }))
         ≡ option_map (λ next. said_of next (last ∷ before)) (goes_on_with v t last Damaged)
     go true true e = refl
     go false false e = refl

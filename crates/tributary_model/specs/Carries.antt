@@ -1,4 +1,5 @@
--- What it is that a tributary carries a client's bytes.
+-- What it is that a tributary carries a client's bytes. p lists how many bytes each turn of a sender brings, the first turn first: its
+-- numbers. C(t) and D(t), which its messages say, follow from them.
 use Rattle.std.specs.Prelude.{◌≡◌, ◌⊎◌, ℕ, zero, suc, ◌+◌, ◌*◌, ◌/◌, ◌%◌, ◌-◌, ◌≤◌, List, [], ◌∷◌, ◌++◌, All, Option, Some, None, length, take, drop, map, sum, slice_get}
 use Rattle.otn_base.specs.declared.limits.TheConstants.{GROUPS}
 use Rattle.gmp_rule.specs.DataRule.{IsData}
@@ -7,7 +8,7 @@ use Rattle.jc_codec.specs.Message.{says}
 use Rattle.cnd_codec.specs.Remainder.{says_rest}
 use Rattle.tributary_model.specs.Places.{Tributary, View}
 
--- how many bytes the first t turns bring, of which the list has the numbers
+-- how many bytes the first t turns bring: A(t - 1), with A of docs/FORMATS.md, whose turns count from 0
 abbrev pub sent : List ℕ → (t : ℕ) → ℕ
 sent p t = sum (take t p)
 
@@ -33,8 +34,8 @@ former_of m p (suc t) = Some (number_in m p t)
 abbrev pub cleared : List ℕ → List ℕ
 cleared bytes = take 3 bytes ++ map (λ b. b % 32) (drop 3 bytes)
 
--- Group j, where it is data at the number of the turn before, is the m bytes of the list that stand after those of the turns up
--- to two before, and after the data groups before it.
+-- Group j, where it is data at the number of the turn before, is the m bytes of the list that stand after the whole groups of the turns
+-- up to two before, and after the data groups before it. Of the groups 1 to j, j * c / GROUPS are data (data_groups of gmp_rule).
 abbrev pub CarriesGroups : (m : ℕ) → (bytes p : List ℕ) → (t : ℕ) → List (List ℕ) → Type 0
 CarriesGroups m bytes p t groups =
     let c = number_before m p t in
@@ -47,8 +48,8 @@ pub record CarriesTurn (own : Tributary) (bytes p : List ℕ) (t : ℕ) (view : 
   pub msi : All (λ x. x.1 ≡ msi_byte own.port) view.msi
   pub groups : CarriesGroups (length own.slots) bytes p t view.groups
 
--- The views of a line's turns carry the bytes by the numbers of p from turn b to turn u, where the sender began with turn s:
--- from s on, where b is s. The number of each of these turns fits a multiframe: it brings no more groups than one has.
+-- The views of a line's turns carry the bytes by the numbers of p from turn b to turn u, where the sender began with turn s.
+-- C of each of these turns fits a multiframe: it brings no more groups than one has.
 pub record Carries (own : Tributary) (bytes p : List ℕ) (views : ℕ → Option View) (s b u : ℕ) : Type 0 where
   pub order : s ≤ b
   pub numbers : u + 1 - s ≤ length p
@@ -56,7 +57,7 @@ pub record Carries (own : Tributary) (bytes p : List ℕ) (views : ℕ → Optio
   pub fits : (t : ℕ) → b ≤ t → t ≤ u → number_in (length own.slots) p (t - s) ≤ GROUPS
   pub each : (t : ℕ) → b ≤ t → t ≤ u → (view : View) × ((views t ≡ Some view) × CarriesTurn own bytes p (t - s) view)
 
--- each number from the first on that is not 0 is at least m
+-- from the first number on that is not 0 each is at least m: once bytes come, every turn brings at least one a slot
 abbrev pub IsSteady : (m : ℕ) → List ℕ → Type 0
 IsSteady m [] = Unit {0}
 IsSteady m (n ∷ p) = ((n ≡ 0) × IsSteady m p) ⊎ All (λ x. m ≤ x) (n ∷ p)

@@ -1,4 +1,4 @@
--- What one damaged message does to a sink: nothing.
+-- What one damaged message does to a sink that is Up: it is as if the pair before it were said again.
 use Rattle.std.specs.Prelude.{◌≡◌, ℕ, List, [], ◌∷◌, ◌++◌, Bool, false, ◌&&◌, Option, Some, None, length}
 use Rattle.tributary_model.specs.declared.turns.Hearing.TheVariants.{Damaged, Pair}
 use Rattle.tributary_model.specs.declared.turns.SinkState.{SinkState}
@@ -27,7 +27,7 @@ is_third own None (StretchTurn (last ∷ before) ∷ parts) = false
 is_third own (Some view) (StretchTurn (last ∷ before) ∷ parts) =
     two_damaged (last ∷ before) && is_damaged (hears_message (Some last.number) (length own.slots) view.message)
 
--- in none of these turns, the last first, are three messages in a row damaged
+-- no stretch has a third damaged message in a row in any of these turns, the last first; outside a stretch damaged ones do not count
 abbrev pub NeverThree : Tributary → List (Option View) → Type 0
 NeverThree own [] = Unit {0}
 NeverThree own (view ∷ past) = (is_third own view (course own past) ≡ false) × NeverThree own past

@@ -1,5 +1,6 @@
 -- What a sink emits in each turn, by totals over its stretch. A stretch lists its turns with the last first; turn a is its first.
--- C and D are the numbers Cm and CnD that a turn's message says, and M (m) is how many slots the tributary has.
+-- C and D are the pair of a turn, Cm and CnD, and M (m) is how many slots the tributary has. A total counts bytes from the start of a
+-- stretch. Read from the end: emission, emits, emits_in and emits_at_end.
 use Rattle.std.specs.Prelude.{ℕ, suc, ◌+◌, ◌*◌, max, min, List, [], ◌∷◌, ◌++◌, if◌then◌else◌, Option, length, map, ◌-◌}
 use Rattle.std.specs.List.{flat_map, enumerate_from, range_with_len, slice_range}
 use Rattle.otn_base.specs.declared.limits.TheConstants.{NOMINAL}
@@ -15,36 +16,36 @@ data_bytes c groups = flat_map (λ p. if is_data_at c (p.0) then p.1 else []) (e
 unfoldable pub extracted : List Member → List ℕ
 extracted [] = []
 extracted (first ∷ []) = []
-extracted (turn ∷ before ∷ rest) = extracted (before ∷ rest) ++ data_bytes before.number turn.groups
+extracted (turn ∷ before ∷ earlier) = extracted (before ∷ earlier) ++ data_bytes before.number turn.groups
 
 -- C(a) + .. + C(t)
 abbrev pub numbers_sum : List Member → ℕ
 numbers_sum [] = 0
-numbers_sum (turn ∷ rest) = numbers_sum rest + turn.number
+numbers_sum (turn ∷ earlier) = numbers_sum earlier + turn.number
 
 -- X(t) = M * (C(a) + .. + C(t - 1)): how many bytes are extracted up to the end of the last turn, t
 abbrev pub extracted_total : (m : ℕ) → List Member → ℕ
 extracted_total m [] = 0
-extracted_total m (turn ∷ rest) = m * numbers_sum rest
+extracted_total m (turn ∷ earlier) = m * numbers_sum earlier
 
 -- Due(t) = M * (C(a) + .. + C(t - 2)) + D(t - 2) from t = a + 2 on, else 0: how many bytes the messages make due
 abbrev pub due_total : (m : ℕ) → List Member → ℕ
 due_total m [] = 0
 due_total m (first ∷ []) = 0
 due_total m (second ∷ first ∷ []) = 0
-due_total m (turn ∷ before ∷ two_before ∷ rest) = m * numbers_sum (two_before ∷ rest) + two_before.rest
+due_total m (turn ∷ before ∷ two_before ∷ earlier) = m * numbers_sum (two_before ∷ earlier) + two_before.rest
 
 -- E(t) = max (E(t - 1), min (X(t), Due(t))), and 0 at the first turn: how many bytes are emitted up to the end of the last turn
 unfoldable pub emitted_total : (m : ℕ) → List Member → ℕ
 emitted_total m [] = 0
 emitted_total m (first ∷ []) = 0
-emitted_total m (turn ∷ before ∷ rest) =
-    max (emitted_total m (before ∷ rest)) (min (extracted_total m (turn ∷ before ∷ rest)) (due_total m (turn ∷ before ∷ rest)))
+emitted_total m (turn ∷ before ∷ earlier) =
+    max (emitted_total m (before ∷ earlier)) (min (extracted_total m (turn ∷ before ∷ earlier)) (due_total m (turn ∷ before ∷ earlier)))
 
 -- a turn of a stretch emits Ext from E(t - 1) to E(t), and the one that began it nothing
 abbrev pub emits_in : (m : ℕ) → List Member → List ℕ
 emits_in m [] = []
-emits_in m (turn ∷ rest) = slice_range (extracted (turn ∷ rest)) (emitted_total m rest) (emitted_total m (turn ∷ rest))
+emits_in m (turn ∷ earlier) = slice_range (extracted (turn ∷ earlier)) (emitted_total m earlier) (emitted_total m (turn ∷ earlier))
 
 -- its ending turn e emits Ext from E(e - 1) to X(e - 1)
 abbrev pub emits_at_end : (m : ℕ) → List Member → List ℕ
@@ -80,7 +81,7 @@ abbrev pub amount_of : (m : ℕ) → Part → ℕ
 amount_of m WaitingTurn = 0
 amount_of m DownTurn = m * NOMINAL
 amount_of m (StretchTurn []) = 0
-amount_of m (StretchTurn (turn ∷ rest)) = emitted_total m (turn ∷ rest) - emitted_total m rest
+amount_of m (StretchTurn (turn ∷ earlier)) = emitted_total m (turn ∷ earlier) - emitted_total m earlier
 amount_of m (EndingTurn stretch) = extracted_total m stretch - emitted_total m stretch
 
 -- how many bytes these turns emit in all

@@ -1,4 +1,6 @@
--- The sink without totals: it keeps what its stretch said last, the bytes that it has not emitted, and its place in the AIS stream.
+-- The sink without totals. Where Emission counts the bytes of a stretch from its start, this keeps what its stretch said last, the bytes
+-- that it has not emitted, and its place in the AIS stream. Read from the end: machine_after is what it keeps, gives what it emits; Laws
+-- says that this is the emission.
 use Rattle.std.specs.Prelude.{ℕ, ◌+◌, ◌*◌, nat_le, List, [], ◌∷◌, ◌++◌, Bool, true, false, if◌then◌else◌, Option, Some, None, length, take, drop}
 use Rattle.otn_base.specs.declared.limits.TheConstants.{NOMINAL}
 use Rattle.tributary_model.specs.declared.turns.Hearing.{Hearing}
@@ -29,7 +31,7 @@ former_of (Waiting n) = None
 former_of Down = None
 former_of (Up said) = Some said.number
 
--- the number by which the turn's groups are data: the same, or 0 outside a stretch
+-- the number by which the groups of the next turn are data: the last one of the stretch, or 0 outside one
 abbrev pub number_of : Standing → ℕ
 number_of (Waiting n) = 0
 number_of Down = 0
@@ -43,7 +45,7 @@ heard_in former m false (Some view) = Some (hears_message former m view.message)
 
 -- what is said in the first turn of a stretch, where a message begins one
 abbrev pub first_said : Hearing → Option Said
-first_said (Pair number rest true) = Some (record { number = number; rest = rest; damaged = 0; former = None })
+first_said (Pair number rest true) = Some (record { number = number; rest = rest; damaged = 0; due = None })
 first_said (Pair number rest false) = None
 first_said Damaged = None
 first_said Lost = None
@@ -55,11 +57,11 @@ begins (Some heard) = first_said heard
 
 -- what is said in the next turn, where the stretch goes on
 abbrev pub next_said : Said → Hearing → Option Said
-next_said said (Pair number rest equal) = Some (record { number = number; rest = rest; damaged = 0; former = Some said.rest })
+next_said said (Pair number rest equal) = Some (record { number = number; rest = rest; damaged = 0; due = Some said.rest })
 next_said said Lost = None
 next_said said Damaged =
     if nat_le 2 said.damaged then None
-    else Some (record { number = said.number; rest = said.rest; damaged = said.damaged + 1; former = Some said.rest })
+    else Some (record { number = said.number; rest = said.rest; damaged = said.damaged + 1; due = Some said.rest })
 
 -- the same of what a turn has: the stretch ends where nothing is heard in it
 abbrev pub stays : Option Hearing → Said → Option Said
@@ -81,14 +83,14 @@ kept_of (Some due) pending fresh = drop due fresh
 abbrev pub waits_on : ℕ → Machine
 waits_on n = if nat_le 2 n then record { standing = Down; pending = []; place = 0 } else record { standing = Waiting (n + 1); pending = []; place = 0 }
 
--- a turn in no stretch: Up where it begins one with what was said, else the other machine
+-- the machine after a turn that continues no stretch: Up where it begins one with what was said, else the other machine
 abbrev pub opened : Option Said → Machine → Machine
 opened (Some said) other = record { standing = Up said; pending = []; place = 0 }
 opened None other = other
 
--- a turn after one that was Up: Up with what is said next and what is pending, or Down where the stretch ended
+-- the machine after a turn before which it was Up: Up with what is said next and what is pending, or Down where the stretch ended
 abbrev pub went_on : Option Said → Said → (pending fresh : List ℕ) → Machine
-went_on (Some next) said pending fresh = record { standing = Up next; pending = kept_of said.former pending fresh; place = 0 }
+went_on (Some next) said pending fresh = record { standing = Up next; pending = kept_of said.due pending fresh; place = 0 }
 went_on None said pending fresh = record { standing = Down; pending = []; place = 0 }
 
 -- the machine after a turn in which this was heard, and these bytes extracted
@@ -108,7 +110,7 @@ down_gives None signal = signal
 
 -- what a turn after one that was Up emits: where the stretch goes on as `given_of` says, where it ended all that was pending
 abbrev pub up_gives : Option Said → Said → (pending fresh : List ℕ) → List ℕ
-up_gives (Some next) said pending fresh = given_of said.former pending fresh
+up_gives (Some next) said pending fresh = given_of said.due pending fresh
 up_gives None said pending fresh = pending
 
 -- what a turn emits of a machine that stands so: nothing while Waiting; Down as `down_gives` says of the AIS stream; Up as `up_gives` says

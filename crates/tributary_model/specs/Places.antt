@@ -102,7 +102,7 @@ pub record IsWhole (m : ℕ) (view : View) : Type 0 where
   pub many : length view.groups ≡ GROUPS
   pub each : All (λ g. length g ≡ m) view.groups
 
--- so is each turn that has a multiframe
+-- So is a turn, if it has a multiframe. One that has none shows nothing and meets this too: whole is of the groups here, not of the turn.
 abbrev pub IsWholeTurn : (m : ℕ) → Option View → Type 0
 IsWholeTurn m None = Unit {0}
 IsWholeTurn m (Some view) = IsWhole m view

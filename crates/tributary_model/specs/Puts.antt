@@ -1,5 +1,5 @@
--- What the source of a tributary puts into the multiframes of its line. Its turns are the lists of bytes that it took, from the first
--- turn since it began on. Their numbers t count from 0, and A(t) is how many bytes the turns up to t have.
+-- What the source of a tributary puts into the multiframes of its line. Its turns are the lists of bytes that it took, the first
+-- turn since it began first (a sink's past has the last first). Their numbers t count from 0, and A(t) is how many bytes the turns up to t have.
 use Rattle.std.specs.Prelude.{◌≡◌, ◌≢◌, ◌⊎◌, ℕ, suc, ◌+◌, ◌*◌, ◌/◌, ◌-◌, ◌≤◌, ◌==◌, List, [], ◌∷◌, ◌++◌, if◌then◌else◌, length, take, drop, map, replicate, slice_index}
 use Rattle.std.specs.List.{concat, Contains}
 use Rattle.otn_base.specs.declared.limits.TheConstants.{LINE_COLUMNS, PAYLOAD_COLUMNS}

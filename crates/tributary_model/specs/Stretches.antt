@@ -1,5 +1,5 @@
--- The stretches in which a sink follows its tributary. Turns are listed with the last first: a past is the views of the
--- turns from the connection's start on.
+-- The stretches in which a sink follows its tributary. Turns are listed with the last first: a past is the views of all turns
+-- since the sink began, and these turns are called its connection. Read from the end: course, next_part, fit and goes_on.
 use Rattle.std.specs.Prelude.{ℕ, ◌==◌, nat_lt, List, [], ◌∷◌, ◌++◌, Bool, true, false, not, ◌&&◌, if◌then◌else◌, Option, Some, None, length, map, filter}
 use Rattle.std.specs.List.{list_any}
 use Rattle.msi_table.specs.Marks.{is_marked}
@@ -45,22 +45,23 @@ pub record Member : Type 0 where
   pub groups : List (List ℕ)
 
 -- What a turn is: in no stretch, Waiting or Down; or in a stretch, whose turns so far are listed with this one first; or the
--- ending turn of a stretch, whose turns before this one are listed.
+-- ending turn of a stretch, whose turns before this one are listed. The word is of what the turn emits: after the third Waiting
+-- turn, and after an ending one, the sink is Down.
 pub data Part : Type 0 where
   WaitingTurn : Part
   DownTurn : Part
   StretchTurn : List Member → Part
   EndingTurn : List Member → Part
 
--- a turn is fit where it has a multiframe, its message, heard with no former number, gives a pair with equal indicators,
--- and no own slot is marked
+-- a message that begins a stretch: a pair with equal indicators
 abbrev pub fit_pair : View → Hearing → Option Member
 fit_pair view (Pair number rest true) = Some (record { heard = Pair number rest true; number = number; rest = rest; groups = view.groups })
 fit_pair view (Pair number rest false) = None
 fit_pair view Damaged = None
 fit_pair view Lost = None
 
--- a turn as the first of a stretch, where it is fit
+-- A turn as the first of a stretch, where it is fit: it has a multiframe, no own slot is marked, and its message, heard after no
+-- number, is a pair with equal indicators.
 abbrev pub fit : Tributary → (marked : Bool) → Option View → Option Member
 fit own true view = None
 fit own false None = None
@@ -76,18 +77,18 @@ is_damaged (Pair number rest equal) = false
 abbrev pub two_damaged : List Member → Bool
 two_damaged [] = false
 two_damaged (last ∷ []) = false
-two_damaged (last ∷ before ∷ rest) = is_damaged last.heard && is_damaged before.heard
+two_damaged (last ∷ before ∷ earlier) = is_damaged last.heard && is_damaged before.heard
 
--- The next turn of a stretch: its pair is the one heard after the former number, or the former pair again where the message is
--- damaged. The stretch ends where the turn has no multiframe, an own slot is marked, the message is lost, or it is the third
--- damaged one in a row.
+-- the next turn of a stretch by what was heard: with that pair, or with the last pair again where the message is damaged; none where it is
+-- lost, or damaged after two damaged ones
 abbrev pub goes_on_with : View → (two : Bool) → (last : Member) → Hearing → Option Member
 goes_on_with view two last (Pair number rest equal) = Some (record { heard = Pair number rest equal; number = number; rest = rest; groups = view.groups })
 goes_on_with view true last Damaged = None
 goes_on_with view false last Damaged = Some (record { heard = Damaged; number = last.number; rest = last.rest; groups = view.groups })
 goes_on_with view two last Lost = None
 
--- the next turn of a stretch, where it goes on with this view
+-- The next turn of a stretch, its message heard after the last number. The stretch ends where there is none: where the turn has no
+-- multiframe, an own slot is marked, or goes_on_with gives none.
 abbrev pub goes_on : Tributary → (marked : Bool) → Option View → List Member → Option Member
 goes_on own true view stretch = None
 goes_on own false None stretch = None
@@ -95,7 +96,7 @@ goes_on own false (Some view) [] = None
 goes_on own false (Some view) (last ∷ before) =
     goes_on_with view (two_damaged (last ∷ before)) last (hears_message (Some last.number) (length own.slots) view.message)
 
--- whether a stretch began in one of these turns
+-- whether a turn is of a stretch, or ends one
 abbrev pub is_of_stretch : Part → Bool
 is_of_stretch WaitingTurn = false
 is_of_stretch DownTurn = false

@@ -4,8 +4,8 @@ ghost use Rattle.tributary_model.specs.Carriage.{EmitsWhatIsCarried, IsUpWhileCa
 ghost use Rattle.tributary_model.specs.Damage.{IsAsIfRepeated};
 ghost use Rattle.tributary_model.specs.Passing.{JoinsToWhatIsCarried, JoinsToWholeGroups, EmitsAsMany, CarriesAllByFronts, PassesOn, SaysThreeLater, CarriesToTheEnd};
 
-/// One damaged message, where no three in a row are damaged, is as the pair of the turn before, said
-/// again: every emission and every state is the same.
+/// One damaged message, while the sink is Up and where no three in a row are damaged, is as the pair of the turn before,
+/// said again: every emission and every state is the same.
 pub fn one_damaged_message()
     ensures { IsAsIfRepeated }
 {}
@@ -20,7 +20,7 @@ pub fn intact_carriage()
     ensures carried { CanBeCarried }
 {}
 
-/// Whatever came before, as soon as turns carry a client's bytes and one of them says its number
+/// Whatever came before, as soon as turns carry a client's bytes in steady numbers and one of them says its number
 /// without a former one while no slot is marked, the sink is Up, and from the third turn after it on
 /// it emits exactly these bytes.
 pub fn healing()
@@ -28,8 +28,8 @@ pub fn healing()
     ensures state { IsUpAfterDamage }
 {}
 
-/// What the sink of such a connection emits, joined, is a front of the bytes, in as many bytes a turn
-/// as the sender took, and whole groups where it ended. A sender that carries what it took so far carries what it takes in all. Where a
+/// What a sink emits of bytes that all turns carry (as in `intact_carriage`), joined, is a front of them: in each turn as many
+/// as the sender took two turns before, and the whole groups that came once it is Down. A sender that carries what it took so far carries what it takes in all. Where a
 /// sender takes on what the sink emits, each turn's in the turn after it, its turns carry the same bytes
 /// three turns later, and say the same pairs.
 pub fn passing_on()

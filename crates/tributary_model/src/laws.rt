@@ -13,8 +13,7 @@ pub fn own_places_alone()
 {}
 
 /// The most bytes that a sink of `slots` slots emits in a turn, on a line of either kind. A buffer of so
-/// many bytes holds any turn's emission. No layer calls it yet: the node, which is to come, takes the
-/// buffers of its pipes by it.
+/// many bytes holds any turn's emission. No layer calls it: a pipe takes room for one byte more.
 pub fn most_bytes(slots: usize) -> usize
     requires some { 1 ≤ slots }
     requires few { slots ≤ MOST_SLOTS }
@@ -25,7 +24,7 @@ pub fn most_bytes(slots: usize) -> usize
 }
 
 /// The most groups that a turn of a sink of `slots` slots completes: as many as a multiframe has, so the
-/// source that sends them on can say each turn's number. No layer calls it yet: the node waits for it too.
+/// source that sends them on can say each turn's number. No layer calls it.
 pub fn most_groups(slots: usize) -> usize
     requires some { 1 ≤ slots }
     ensures value { result ≡ GROUPS }

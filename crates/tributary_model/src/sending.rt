@@ -2,19 +2,19 @@
 ghost use Rattle.tributary_model.specs.Sending.{CarriesWhatIsPut, CarriesAllThatIsPut, ArrivesAsItIsPut, SendsOnWhatIsPut, StaysWhereKept, StaysApart};
 
 /// Frames that have what a source puts, and the port's MSI bytes, show views that carry the bytes that the
-/// source took, from its first turn on; in steady numbers they arrive.
+/// source took, from its first turn on, where its numbers fit a multiframe; where they are steady too they arrive.
 pub fn what_is_put()
     ensures turn { CarriesWhatIsPut }
     ensures all { CarriesAllThatIsPut }
     ensures arrives { ArrivesAsItIsPut }
 {}
 
-/// A source that takes in each turn what a sink emitted in the turn before sends it on.
+/// A source of as many slots that takes in each turn what a sink emitted in the turn before sends it on.
 pub fn sent_on()
     ensures { SendsOnWhatIsPut }
 {}
 
-/// What a source put into a frame stays when other bytes are written there, and also when the source of
+/// What a source put into a frame stays when bytes are written elsewhere in it, and also when the source of
 /// a tributary that has no slot in common with it puts its own.
 pub fn put_apart()
     ensures kept { StaysWhereKept }

@@ -3,7 +3,7 @@
 /// A message of six bytes as it was heard.
 #[derive(Clone, Copy, PartialEq, Eq, Debug)]
 pub enum Hearing {
-    /// A check is wrong, the remainder is not below the number of slots, or the number is past 15,232.
+    /// A check is wrong, the remainder is not below the number of slots, or the number is outside 0 to 15,232.
     Damaged,
     /// The number is said as a change, and no former number is kept or no pattern fits it.
     Lost,
@@ -31,16 +31,16 @@ pub struct Said {
     pub rest: u16,
     /// How many damaged messages in a row the stretch ends with.
     pub damaged: u8,
-    /// The remainder of the turn before, where that is of the stretch.
-    pub former: Option<u16>,
+    /// The remainder of the turn before the last, where that is of the stretch: so many bytes of the next turn are due in it.
+    pub due: Option<u16>,
 }
 
-/// How a sink stands between two turns, without totals.
+/// A `SinkState` with what the next turn needs of it: what a sink without totals keeps of how it stands.
 #[derive(Clone, Copy, PartialEq, Eq, Debug)]
 pub enum Standing {
     /// So many turns went by without a stretch.
     Waiting(u8),
-    /// In no stretch.
+    /// In no stretch, and no longer waiting.
     Down,
     /// Within a stretch.
     Up(Said),

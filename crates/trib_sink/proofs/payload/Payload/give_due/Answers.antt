@@ -15,7 +15,7 @@ returns-clause-bytes c =
     ap (λ xs. take (i.last - i.first) (drop i.first xs)) c.deref.ensures.value ∙ sym (between i.kept.items i.first i.last c.self.invariant.in_order) ∙ ap (λ (e : Extraction). e.pending) c.self.view_is in
     let long = c.deref-2.ensures.len in
     let full = c.self.invariant.fresh_is in
-    let few = turn_room i.slots i.runner.asked i.end c.self.invariant.end_low c.self.invariant.asked_low in
+    let few = turn_room i.slots i.runner.asked i.end c.self.invariant.end_high c.self.invariant.asked_high in
     let second : due ≡ take c.args.due c.args.self.now.fresh =
     due_of c.deref-2.result.now i.end c.args.due c.min-due.result (omega arith) c.min-due.ensures
     ∙ ap (λ xs. take c.args.due (take i.end xs)) c.deref-2.ensures.value ∙ ap (λ (e : Extraction). take c.args.due e.fresh) c.self.view_is in

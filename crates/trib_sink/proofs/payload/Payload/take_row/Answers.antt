@@ -14,7 +14,7 @@ take_row-self-inside-requires-clause-room c =
     let asked : i.runner.asked ≡ c.args.self.now.asked = ap (λ (e : Extraction). e.asked) c.self.view_is in
     let same : i.slots * n ≡ length c.args.slots.now.list * n = ap (λ m. m * n) m in
     let some = c.requires.asked in
-    let room = row_room i.slots i.runner.asked n i.end (vec_len i.fresh) c.self.invariant.end_low (omega arith) c.self.invariant.fresh_is in
+    let room = row_room i.slots i.runner.asked n i.end (vec_len i.fresh) c.self.invariant.end_high (omega arith) c.self.invariant.fresh_is in
     let long = c.deref_mut.ensures.len in
     omega arith
 
@@ -28,12 +28,12 @@ invariant_of-self c =
     let asked : c.take_row-self-inside.new.runner.asked ≡ i.runner.asked + n = ap (λ (r : Progress). r.asked) c.take_row-self-inside.ensures.runner in
     record {
       few = search rules;
-      number_low = search rules;
-      asked_low = search rules;
+      number_high = search rules;
+      asked_high = search rules;
       in_order = search rules;
-      last_low = search rules;
+      last_high = search rules;
       kept_is = search rules;
-      end_low = subst (λ a. c.take_row-self-inside.result ≤ i.slots * a) (sym asked)
-          (row_after i.slots i.runner.asked n i.end c.take_row-self-inside.result c.self.invariant.end_low (omega arith));
+      end_high = subst (λ a. c.take_row-self-inside.result ≤ i.slots * a) (sym asked)
+          (row_after i.slots i.runner.asked n i.end c.take_row-self-inside.result c.self.invariant.end_high (omega arith));
       fresh_is = search rules;
     }
