@@ -26,7 +26,7 @@ use Rattle.tributary_model.proofs.Ranges.{none_between, joined}
 use Rattle.tributary_model.proofs.Totals.{sent_up}
 use Rattle.device_model.specs.Carried.{GoesTo, IsMadeTo}
 use Rattle.device_model.specs.Entries.{first_turn}
-use Rattle.device_model.specs.Healing.{Heals}
+use Rattle.device_model.specs.Healing.{IsCarriedAgain}
 use Rattle.device_model.specs.LineViews.{view_at}
 use Rattle.device_model.specs.Through.{Inputs, OwnInput, own_input, emits, got_in, got_by, arrived_by}
 use Rattle.device_model.proofs.Carried.{turn_frames, shown}
@@ -36,14 +36,14 @@ use Rattle.device_model.proofs.LineViews.{whole_at}
 -- ---- what it gets
 
 -- what healing asks of turn h + 1
-no_sooner : (line : List ℕ) (x : Connection) (port s b u h : ℕ) (slots : LineSlots) (bytes p : List ℕ) → Heals line x port slots bytes p s b u h → b ≤ h
+no_sooner : (line : List ℕ) (x : Connection) (port s b u h : ℕ) (slots : LineSlots) (bytes p : List ℕ) → IsCarriedAgain line x port slots bytes p s b u h → b ≤ h
 no_sooner line x port s b u h slots bytes p heals = search rules
 
-says_anew : (line : List ℕ) (x : Connection) (port s b u h : ℕ) (slots : LineSlots) (bytes p : List ℕ) → Heals line x port slots bytes p s b u h
+says_anew : (line : List ℕ) (x : Connection) (port s b u h : ℕ) (slots : LineSlots) (bytes p : List ℕ) → IsCarriedAgain line x port slots bytes p s b u h
     → SaysAnew (tributary_of slots port) (view_at (tributary_of slots port) line) (first_turn x) h
 says_anew line x port s b u h slots bytes p heals = search rules
 
-emits_healed : (inputs : Inputs) (x : Connection) (a port s b u h t j : ℕ) (slots : LineSlots) (bytes p : List ℕ) → x.from ≡ from_end.Line a port slots → Heals (inputs.line a) x port slots bytes p s b u h
+emits_healed : (inputs : Inputs) (x : Connection) (a port s b u h t j : ℕ) (slots : LineSlots) (bytes p : List ℕ) → x.from ≡ from_end.Line a port slots → IsCarriedAgain (inputs.line a) x port slots bytes p s b u h
     → h + 3 ≤ t → t ≤ u → first_turn x + j ≡ t → emits x (own_input inputs x) j ≡ slice_range bytes (sent p (t - s - 2)) (sent p (t - s - 1))
 emits_healed inputs x a port s b u h t j slots bytes p comes heals low high at =
     let own = tributary_of slots port in
@@ -56,7 +56,7 @@ emits_healed inputs x a port s b u h t j slots bytes p comes heals low high at =
     ∙ ap (λ k. emission own ais (past_of views f (t - f)) (views k)) at
     ∙ law
 
-pub gets_what_healed : (inputs : Inputs) (x : Connection) (a port s b u h t : ℕ) (slots : LineSlots) (bytes p : List ℕ) → x.from ≡ from_end.Line a port slots → Heals (inputs.line a) x port slots bytes p s b u h → h + 3 ≤ t → t ≤ u
+pub gets_what_healed : (inputs : Inputs) (x : Connection) (a port s b u h t : ℕ) (slots : LineSlots) (bytes p : List ℕ) → x.from ≡ from_end.Line a port slots → IsCarriedAgain (inputs.line a) x port slots bytes p s b u h → h + 3 ≤ t → t ≤ u
     → got_in x (own_input inputs x) (t + 1 - first_turn x) ≡ slice_range bytes (sent p (t - s - 2)) (sent p (t - s - 1))
 gets_what_healed inputs x a port s b u h t slots bytes p comes heals low high =
     let f = first_turn x in
@@ -71,7 +71,7 @@ unfolding got_by
 arrived_next x input n = concat-append (got_by x input n) (got_in x input n ∷ []) ∙ ap (λ y. concat (got_by x input n) ++ y) (append-nil (got_in x input n))
 
 -- k turns behind the third after turn h + 1
-healed_until : (inputs : Inputs) (x : Connection) (a port s b u h k : ℕ) (slots : LineSlots) (bytes p : List ℕ) → x.from ≡ from_end.Line a port slots → Heals (inputs.line a) x port slots bytes p s b u h
+healed_until : (inputs : Inputs) (x : Connection) (a port s b u h k : ℕ) (slots : LineSlots) (bytes p : List ℕ) → x.from ≡ from_end.Line a port slots → IsCarriedAgain (inputs.line a) x port slots bytes p s b u h
     → h + 2 + k ≤ u
     → arrived_by x (own_input inputs x) (h + 2 + k + 2 - first_turn x) ≡ arrived_by x (own_input inputs x) (h + 4 - first_turn x) ++ slice_range bytes (sent p (h + 1 - s)) (sent p (h + 1 - s + k))
 healed_until inputs x a port s b u h zero slots bytes p comes heals high =
@@ -102,7 +102,7 @@ healed_until inputs x a port s b u h (suc k) slots bytes p comes heals high =
     ∙ append_assoc before (slice_range bytes (sent p i) (sent p (i + k))) (slice_range bytes (sent p (i + k)) (sent p (i + suc k)))
     ∙ ap (λ y. before ++ y) (joined bytes (sent p i) (sent p (i + k)) (sent p (i + suc k)) (sent_up p i (i + k) (omega arith)) (sent_up p (i + k) (i + suc k) (omega arith)))
 
-pub arrives_healed : (inputs : Inputs) (x : Connection) (a port s b u h w : ℕ) (slots : LineSlots) (bytes p : List ℕ) → x.from ≡ from_end.Line a port slots → Heals (inputs.line a) x port slots bytes p s b u h → h + 2 ≤ w → w ≤ u
+pub arrives_healed : (inputs : Inputs) (x : Connection) (a port s b u h w : ℕ) (slots : LineSlots) (bytes p : List ℕ) → x.from ≡ from_end.Line a port slots → IsCarriedAgain (inputs.line a) x port slots bytes p s b u h → h + 2 ≤ w → w ≤ u
     → arrived_by x (own_input inputs x) (w + 2 - first_turn x) ≡ arrived_by x (own_input inputs x) (h + 4 - first_turn x) ++ slice_range bytes (sent p (h + 1 - s)) (sent p (w - s - 1))
 arrives_healed inputs x a port s b u h w slots bytes p comes heals low high =
     let f = first_turn x in

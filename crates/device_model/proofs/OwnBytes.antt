@@ -16,7 +16,7 @@ use Rattle.tributary_model.proofs.PutApart.{stays_where_kept}
 use Rattle.tributary_model.proofs.Views.{slot_low, slot_high}
 use Rattle.device_model.specs.Entries.{form_out, own_turn}
 use Rattle.device_model.specs.Through.{own_input, got_by}
-use Rattle.device_model.specs.TwoWorlds.{SameInput, Run, HasFrame, HaveFrame}
+use Rattle.device_model.specs.TwoWorlds.{SameInput, FiledRun, HasFrame, HaveFrame}
 use Rattle.device_model.proofs.MadeFrames.{made_at}
 use Rattle.device_model.proofs.OpuBytes.{opu_byte_at, not_psi, psi_of_slot, of_turn}
 use Rattle.device_model.proofs.WorldInputs.{same_got, sound_of}
@@ -52,7 +52,7 @@ kept_source own m n bip put frame row column is (inr (inr o)) =
 -- ---- in a run
 
 -- frame n of the turn shows what the connection got until then
-shows_made : (run : Run) (x : Connection) (b port past n : ℕ) (slots : LineSlots) → HasFrame run x b port past n slots → IsSlotList (slots_of slots.kind) slots.list → slots_of slots.kind ≡ size_of (form_out run.plan b)
+shows_made : (run : FiledRun) (x : Connection) (b port past n : ℕ) (slots : LineSlots) → HasFrame run x b port past n slots → IsSlotList (slots_of slots.kind) slots.list → slots_of slots.kind ≡ size_of (form_out run.plan b)
     → n < size_of (form_out run.plan b)
     → ShowsOwn (tributary_of slots port) (got_by x (own_input run.inputs x) (own_turn x past + 1)) (own_turn x past) n ((size_of (form_out run.plan b) * past + n) % 256)
     (frame_at (concat run.frames) (size_of (form_out run.plan b) * past + n))
@@ -78,7 +78,7 @@ shows_made run x b port past n slots has list same l =
           ∙ ap slot_msi (is.used x port slots k has.sends o.slot.1.0);
     }
 
-shows_own : (run : Run) (x : Connection) (b port past n : ℕ) (slots : LineSlots) → HasFrame run x b port past n slots → n < slots_of slots.kind
+shows_own : (run : FiledRun) (x : Connection) (b port past n : ℕ) (slots : LineSlots) → HasFrame run x b port past n slots → n < slots_of slots.kind
     → ShowsOwn (tributary_of slots port) (got_by x (own_input run.inputs x) (own_turn x past + 1)) (own_turn x past) n ((slots_of slots.kind * past + n) % 256)
     (frame_at (concat run.frames) (slots_of slots.kind * past + n))
 shows_own run x b port past n slots has l =
@@ -91,11 +91,11 @@ shows_own run x b port past n slots has l =
 
 -- ---- in two
 
-own_there : (one other : Run) (x : Connection) (b port past n row column : ℕ) (slots : LineSlots) → HaveFrame one other x b port past n row column slots
+own_there : (one other : FiledRun) (x : Connection) (b port past n row column : ℕ) (slots : LineSlots) → HaveFrame one other x b port past n row column slots
     → IsOwn (tributary_of slots port) n ((slots_of slots.kind * past + n) % 256) row column
 own_there one other x b port past n row column slots have = search rules
 
-other_shows : (one other : Run) (x : Connection) (b port past n row column : ℕ) (slots : LineSlots) → HaveFrame one other x b port past n row column slots → got_by x (own_input one.inputs x) (own_turn x past + 1) ≡ got_by x (own_input other.inputs x) (own_turn x past + 1)
+other_shows : (one other : FiledRun) (x : Connection) (b port past n row column : ℕ) (slots : LineSlots) → HaveFrame one other x b port past n row column slots → got_by x (own_input one.inputs x) (own_turn x past + 1) ≡ got_by x (own_input other.inputs x) (own_turn x past + 1)
     → ShowsOwn (tributary_of slots port) (got_by x (own_input one.inputs x) (own_turn x past + 1)) (own_turn x past) n ((slots_of slots.kind * past + n) % 256)
     (frame_at (concat other.frames) (slots_of slots.kind * past + n))
 other_shows one other x b port past n row column slots have same =
@@ -104,7 +104,7 @@ other_shows one other x b port past n row column slots have same =
     (sym same)
     (shows_own other x b port past n slots have.second have.frame)
 
-pub sends_as_got : (one other : Run) (x : Connection) (b port past n row column : ℕ) (slots : LineSlots) → HaveFrame one other x b port past n row column slots → got_by x (own_input one.inputs x) (own_turn x past + 1) ≡ got_by x (own_input other.inputs x) (own_turn x past + 1)
+pub sends_as_got : (one other : FiledRun) (x : Connection) (b port past n row column : ℕ) (slots : LineSlots) → HaveFrame one other x b port past n row column slots → got_by x (own_input one.inputs x) (own_turn x past + 1) ≡ got_by x (own_input other.inputs x) (own_turn x past + 1)
     → byte_at (frame_at (concat one.frames) (slots_of slots.kind * past + n)) row column ≡ byte_at (frame_at (concat other.frames) (slots_of slots.kind * past + n)) row column
 sends_as_got one other x b port past n row column slots have same =
     let f = slots_of slots.kind * past + n in
@@ -127,7 +127,7 @@ masked_byte true one other place h k same =
     let there = index_masked 0 place other k in
     cc
 
-pub writes_as_got : (one other : Run) (x : Connection) (b port past n row column : ℕ) (slots : LineSlots) → HaveFrame one other x b port past n row column slots → got_by x (own_input one.inputs x) (own_turn x past + 1) ≡ got_by x (own_input other.inputs x) (own_turn x past + 1)
+pub writes_as_got : (one other : FiledRun) (x : Connection) (b port past n row column : ℕ) (slots : LineSlots) → HaveFrame one other x b port past n row column slots → got_by x (own_input one.inputs x) (own_turn x past + 1) ≡ got_by x (own_input other.inputs x) (own_turn x past + 1)
     → (form_out one.plan b).scrambled ≡ (form_out other.plan b).scrambled
     → byte_at (frame_at (through_mask (form_out one.plan b).scrambled (concat one.frames)) (slots_of slots.kind * past + n)) row column
     ≡ byte_at (frame_at (through_mask (form_out other.plan b).scrambled (concat other.frames)) (slots_of slots.kind * past + n)) row column
@@ -149,12 +149,12 @@ writes_as_got one other x b port past n row column slots have same mask =
 
 -- ---- where the own input shows the same
 
-pub sends_the_same : (one other : Run) (x : Connection) (b port past n row column : ℕ) (slots : LineSlots) → HaveFrame one other x b port past n row column slots → SameInput (own_input one.inputs x) (own_input other.inputs x)
+pub sends_the_same : (one other : FiledRun) (x : Connection) (b port past n row column : ℕ) (slots : LineSlots) → HaveFrame one other x b port past n row column slots → SameInput (own_input one.inputs x) (own_input other.inputs x)
     → byte_at (frame_at (concat one.frames) (slots_of slots.kind * past + n)) row column ≡ byte_at (frame_at (concat other.frames) (slots_of slots.kind * past + n)) row column
 sends_the_same one other x b port past n row column slots have same =
     sends_as_got one other x b port past n row column slots have (same_got x (own_input one.inputs x) (own_input other.inputs x) (own_turn x past + 1) same)
 
-pub writes_the_same : (one other : Run) (x : Connection) (b port past n row column : ℕ) (slots : LineSlots) → HaveFrame one other x b port past n row column slots → SameInput (own_input one.inputs x) (own_input other.inputs x)
+pub writes_the_same : (one other : FiledRun) (x : Connection) (b port past n row column : ℕ) (slots : LineSlots) → HaveFrame one other x b port past n row column slots → SameInput (own_input one.inputs x) (own_input other.inputs x)
     → (form_out one.plan b).scrambled ≡ (form_out other.plan b).scrambled
     → byte_at (frame_at (through_mask (form_out one.plan b).scrambled (concat one.frames)) (slots_of slots.kind * past + n)) row column
     ≡ byte_at (frame_at (through_mask (form_out other.plan b).scrambled (concat other.frames)) (slots_of slots.kind * past + n)) row column

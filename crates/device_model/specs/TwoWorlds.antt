@@ -1,4 +1,4 @@
--- Two worlds: two runs that have one connection, whose own input shows the same in both. What leaves on it is the same, whatever else differs:
+-- Two worlds: two runs that share a connection, whose own input shows the same in both. What leaves on it is the same, whatever else differs:
 -- other connections and their bytes, other slots of its line, lengths, and how many turns there are.
 use Rattle.std.specs.Prelude.{◌≡◌, ℕ, ◌+◌, ◌*◌, ◌%◌, ◌<◌, List, None, ⊤}
 use Rattle.std.specs.List.{concat, Contains}
@@ -70,14 +70,14 @@ ReportsTheSame = (x : Connection) (one other : OwnInput) (turns : ℕ) → SameI
 -- ---- what a line file has of it
 
 -- a run: its plan, what its inputs gave, and the first frames of the file of one of its output lines
-pub record Run : Type 0 where
+pub record FiledRun : Type 0 where
   pub plan : Plan
   pub inputs : Inputs
   pub frames : List (List ℕ)
 
 -- The plan is accepted, and the connection goes in turn past + 1 to these slots of line b, with this tributary port. The frames are so many of
 -- that line's file, and frame n, from 0, of the turn is one of them.
-pub record HasFrame (run : Run) (x : Connection) (b port past n : ℕ) (slots : LineSlots) : Type 0 where
+pub record HasFrame (run : FiledRun) (x : Connection) (b port past n : ℕ) (slots : LineSlots) : Type 0 where
   pub accepted : fault_in run.plan ≡ None
   pub sends : IsSentOn run.plan b past x port slots
   pub count : ℕ
@@ -85,14 +85,14 @@ pub record HasFrame (run : Run) (x : Connection) (b port past n : ℕ) (slots : 
   pub made : size_of (form_out run.plan b) * past + n < count
 
 -- Two such runs, and a frame n of the multiframe, in which this is an own place by the MFAS that the frame has there.
-pub record HaveFrame (one other : Run) (x : Connection) (b port past n row column : ℕ) (slots : LineSlots) : Type 0 where
+pub record HaveFrame (one other : FiledRun) (x : Connection) (b port past n row column : ℕ) (slots : LineSlots) : Type 0 where
   pub first : HasFrame one x b port past n slots
   pub second : HasFrame other x b port past n slots
   pub frame : n < slots_of slots.kind
   pub own : IsOwn (tributary_of slots port) n ((slots_of slots.kind * past + n) % 256) row column
 
 -- the file of line b, as it is written
-abbrev pub written : Run → (b : ℕ) → List ℕ
+abbrev pub written : FiledRun → (b : ℕ) → List ℕ
 written run b = through_mask (form_out run.plan b).scrambled (concat run.frames)
 
 -- the same byte in a row and a column of frame f of both
@@ -101,13 +101,13 @@ HaveSameByte one other f row column = byte_at (frame_at one f) row column ≡ by
 
 -- Where the own input shows the same, the frames have the same byte at each own place, before the mask.
 abbrev pub SendsTheSame : Type 0
-SendsTheSame = (one other : Run) (x : Connection) (b port past n row column : ℕ) (slots : LineSlots)
+SendsTheSame = (one other : FiledRun) (x : Connection) (b port past n row column : ℕ) (slots : LineSlots)
     → HaveFrame one other x b port past n row column slots → SameInput (own_input one.inputs x) (own_input other.inputs x)
     → HaveSameByte (concat one.frames) (concat other.frames) (slots_of slots.kind * past + n) row column
 
 -- So have the files themselves, where both lines are scrambled, or neither is.
 abbrev pub WritesTheSame : Type 0
-WritesTheSame = (one other : Run) (x : Connection) (b port past n row column : ℕ) (slots : LineSlots)
+WritesTheSame = (one other : FiledRun) (x : Connection) (b port past n row column : ℕ) (slots : LineSlots)
     → HaveFrame one other x b port past n row column slots → SameInput (own_input one.inputs x) (own_input other.inputs x)
     → (form_out one.plan b).scrambled ≡ (form_out other.plan b).scrambled
     → HaveSameByte (written one b) (written other b) (slots_of slots.kind * past + n) row column
@@ -116,7 +116,7 @@ WritesTheSame = (one other : Run) (x : Connection) (b port past n row column : �
 
 -- What leaves on the connection is the same in both runs: at each moment the text that is due to its client; in runs of as many turns its line of
 -- the report; in each frame that both have of its turns, its own places, and these as they are written where both lines are scrambled, or neither is.
-pub record IsSameInBoth (one other : Run) (x : Connection) : Type 0 where
+pub record IsSameInBoth (one other : FiledRun) (x : Connection) : Type 0 where
   pub due : (past pieces : ℕ) → client_due x (own_input one.inputs x) past pieces ≡ client_due x (own_input other.inputs x) past pieces
   pub report : (turns : ℕ) → last_state turns x (own_input one.inputs x) ≡ last_state turns x (own_input other.inputs x)
   pub places : (b port past n row column : ℕ) (slots : LineSlots) → HaveFrame one other x b port past n row column slots
@@ -124,12 +124,12 @@ pub record IsSameInBoth (one other : Run) (x : Connection) : Type 0 where
   pub file : (b port past n row column : ℕ) (slots : LineSlots) → HaveFrame one other x b port past n row column slots
       → (form_out one.plan b).scrambled ≡ (form_out other.plan b).scrambled → HaveSameByte (written one b) (written other b) (slots_of slots.kind * past + n) row column
 
--- Two runs whose plans are accepted and have one connection, and whose inputs agree on what it comes from.
-pub record ShareIt (one other : Run) (x : Connection) : Type 0 where
+-- Two runs whose plans are accepted and share a connection, and whose inputs agree on what it comes from.
+pub record ShareIt (one other : FiledRun) (x : Connection) : Type 0 where
   pub first : (fault_in one.plan ≡ None) × Contains one.plan.connections x
   pub second : (fault_in other.plan ≡ None) × Contains other.plan.connections x
   pub agree : AgreeOnEnd x.from one.inputs other.inputs
 
 -- Then what leaves on it is the same in both.
 abbrev pub IsSameWhereShared : Type 0
-IsSameWhereShared = (one other : Run) (x : Connection) → ShareIt one other x → IsSameInBoth one other x
+IsSameWhereShared = (one other : FiledRun) (x : Connection) → ShareIt one other x → IsSameInBoth one other x

@@ -4,7 +4,7 @@ ghost use Rattle.device_model.specs.HeldBack.{CatchesUp, EmitsAFront, HoldsBackL
 ghost use Rattle.device_model.specs.OneDamaged.{LeavesAsIfRepeated};
 
 /// Healing, whatever its line showed before: once it carries a client's bytes to a connection in steady numbers, and a
-/// turn says its number without a former one while no slot is marked, from the third turn after it on the connection's
+/// turn says its number without a former one while no slot is marked, from the fourth turn after it on the connection's
 /// to end gets exactly these bytes, each turn's three turns later. The file of a line to which it goes carries
 /// all that it gets, these bytes among it.
 pub fn healing()

@@ -1,6 +1,6 @@
 -- What is proved of a line's bytes.
 use Rattle.std.specs.Prelude.{◌≡◌, ◌<◌, ◌≤◌, ◌+◌, ◌*◌, ℕ, Bool, List, [], length, take, slice_get, slice_index, bit_xor, Some}
-use Rattle.otn_ports.specs.Given.{IsGiven}
+use Rattle.otn_ports.specs.Given.{HadToGive}
 use Rattle.otn_ports.specs.Views.{InView}
 use Rattle.multiframe.specs.LineTurns.{wanted_so_far, took}
 use Rattle.otn_base.specs.declared.limits.TheConstants.{LINE_COLUMNS, LINE_FRAME_BYTES}
@@ -16,7 +16,7 @@ use Rattle.line_side.specs.MayBe.{MayBe}
 -- What a place that tells its bytes gave in the whole run is, through the mask, among what the line may have.
 abbrev pub GivenIsAmong : Type 0
 GivenIsAmong = (form : LineForm) (first now : InView) (taken file : List ℕ) (t : ℕ) (line : LineView)
-    → LineStands form first now taken t line → IsGiven first now file → MayBe form.scrambled line.reader.ending taken (through_mask form.scrambled file)
+    → LineStands form first now taken t line → HadToGive first now file → MayBe form.scrambled line.reader.ending taken (through_mask form.scrambled file)
 
 -- So many bytes were taken as the turns and pieces so far want: the frames, or all where they want one that is not whole.
 abbrev pub TakesTheWanted : Type 0

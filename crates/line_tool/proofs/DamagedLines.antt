@@ -4,7 +4,7 @@ use Rattle.std.specs.List.{Contains}
 use Rattle.otn_base.specs.LineSlots.{LineSlots}
 use Rattle.plan_file.specs.declared.connection.Connection.{Connection}
 use Rattle.plan_file.specs.declared.connection.FromEnd.TheVariants as from_end
-use Rattle.device_model.specs.Healing.{Heals}
+use Rattle.device_model.specs.Healing.{IsCarriedAgain}
 use Rattle.node_core.specs.RunsAlike.{LeftAlike}
 use Rattle.node_core.specs.RunsDamaged.{HealsIn, Follows, HandsOnAFront, ShareButForOne}
 use Rattle.node_core.proofs.RunsDamaged.{runs_heal, hands_on_a_front, agree_but_for_one}
@@ -12,7 +12,7 @@ use Rattle.line_tool.specs.Headline.{Call, HasCarried, world_of, went_of}
 use Rattle.line_tool.proofs.RunCalls.{is_world}
 
 pub healed : (call : Call) (x : Connection) (a from s b u h : ℕ) (slots : LineSlots) (bytes p : List ℕ) (has : HasCarried call) → Contains call.plan.connections x → x.from ≡ from_end.Line a from slots
-    → Heals (call.inputs.line a) x from slots bytes p s b u h → HealsIn (world_of call has) (went_of call has) x bytes p s u h
+    → IsCarriedAgain (call.inputs.line a) x from slots bytes p s b u h → HealsIn (world_of call has) (went_of call has) x bytes p s u h
 unfolding is_world
 healed call x a from s b u h slots bytes p has of comes heals = runs_heal (world_of call has) x a from s b u h slots bytes p (is_world call has) of comes heals
 

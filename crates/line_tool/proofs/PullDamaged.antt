@@ -11,7 +11,7 @@ use Rattle.tributary_model.specs.Damage.{NeverThree, emissions}
 use Rattle.tributary_model.proofs.OneDamaged.{as_if_repeated}
 use Rattle.device_model.specs.LineViews.{view_at, views_until, emitted_at}
 use Rattle.line_tool.specs.PullReport.{tributary, turns_of, pull_report}
-use Rattle.line_tool.specs.PullDamaged.{DifferInOneMessage, WritesAsIfRepeated}
+use Rattle.line_tool.specs.PullDamaged.{LinesDifferInOneMessage, WritesAsIfRepeated}
 use Rattle.line_tool.proofs.PullWorlds.{same_flat}
 
 views_next : (own : Tributary) (given : List ℕ) (n : ℕ) → views_until own given (suc n) ≡ view_at own given n ∷ views_until own given n
@@ -23,7 +23,7 @@ unfolding emitted_at
 emitted_of own given t = refl
 
 -- the turns before are the same
-same_before : (own : Tributary) (one other : List ℕ) (i n : ℕ) → DifferInOneMessage own one other i → n ≤ i → views_until own one n ≡ views_until own other n
+same_before : (own : Tributary) (one other : List ℕ) (i n : ℕ) → LinesDifferInOneMessage own one other i → n ≤ i → views_until own one n ≡ views_until own other n
 unfolding views_until
 same_before own one other i zero d h = refl
 same_before own one other i (suc n) d h =
@@ -34,7 +34,7 @@ behind : Tributary → List ℕ → (i k : ℕ) → List (Option View)
 behind own given i zero = []
 behind own given i (suc k) = view_at own given (i + suc k) ∷ behind own given i k
 
-same_behind : (own : Tributary) (one other : List ℕ) (i k : ℕ) → DifferInOneMessage own one other i → behind own one i k ≡ behind own other i k
+same_behind : (own : Tributary) (one other : List ℕ) (i k : ℕ) → LinesDifferInOneMessage own one other i → behind own one i k ≡ behind own other i k
 unfolding behind
 same_behind own one other i zero d = refl
 same_behind own one other i (suc k) d =
@@ -49,10 +49,10 @@ split_at own given i (suc k) =
     ∙ ap (λ past. view_at own given (i + suc k) ∷ past) (split_at own given i k)
 
 -- all turns of the two lines up to turn i + 1 + k
-first_list : (own : Tributary) (one other : List ℕ) (i k : ℕ) → (d : DifferInOneMessage own one other i) → views_until own one (i + suc k) ≡ behind own one i k ++ (Some d.view ∷ views_until own one i)
+first_list : (own : Tributary) (one other : List ℕ) (i k : ℕ) → (d : LinesDifferInOneMessage own one other i) → views_until own one (i + suc k) ≡ behind own one i k ++ (Some d.view ∷ views_until own one i)
 first_list own one other i k d = split_at own one i k ∙ ap (λ v. behind own one i k ++ (v ∷ views_until own one i)) d.here
 
-second_list : (own : Tributary) (one other : List ℕ) (i k : ℕ) → (d : DifferInOneMessage own one other i)
+second_list : (own : Tributary) (one other : List ℕ) (i k : ℕ) → (d : LinesDifferInOneMessage own one other i)
     → views_until own other (i + suc k) ≡ behind own one i k ++ (Some (record d.view { message = d.said }) ∷ views_until own one i)
 second_list own one other i k d =
     split_at own other i k
@@ -68,7 +68,7 @@ last_emission (last ∷ before) = last
 emissions_next : (own : Tributary) (given : List ℕ) (t : ℕ) → last_emission (emissions own (signal_byte Ais) (views_until own given (suc t))) ≡ emitted_at own given t
 emissions_next own given t = ap (λ past. last_emission (emissions own (signal_byte Ais) past)) (views_next own given t) ∙ sym (emitted_of own given t)
 
-same_late : (own : Tributary) (one other : List ℕ) (i k : ℕ) → DifferInOneMessage own one other i → emitted_at own one (i + k) ≡ emitted_at own other (i + k)
+same_late : (own : Tributary) (one other : List ℕ) (i k : ℕ) → LinesDifferInOneMessage own one other i → emitted_at own one (i + k) ≡ emitted_at own other (i + k)
 same_late own one other i k d =
     let first = first_list own one other i k d in
     let second = second_list own one other i k d in
@@ -83,21 +83,21 @@ same_late own one other i k d =
     ∙ ap (λ n. last_emission (emissions own (signal_byte Ais) (views_until own other n))) (sym next)
     ∙ emissions_next own other (i + k)
 
-same_early : (own : Tributary) (one other : List ℕ) (i t : ℕ) → DifferInOneMessage own one other i → t < i → emitted_at own one t ≡ emitted_at own other t
+same_early : (own : Tributary) (one other : List ℕ) (i t : ℕ) → LinesDifferInOneMessage own one other i → t < i → emitted_at own one t ≡ emitted_at own other t
 same_early own one other i t d h =
     emitted_of own one t
     ∙ ap (λ past. emission own (signal_byte Ais) past (view_at own one t)) (same_before own one other i t d (omega arith))
     ∙ ap (emission own (signal_byte Ais) (views_until own other t)) (d.views t (λ e. omega arith))
     ∙ sym (emitted_of own other t)
 
-same_all : (own : Tributary) (one other : List ℕ) (i t : ℕ) → DifferInOneMessage own one other i → emitted_at own one t ≡ emitted_at own other t
+same_all : (own : Tributary) (one other : List ℕ) (i t : ℕ) → LinesDifferInOneMessage own one other i → emitted_at own one t ≡ emitted_at own other t
 same_all own one other i t d = go (cases_lt t i)
   where
     go : (t < i) ⊎ (i ≤ t) → emitted_at own one t ≡ emitted_at own other t
     go (inl h) = same_early own one other i t d h
     go (inr h) = subst (λ n. emitted_at own one n ≡ emitted_at own other n) (let e : i + (t - i) ≡ t = omega arith in e) (same_late own one other i (t - i) d)
 
-written_same : (own : Tributary) (one other : List ℕ) (i : ℕ) → DifferInOneMessage own one other i → pull_report own one ≡ pull_report own other
+written_same : (own : Tributary) (one other : List ℕ) (i : ℕ) → LinesDifferInOneMessage own one other i → pull_report own one ≡ pull_report own other
 unfolding pull_report
 written_same own one other i d =
     same_flat (emitted_at own one) (emitted_at own other) (turns_of (mfas_of one)) (λ t. same_all own one other i t d)

@@ -20,7 +20,8 @@ use Rattle.line_tool.specs.Ends.{ReportAfter}
 use Rattle.line_tool.specs.Gains.{GainsPart}
 use Rattle.device_model.specs.LineViews.{emitted_at}
 use Rattle.line_tool.specs.PullReport.{emitted_until, pull_report, frames_wanted, bytes_taken, LeavesBytes}
-use Rattle.line_tool.specs.PullRuns.{MayFollow, PullEnded, TurnRun, AnswerRun}
+use Rattle.line_tool.specs.PullRuns.{PullEnded, TurnRun, AnswerRun}
+use Rattle.line_tool.specs.PullReport.{MayFollow}
 use Rattle.line_tool.specs.PullTurn.{TapStands}
 use Rattle.line_tool.specs.declared.pull.After.{After}
 use Rattle.line_tool.specs.declared.pull.After.TheVariants as next

@@ -1,7 +1,7 @@
 -- The answers of `pull`, and what it wrote, by what its line gave.
 use Rattle.std.proofs.Common.{◌≡◌, ◌≢◌, ◌<◌, ◌-◌, ◌%◌, ◌^◌, ◌∙◌, ◌⊎◌, ◌↔◌, ℕ, Bool, true, false, List, [], ◌++◌, Option, Some, IfSome, Ok, length, sym, ap, subst, inl, inr, refl, arith, append-nil}
 use Rattle.otn_ports.proofs.GivenLaws.{Beyond, given_of_gave, taken_counted}
-use Rattle.otn_ports.specs.Given.{Gave, IsGiven}
+use Rattle.otn_ports.specs.Given.{Gave, HadToGive}
 use Rattle.otn_ports.specs.Reads.{HasEnded}
 use Rattle.otn_ports.specs.Views.{State, Empty, Live, Dead, InView}
 use Rattle.tributary_model.specs.Places.{Tributary}
@@ -9,7 +9,8 @@ use Rattle.line_tool.specs.Answers.{LineAnswers, PullRan}
 use Rattle.line_tool.specs.Device.{Device, line_zero}
 use Rattle.line_tool.specs.Ends.{line_status}
 use Rattle.line_tool.specs.PullReport.{LeavesBytes, bytes_taken, pull_report}
-use Rattle.line_tool.specs.PullRuns.{MayFollow, PullEnded, StoppedInTurn}
+use Rattle.line_tool.specs.PullRuns.{PullEnded}
+use Rattle.line_tool.specs.PullReport.{MayFollow, StoppedInTurn}
 use Rattle.line_tool.specs.AnswerWords.{IsWell, Reports}
 use Rattle.line_tool.specs.declared.ended.Ended.{Ended}
 use Rattle.line_tool.specs.declared.ended.Ended.TheVariants.{Done, Unfinished, ReportFault, Cut}
@@ -43,7 +44,7 @@ nothing_more more taken rest over follow =
 
 -- what Given has of a run of `pull`
 followed : (own : Tributary) (old new : Device) (answer : Status) (given : List ℕ) (h : PullRan own old new answer)
-    → IsGiven (line_zero old) (line_zero new) given → Followed h.more h.taken given
+    → HadToGive (line_zero old) (line_zero new) given → Followed h.more h.taken given
 followed own old new answer given h is =
     let b = given_of_gave (line_zero old) (line_zero new) h.taken given h.gave is in
     record { rest = b.rest; parts = b.parts; follows = beyond_follows h.more h.taken given (line_zero new).state (line_zero new).left (line_zero new).ended h.over b }
@@ -104,14 +105,14 @@ pull_ran ReportFault own old new h = record {
 
 -- what is written
 pub pull_reports : (own : Tributary) (old new : Device) (answer : Status) (given : List ℕ) → PullRan own old new answer
-    → IsGiven (line_zero old) (line_zero new) given → Reports answer old.report.got new.report.got (pull_report own given)
+    → HadToGive (line_zero old) (line_zero new) given → Reports answer old.report.got new.report.got (pull_report own given)
 pull_reports own old new answer given h is =
     let f = followed own old new answer given h is in
     subst (λ xs. Reports answer old.report.got new.report.got (pull_report own xs)) (sym f.parts) (h.wrote f.rest f.follows)
 
 -- Unfinished comes just where the line is not dead and bytes stand after the frames that are used
 pub pull_unfinished : (own : Tributary) (old new : Device) (answer : Status) (given : List ℕ) → PullRan own old new answer → answer ≢ status.ReportFault
-    → IsGiven (line_zero old) (line_zero new) given → (answer ≡ status.Unfinished) ↔ (((line_zero new).state ≢ Dead) × LeavesBytes given)
+    → HadToGive (line_zero old) (line_zero new) given → (answer ≡ status.Unfinished) ↔ (((line_zero new).state ≢ Dead) × LeavesBytes given)
 pull_unfinished own old new answer given h other is =
     let f = followed own old new answer given h is in
     subst (λ xs. (answer ≡ status.Unfinished) ↔ (((line_zero new).state ≢ Dead) × LeavesBytes xs)) (sym f.parts) (h.unfinished other f.rest f.follows)
@@ -131,13 +132,13 @@ pull_counted own old new answer h other below =
 
 -- how many bytes were taken, by Given
 pub pull_took : (own : Tributary) (old new : Device) (answer : Status) (given : List ℕ) → PullRan own old new answer → answer ≢ status.ReportFault
-    → IsGiven (line_zero old) (line_zero new) given → (line_zero new).number < 2 ^ 64 - 1 → (line_zero new).number - (line_zero old).number ≡ bytes_taken given
+    → HadToGive (line_zero old) (line_zero new) given → (line_zero new).number < 2 ^ 64 - 1 → (line_zero new).number - (line_zero old).number ≡ bytes_taken given
 pull_took own old new answer given h other is below =
     let f = followed own old new answer given h is in
     taken_by_number (line_zero old) (line_zero new) h.taken h.gave below ∙ h.took other f.rest f.follows ∙ ap (λ xs. bytes_taken xs) (sym f.parts)
 
 -- how it stopped, by Given
-pub pull_stopped : (own : Tributary) (old new : Device) (given : List ℕ) → PullRan own old new status.ReportFault → IsGiven (line_zero old) (line_zero new) given
+pub pull_stopped : (own : Tributary) (old new : Device) (given : List ℕ) → PullRan own old new status.ReportFault → HadToGive (line_zero old) (line_zero new) given
     → (line_zero new).number < 2 ^ 64 - 1
     → (t : ℕ) × StoppedInTurn own given ((line_zero new).number - (line_zero old).number) t old.report.got new.report.got
 pull_stopped own old new given h is below =

@@ -10,7 +10,8 @@ use Rattle.line_side.specs.LineFile.{frame_at}
 use Rattle.otn_ports.specs.PortViews.{SinkView}
 use Rattle.line_tool.specs.Ends.{ReportAfter}
 use Rattle.line_tool.specs.SlotReport.{slot_bytes, slot_bytes_until, slot_report, whole_frames_used}
-use Rattle.line_tool.specs.SlotRuns.{SlotEnded, SlotStep, StoppedInFrame}
+use Rattle.line_tool.specs.SlotRuns.{SlotEnded, SlotStep}
+use Rattle.line_tool.specs.SlotReport.{StoppedInFrame}
 use Rattle.line_tool.specs.Gains.{GainsPart}
 use Rattle.line_tool.specs.Beyond.{ByteRun}
 use Rattle.line_tool.specs.declared.ended.Ended.{Ended}

@@ -3,16 +3,18 @@ use Rattle.std.proofs.Common.{◌≡◌, ◌≢◌, ◌<◌, ◌≤◌, ◌+◌,
 use Rattle.std.proofs.lemmas.List.{take-append-le}
 use Rattle.otn_ports.proofs.GivenLaws.{Beyond, given_of_gave}
 use Rattle.otn_ports.specs.Bytes.{after, raised}
-use Rattle.otn_ports.specs.Given.{IsGiven}
+use Rattle.otn_ports.specs.Given.{HadToGive}
 use Rattle.otn_ports.specs.Reads.{HasEnded}
 use Rattle.otn_ports.specs.Views.{State, Empty, Live, Dead, InView}
 use Rattle.line_tool.specs.Answers.{LineAnswers, SlotRan}
 use Rattle.line_tool.specs.Device.{Device, line_zero}
 use Rattle.line_tool.specs.Ends.{line_status}
-use Rattle.line_tool.specs.AnswerWords.{Reports, HasRest, IsWell}
+use Rattle.line_tool.specs.AnswerWords.{Reports, IsWell}
+use Rattle.line_tool.specs.SlotReport.{HasBytesBehind}
 use Rattle.line_side.specs.LineFile.{frame_at}
 use Rattle.line_tool.specs.SlotReport.{slot_bytes, slot_bytes_until, slot_report, whole_frames_used}
-use Rattle.line_tool.specs.SlotRuns.{SlotEnded, StoppedInFrame}
+use Rattle.line_tool.specs.SlotRuns.{SlotEnded}
+use Rattle.line_tool.specs.SlotReport.{StoppedInFrame}
 use Rattle.line_tool.specs.Gains.{GainsPart}
 use Rattle.line_tool.specs.declared.ended.Ended.{Ended}
 use Rattle.line_tool.specs.declared.ended.Ended.TheVariants.{Done, Unfinished, ReportFault, Cut}
@@ -167,7 +169,7 @@ all_or_most slot old new answer given h other b = by_life (is_dead (line_zero ne
 
 -- what is written
 pub slot_reports : (slot : ℕ) (old new : Device) (answer : Status) (given : List ℕ) → SlotRan slot old new answer
-    → IsGiven (line_zero old) (line_zero new) given → Reports answer old.report.got new.report.got (slot_report slot given)
+    → HadToGive (line_zero old) (line_zero new) given → Reports answer old.report.got new.report.got (slot_report slot given)
 slot_reports slot old new answer given h is = by_answer (is_report_fault answer)
   where
     b : Beyond h.taken given (line_zero new).state (line_zero new).left
@@ -190,7 +192,7 @@ counted : (old new n : ℕ) → new ≡ raised old n → new < 2 ^ 64 - 1 → ne
 counted old new n e below = omega arith
 
 -- how it stopped
-pub slot_stopped : (slot : ℕ) (old new : Device) (given : List ℕ) → SlotRan slot old new status.ReportFault → IsGiven (line_zero old) (line_zero new) given
+pub slot_stopped : (slot : ℕ) (old new : Device) (given : List ℕ) → SlotRan slot old new status.ReportFault → HadToGive (line_zero old) (line_zero new) given
     → (line_zero new).number < 2 ^ 64 - 1 → StoppedInFrame slot given ((line_zero new).number - (line_zero old).number) old.report.got new.report.got
 slot_stopped slot old new given h is below =
     let b = given_of_gave (line_zero old) (line_zero new) h.taken given h.gave is in
@@ -207,8 +209,8 @@ slot_stopped slot old new given h is below =
     })
 
 -- bytes stand behind the whole frames that are used, of what was taken just where of what was given
-same_rest : (taken given : List ℕ) (rest : List ℕ) → given ≡ taken ++ rest → IsAllOrMost taken given → HasRest (length taken) ↔ HasRest (length given)
-same_rest taken given rest parts (inl all) = (subst (λ xs. HasRest (length xs)) (sym all), subst (λ xs. HasRest (length xs)) all)
+same_rest : (taken given : List ℕ) (rest : List ℕ) → given ≡ taken ++ rest → IsAllOrMost taken given → HasBytesBehind (length taken) ↔ HasBytesBehind (length given)
+same_rest taken given rest parts (inl all) = (subst (λ xs. HasBytesBehind (length xs)) (sym all), subst (λ xs. HasBytesBehind (length xs)) all)
 same_rest taken given rest parts (inr many) =
     let size : length given ≡ length taken + length rest = ap length parts ∙ length-append taken rest in
     let most : whole_frames_used (length given) ≡ 131072 = used-most (length given) (omega (arith, size, many)) in
@@ -216,7 +218,7 @@ same_rest taken given rest parts (inr many) =
     (λ _. omega (arith, size, many, most), λ _. omega (arith, many, here))
 
 pub slot_unfinished : (slot : ℕ) (old new : Device) (answer : Status) (given : List ℕ) → SlotRan slot old new answer → answer ≢ status.ReportFault
-    → IsGiven (line_zero old) (line_zero new) given → (answer ≡ status.Unfinished) ↔ (((line_zero new).state ≢ Dead) × HasRest (length given))
+    → HadToGive (line_zero old) (line_zero new) given → (answer ≡ status.Unfinished) ↔ (((line_zero new).state ≢ Dead) × HasBytesBehind (length given))
 slot_unfinished slot old new answer given h other is =
     let b = given_of_gave (line_zero old) (line_zero new) h.taken given h.gave is in
     let same = same_rest h.taken given b.rest b.parts (all_or_most slot old new answer given h other b) in
@@ -225,10 +227,10 @@ slot_unfinished slot old new answer given h other is =
 
 pub slot_counted : (slot : ℕ) (old new : Device) (answer : Status) → SlotRan slot old new answer → answer ≢ status.ReportFault
     → (line_zero new).number < 2 ^ 64 - 1
-    → (answer ≡ status.Unfinished) ↔ (((line_zero new).state ≢ Dead) × HasRest ((line_zero new).number - (line_zero old).number))
+    → (answer ≡ status.Unfinished) ↔ (((line_zero new).state ≢ Dead) × HasBytesBehind ((line_zero new).number - (line_zero old).number))
 slot_counted slot old new answer h other below =
     let n = counted (line_zero old).number (line_zero new).number (length h.taken) h.gave.takes.number below in
-    subst (λ k. (answer ≡ status.Unfinished) ↔ (((line_zero new).state ≢ Dead) × HasRest k)) (sym n) (h.unfinished other)
+    subst (λ k. (answer ≡ status.Unfinished) ↔ (((line_zero new).state ≢ Dead) × HasBytesBehind k)) (sym n) (h.unfinished other)
 
 -- as many as there are, but of the most frames and one byte more at most
 least_of : (taken given rest : List ℕ) → given ≡ taken ++ rest → length taken ≤ 131072 * 16320 + 1 → IsAllOrMost taken given
@@ -237,7 +239,7 @@ least_of taken given rest parts few (inl all) = omega (arith, ap length all, few
 least_of taken given rest parts few (inr many) = omega (arith, ap length parts ∙ length-append taken rest, many)
 
 pub slot_took : (slot : ℕ) (old new : Device) (answer : Status) (given : List ℕ) → SlotRan slot old new answer → answer ≢ status.ReportFault
-    → IsGiven (line_zero old) (line_zero new) given → (line_zero new).number < 2 ^ 64 - 1
+    → HadToGive (line_zero old) (line_zero new) given → (line_zero new).number < 2 ^ 64 - 1
     → (line_zero new).number - (line_zero old).number ≡ min (length given) (131072 * 16320 + 1)
 slot_took slot old new answer given h other is below =
     let b = given_of_gave (line_zero old) (line_zero new) h.taken given h.gave is in

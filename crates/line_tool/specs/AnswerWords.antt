@@ -1,8 +1,6 @@
--- Words that the records of all commands share: what a report gained, which answers a line has and which refuse, and faults.
-use Rattle.std.specs.Prelude.{◌≡◌, ◌≢◌, ◌<◌, ◌*◌, ℕ, List, Option}
-use Rattle.otn_base.specs.declared.limits.TheConstants.{LINE_FRAME_BYTES}
+-- What the records of the commands share: what a report gained, which answers a line has and which refuse, and faults.
+use Rattle.std.specs.Prelude.{◌≡◌, ◌≢◌, ℕ, List, Option}
 use Rattle.otn_ports.specs.Bytes.{after, HasFailed}
-use Rattle.line_tool.specs.SlotReport.{whole_frames_used}
 use Rattle.line_tool.specs.Gains.{GainsPart}
 use Rattle.line_tool.specs.declared.status.Status.{Status}
 use Rattle.line_tool.specs.declared.status.Status.TheVariants.{Done, Unfinished, Words, Plan, PlanFault, ReportFault, Cut, Memory}
@@ -33,10 +31,6 @@ IsRefusal ReportFault = ⊥
 IsRefusal Cut = ⊥
 IsRefusal Unfinished = ⊥
 IsRefusal Done = ⊥
-
--- so many bytes are more than the whole frames among them that are used
-abbrev pub HasRest : (bytes : ℕ) → Type 0
-HasRest bytes = whole_frames_used bytes * LINE_FRAME_BYTES < bytes
 
 -- a count of faults did not rise, and does not stand at its end
 abbrev pub IsWell : (old new : ℕ) → Type 0

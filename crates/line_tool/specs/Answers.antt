@@ -8,11 +8,12 @@ use Rattle.tributary_model.specs.Places.{Tributary}
 use Rattle.line_tool.specs.Device.{Device, OnlyLine, line_zero}
 use Rattle.line_tool.specs.PlanCheck.{CheckRun}
 use Rattle.line_tool.specs.PullReport.{LeavesBytes, bytes_taken, pull_report, tributary}
-use Rattle.line_tool.specs.PullRuns.{MayFollow, StoppedInTurn}
+use Rattle.line_tool.specs.PullReport.{MayFollow, StoppedInTurn}
 use Rattle.line_tool.specs.RunAnswers.{RunAnswers}
-use Rattle.line_tool.specs.AnswerWords.{CountsBy, Reports, HasRest, IsLineAnswer}
+use Rattle.line_tool.specs.AnswerWords.{CountsBy, Reports, IsLineAnswer}
+use Rattle.line_tool.specs.SlotReport.{HasBytesBehind}
 use Rattle.line_tool.specs.SlotReport.{slot_report, most_taken}
-use Rattle.line_tool.specs.SlotRuns.{StoppedInFrame}
+use Rattle.line_tool.specs.SlotReport.{StoppedInFrame}
 use Rattle.line_tool.specs.TrialAnswers.{TrialAnswers}
 use Rattle.line_tool.specs.declared.status.Status.{Status}
 use Rattle.line_tool.specs.declared.status.Status.TheVariants.{Unfinished, ReportFault, Cut, Memory}
@@ -27,7 +28,7 @@ pub record LineAnswers (Ran : (old new : Device) → Status → Type 0) (old new
   -- failed was tried again and then went well
   pub counts : CountsBy ReportFault status old.report.faults new.report.faults
   pub memory : status ≡ Memory → new ≡ old
-  -- no other place has changed
+  -- no other place has changed: of the views; `refused` and `alone` of `run` say it of the values
   pub alone : OnlyLine old new
   pub ran : status ≢ Memory → Ran old new status
 
@@ -43,20 +44,19 @@ pub record SlotRan (slot : ℕ) (old new : Device) (status : Status) : Type 0 wh
   pub stopped : status ≡ ReportFault → StoppedInFrame slot taken (length taken) old.report.got new.report.got
   -- Cut is the answer exactly where the line is dead
   pub cut : (status ≡ Cut) ↔ ((line_zero new).state ≡ Dead)
-  -- and Unfinished where it is not, and bytes were taken behind the whole frames that are used; Done is the answer where none of
+  -- and, where no write failed, Unfinished exactly where it is not, and bytes were taken behind the whole frames that are used; Done is the answer where none of
   -- Memory, ReportFault, Cut and Unfinished is
-  pub unfinished : status ≢ ReportFault → (status ≡ Unfinished) ↔ (((line_zero new).state ≢ Dead) × HasRest (length taken))
-  -- all that there is was taken, so that a line that is not dead has answered its end, or 131,072 frames and one byte more, which
+  pub unfinished : status ≢ ReportFault → (status ≡ Unfinished) ↔ (((line_zero new).state ≢ Dead) × HasBytesBehind (length taken))
+  -- where no write failed, all that there is was taken, so that a line that is not dead has answered its end, or 131,072 frames and one byte more, which
   -- are the most
   pub most : length taken ≤ most_taken
   pub all : status ≢ ReportFault → (line_zero new).state ≢ Dead → HasEnded (line_zero new).left (line_zero new).ended ⊎ (length taken ≡ most_taken)
 
 -- ---- `pull PORT K,K`: what the sink of a tributary on line input 0 emits, turn by turn
 
--- Behind the bytes taken there may be more, `rest`: whatever they are, all this holds.
 pub record PullRan (own : Tributary) (old new : Device) (status : Status) : Type 0 where
-  -- These bytes were taken of the line, and whether more may stand behind them: where it is true, what holds for every rest does
-  -- so for any bytes, else for none, and a live line has answered its end then, whether or not it tells its bytes.
+  -- These bytes were taken of the line. Where `more` is true, bytes may stand behind them, and what has a `rest` holds whatever that is;
+  -- else `rest` is empty, and a live line has answered its end, whether or not it tells its bytes.
   pub taken : List ℕ
   pub gave : Gave (line_zero old) taken (line_zero new)
   pub more : Bool

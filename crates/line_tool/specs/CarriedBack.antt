@@ -38,8 +38,8 @@ pub record ComesBack (sender receiver : ℕ) (first hop : Hop) (hops : List Hop)
   pub reads_last : ReadsOn (last_hop hop hops) last
   pub receives : IsReceiving receiver last
 
--- How many bytes of the client's stream the last run's client has, of n + 1 own turns, where so many runs from line to line stand between: each
--- run but the last is three turns behind the one before it, and the last one's sink is two behind its line.
+-- How many bytes of the client's stream the last run's client has, of n + 1 own turns, where so many runs from line to line stand between: the
+-- first line is a turn behind its client, each run from line to line three turns more, and the last client three turns behind its line.
 abbrev pub bytes_back : (paces : List ℕ) → (runs n : ℕ) → ℕ
 bytes_back paces runs n = emitted_before paces (n - 3 * (runs + 1))
 

@@ -4,19 +4,19 @@ use Rattle.std.specs.List.{Contains}
 use Rattle.otn_base.specs.LineSlots.{LineSlots}
 use Rattle.plan_file.specs.declared.connection.Connection.{Connection}
 use Rattle.plan_file.specs.declared.connection.FromEnd.TheVariants as from_end
-use Rattle.device_model.specs.Healing.{Heals}
+use Rattle.device_model.specs.Healing.{IsCarriedAgain}
 use Rattle.node_core.specs.RunsAlike.{LeftAlike}
 use Rattle.node_core.specs.RunsDamaged.{HealsIn, Follows, HandsOnAFront, ShareButForOne}
 use Rattle.line_tool.specs.Headline.{Call, HasCarried, world_of, went_of}
 
 -- Healed: once its line carries a client's bytes to it in steady numbers, whatever came before, and a turn says its number anew while no slot is
--- marked, from the third turn after it on it hands on exactly these bytes, as far as its output lived.
+-- marked, from the fourth turn after it on its to end gets exactly these bytes, as far as its output lived.
 abbrev pub IsHealed : Type 0
 IsHealed = (call : Call) (x : Connection) (a from s b u h : ℕ) (slots : LineSlots) (bytes p : List ℕ) (has : HasCarried call) → Contains call.plan.connections x
-    → x.from ≡ from_end.Line a from slots → Heals (call.inputs.line a) x from slots bytes p s b u h
+    → x.from ≡ from_end.Line a from slots → IsCarriedAgain (call.inputs.line a) x from slots bytes p s b u h
     → HealsIn (world_of call has) (went_of call has) x bytes p s u h
 
--- Repeated: of two calls whose plans have one entry, and whose line shows it the same but for one damaged message, which in the other call says the
+-- Repeated: of two calls whose plans share an entry, and whose line shows it the same but for one damaged message, which in the other call says the
 -- pair before it again, the same leaves on it, where in neither three in a row are damaged.
 abbrev pub IsAsRepeated : Type 0
 IsAsRepeated = (one other : Call) (x : Connection) (first : HasCarried one) (second : HasCarried other) → ShareButForOne (world_of one first) (world_of other second) x

@@ -47,9 +47,9 @@ CarriesPlan status.PlanFault = ⊥
 CarriesPlan (status.Plan error place) = ⊥
 CarriesPlan status.Memory = ⊥
 
--- After these `run` has carried the plan of the text that was read, and where the inputs tell their bytes, they may be what they gave.
-abbrev pub RunCarries : Type 0
-RunCarries = (old new : Device) (asked now : ℕ) (reply : Status) → (answers : RunAnswers old new asked now reply) → CarriesPlan reply
+-- After these `run` has carried the plan of the text that was read, and where its inputs tell their bytes, what they gave is among what they may have been.
+abbrev pub HasRunItsPlan : Type 0
+HasRunItsPlan = (old new : Device) (asked now : ℕ) (reply : Status) → (answers : RunAnswers old new asked now reply) → CarriesPlan reply
     → (plan : Plan) × (ran : PlanRan plan old new asked now reply) × (plan_of_text answers.text ≡ Ok plan)
     × ((inputs : Inputs) → HasGiven plan old.bays new.bays → AreInputs plan old.bays new.bays inputs → MayBeInputs plan old.bays new.bays ran.takings inputs)
 
@@ -62,13 +62,14 @@ world_of call has = record { plan = call.plan; first = call.old.bays; last = cal
 abbrev pub went_of : (call : Call) → HasCarried call → Went
 went_of call has = (has.ran.left.of_inputs call.inputs has.may_be).went
 
--- Isolated: what leaves on a connection that two calls share, by the same bytes of its own, is the same, whatever other connections, slots,
--- ports, faults and orders there are.
+-- Isolated: where two calls share a connection, and their inputs agree on what it comes from, what leaves on it is the same as far as both have
+-- gone, whatever other connections, slots, ports, faults and orders there are.
 abbrev pub IsIsolated : Type 0
 IsIsolated = (one other : Call) (x : Connection) (first : HasCarried one) (second : HasCarried other) → ShareOne (world_of one first) (world_of other second) x
     → LeftAlike (world_of one first) (world_of other second) (went_of one first) (went_of other second) x
 
--- Through: what went to its output is what its own entry puts through it of its own input, from the front, and all where its place has lived.
+-- Through: to a client went the text that its own entry puts through it of its own input, to a line the line's file: from the front, and all where its
+-- place has lived.
 abbrev pub IsThrough : Type 0
 IsThrough = (call : Call) (x : Connection) (has : HasCarried call) → Contains call.plan.connections x → LeftThrough (world_of call has) (went_of call has) x
 

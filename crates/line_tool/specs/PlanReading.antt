@@ -21,7 +21,7 @@ most_read = MOST_PLAN_BYTES + 1
 abbrev pub IsAll : List ℕ → SourceView → Type 0
 IsAll text source = HasEnded source.left source.ended ⊎ (length text ≡ most_read)
 
--- what was read before an answer: all; a part of what would be all, where a read failed; all or nothing, where there was no memory
+-- what was read before an answer: all; fewer than the most, where a read failed; all or nothing, where there was no memory
 abbrev pub WasRead : Status → List ℕ → SourceView → Type 0
 WasRead status.PlanFault text source = length text < most_read
 WasRead status.Memory text source = (text ≡ []) ⊎ IsAll text source

@@ -11,7 +11,7 @@ use Rattle.line_tool.specs.PullReport.{pull_report, tributary}
 
 -- Two lines show the same of a tributary but for the message of turn i + 1, before which its sink is Up: on the first line this is
 -- damaged, on the other it gives the pair of the turn before. On neither are three messages in a row damaged.
-pub record DifferInOneMessage (own : Tributary) (one other : List ℕ) (i : ℕ) : Type 0 where
+pub record LinesDifferInOneMessage (own : Tributary) (one other : List ℕ) (i : ℕ) : Type 0 where
   pub mfas : mfas_of one ≡ mfas_of other
   pub views : (t : ℕ) → (t ≡ i → ⊥) → view_at own one t ≡ view_at own other t
   pub view : View
@@ -29,5 +29,5 @@ pub record DifferInOneMessage (own : Tributary) (one other : List ℕ) (i : ℕ)
 
 -- They give `pull` one report.
 abbrev pub WritesAsIfRepeated : Type 0
-WritesAsIfRepeated = (port : ℕ) (slots one other : List ℕ) (i : ℕ) → DifferInOneMessage (tributary port slots) one other i
+WritesAsIfRepeated = (port : ℕ) (slots one other : List ℕ) (i : ℕ) → LinesDifferInOneMessage (tributary port slots) one other i
     → pull_report (tributary port slots) one ≡ pull_report (tributary port slots) other

@@ -1,11 +1,13 @@
 -- What `pull` writes, of an OTU2 line.
-use Rattle.std.specs.Prelude.{ℕ, ◌+◌, ◌*◌, ◌<◌, min, not, List, length, filter}
+use Rattle.std.specs.Prelude.{◌≡◌, ℕ, ◌+◌, ◌*◌, ◌<◌, ◌≤◌, min, not, Bool, true, false, List, [], Option, length, filter}
 use Rattle.std.specs.List.{flat_map, range_with_len}
 use Rattle.line_side.specs.LineFile.{mfas_of}
 use Rattle.multiframe.specs.LineTurns.{standing, wanted, has_ended}
 use Rattle.otn_base.specs.declared.limits.TheConstants.{LINE_FRAME_BYTES, MOST_TURNS, OTU2_SLOTS}
 use Rattle.tributary_model.specs.Places.{Tributary}
 use Rattle.device_model.specs.LineViews.{emitted_at}
+use Rattle.otn_ports.specs.Bytes.{after}
+use Rattle.line_tool.specs.Gains.{GainsPart}
 
 -- the tributary of a port, from 1, and of slots of an OTU2 line
 abbrev pub tributary : (port : ℕ) → (slots : List ℕ) → Tributary
@@ -40,3 +42,17 @@ bytes_wanted given t = min (length given) (LINE_FRAME_BYTES * wanted OTU2_SLOTS 
 -- bytes are its rest. A frame that a hunt only looked ahead at counts as wanted.
 abbrev pub LeavesBytes : List ℕ → Type 0
 LeavesBytes given = LINE_FRAME_BYTES * min (length (mfas_of given)) (frames_wanted given) < length given
+
+-- what may still stand behind the bytes taken: anything where there may be more, else nothing
+abbrev pub MayFollow : (more : Bool) → (rest : List ℕ) → Type 0
+MayFollow true rest = Unit {0}
+MayFollow false rest = rest ≡ []
+
+-- A write failed, and ended the command at once: of a line of these bytes so many were taken, all that the turns up to turn t + 1
+-- want. The report gained what the sink emits in the turns before this one, and of what it emits in this one a part, from the front,
+-- and not all.
+pub record StoppedInTurn (own : Tributary) (given : List ℕ) (count t : ℕ) (old new : Option (List ℕ)) : Type 0 where
+  pub few : t < MOST_TURNS
+  pub unended : (s : ℕ) → s ≤ t → has_ended (standing OTU2_SLOTS (mfas_of given) s) ≡ false
+  pub last : count ≡ bytes_wanted given (t + 1)
+  pub gained : GainsPart (after old (emitted_until own given t)) new (emitted_at own given t)

@@ -1,19 +1,16 @@
 -- How `pull` goes: what it took of its line, what its report gained, and why it ended.
-use Rattle.std.specs.Prelude.{◌≡◌, ◌≢◌, ◌<◌, ◌≤◌, ◌⊎◌, ◌+◌, ◌%◌, ℕ, Bool, true, false, List, [], ◌++◌, Option, Some, None, Ok, length}
-use Rattle.otn_base.specs.declared.limits.TheConstants.{LINE_FRAME_BYTES, MOST_TURNS, OTU2_SLOTS}
+use Rattle.std.specs.Prelude.{◌≡◌, ◌≢◌, ◌<◌, ◌⊎◌, ◌+◌, ◌%◌, ℕ, Bool, true, false, List, [], ◌++◌, Option, Some, None, Ok, length}
+use Rattle.otn_base.specs.declared.limits.TheConstants.{LINE_FRAME_BYTES}
 use Rattle.otn_ports.specs.Bytes.{after}
 use Rattle.otn_ports.specs.Given.{Gave}
 use Rattle.otn_ports.specs.Reads.{HasEnded}
 use Rattle.otn_ports.specs.Views.{InView, Live, Dead}
-use Rattle.line_side.specs.LineFile.{mfas_of}
 use Rattle.line_side.specs.LineStands.{LineView}
 use Rattle.line_side.specs.declared.ending.Ending.TheVariants.{Seen}
-use Rattle.multiframe.specs.LineTurns.{standing, has_ended}
 use Rattle.tributary_model.specs.Places.{Tributary}
-use Rattle.device_model.specs.LineViews.{emitted_at}
 use Rattle.line_tool.specs.Ends.{line_status}
 use Rattle.line_tool.specs.Gains.{GainsPart}
-use Rattle.line_tool.specs.PullReport.{emitted_until, pull_report, LeavesBytes, bytes_taken, bytes_wanted}
+use Rattle.line_tool.specs.PullReport.{pull_report, LeavesBytes, bytes_taken}
 use Rattle.line_tool.specs.PullTurn.{TurnMoves}
 use Rattle.line_tool.specs.AnswerWords.{Reports}
 use Rattle.line_tool.specs.declared.pull.After.{After}
@@ -22,26 +19,12 @@ use Rattle.line_tool.specs.declared.ended.Ended.{Ended}
 use Rattle.line_tool.specs.declared.ended.Ended.TheVariants.{Done, Unfinished, ReportFault, Cut}
 use Rattle.line_tool.specs.declared.tap.Tap.{Tap}
 
--- what may still stand behind the bytes taken: anything where there may be more, else nothing
-abbrev pub MayFollow : (more : Bool) → (rest : List ℕ) → Type 0
-MayFollow true rest = Unit {0}
-MayFollow false rest = rest ≡ []
-
 -- what an answer says of the bytes taken, and of all that may stand behind them
 abbrev pub PullEnds : Ended → (more : Bool) → (taken : List ℕ) → (now : InView) → Type 0
 PullEnds Done more taken now = (now.state ≢ Dead) × (more ≡ false) × (LeavesBytes taken → ⊥) × (length taken % LINE_FRAME_BYTES ≡ 0)
 PullEnds Unfinished more taken now = (now.state ≢ Dead) × ((rest : List ℕ) → MayFollow more rest → LeavesBytes (taken ++ rest)) × (0 < length taken % LINE_FRAME_BYTES)
 PullEnds Cut more taken now = now.state ≡ Dead
 PullEnds ReportFault more taken now = Unit {0}
-
--- A write failed, and ended the command at once: of a line of these bytes so many were taken, all that the turns up to turn t + 1
--- want. The report gained what the sink emits in the turns before this one, and of what it emits in this one a part, from the front,
--- and not all.
-pub record StoppedInTurn (own : Tributary) (given : List ℕ) (count t : ℕ) (old new : Option (List ℕ)) : Type 0 where
-  pub few : t < MOST_TURNS
-  pub unended : (s : ℕ) → s ≤ t → has_ended (standing OTU2_SLOTS (mfas_of given) s) ≡ false
-  pub last : count ≡ bytes_wanted given (t + 1)
-  pub gained : GainsPart (after old (emitted_until own given t)) new (emitted_at own given t)
 
 -- A command from the line and the report as they were to how they are. Where no more bytes may follow, a live line has answered
 -- its end.

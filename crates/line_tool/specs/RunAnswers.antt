@@ -35,16 +35,14 @@ pub record PlanRan (plan : Plan) (old new : Device) (asked asked_now : ℕ) (rep
   pub answer : reply ≢ status.ReportFault → reply ≡ outcome_status numbers.outcome
   pub asked_each : asked_now ≡ raised asked (pieces_in_all plan)
 
--- what is answered to the text of a plan: a plan that was carried, or the first rule that it breaks
+-- what is answered to the text of a plan: the first rule that it breaks; nothing, after PlanFault and Memory; else a plan that was carried.
+-- Words is no answer to a text
 abbrev pub TextRan : Status → (text : List ℕ) → (old new : Device) → (asked asked_now : ℕ) → Type 0
-TextRan status.Done text old new asked now = (plan : Plan) × (plan_of_text text ≡ Ok plan) × PlanRan plan old new asked now status.Done
-TextRan status.Unfinished text old new asked now = (plan : Plan) × (plan_of_text text ≡ Ok plan) × PlanRan plan old new asked now status.Unfinished
-TextRan status.Cut text old new asked now = (plan : Plan) × (plan_of_text text ≡ Ok plan) × PlanRan plan old new asked now status.Cut
-TextRan status.ReportFault text old new asked now = (plan : Plan) × (plan_of_text text ≡ Ok plan) × PlanRan plan old new asked now status.ReportFault
-TextRan (status.Plan error place) text old new asked now = plan_of_text text ≡ Err (Refused error place)
-TextRan status.PlanFault text old new asked now = Unit {0}
-TextRan status.Memory text old new asked now = Unit {0}
-TextRan status.Words text old new asked now = ⊥
+TextRan (status.Plan error place) text old new asked asked_now = plan_of_text text ≡ Err (Refused error place)
+TextRan status.PlanFault text old new asked asked_now = Unit {0}
+TextRan status.Memory text old new asked asked_now = Unit {0}
+TextRan status.Words text old new asked asked_now = ⊥
+TextRan carried text old new asked asked_now = (plan : Plan) × (plan_of_text text ≡ Ok plan) × PlanRan plan old new asked asked_now carried
 
 -- `run` from all that it was handed, and how often the chooser had been asked, to how they are
 pub record RunAnswers (old new : Device) (asked asked_now : ℕ) (reply : Status) : Type 0 where
@@ -55,8 +53,8 @@ pub record RunAnswers (old new : Device) (asked asked_now : ℕ) (reply : Status
   pub all : WasRead reply text new.plan
   -- and answered for
   pub ran : TextRan reply text old new asked asked_now
-  -- each of the two counts of faults rose or stands at its end exactly with its own answer, and else is as it was
+  -- each of the two counts of faults rose or stands at its end after its own answer, and is as it was after any other
   pub plan_counts : CountsBy status.PlanFault reply old.plan.faults new.plan.faults
   pub report_counts : CountsBy status.ReportFault reply old.report.faults new.report.faults
-  -- a chooser was asked only once a plan was carried
+  -- where no plan was carried the chooser was not asked
   pub unasked : IsRefusal reply → asked_now ≡ asked

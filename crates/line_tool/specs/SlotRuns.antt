@@ -1,24 +1,16 @@
 -- How `slot` goes: what it took of its line, what its report gained, and why it ended.
-use Rattle.std.specs.Prelude.{◌≡◌, ◌≢◌, ◌<◌, ◌≤◌, ◌⊎◌, ◌+◌, ◌*◌, ℕ, List, [], Option, Some, None, length}
+use Rattle.std.specs.Prelude.{◌≡◌, ◌≢◌, ◌<◌, ◌≤◌, ◌⊎◌, ◌*◌, ℕ, List, [], Option, Some, None, length}
 use Rattle.otn_base.specs.declared.limits.TheConstants.{LINE_FRAME_BYTES}
 use Rattle.otn_ports.specs.Bytes.{after}
 use Rattle.otn_ports.specs.Given.{Gave}
 use Rattle.otn_ports.specs.Reads.{HasEnded}
 use Rattle.otn_ports.specs.Views.{InView, Dead}
-use Rattle.line_side.specs.LineFile.{frame_at}
 use Rattle.otn_ports.specs.declared.drain.Written.{Written}
 use Rattle.otn_ports.specs.declared.drain.Written.TheVariants as written
 use Rattle.line_tool.specs.Gains.{GainsPart}
-use Rattle.line_tool.specs.SlotReport.{slot_bytes, slot_bytes_until, slot_report, whole_frames_used, most_taken}
+use Rattle.line_tool.specs.SlotReport.{slot_bytes, slot_report, whole_frames_used, most_taken}
 use Rattle.line_tool.specs.declared.ended.Ended.{Ended}
 use Rattle.line_tool.specs.declared.ended.Ended.TheVariants.{Done, Unfinished, ReportFault, Cut}
-
--- A write failed, and ended the command at once: of a line of these bytes so many were taken, up to the end of frame f, from 0. The
--- report gained the slot's bytes of the frames before it, and of its own a part, from the front, and not all.
-pub record StoppedInFrame (slot : ℕ) (given : List ℕ) (count : ℕ) (old new : Option (List ℕ)) : Type 0 where
-  pub f : ℕ
-  pub last : count ≡ LINE_FRAME_BYTES * (f + 1)
-  pub gained : GainsPart (after old (slot_bytes_until slot given f)) new (slot_bytes slot (frame_at given f))
 
 -- the answer of a command that took these bytes of its line, of the most frames and one byte more at most
 abbrev pub SlotEnds : Ended → (slot : ℕ) → (taken : List ℕ) → (first now : InView) → (old new : Option (List ℕ)) → Type 0

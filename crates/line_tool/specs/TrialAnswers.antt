@@ -16,8 +16,8 @@ use Rattle.line_tool.specs.declared.status.Status.TheVariants as status
 abbrev pub trial_pieces : ℕ
 trial_pieces = 4 * run_pieces
 
--- The trial of a number, once there was memory for it: four runs carried the packets that it draws, each but the first over the file of the one
--- before; the report of these files and packets was written, whole, or a part of it from the front where a write failed; and the chooser was
+-- The trial of a number, once there was memory for it: there are the inputs and the files of four runs that carry the packets that it draws, each but the first over the file of the one
+-- before (the ports are inside, so no more of them is seen); the report of these files, and of all packets drawn as those that came, was written, whole, or a part of it from the front where a write failed; and the chooser was
 -- asked once for each piece.
 pub record TrialRan (number : ℕ) (answer : Written) (old new : SinkView) (asked asked_now : ℕ) : Type 0 where
   -- what the inputs of each run were, and the frames of the line file that it made

@@ -1,6 +1,6 @@
 // Laws over what the commands answer for, and over what they write.
 ghost use Rattle.std.specs.Prelude.{◌≡◌, ◌≢◌, ◌<◌, ◌-◌, ◌%◌, ◌^◌, ◌↔◌, ◌⊎◌, ℕ, List, Some, length, min};
-ghost use Rattle.otn_ports.specs.Given.{IsGiven};
+ghost use Rattle.otn_ports.specs.Given.{HadToGive};
 ghost use Rattle.otn_ports.specs.Views.{Dead};
 ghost use Rattle.plan_file.specs.declared.error.PlanError.{PlanError};
 ghost use Rattle.tributary_model.specs.Places.{Tributary};
@@ -8,16 +8,17 @@ ghost use Rattle.device_model.specs.Agreements.{AgreeOnTributary};
 ghost use Rattle.line_tool.specs.Agreements.{AgreeOnSlot};
 ghost use Rattle.line_tool.specs.Answers.{CheckAnswers, LineAnswers, PullRan, SlotRan};
 ghost use Rattle.line_tool.specs.Device.{Device, line_zero};
-ghost use Rattle.line_tool.specs.Headline.{IsCarried, IsIsolated, IsThrough, RunCarries};
+ghost use Rattle.line_tool.specs.Headline.{IsCarried, IsIsolated, IsThrough, HasRunItsPlan};
 ghost use Rattle.line_tool.specs.PlanCheck.{CheckEnds};
 ghost use Rattle.line_tool.specs.PullCarried.{BeginsWithWhatIsCarried, IsTheWholeGroups, HasWhatIsCarriedAfterDamage};
 ghost use Rattle.line_tool.specs.PullDamaged.{WritesAsIfRepeated};
 ghost use Rattle.line_tool.specs.PullReport.{LeavesBytes, bytes_taken, pull_report, tributary};
-ghost use Rattle.line_tool.specs.PullRuns.{StoppedInTurn};
+ghost use Rattle.line_tool.specs.PullReport.{StoppedInTurn};
 ghost use Rattle.line_tool.specs.RunLaws.{RunAnswersForItsText, RunEndsByInputs, RunIsComplete};
-ghost use Rattle.line_tool.specs.AnswerWords.{HasRest, IsWell, Reports};
+ghost use Rattle.line_tool.specs.AnswerWords.{IsWell, Reports};
+ghost use Rattle.line_tool.specs.SlotReport.{HasBytesBehind};
 ghost use Rattle.line_tool.specs.SlotReport.{most_taken, slot_report};
-ghost use Rattle.line_tool.specs.SlotRuns.{StoppedInFrame};
+ghost use Rattle.line_tool.specs.SlotReport.{StoppedInFrame};
 ghost use Rattle.line_tool.specs.Words.{IsForm};
 ghost use Rattle.line_tool.specs.declared.status.Status.{Status};
 ghost use Rattle.line_tool.specs.declared.words.Command.{Command};
@@ -35,17 +36,17 @@ pub fn forms_are_apart()
 /// ReportFault the last frame taken is the one whose slot was being written (`stopped`).
 pub fn slot_of_given()
     ensures report { (slot : ℕ) (old new : Device) (answer : Status) (given : List ℕ) → SlotRan slot old new answer
-        → IsGiven (line_zero old) (line_zero new) given → Reports answer old.report.got new.report.got (slot_report slot given) }
+        → HadToGive (line_zero old) (line_zero new) given → Reports answer old.report.got new.report.got (slot_report slot given) }
     ensures unfinished { (slot : ℕ) (old new : Device) (answer : Status) (given : List ℕ) → SlotRan slot old new answer → answer ≢ Status.ReportFault
-        → IsGiven (line_zero old) (line_zero new) given → (answer ≡ Status.Unfinished) ↔ (((line_zero new).state ≢ Dead) × HasRest (length given)) }
+        → HadToGive (line_zero old) (line_zero new) given → (answer ≡ Status.Unfinished) ↔ (((line_zero new).state ≢ Dead) × HasBytesBehind (length given)) }
     ensures counted { (slot : ℕ) (old new : Device) (answer : Status) → SlotRan slot old new answer → answer ≢ Status.ReportFault
         → (line_zero new).number < 2 ^ 64 - 1
-        → (answer ≡ Status.Unfinished) ↔ (((line_zero new).state ≢ Dead) × HasRest ((line_zero new).number - (line_zero old).number)) }
+        → (answer ≡ Status.Unfinished) ↔ (((line_zero new).state ≢ Dead) × HasBytesBehind ((line_zero new).number - (line_zero old).number)) }
     ensures took { (slot : ℕ) (old new : Device) (answer : Status) (given : List ℕ) → SlotRan slot old new answer → answer ≢ Status.ReportFault
-        → IsGiven (line_zero old) (line_zero new) given → (line_zero new).number < 2 ^ 64 - 1
+        → HadToGive (line_zero old) (line_zero new) given → (line_zero new).number < 2 ^ 64 - 1
         → (line_zero new).number - (line_zero old).number ≡ min (length given) most_taken }
     ensures stopped { (slot : ℕ) (old new : Device) (given : List ℕ) → SlotRan slot old new Status.ReportFault
-        → IsGiven (line_zero old) (line_zero new) given → (line_zero new).number < 2 ^ 64 - 1
+        → HadToGive (line_zero old) (line_zero new) given → (line_zero new).number < 2 ^ 64 - 1
         → StoppedInFrame slot given ((line_zero new).number - (line_zero old).number) old.report.got new.report.got }
 {}
 
@@ -53,17 +54,17 @@ pub fn slot_of_given()
 /// part of a frame was taken (`counted`). After ReportFault the last turn carried out is the one whose bytes were being written (`stopped`).
 pub fn pull_of_given()
     ensures report { (own : Tributary) (old new : Device) (answer : Status) (given : List ℕ) → PullRan own old new answer
-        → IsGiven (line_zero old) (line_zero new) given → Reports answer old.report.got new.report.got (pull_report own given) }
+        → HadToGive (line_zero old) (line_zero new) given → Reports answer old.report.got new.report.got (pull_report own given) }
     ensures unfinished { (own : Tributary) (old new : Device) (answer : Status) (given : List ℕ) → PullRan own old new answer → answer ≢ Status.ReportFault
-        → IsGiven (line_zero old) (line_zero new) given → (answer ≡ Status.Unfinished) ↔ (((line_zero new).state ≢ Dead) × LeavesBytes given) }
+        → HadToGive (line_zero old) (line_zero new) given → (answer ≡ Status.Unfinished) ↔ (((line_zero new).state ≢ Dead) × LeavesBytes given) }
     ensures counted { (own : Tributary) (old new : Device) (answer : Status) → PullRan own old new answer → answer ≢ Status.ReportFault
         → (line_zero new).number < 2 ^ 64 - 1
         → (answer ≡ Status.Unfinished) ↔ (((line_zero new).state ≢ Dead) × (0 < ((line_zero new).number - (line_zero old).number) % LINE_FRAME_BYTES)) }
     ensures took { (own : Tributary) (old new : Device) (answer : Status) (given : List ℕ) → PullRan own old new answer → answer ≢ Status.ReportFault
-        → IsGiven (line_zero old) (line_zero new) given → (line_zero new).number < 2 ^ 64 - 1
+        → HadToGive (line_zero old) (line_zero new) given → (line_zero new).number < 2 ^ 64 - 1
         → (line_zero new).number - (line_zero old).number ≡ bytes_taken given }
     ensures stopped { (own : Tributary) (old new : Device) (given : List ℕ) → PullRan own old new Status.ReportFault
-        → IsGiven (line_zero old) (line_zero new) given → (line_zero new).number < 2 ^ 64 - 1
+        → HadToGive (line_zero old) (line_zero new) given → (line_zero new).number < 2 ^ 64 - 1
         → (t : ℕ) × StoppedInTurn own given ((line_zero new).number - (line_zero old).number) t old.report.got new.report.got }
 {}
 
@@ -96,12 +97,12 @@ pub fn run_of_text()
 {}
 
 /// The headline, of each connection of a plan that `run` carried (`runs`: after Done, Unfinished, Cut and ReportFault), whatever its inputs
-/// may have been, and where they tell, with what they gave. No connection touches another (`isolated`): of two calls whose plans have one
-/// entry, and whose inputs agree on what it comes from, what went to its output agrees as far as both have gone, and wholly where its place
-/// has lived in both. What went is what its own entry and its own input put through it (`through`). Where its bytes come unharmed they leave
+/// may have been, and where they tell, with what they gave. No connection touches another (`isolated`): where two calls share an
+/// entry, and their inputs agree on what it comes from, what went out on it agrees as far as both have gone, and wholly where its place
+/// has lived in both: a client's text, and on a line its own places, where both lines are scrambled or neither is. To a client went what its own entry and its own input put through it, to a line the line's file (`through`). Where its bytes come unharmed they leave
 /// the same (`carried`): on a line three turns later, and of packets exactly those that came whole.
 pub fn headline()
-    ensures runs { RunCarries }
+    ensures runs { HasRunItsPlan }
     ensures isolated { IsIsolated }
     ensures through { IsThrough }
     ensures carried { IsCarried }

@@ -11,7 +11,7 @@ use std::fmt;
 pub enum Status {
     /// All bytes of the line stand in whole frames that the command looked at, the plan is accepted, or it was
     /// carried and nothing is left over. For `pull` that may be before the line's last turn, where the most turns
-    /// were done.
+    /// were done. For `trial`: its report was written whole.
     Done,
     /// The line had bytes after its last whole frame, or more of them than the command reads; after `run`, a line
     /// that the plan uses has more than its turns want, or a client is not spent.
@@ -28,7 +28,7 @@ pub enum Status {
     /// The line input, or after `run` a place that the plan uses, is dead: a call of its port failed, or it was
     /// handed in dead.
     Cut,
-    /// There was no memory: no place was asked, and nothing was written. `check` and `run` may have read the plan,
+    /// There was no memory, or a place of the trial had no room: all places and the report are as they were. `check` and `run` may have read the plan,
     /// and `trial` may have asked the chooser.
     Memory,
 }

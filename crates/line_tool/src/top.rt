@@ -28,10 +28,11 @@ use std::alloc::Global;
 /// byte more. A write of the report that fails ends either at once, with ReportFault.
 /// `check` reads the plan, and writes `plan connections N turns T` where it is accepted.
 /// `run` and `run --order N` read the plan, and where it is accepted carry it over the places, turn by turn, serving the ports that are ready
-/// in an order that the chooser says; then they write the report. A write of the report that fails ends them with ReportFault; else the
+/// in an order that the chooser says (how often it is asked is proved, that it is followed is tested); then they write the report. `run` does
+/// not look at N: its caller makes the chooser of it (`order_of`). A write of the report that fails ends them with ReportFault; else the
 /// answer is Cut where a place that the plan uses is dead, Unfinished where a line has more or a client is not spent, and Done.
 /// `trial N` draws packets for eight clients by the number, carries them through four nodes in a row over ports in memory, and writes the
-/// check of each line file and what came back. It asks no place.
+/// check of each line file and what came back. It leaves all places as they were.
 ///
 /// `Answers` says, of each command, what it took, what it wrote and why it ended, of all that it was
 /// handed: `device` before and after. What follows from it is said by the laws beside this call: of what ports gave that
@@ -55,7 +56,7 @@ pub fn run<P: Source, K: Sink, C: Chooser, I: Source, O: Sink>(
         → Answers command (device P.Source K.Sink I.Source O.Sink plan.old bays.old report.old)
         (device P.Source K.Sink I.Source O.Sink plan.new bays.new report.new) (C.asked chooser.old) (C.asked chooser.new) result }
 
-    // After Words, PlanFault, Plan and Memory all places and the report are as they were. The plan may have been read by then.
+    // After Words, PlanFault, Plan and Memory all places and the report are as they were. After the last three the plan may have been read by then.
     ensures refused { IsRefusal result → (bays.new ≡ bays.old) × (report.new ≡ report.old) }
 
     // What stays.

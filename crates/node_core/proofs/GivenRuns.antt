@@ -5,7 +5,7 @@ use Rattle.std.proofs.lemmas.Bool.Decides.{eqb_tells}
 use Rattle.std.proofs.lemmas.List.{append_cancel_right}
 use Rattle.otn_base.specs.declared.kind.PortName.TheVariants as port
 use Rattle.otn_ports.specs.Bytes.{before}
-use Rattle.otn_ports.specs.Given.{Took, given_between, IsGiven}
+use Rattle.otn_ports.specs.Given.{Took, given_between, HadToGive}
 use Rattle.otn_ports.specs.Reads.{HasEnded}
 use Rattle.otn_ports.specs.Retiring.{retired_in, retired_in_as}
 use Rattle.otn_ports.specs.Views.{State, Empty, Live, Dead, BaysView, InView, no_input, line_in_at, client_in_at}
@@ -76,7 +76,7 @@ follows_by first last taken more given Live Empty f l left told = elim left.gave
 follows_by first last taken more given Empty is f l left told = none_follows more taken given (left.gave.idle (λ e. cc)).1 told
 follows_by first last taken more given Dead is f l left told = none_follows more taken given (left.gave.idle (λ e. cc)).1 told
 
-pub follows : (first last : InView) (taken : List ℕ) (more : Bool) (given : List ℕ) → InputLeft first last taken more → IsGiven first last given → MayHave more taken given
+pub follows : (first last : InView) (taken : List ℕ) (more : Bool) (given : List ℕ) → InputLeft first last taken more → HadToGive first last given → MayHave more taken given
 follows first last taken more given left told = follows_by first last taken more given first.state last.state refl refl left told
 
 -- ---- a client's place, which may be emptied at the end
@@ -93,10 +93,10 @@ emptied_told first was taken more given Live e left told = go first.state refl t
     go Empty f t = t
     go Dead f t = t
 
-was_given : (retires : Bool) (first was last : InView) (taken : List ℕ) (more : Bool) (given : List ℕ) → InputLeft first was taken more → last ≡ after_retire retires was → IsGiven first last given → IsGiven first was given
-was_given false first was last taken more given left place told = subst (λ v. IsGiven first v given) place told
+was_given : (retires : Bool) (first was last : InView) (taken : List ℕ) (more : Bool) (given : List ℕ) → InputLeft first was taken more → last ≡ after_retire retires was → HadToGive first last given → HadToGive first was given
+was_given false first was last taken more given left place told = subst (λ v. HadToGive first v given) place told
 was_given true first was last taken more given left place told =
-    let t : IsGiven first (retired_in was) given = subst (λ v. IsGiven first v given) place told in
+    let t : HadToGive first (retired_in was) given = subst (λ v. HadToGive first v given) place told in
     emptied_told first was taken more given was.state refl left t
 
 -- ---- all inputs

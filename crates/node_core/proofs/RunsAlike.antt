@@ -22,7 +22,7 @@ use Rattle.device_model.specs.Numbers.{client_numbers, output_numbers, last_stat
 use Rattle.device_model.specs.OneDamaged.{LeavesAlikeInItsTurns}
 use Rattle.device_model.specs.SoundPlans.{IsSoundEntry}
 use Rattle.device_model.specs.Through.{OwnInput, own_input, got_by, arrived_by, text_by, state_in}
-use Rattle.device_model.specs.TwoWorlds.{SameInput, AgreeOnEnd, HasFrame, HaveFrame, HaveSameByte, Run, written}
+use Rattle.device_model.specs.TwoWorlds.{SameInput, AgreeOnEnd, HasFrame, HaveFrame, HaveSameByte, FiledRun, written}
 use Rattle.device_model.proofs.MadeFrames.{made_whole}
 use Rattle.device_model.proofs.OwnBytes.{writes_as_got}
 use Rattle.device_model.proofs.WorldInputs.{gives_the_same_input, leaves_the_same, sound_of}
@@ -105,7 +105,7 @@ front_frame xs ys f less =
     let rest : 16320 ≤ length (drop (16320 * f) xs) = omega (arith, length-drop (16320 * f) xs) in
     sym (ap (take 16320) (drop-append-le (16320 * f) xs ys (omega arith)) ∙ take-append-le 16320 (drop (16320 * f) xs) ys rest)
 
-run_at : (world : World) (b : ℕ) (went : List ℕ) → LineOutLeft world.plan world.inputs b (line_out_at world.first b) went (line_out_at world.last b) → Run
+run_at : (world : World) (b : ℕ) (went : List ℕ) → LineOutLeft world.plan world.inputs b (line_out_at world.first b) went (line_out_at world.last b) → FiledRun
 run_at world b went l = record { plan = world.plan; inputs = world.inputs; frames = l.is_due.frames }
 
 -- a whole frame of what went is that of the file

@@ -11,7 +11,7 @@ use Rattle.tributary_model.specs.Carries.{sent, Carries}
 use Rattle.tributary_model.specs.Places.{tributary_of}
 use Rattle.tributary_model.specs.Puts.{lengths_of}
 use Rattle.device_model.specs.Entries.{first_turn}
-use Rattle.device_model.specs.Healing.{Heals}
+use Rattle.device_model.specs.Healing.{IsCarriedAgain}
 use Rattle.device_model.specs.HeldBack.{emitted_after}
 use Rattle.device_model.specs.LineViews.{view_at}
 use Rattle.device_model.specs.OneDamaged.{AgreeButForOne}
@@ -48,7 +48,7 @@ text_of_arrived : (world : World) (x : Connection) (is : IsWorld world) → Cont
 text_of_arrived world x is has n to lived = text_lived world x n is has to lived ∙ text_in world x is has
 
 text_healed : (world : World) (x : Connection) (a from s b u h n : ℕ) (slots : LineSlots) (bytes p : List ℕ) (is : IsWorld world) → Contains world.plan.connections x → x.from ≡ from_end.Line a from slots
-    → Heals (world.inputs.line a) x from slots bytes p s b u h → x.to ≡ to_end.Client n → LivedIn world (state_of_client n) → h + 4 ≤ x.stop → x.stop ≤ u + 2
+    → IsCarriedAgain (world.inputs.line a) x from slots bytes p s b u h → x.to ≡ to_end.Client n → LivedIn world (state_of_client n) → h + 4 ≤ x.stop → x.stop ≤ u + 2
     → (went_out world is).client n ≡ arriving_text (arrived_by x (own_input world.inputs x) (h + 4 - first_turn x) ++ slice_range bytes (sent p (h + 1 - s)) (sent p (x.stop - s - 3)))
 text_healed world x a from s b u h n slots bytes p is has comes heals to lived low most =
     let input = own_input world.inputs x in
@@ -60,7 +60,7 @@ text_healed world x a from s b u h n slots bytes p is has comes heals to lived l
     ∙ ap (λ k. arriving_text (arrived_by x input (h + 4 - f) ++ slice_range bytes (sent p (h + 1 - s)) (sent p k))) (let e : w - s - 1 ≡ x.stop - s - 3 = omega arith in e)
 
 pub runs_heal : (world : World) (x : Connection) (a from s b u h : ℕ) (slots : LineSlots) (bytes p : List ℕ) (is : IsWorld world) → Contains world.plan.connections x → x.from ≡ from_end.Line a from slots
-    → Heals (world.inputs.line a) x from slots bytes p s b u h → HealsIn world (went_out world is) x bytes p s u h
+    → IsCarriedAgain (world.inputs.line a) x from slots bytes p s b u h → HealsIn world (went_out world is) x bytes p s u h
 runs_heal world x a from s b u h slots bytes p is has comes heals = record {
   turn = λ t low high. search (rules, gets_what_healed);
   line = λ line port w others to lived low less. search (rules, heals_on_line);

@@ -53,7 +53,7 @@ pub record InputLeft (first last : InView) (taken : List ℕ) (more : Bool) : Ty
   pub live : more ≡ true → last.state ≡ Live
   pub over : more ≡ false → last.state ≡ Live → HasEnded last.left last.ended
 
--- the place of a client, which was emptied at the end where it was live and its connection retires
+-- the place of a client, as it was until its connection's stop, and as it is: emptied there where it was live and its connection retires
 pub record ClientInLeft (retires : Bool) (first last : InView) (taken : List ℕ) (more : Bool) : Type 0 where
   pub was : InView
   pub left : InputLeft first was taken more
@@ -61,14 +61,15 @@ pub record ClientInLeft (retires : Bool) (first last : InView) (taken : List ℕ
 
 -- ---- outputs
 
--- of the bytes that were due to an output place these went out: a part from the front, and all of them where it is live
+-- of the bytes that were due to an output place these went out: a part from the front, and all of them where it is live (as `IsSent` has it,
+-- with the bytes that went)
 pub record OutputLeft (first : OutView) (due went : List ℕ) (last : OutView) : Type 0 where
   pub rest : List ℕ
   pub parts : went ++ rest ≡ due
   pub gained : Gained first went last
   pub whole : last.state ≡ Live → rest ≡ []
 
--- to output line b, the whole of its file
+-- to output line b, of the whole of its file, which is due
 pub record LineOutLeft (plan : Plan) (inputs : Inputs) (b : ℕ) (first : OutView) (went : List ℕ) (last : OutView) : Type 0 where
   pub due : List ℕ
   pub is_due : LineDue plan inputs b plan.turns 0 due
@@ -106,7 +107,7 @@ pub record RunOf (plan : Plan) (first last : BaysView) (takings : Takings) (numb
   pub outputs : OutputsLeft plan inputs first went last
   pub numbers_are : AreNumbers plan inputs went first last numbers
 
--- What a run of a plan leaves: these bytes were taken of its inputs, and whatever these may turn out to be, this went to its outputs, and these
+-- What a run of a plan leaves: these bytes were taken of its inputs, and for whatever these may turn out to be there is what went to its outputs, and these
 -- are its numbers. Each place that the plan does not use is as it was.
 pub record RunLeft (plan : Plan) (first last : BaysView) (takings : Takings) (numbers : Numbers) : Type 0 where
   pub line_in : (a : ℕ) → uses plan (port.LineIn a) ≡ true → InputLeft (line_in_at first a) (line_in_at last a) (takings.line a) (takings.line_more a)

@@ -10,7 +10,7 @@ use Rattle.tributary_model.specs.Carries.{sent, Carries}
 use Rattle.tributary_model.specs.Places.{tributary_of}
 use Rattle.tributary_model.specs.Puts.{lengths_of}
 use Rattle.device_model.specs.Entries.{first_turn}
-use Rattle.device_model.specs.Healing.{Heals}
+use Rattle.device_model.specs.Healing.{IsCarriedAgain}
 use Rattle.device_model.specs.HeldBack.{emitted_after}
 use Rattle.device_model.specs.LineViews.{view_at}
 use Rattle.device_model.specs.Numbers.{Went}
@@ -29,7 +29,7 @@ CarriesAllGot world went x b port slots u =
     Carries (tributary_of slots port) (arrived_by x input n) (lengths_of (got_by x input n)) (view_at (tributary_of slots port) (read_of world went b)) (first_turn x) (first_turn x) u
 
 -- A connection of a run comes from a line that carries a client's bytes to it in steady numbers from turn b + 1 to turn u + 1, whatever came before,
--- and says its number anew in turn h + 1. From the third turn after it on it hands on exactly what is carried: in turn t + 2 it gets the bytes that the
+-- and says its number anew in turn h + 1. From the third turn after it on its sink emits exactly what is carried, and its to end gets that a turn later: in turn t + 2 it gets the bytes that the
 -- sender took in turn t - 1. Where its output lived, a line to which it goes carries what it got in all its turns, these bytes among it, and a client gets what the
 -- bytes that had arrived by turn h + 4 and then these, up to those that the sender took three turns before the connection's last turn, deliver.
 pub record HealsIn (world : World) (went : Went) (x : Connection) (bytes p : List ℕ) (s u h : ℕ) : Type 0 where
@@ -43,7 +43,7 @@ pub record HealsIn (world : World) (went : Went) (x : Connection) (bytes p : Lis
 -- So does each connection of a plan that was run.
 abbrev pub RunsHeal : Type 0
 RunsHeal = (world : World) (x : Connection) (a from s b u h : ℕ) (slots : LineSlots) (bytes p : List ℕ) (is : IsWorld world) → Contains world.plan.connections x
-    → x.from ≡ from_end.Line a from slots → Heals (world.inputs.line a) x from slots bytes p s b u h → HealsIn world (went_out world is) x bytes p s u h
+    → x.from ≡ from_end.Line a from slots → IsCarriedAgain (world.inputs.line a) x from slots bytes p s b u h → HealsIn world (went_out world is) x bytes p s u h
 
 -- ---- behind a gap
 

@@ -67,7 +67,7 @@ CarriedOn x port slots line bytes p u = Arrives (tributary_of slots port) bytes 
 
 -- What a connection carries in a run, to a place that has lived. From a line that carries a client's bytes to it: the output line carries them
 -- too, by the same numbers three turns later. From a client or a signal: the front of its stream, by the paces, a turn later. To a client, of
--- packets that such a line carries: the text of exactly those whose GFP frames lie whole in the frames that came whole, two turns later.
+-- packets that such a line carries: the text of exactly those whose GFP frames lie whole in the frames that came whole, of what the sender took up to three turns before the stop.
 pub record CarriedIn (world : World) (went : Went) (x : Connection) : Type 0 where
   pub line : (a from b port u w : ℕ) (slots others : LineSlots) (bytes p : List ℕ) → x.from ≡ from_end.Line a from slots → x.to ≡ to_end.Line b port others
       → LivedIn world (state_of_line b) → w ≤ u → w < x.stop

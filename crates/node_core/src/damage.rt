@@ -2,8 +2,8 @@
 ghost use Rattle.node_core.specs.RunsDamaged.{RunsAgreeButForOne, RunsHandOnAFront, RunsHeal};
 
 /// Healing in a run, whatever came before: once its line carries a client's bytes to a connection in steady numbers, and
-/// a turn says its number without a former one while no slot is marked, from the third turn after it on the
-/// connection hands on exactly these bytes. Where its output lived, a line to which it goes carries all that it got, and
+/// a turn says its number without a former one while no slot is marked, from the fourth turn after it on its to
+/// end gets exactly these bytes. Where its output lived, a line to which it goes carries all that it got, and
 /// a client gets what all that arrived delivers, these bytes among it.
 pub fn runs_heal()
     ensures { RunsHeal }

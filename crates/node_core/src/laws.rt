@@ -27,8 +27,8 @@ pub fn faultless_runs()
     ensures { FaultlessRunsEndByInputs }
 {}
 
-/// What went to the output of a connection is what is put through it by its own entry and its own input: a
-/// client's text, a line's file; a part of that from the front, and all where its place has lived. No order
+/// To a connection's client went the text that its own entry and its own input put through it, to its line the
+/// line's file, of all its connections; a part of that from the front, and all where its place has lived. No order
 /// in which the ports got their turn is named.
 pub fn outputs_through()
     ensures { OutputsAreThrough }

@@ -5,7 +5,7 @@ use Rattle.std.specs.Prelude.{unwrap_or}
 use Rattle.otn_ports.specs.Bytes.{before, after, HasFailed, raised}
 use Rattle.otn_ports.specs.Reads.{Takes, Reads, state_after, idle_reading}
 use Rattle.otn_ports.specs.Writes.{Sends, Writes, state_after_write}
-use Rattle.otn_ports.specs.Given.{Lives, Gave, Gained, GaveBy, GainedBy, Took, IsGiven, given_between, Grew, IsGone, gone_between}
+use Rattle.otn_ports.specs.Given.{Lives, Gave, Gained, GaveBy, GainedBy, Took, HadToGive, given_between, Grew, IsGone, gone_between}
 use Rattle.otn_ports.specs.Views.{State, Empty, Live, Dead, InView, OutView}
 use Rattle.otn_ports.specs.declared.drain.Written.{Written}
 use Rattle.otn_ports.specs.declared.drain.Written.TheVariants as written
@@ -177,7 +177,7 @@ beyond Dead t f g first left bytes given e (inl (same, n)) idle none = idled byt
 beyond Dead t f g first left bytes given e (inr (l, d, k)) idle none = absurd (dead_not_live l)
 
 -- Given is what was taken, and all that a live place has yet
-pub given_of_gave : (first now : InView) (bytes given : List ℕ) → Gave first bytes now → IsGiven first now given → Beyond bytes given now.state now.left
+pub given_of_gave : (first now : InView) (bytes given : List ℕ) → Gave first bytes now → HadToGive first now given → Beyond bytes given now.state now.left
 given_of_gave first now bytes given h k = beyond first.state now.state first.faults now.faults first.left now.left bytes given h.takes.left h.state (λ no. (h.idle no).1) k
 
 grew : (first now : Option (List ℕ)) (bytes gone : List ℕ) → now ≡ after first bytes → Grew first now gone → gone ≡ bytes

@@ -24,10 +24,10 @@ given_between Live state first now bytes = first ≡ Some bytes
 -- where it was not live, nothing
 given_between other state first now bytes = bytes ≡ []
 
--- Given: these are the bytes that an input place gave from its opening view to its closing one,
--- which is said of a source that tells its bytes
-abbrev pub IsGiven : InView → InView → List ℕ → Type 0
-IsGiven first now bytes = given_between first.state now.state first.left now.left bytes
+-- Given: these are the bytes that a live place had to give at its opening view, taken or not; where it died, those taken. That is said
+-- of a source that tells its bytes. Where it was not live there are none. `Gave`, below, is of bytes taken.
+abbrev pub HadToGive : InView → InView → List ℕ → Type 0
+HadToGive first now bytes = given_between first.state now.state first.left now.left bytes
 
 -- what a sink got, where it tells its bytes, grew by these
 pub record Grew (first now : Option (List ℕ)) (bytes : List ℕ) : Type 0 where

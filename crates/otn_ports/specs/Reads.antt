@@ -6,7 +6,7 @@ use Rattle.otn_ports.specs.declared.source.Failed.{Failed}
 use Rattle.otn_ports.specs.declared.in_place.Reading.{Reading}
 use Rattle.otn_ports.specs.declared.in_place.Reading.TheVariants.{Full, End, Lost}
 
--- a place's port, which is the same port, gave these bytes, and they were counted
+-- a place's port, boxed as before, gave these bytes, and they were counted
 pub record Takes (old : InView) (bytes : List ℕ) (new : InView) : Type 0 where
   pub boxed : new.boxed ≡ old.boxed
   pub left : old.left ≡ before bytes new.left

@@ -5,7 +5,7 @@ use Rattle.otn_ports.specs.Views.{State, Live, Dead, OutView}
 use Rattle.otn_ports.specs.declared.drain.Written.{Written}
 use Rattle.otn_ports.specs.declared.drain.Written.TheVariants.{Whole, Lost}
 
--- a place's port, which is the same port, took these bytes, and they were counted
+-- a place's port, boxed as before, took these bytes, and they were counted
 pub record Sends (old : OutView) (bytes : List ℕ) (new : OutView) : Type 0 where
   pub boxed : new.boxed ≡ old.boxed
   pub got : new.got ≡ after old.got bytes

@@ -2,7 +2,7 @@
 use Rattle.std.specs.Prelude.{◌≡◌, ◌≢◌, ◌≤◌, ℕ, List, length}
 use Rattle.std.specs.List.{All}
 use Rattle.hex.specs.Hex.{IsBytes}
-use Rattle.otn_ports.specs.Given.{IsGiven}
+use Rattle.otn_ports.specs.Given.{HadToGive}
 use Rattle.otn_ports.specs.Views.{InView}
 use Rattle.packet_text.specs.TextLines.{text_of_dead}
 use Rattle.packet_text.specs.PacketText.{Ended, packets_of, hex_text}
@@ -21,5 +21,5 @@ ReadsBack = (packets : List (List ℕ)) → All IsPacket packets → packets_of 
 
 -- What a place that tells its bytes gave in the whole run is among the texts that it may have; of a place that died, what is left of it.
 abbrev pub GivenIsAmong : Type 0
-GivenIsAmong = (first now : InView) (taken given : List ℕ) (packets : List (List ℕ)) (view : LinesView) → LinesStand first now taken packets view → IsGiven first now given
+GivenIsAmong = (first now : InView) (taken given : List ℕ) (packets : List (List ℕ)) (view : LinesView) → LinesStand first now taken packets view → HadToGive first now given
     → (view.answer ≢ Lost → MayBe view taken given) × (view.answer ≡ Lost → MayBe view taken (text_of_dead given))

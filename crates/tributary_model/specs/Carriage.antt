@@ -1,4 +1,4 @@
--- What a sink emits of the bytes that its views carry.
+-- What a sink emits of the bytes that its views carry. Turns count from 0 here: turn t is a line's turn t + 1.
 use Rattle.std.specs.Prelude.{◌≡◌, ℕ, ◌+◌, ◌-◌, ◌*◌, ◌/◌, ◌%◌, ◌<◌, ◌≤◌, List, ◌∷◌, false, Option, Some, length, take, slice_index, slice_range}
 use Rattle.otn_base.specs.declared.limits.TheConstants.{GROUPS, MOST_SLOTS}
 use Rattle.tributary_model.specs.declared.turns.SinkState.TheVariants.{Up, Down}

@@ -1,5 +1,6 @@
 -- What it is that a tributary carries a client's bytes. p lists how many bytes each turn of a sender brings, the first turn first: its
 -- numbers. C(t) and D(t), which its messages say, follow from them.
+-- Turns count from 0 here: turn t is a line's turn t + 1.
 use Rattle.std.specs.Prelude.{◌≡◌, ◌⊎◌, ℕ, zero, suc, ◌+◌, ◌*◌, ◌/◌, ◌%◌, ◌-◌, ◌≤◌, List, [], ◌∷◌, ◌++◌, All, Option, Some, None, length, take, drop, map, sum, slice_get}
 use Rattle.otn_base.specs.declared.limits.TheConstants.{GROUPS}
 use Rattle.gmp_rule.specs.DataRule.{IsData}
