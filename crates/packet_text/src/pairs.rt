@@ -1,5 +1,5 @@
 // What pairs of hex digits are worth.
-ghost use Rattle.std.specs.Prelude.{◌≡◌, ◌*◌, nat_lt, length, vec_len, if◌then◌else◌, Some, None};
+ghost use Rattle.std.specs.Prelude.{◌≡◌, ◌≤◌, ◌+◌, ◌*◌, nat_lt, slice_index, length, vec_len, if◌then◌else◌, Some, None};
 ghost use Rattle.hex.specs.Hex.{decode_of, pair_value};
 ghost use Rattle.packet_text.specs.PacketText.{decoded};
 ghost use Rattle.packet_text.specs.PairAnswers.{as_number, AnswersFor, AnswersAll};
@@ -85,9 +85,19 @@ fn look_up(answers: &[u16], digits: &[u8], bytes: &mut [u8]) -> u16
 {
     let mut all = 0;
     for i in 0..bytes.len() {
-        let answer = answers[digits[2 * i] as usize + BYTES * digits[2 * i + 1] as usize];
+        let answer = answers[place_of(digits, 2 * i)];
         bytes[i] = (answer & 0xFF) as u8;
         all |= answer;
     }
     all
+}
+
+// The place of the answer for the pair that begins there.
+fn place_of(digits: &[u8], at: usize) -> usize
+    requires { at + 2 ≤ length digits.now }
+    ensures { result ≡ slice_index digits.now at + 256 * slice_index digits.now (at + 1) }
+{
+    let mut pair = [0; 2];
+    pair.copy_from_slice(&digits[at..at + 2]);
+    usize::from(u16::from_le_bytes(pair))
 }
