@@ -16,7 +16,7 @@ const REFUSED: u16 = 256;
 
 const ZERO: u8 = b'0';
 
-/// The answers of the library `hex` for every two bytes, each asked once.
+/// The answers of the library `hex` for every two bytes, asked once and kept.
 #[derive(Drop)]
 pub(crate) struct DigitPairs {
     // That for two digits stands at the first and 256 times the second.
@@ -38,7 +38,14 @@ impl DigitPairs {
         requires { length digits.now ≡ 2 * length bytes.old }
         ensures { decoded (decode_of digits.now) ≡ (if result then Some bytes.new else None) }
     {
-        look_up(&self.answers, digits, bytes) < REFUSED
+        let answers: &[u16] = &self.answers;
+        let mut all = 0;
+        for i in 0..bytes.len() {
+            let answer = answers[place_of(digits, 2 * i)];
+            bytes[i] = (answer & 0xFF) as u8;
+            all |= answer;
+        }
+        all < REFUSED
     }
 }
 
@@ -76,27 +83,12 @@ fn ask(first: u8, second: u8) -> u16
     }
 }
 
-// Writes the low bytes of the answers for the pairs, and gives all bits that stand in any.
-fn look_up(answers: &[u16], digits: &[u8], bytes: &mut [u8]) -> u16
-    requires right { AnswersAll answers.now }
-    requires size { length answers.now ≡ 65536 }
-    requires pairs { length digits.now ≡ 2 * length bytes.old }
-    ensures { decoded (decode_of digits.now) ≡ (if nat_lt result 256 then Some bytes.new else None) }
-{
-    let mut all = 0;
-    for i in 0..bytes.len() {
-        let answer = answers[place_of(digits, 2 * i)];
-        bytes[i] = (answer & 0xFF) as u8;
-        all |= answer;
-    }
-    all
-}
-
 // The place of the answer for the pair that begins there.
 fn place_of(digits: &[u8], at: usize) -> usize
     requires { at + 2 ≤ length digits.now }
     ensures { result ≡ slice_index digits.now at + 256 * slice_index digits.now (at + 1) }
 {
+    // The copy makes it one load.
     let mut pair = [0; 2];
     pair.copy_from_slice(&digits[at..at + 2]);
     usize::from(u16::from_le_bytes(pair))
