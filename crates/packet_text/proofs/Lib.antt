@@ -1,4 +1,6 @@
 pub mod Lists
+pub mod Asking
+pub mod LookingUp
 pub mod LineBytes
 pub mod Cuts
 pub mod CutsThen

@@ -8,6 +8,7 @@ mod laws;
 mod line;
 mod line_feed;
 mod packet_lines;
+mod pairs;
 #[cfg(test)]
 mod tests;
 mod writing;

@@ -9,6 +9,7 @@ use crate::Line;
 use crate::cutter::{Cut, Cutter};
 use crate::digits::{MOST_DIGITS, read_line};
 use crate::found::{Found, answer_for, pass};
+use crate::pairs::DigitPairs;
 use otn_base::Memory;
 use otn_ports::{InPlaceOf, Source};
 use std::alloc::Global;
@@ -21,6 +22,7 @@ const MOST_PACKET: usize = MOST_DIGITS / 2;
 #[derive(Drop)]
 pub struct PacketLines {
     cutter: Cutter,
+    pairs: DigitPairs,
     packet: Vec<u8>,
     len: usize,
     // Where the next line's bytes are made.
@@ -48,6 +50,7 @@ impl PacketLines {
     {
         Ok(PacketLines {
             cutter: Cutter::new(alloc)?,
+            pairs: DigitPairs::new(alloc)?,
             packet: vec![in alloc; 0u8; MOST_PACKET]?,
             len: 0,
             spare: vec![in alloc; 0u8; MOST_PACKET]?,
@@ -173,7 +176,7 @@ impl PacketLines {
         ensures kept { result ≢ Found.Packet → (lines_view self.new).packet ≡ (lines_view self.old).packet }
     {
         self.number = self.number.saturating_add(1);
-        match read_line(self.cutter.line(), &mut self.spare) {
+        match read_line(&self.pairs, self.cutter.line(), &mut self.spare) {
             None => Found::Bad,
             Some(0) => pass(&mut self.empty),
             Some(n) => {

@@ -1,5 +1,7 @@
 // Whole texts, line by line.
+use crate::pairs::DigitPairs;
 use crate::{Line, PacketLines, write_packet};
+use hex::decode_to_slice;
 use otn_ports::{InPlaceOf, ListedSink, ListedSource, MemSource, OutPlaceOf, Source, Written};
 use std::alloc::{AllocError, Global};
 use std::test::Fail;
@@ -44,6 +46,41 @@ fn short_texts(rt: HostRuntime) -> Result<(), Fail> {
     )?;
     assert_eq!(rt; lengths.as_slice(), [2].as_slice());
     assert_eq!(rt; line, Line::Bad(3));
+    Ok(())
+}
+
+// Digits of either case, and bytes beside them.
+const NEAR: &[u8] = b"0459abcdefACF/:@G`g\0\xFF";
+
+#[test]
+fn pairs_are_what_the_library_says(rt: HostRuntime) -> Result<(), Fail> {
+    let alloc = rt.alloc();
+    let pairs = DigitPairs::new(alloc).map_err(|_memory| AllocError)?;
+    let mut count = 0_u32;
+    for first in NEAR {
+        for second in NEAR {
+            let digits = [*first, *second];
+            let (mut kept, mut said) = ([0_u8], [0_u8]);
+            let taken = pairs.decode(&digits, &mut kept);
+            assert_eq!(rt; taken, decode_to_slice(&digits, &mut said).is_ok());
+            if taken {
+                assert_eq!(rt; kept, said);
+                count = count.saturating_add(1);
+            }
+        }
+    }
+    assert_eq!(rt; count, 13 * 13);
+    Ok(())
+}
+
+#[test]
+fn the_last_pair_is_judged(rt: HostRuntime) -> Result<(), Fail> {
+    let alloc = rt.alloc();
+    for text in [b"ff\n00112g\n", b"ff\n0011g2\n", b"ff\n00112\0\n"] {
+        let (lengths, _, line) = packets(alloc, MemSource::new(Vec::from_slice(alloc, text)?))?;
+        assert_eq!(rt; lengths.as_slice(), [1].as_slice());
+        assert_eq!(rt; line, Line::Bad(2));
+    }
     Ok(())
 }
 
