@@ -26,7 +26,7 @@ pub struct LineIn<const COUNTS: usize> {
     phase: Phase,
     reader: LineReader<COUNTS>,
     pieces: u8,
-    member: bool,
+    has_frame: bool,
     ended: bool,
     lead_in: u64,
     lost: u64,
@@ -40,18 +40,18 @@ impl<const COUNTS: usize> Model for LineIn<COUNTS> {
 
     ghost Value = { LineView };
 
-    ghost view = { λ l. record { kind = l.phase.kind; alignment = l.phase.alignment; reader = l.reader; pieces = l.pieces; member = l.member; ended = l.ended; lead_in = l.lead_in; lost = l.lost } };
+    ghost view = { λ l. record { kind = l.phase.kind; alignment = l.phase.alignment; reader = l.reader; pieces = l.pieces; has_frame = l.has_frame; ended = l.ended; lead_in = l.lead_in; lost = l.lost } };
 
     ghost invariant = { λ l. record {
       pieces : l.pieces ≤ slots_of l.phase.kind;
       taken : ForSome l.phase.alignment (λ a. length a.taken ≤ l.pieces);
-      member : l.member ≡ true → (1 ≤ l.pieces) × IsSome l.phase.alignment;
+      has_frame : l.has_frame ≡ true → (1 ≤ l.pieces) × IsSome l.phase.alignment;
     } };
 }
 
 impl<const COUNTS: usize> LineIn<COUNTS> {
     ghost use Rattle.line_side.specs.LineForm.{LineForm};
-    ghost use Rattle.line_side.specs.LineStands.{LineStands, PieceStands, InEachTurn, OfMember, AwaitsTurn, TurnEnded, members};
+    ghost use Rattle.line_side.specs.LineStands.{LineStands, PieceStands, InEachTurn, OfMember, AwaitsTurn, TurnEnded, frames_taken};
     ghost use Rattle.line_side.specs.LineMoves.{TakesNext, Tries, Hunts, StepMoves, EndMoves, TakesMember, is_locked};
     ghost use Rattle.line_side.specs.Reader.{AsksNoMore, rest_of};
     ghost use Rattle.line_side.specs.LineFile.{frame_at};
@@ -63,13 +63,13 @@ impl<const COUNTS: usize> LineIn<COUNTS> {
         ensures stands { IfOk result (λ line. (first : InView) → LineStands (record { kind = kind; scrambled = scrambled }) first first [] 0 line) }
         ensures kind { IfOk result (λ line. line.kind ≡ kind) }
         ensures pieces { IfOk result (λ line. line.pieces ≡ 0) }
-        ensures members { IfOk result (λ line. members line ≡ 0) }
+        ensures frames_taken { IfOk result (λ line. frames_taken line ≡ 0) }
     {
         Ok(LineIn {
             phase: Phase::new(kind),
             reader: LineReader::new(alloc, scrambled)?,
             pieces: 0,
-            member: false,
+            has_frame: false,
             ended: false,
             lead_in: 0,
             lost: 0,
@@ -85,9 +85,9 @@ impl<const COUNTS: usize> LineIn<COUNTS> {
             → PieceStands form first (in_view P.Source place.new) taken t self.old self.new }
         ensures kind { self.new.kind ≡ self.old.kind }
         ensures pieces { self.new.pieces ≡ self.old.pieces + 1 }
-        ensures member { result ≡ self.new.member }
-        ensures members { members self.new ≡ members self.old + one_if result }
-        ensures most { members self.new ≤ self.new.pieces }
+        ensures has_frame { result ≡ self.new.has_frame }
+        ensures frames_taken { frames_taken self.new ≡ frames_taken self.old + one_if result }
+        ensures most { frames_taken self.new ≤ self.new.pieces }
 
         // bytes are taken of a live place, or none, and any other place is as it was
         ensures gave { (came : List ℕ) × Gave (in_view P.Source place.old) came (in_view P.Source place.new) }
@@ -102,15 +102,15 @@ impl<const COUNTS: usize> LineIn<COUNTS> {
     {
         let first = self.pieces == 0;
         self.pieces += 1;
-        self.member = false;
-        self.member = self.step(place, first);
-        self.member
+        self.has_frame = false;
+        self.has_frame = self.step(place, first);
+        self.has_frame
     }
 
     /// The frame in hand: one of the turn's multiframe, through the line's mask. The last piece has said that there is one.
     #[tactic(auto, using(crate::proofs::Ended::hand_in))]
     pub fn frame(&self) -> &Frame<LINE_COLUMNS>
-        requires { self.now.member ≡ true }
+        requires { self.now.has_frame ≡ true }
         ensures hand { result.now ≡ self.now.reader.hand }
         ensures line { OfMember self.now (λ given member. result.now ≡ frame_at given member.frame) }
     {
@@ -119,11 +119,11 @@ impl<const COUNTS: usize> LineIn<COUNTS> {
 
     /// The MFAS that is expected in the frame in hand. The last piece has said that there is one.
     pub fn expected(&self) -> u8
-        requires { self.now.member ≡ true }
+        requires { self.now.has_frame ≡ true }
         ensures alignment { IfSome self.now.alignment (λ a. result ≡ (a.expected + (self.now.pieces - 1)) % 256) }
         ensures line { OfMember self.now (λ given member. result ≡ member.expected) }
     {
-        let _ = &self.member;
+        let _ = &self.has_frame;
         self.phase.expected(self.pieces - 1)
     }
 
@@ -135,8 +135,8 @@ impl<const COUNTS: usize> LineIn<COUNTS> {
         ensures kind { self.new.kind ≡ self.old.kind }
         ensures ending { self.new.reader.ending ≡ self.old.reader.ending }
         ensures pieces { self.new.pieces ≡ 0 }
-        ensures whole { result ≡ true → members self.old ≡ slots_of self.old.kind }
-        ensures members { members self.new ≡ 0 }
+        ensures whole { result ≡ true → frames_taken self.old ≡ slots_of self.old.kind }
+        ensures frames_taken { frames_taken self.new ≡ 0 }
     {
         self.close()
     }
@@ -147,7 +147,7 @@ impl<const COUNTS: usize> LineIn<COUNTS> {
         let hunted = self.phase.hunting();
         let whole = self.phase.end_turn();
         self.pieces = 0;
-        self.member = false;
+        self.has_frame = false;
         if self.ended || hunted {
             return false;
         }
@@ -184,7 +184,7 @@ impl<const COUNTS: usize> LineIn<COUNTS> {
         requires room { ForSome self.old.alignment (λ a. length a.taken < self.old.pieces) }
         requires pieces { 1 ≤ self.old.pieces }
         requires most { self.old.pieces ≤ slots_of self.old.kind }
-        requires fresh { self.old.member ≡ false }
+        requires fresh { self.old.has_frame ≡ false }
         ensures moves { StepMoves (slots_of self.old.kind) first result self.old (in_view P.Source place.old) self.new (in_view P.Source place.new) }
         ensures kind { self.new.kind ≡ self.old.kind }
         ensures pieces { self.new.pieces ≡ self.old.pieces }

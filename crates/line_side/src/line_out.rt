@@ -43,7 +43,7 @@ impl Model for LineOut {
 impl LineOut {
     ghost use Rattle.std.specs.Borrow.{Lends, sem};
     ghost use Rattle.line_side.specs.contracts.line_out.LineOut.{the_row};
-    ghost use Rattle.line_side.specs.Rows.{frame_row};
+    ghost use Rattle.line_side.specs.FrameType.{line_frame};
     ghost use Rattle.line_side.specs.LineForm.{LineForm};
     ghost use Rattle.line_side.specs.LineOutput.{FramePut, LineMade};
     ghost use Rattle.otn_base.specs.Counts.{saturated};
@@ -74,7 +74,7 @@ impl LineOut {
 
     /// The next frame, all 0, to be filled.
     pub fn begin(&mut self) -> &mut Frame<LINE_COLUMNS>
-        ensures* writes_back { sem 𝓛 (Lends the_row frame_row self.entry result (λ w. record self.entry.now { frame = w })) }
+        ensures* writes_back { sem 𝓛 (Lends the_row line_frame self.entry result (λ w. record self.entry.now { frame = w })) }
         ensures zero { (place : ℕ) → slice_index result.now place ≡ 0 }
         ensures size { length result.now ≡ FRAME_BYTES }
     {

@@ -8,7 +8,7 @@ use Rattle.otn_ports.specs.Views.{InView, Live, Dead}
 use Rattle.line_side.specs.LineFile.{mfas_of}
 use Rattle.line_side.specs.LineStands.{LineView}
 use Rattle.line_side.specs.declared.ending.Ending.TheVariants.{Seen}
-use Rattle.multiframe.specs.LineTurns.{standing, has_ended}
+use Rattle.multiframe.specs.LineTurns.{line_state, has_ended}
 use Rattle.tributary_model.specs.Places.{Tributary}
 use Rattle.device_model.specs.LineViews.{emitted_at}
 use Rattle.line_tool.specs.Ends.{line_status}
@@ -39,7 +39,7 @@ PullEnds ReportFault more taken now = Unit {0}
 -- and not all.
 pub record StoppedInTurn (own : Tributary) (given : List ℕ) (count t : ℕ) (old new : Option (List ℕ)) : Type 0 where
   pub few : t < MOST_TURNS
-  pub unended : (s : ℕ) → s ≤ t → has_ended (standing OTU2_SLOTS (mfas_of given) s) ≡ false
+  pub unended : (s : ℕ) → s ≤ t → has_ended (line_state OTU2_SLOTS (mfas_of given) s) ≡ false
   pub last : count ≡ bytes_wanted given (t + 1)
   pub gained : GainsPart (after old (emitted_until own given t)) new (emitted_at own given t)
 

@@ -88,8 +88,8 @@ pub record ReadsLine (past a : ℕ) (old : LineView) (was : InView) (links : Lis
   pub pieces : new.pieces ≡ old.pieces + 1
   pub kind : new.kind ≡ old.kind
   pub expected : ℕ
-  pub expects : new.member ≡ true → OfMember new (λ given member. expected ≡ member.expected)
-  pub took : EachLink (λ link then. TookFrame (new.member && takes_line past a link) (record { frame = new.reader.hand; expected = expected }) link then) links next
+  pub expects : new.has_frame ≡ true → OfMember new (λ given member. expected ≡ member.expected)
+  pub took : EachLink (λ link then. TookFrame (new.has_frame && takes_line past a link) (record { frame = new.reader.hand; expected = expected }) link then) links next
 
 -- ---- a piece of an output line
 
