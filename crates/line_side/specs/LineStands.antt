@@ -64,6 +64,11 @@ pub record LineStands (form : LineForm) (first now : InView) (taken : List ℕ) 
   pub over : line.reader.ending ≢ Open → now.state ≡ Live → HasEnded now.left now.ended
   pub is_line : (given : List ℕ) → MayBe form.scrambled line.reader.ending taken given → IsLine (size_of form) given (length taken) t line
 
+-- However the line stands on a place that is seen so now: of whatever form, whatever the place was before the line, whatever bytes
+-- were taken of it, and in whatever turn.
+abbrev pub AsStood : (now : InView) → LineView → ((form : LineForm) → (first : InView) → (taken : List ℕ) → (t : ℕ) → Type 0) → Type 0
+AsStood now line Holds = (form : LineForm) (first : InView) (taken : List ℕ) (t : ℕ) → LineStands form first now taken t line → Holds form first taken t
+
 -- after a piece: more bytes were taken, and what the line may have from then on it might have before
 pub record PieceStands (form : LineForm) (first now : InView) (taken : List ℕ) (t : ℕ) (old new : LineView) : Type 0 where
   pub came : List ℕ
@@ -73,8 +78,7 @@ pub record PieceStands (form : LineForm) (first now : InView) (taken : List ℕ)
 -- What holds of a line in each turn, whatever place it is read from and whatever it may turn out to have: `given` are all bytes
 -- of the line, and it stands in turn t + 1.
 abbrev pub InEachTurn : LineView → ((form : LineForm) → (given : List ℕ) → (t : ℕ) → Type 0) → Type 0
-InEachTurn line Holds = (form : LineForm) (first now : InView) (taken given : List ℕ) (t : ℕ) → LineStands form first now taken t line → MayBe form.scrambled line.reader.ending taken given
-    → Holds form given t
+InEachTurn line Holds = (now : InView) → AsStood now line (λ form first taken t. (given : List ℕ) → MayBe form.scrambled line.reader.ending taken given → Holds form given t)
 
 -- What holds of the frame of a multiframe to which the last piece of the turn came, if it came to one: of all bytes of the line
 -- and of the number of the frame with the MFAS expected in it.

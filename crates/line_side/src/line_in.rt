@@ -50,8 +50,7 @@ impl<const COUNTS: usize> Model for LineIn<COUNTS> {
 }
 
 impl<const COUNTS: usize> LineIn<COUNTS> {
-    ghost use Rattle.line_side.specs.LineForm.{LineForm};
-    ghost use Rattle.line_side.specs.LineStands.{LineStands, PieceStands, InEachTurn, OfMember, AwaitsTurn, TurnEnded, frames_taken};
+    ghost use Rattle.line_side.specs.LineStands.{LineStands, AsStood, PieceStands, InEachTurn, OfMember, AwaitsTurn, TurnEnded, frames_taken};
     ghost use Rattle.line_side.specs.LineMoves.{TakesNext, Tries, Hunts, StepMoves, EndMoves, TakesMember, is_locked};
     ghost use Rattle.line_side.specs.Reader.{AsksNoMore, rest_of};
     ghost use Rattle.line_side.specs.LineFile.{frame_at};
@@ -81,8 +80,7 @@ impl<const COUNTS: usize> LineIn<COUNTS> {
     /// turn, reads nothing.
     pub fn piece<P: Source>(&mut self, place: &mut InPlaceOf<P>) -> bool
         requires { self.old.pieces < slots_of self.old.kind }
-        ensures stands { (form : LineForm) (first : InView) (taken : List ℕ) (t : ℕ) → LineStands form first (in_view P.Source place.old) taken t self.old
-            → PieceStands form first (in_view P.Source place.new) taken t self.old self.new }
+        ensures stands { AsStood (in_view P.Source place.old) self.old (λ form first taken t. PieceStands form first (in_view P.Source place.new) taken t self.old self.new) }
         ensures kind { self.new.kind ≡ self.old.kind }
         ensures pieces { self.new.pieces ≡ self.old.pieces + 1 }
         ensures has_frame { result ≡ self.new.has_frame }
@@ -130,7 +128,7 @@ impl<const COUNTS: usize> LineIn<COUNTS> {
     /// Ends the turn, all of whose pieces are done, and says whether it has a multiframe.
     pub fn end_turn(&mut self) -> bool
         requires { self.old.pieces ≡ slots_of self.old.kind }
-        ensures stands { (form : LineForm) (first now : InView) (taken : List ℕ) (t : ℕ) → LineStands form first now taken t self.old → LineStands form first now taken (t + 1) self.new }
+        ensures stands { (now : InView) → AsStood now self.old (λ form first taken t. LineStands form first now taken (t + 1) self.new) }
         ensures turn { InEachTurn self.old (λ form given t. TurnEnded form given t result self.new) }
         ensures kind { self.new.kind ≡ self.old.kind }
         ensures ending { self.new.reader.ending ≡ self.old.reader.ending }

@@ -204,7 +204,7 @@ line_in_pipes plan first was is a taken old new p r m counted ps kept h = record
       let size = size_of (form_in plan a) in
       let pieces : m.next.pieces ≡ done_at old (port.LineIn a) + 1 = omega (arith, m.reads.pieces) in
       let came = hand_is (inputs.line a) m.next.reader.hand m.reads.expected m.next.has_frame (in_hand size (mfas_of (inputs.line a)) (line_state size (mfas_of (inputs.line a)) old.past) m.next.pieces) line.has_frame line.hand
-      (λ some. m.reads.expects some (form_in plan a) first is (taken.line a ++ ps.came) (inputs.line a) old.past ps.stands now) in
+      (λ some. m.reads.expects some is (form_in plan a) first (taken.line a ++ ps.came) old.past ps.stands (inputs.line a) now) in
       let frames : frames_in size (inputs.line a) old.past (done_at old (port.LineIn a) + 1) ≡ frames_in size (inputs.line a) old.past (done_at old (port.LineIn a)) ++ came_to m.next.has_frame m.next.reader.hand m.reads.expected
       = frames_next size (inputs.line a) old.past (done_at old (port.LineIn a))
       ∙ ap (λ o. frames_in size (inputs.line a) old.past (done_at old (port.LineIn a)) ++ member_of (inputs.line a) o) (ap (in_hand size (mfas_of (inputs.line a)) (line_state size (mfas_of (inputs.line a)) old.past)) (sym pieces))
