@@ -1,5 +1,5 @@
 -- What the moves of an input line within a piece do. `size` is the number of frames of a multiframe.
-use Rattle.std.specs.Prelude.{◌≡◌, ◌<◌, ◌+◌, ◌-◌, ◌^◌, min, max, ℕ, Bool, true, false, if◌then◌else◌, List, length, nat_lt, option_map, Some, None, IsSome, slice_index}
+use Rattle.std.specs.Prelude.{◌≡◌, ◌<◌, ◌+◌, ◌-◌, min, max, ℕ, Bool, true, false, if◌then◌else◌, List, length, nat_lt, option_map, Some, None, IsSome, slice_index}
 use Rattle.otn_ports.specs.Views.{InView}
 use Rattle.multiframe.specs.LineTurns.{Lock, one_if, looked_ahead, is_start, least_start}
 use Rattle.multiframe.specs.Alignment.{Alignment, aligned_at, with_frame, taken_of, EndsTurn}
@@ -46,7 +46,9 @@ pub record TakesNext (result : Bool) (old : LineView) (was : InView) (new : Line
   pub came : List ℕ
   pub step : ReadStep old.reader was came new.reader is
   pub keeps : Keeps old new
+  pub member : TakesMember result old new
   pub lead_in : new.lead_in ≡ old.lead_in
+  pub over : result ≡ false → new.ended ≡ true
   pub frame : result ≡ true → OnAnyLine old.reader new.reader came (λ given n u w. TookFrame given n u (max w (u + 1)) old new)
   pub none : result ≡ false → OnAnyLine old.reader new.reader came (λ given n u w. FoundNone given n u (max w (u + 1)) old new)
 
@@ -81,6 +83,7 @@ pub record Tries (size : ℕ) (tried : Tried) (old : LineView) (was : InView) (n
   pub came : List ℕ
   pub step : ReadStep old.reader was came new.reader is
   pub keeps : Keeps old new
+  pub member : TakesMember (is_locked tried) old new
   pub passes_over : PassesOver old (one_if (is_passed tried)) new
   pub passed : tried ≡ Passes → (new.alignment ≡ old.alignment) × (new.ended ≡ old.ended)
   pub locks : tried ≡ Locks → OnAnyLine old.reader new.reader came (λ given n u w. LockedAt size given n u (max w (u + 1 + 1)) old new)
@@ -107,6 +110,7 @@ pub record Hunts (size : ℕ) (result : Bool) (old : LineView) (was : InView) (n
   pub came : List ℕ
   pub step : ReadStep old.reader was came new.reader is
   pub keeps : Keeps old new
+  pub member : TakesMember result old new
   pub locks : result ≡ true → OnAnyLine old.reader new.reader came (λ given n i w. (m : ℕ) × HuntLocked size given n i w m old new)
   pub fails : result ≡ false → OnAnyLine old.reader new.reader came (λ given n i w. HuntFailed size given n i w old new)
 

@@ -51,7 +51,7 @@ impl<const COUNTS: usize> Model for LineIn<COUNTS> {
 
 impl<const COUNTS: usize> LineIn<COUNTS> {
     ghost use Rattle.line_side.specs.LineStands.{LineStands, AsStood, PieceStands, InEachTurn, OfMember, AwaitsTurn, TurnEnded, frames_taken};
-    ghost use Rattle.line_side.specs.LineMoves.{TakesNext, Tries, Hunts, StepMoves, EndMoves, TakesMember, is_locked};
+    ghost use Rattle.line_side.specs.LineMoves.{TakesNext, Tries, Hunts, StepMoves, EndMoves};
     ghost use Rattle.line_side.specs.Reader.{AsksNoMore, rest_of};
     ghost use Rattle.line_side.specs.LineFile.{frame_at};
     ghost use Rattle.multiframe.specs.LineTurns.{one_if};
@@ -121,7 +121,6 @@ impl<const COUNTS: usize> LineIn<COUNTS> {
         ensures alignment { IfSome self.now.alignment (λ a. result ≡ (a.expected + (self.now.pieces - 1)) % 256) }
         ensures line { OfMember self.now (λ given member. result ≡ member.expected) }
     {
-        let _ = &self.has_frame;
         self.phase.expected(self.pieces - 1)
     }
 
@@ -184,12 +183,7 @@ impl<const COUNTS: usize> LineIn<COUNTS> {
         requires most { self.old.pieces ≤ slots_of self.old.kind }
         requires fresh { self.old.has_frame ≡ false }
         ensures moves { StepMoves (slots_of self.old.kind) first result self.old (in_view P.Source place.old) self.new (in_view P.Source place.new) }
-        ensures kind { self.new.kind ≡ self.old.kind }
-        ensures pieces { self.new.pieces ≡ self.old.pieces }
-        ensures member { TakesMember result self.old self.new }
-        ensures missed { result ≡ false → self.new.ended ≡ false → self.new.alignment ≡ None }
-        ensures rests { self.old.ended ≡ true → place.new ≡ place.old }
-        ensures waits { (self.old.ended ≡ false → (first ≡ false) × (self.old.alignment ≡ None)) → (result ≡ false) × (place.new ≡ place.old) }
+        ensures waits { (self.old.ended ≡ false → (first ≡ false) × (self.old.alignment ≡ None)) → place.new ≡ place.old }
         ensures quiet { AsksNoMore self.old.reader.ending place.old self.new.reader.ending place.new }
     {
         if self.ended {
@@ -206,8 +200,6 @@ impl<const COUNTS: usize> LineIn<COUNTS> {
         requires room { IsSomeAnd self.old.alignment (λ a. length a.taken < self.old.pieces) }
         requires most { self.old.pieces ≤ slots_of self.old.kind }
         ensures takes { TakesNext result self.old (in_view P.Source place.old) self.new (in_view P.Source place.new) }
-        ensures member { TakesMember result self.old self.new }
-        ensures ended { result ≡ false → self.new.ended ≡ true }
         ensures quiet { AsksNoMore self.old.reader.ending place.old self.new.reader.ending place.new }
     {
         if !self.reader.advance(place) {
@@ -224,7 +216,6 @@ impl<const COUNTS: usize> LineIn<COUNTS> {
         requires pieces { 1 ≤ self.old.pieces }
         requires going { self.old.ended ≡ false }
         ensures hunts { Hunts (slots_of self.old.kind) result self.old (in_view P.Source place.old) self.new (in_view P.Source place.new) }
-        ensures member { TakesMember result self.old self.new }
         ensures quiet { AsksNoMore self.old.reader.ending place.old self.new.reader.ending place.new }
     {
         for _ in 0..self.phase.kind().slots() {
@@ -242,7 +233,6 @@ impl<const COUNTS: usize> LineIn<COUNTS> {
         requires hunting { self.old.alignment ≡ None }
         requires pieces { 1 ≤ self.old.pieces }
         ensures tries { Tries (slots_of self.old.kind) result self.old (in_view P.Source place.old) self.new (in_view P.Source place.new) }
-        ensures member { TakesMember (is_locked result) self.old self.new }
         ensures quiet { AsksNoMore self.old.reader.ending place.old self.new.reader.ending place.new }
     {
         if !self.reader.advance(place) {
