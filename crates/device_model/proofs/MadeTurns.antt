@@ -8,7 +8,7 @@ use Rattle.std.proofs.Math.Nat.{mod-eq_of_lt, mul-suc, mul-zero, div-add-mod}
 use Rattle.line_side.specs.LineFile.{mfas_of}
 use Rattle.line_side.specs.LineForm.{size_of}
 use Rattle.line_side.proofs.Mfas.{index_mfas, length_mfas}
-use Rattle.multiframe.specs.LineTurns.{begins, is_start, least_or, least_start, Lock, Standing, Hunting, Locked, Ended, lock_from, lock_of, one_unless, wrong_count, CutShort, Lost, Whole, outcome_of, after_outcome, after_hunt, after_turn, standing, kept_if, multiframe_at, multiframe}
+use Rattle.multiframe.specs.LineTurns.{begins, is_start, least_or, least_start, Lock, LineState, Hunting, Locked, Ended, lock_from, lock_of, one_unless, wrong_count, CutShort, Lost, Whole, outcome_of, after_outcome, after_hunt, after_turn, line_state, kept_if, multiframe_at, multiframe}
 use Rattle.plan_file.specs.declared.plan.Plan.{Plan}
 use Rattle.otn_base.specs.LineSlots.{slots_of}
 use Rattle.otn_base.specs.declared.line_kind.LineKind.{LineKind}
@@ -75,7 +75,7 @@ whole_here size past ms many on =
     ap (λ t. cond t CutShort (cond (nat_lt (size / 2) wrong) Lost Whole)) (le-ltb (length ms) (size * past + size) many)
     ∙ ap (λ t. cond t Lost Whole) (le-ltb (size / 2) wrong (omega arith))
 
-follows : (size : ℕ) (ms : List ℕ) (was : Standing) (lock : Lock) → lock_of size ms was ≡ Some lock → outcome_of size ms lock ≡ Whole
+follows : (size : ℕ) (ms : List ℕ) (was : LineState) (lock : Lock) → lock_of size ms was ≡ Some lock → outcome_of size ms lock ≡ Whole
     → after_turn size ms was ≡ Locked (record { frame = lock.frame + size; expected = (lock.expected + size) % 256 })
 follows size ms (Hunting i) lock e whole = ap (after_hunt size ms i) e ∙ ap (after_outcome size lock) whole
 follows size ms (Locked l) lock e whole =
@@ -91,14 +91,14 @@ next_lock size past =
     let expected : (size * past % 256 + size) % 256 ≡ size * suc past % 256 = omega arith in
     ap (λ n. Some (record { frame = size * past + size; expected = n })) expected ∙ ap (λ n. Some (record { frame = n; expected = size * suc past % 256 })) (sym next)
 
-locked : (size : ℕ) (ms : List ℕ) (past : ℕ) → 2 ≤ size → size * past + size ≤ length ms → GoOn ms → lock_of size ms (standing size ms past) ≡ Some (lock_at size past)
-unfolding standing
+locked : (size : ℕ) (ms : List ℕ) (past : ℕ) → 2 ≤ size → size * past + size ≤ length ms → GoOn ms → lock_of size ms (line_state size ms past) ≡ Some (lock_at size past)
+unfolding line_state
 locked size ms zero low many on = first_lock size ms low (omega (arith, mul-zero size)) on
 locked size ms (suc past) low many on =
     let next = mul-suc size past in
     let before = locked size ms past low (omega arith) on in
     let whole = whole_here size past ms (omega arith) on in
-    let follow = follows size ms (standing size ms past) (lock_at size past) before whole in
+    let follow = follows size ms (line_state size ms past) (lock_at size past) before whole in
     ap (lock_of size ms) follow ∙ next_lock size past
 
 pub has_multiframe : (size : ℕ) (ms : List ℕ) (past : ℕ) → 2 ≤ size → size * past + size ≤ length ms → GoOn ms → multiframe size ms past ≡ Some (lock_at size past)

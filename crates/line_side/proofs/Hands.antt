@@ -4,11 +4,11 @@ use Rattle.std.specs.Prelude.{IfSome, is_some}
 use Rattle.multiframe.specs.LineTurns.{Lock}
 use Rattle.line_side.specs.LineFile.{frame_at, mfas_of}
 use Rattle.multiframe.specs.TurnPieces.{hand_at}
-use Rattle.line_side.proofs.LockedTurns.{member_at}
+use Rattle.line_side.proofs.LockedTurns.{has_frame_at}
 
 -- the frame in hand, by the test and by the definition
 pub record HandIs (given : List ℕ) (lock : Option Lock) (k : ℕ) (result : Bool) (hand : List ℕ) : Type 0 where
-  pub member : result ≡ is_some (hand_at (mfas_of given) lock k)
+  pub has_frame : result ≡ is_some (hand_at (mfas_of given) lock k)
   pub frame : IfSome (hand_at (mfas_of given) lock k) (λ member. hand ≡ frame_at given member.frame)
 
 hand_by : (given : List ℕ) (lock : Lock) (k : ℕ) (result : Bool) (hand : List ℕ) (test : Bool) → ltb (lock.frame + k) (length (mfas_of given)) ≡ test → result ≡ test
@@ -20,13 +20,13 @@ hand_by given lock k result hand test e f h = by_test test e f
         let there : hand_at (mfas_of given) (Some lock) k ≡ Some (record { frame = lock.frame + k; expected = (lock.expected + k) % 256 })
         = ap (λ b. cond b (Some (record { frame = lock.frame + k; expected = (lock.expected + k) % 256 })) None) e in
         let P : Option Lock → Type 0 = λ o. IfSome o (λ member. hand ≡ frame_at given member.frame) in
-        record { member = f ∙ sym (ap is_some there); frame = subst P (sym there) (h f) }
+        record { has_frame = f ∙ sym (ap is_some there); frame = subst P (sym there) (h f) }
     by_test false e f =
         let gone : hand_at (mfas_of given) (Some lock) k ≡ None = ap (λ b. cond b (Some (record { frame = lock.frame + k; expected = (lock.expected + k) % 256 })) None) e in
         let P : Option Lock → Type 0 = λ o. IfSome o (λ member. hand ≡ frame_at given member.frame) in
-        record { member = f ∙ sym (ap is_some gone); frame = subst P (sym gone) tt }
+        record { has_frame = f ∙ sym (ap is_some gone); frame = subst P (sym gone) tt }
 
-pub hand_is : (given : List ℕ) (lock : Option Lock) (k : ℕ) (result : Bool) (hand : List ℕ) → result ≡ member_at (mfas_of given) lock k
+pub hand_is : (given : List ℕ) (lock : Option Lock) (k : ℕ) (result : Bool) (hand : List ℕ) → result ≡ has_frame_at (mfas_of given) lock k
     → (result ≡ true → IfSome lock (λ lock. hand ≡ frame_at given (lock.frame + k))) → HandIs given lock k result hand
-hand_is given None k result hand e h = record { member = e; frame = tt }
+hand_is given None k result hand e h = record { has_frame = e; frame = tt }
 hand_is given (Some lock) k result hand e h = hand_by given lock k result hand (ltb (lock.frame + k) (length (mfas_of given))) refl e h

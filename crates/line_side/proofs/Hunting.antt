@@ -8,7 +8,7 @@ use Rattle.multiframe.specs.LineTurns.{one_if, looked_ahead, is_start, least_sta
 use Rattle.line_side.specs.LineFile.{whole_frames, mfas_of}
 use Rattle.line_side.specs.Reader.{ReaderView, HasRead, OnAnyLine, ReadStep}
 use Rattle.otn_base.specs.Counts.{saturated}
-use Rattle.line_side.specs.LineStands.{LineView}
+use Rattle.line_side.specs.LineStands.{LineView, taken_count}
 use Rattle.line_side.specs.LineMoves.{Keeps, PassesOver, Tries, Hunts}
 use Rattle.line_side.specs.declared.tried.Tried.{Tried}
 use Rattle.line_side.specs.declared.tried.Tried.TheVariants.{Locks, Passes, Ends}
@@ -132,6 +132,7 @@ hunt_locks size old was m line new mid is few h t = record {
   came = h.came ++ t.came;
   step = step_twice old.reader line.reader new.reader was mid is h.came t.came h.step t.step;
   keeps = record { kind = t.keeps.kind ∙ h.keeps.kind; pieces = t.keeps.pieces ∙ h.keeps.pieces; lost = t.keeps.lost ∙ h.keeps.lost };
+  member = record { aligned = λ _. t.member.aligned refl; stays = λ f. absurd (cc); count = t.member.count ∙ ap (λ a. taken_count a + 1) h.alignment };
   locks = λ _ given taken i w may r.
       let a = h.at given taken i w (may_first line.reader new.reader mid is h.came t.came taken given t.step may) r in
       let l = t.locks refl given (taken ++ h.came) (i + m) (hunt_wanted size (mfas_of given) i m w) (may_second new.reader h.came t.came taken given may) a.read in (
@@ -157,6 +158,7 @@ hunt_ends size old was m line new mid is few h t = record {
   came = h.came ++ t.came;
   step = step_twice old.reader line.reader new.reader was mid is h.came t.came h.step t.step;
   keeps = record { kind = t.keeps.kind ∙ h.keeps.kind; pieces = t.keeps.pieces ∙ h.keeps.pieces; lost = t.keeps.lost ∙ h.keeps.lost };
+  member = record { aligned = λ f. absurd (cc); stays = λ _. t.member.stays refl ∙ h.alignment; count = t.member.count ∙ ap (λ a. taken_count a + 0) h.alignment };
   locks = λ f. absurd (cc);
   fails = λ _ given taken i w may r.
       let a = h.at given taken i w (may_first line.reader new.reader mid is h.came t.came taken given t.step may) r in
@@ -182,6 +184,7 @@ hunt_fails size old was line is some opened h = record {
   came = h.came;
   step = h.step;
   keeps = h.keeps;
+  member = record { aligned = λ f. absurd (cc); stays = λ _. h.alignment; count = (let e = ap taken_count h.alignment in omega arith) };
   locks = λ f. absurd (cc);
   fails = λ _ given taken i w may r.
       let a = h.at given taken i w may r in

@@ -15,9 +15,9 @@ use Rattle.line_side.proofs.Hunting.{raised_wanted}
 use Rattle.line_side.proofs.Mfas.{length_mfas}
 
 -- whether the turn is locked, and the frame after k of its frames is whole
-abbrev pub member_at : List ℕ → Option Lock → ℕ → Bool
-member_at ms None k = false
-member_at ms (Some lock) k = ltb (lock.frame + k) (length ms)
+abbrev pub has_frame_at : List ℕ → Option Lock → ℕ → Bool
+has_frame_at ms None k = false
+has_frame_at ms (Some lock) k = ltb (lock.frame + k) (length ms)
 
 -- ---- lists
 
@@ -42,7 +42,7 @@ pub record InLocked (given : List ℕ) (n : ℕ) (lock : Lock) (k w : ℕ) (line
 
 -- what its last piece came to
 pub record MemberAt (given : List ℕ) (lock : Lock) (k : ℕ) (result : Bool) (line : LineView) : Type 0 where
-  pub member : result ≡ ltb (lock.frame + k) (length (mfas_of given))
+  pub has_frame : result ≡ ltb (lock.frame + k) (length (mfas_of given))
   pub hand : result ≡ true → line.reader.hand ≡ frame_at given (lock.frame + k)
 
 pub took_next : (given : List ℕ) (n n' : ℕ) (lock : Lock) (k w w' : ℕ) (old new : LineView) → InLocked given n lock k w old → old.ended ≡ false → max w (lock.frame + k + 1) ≡ w'
@@ -63,7 +63,7 @@ took_next given n n' lock k w w' old new h opened more took =
         ended = took.ended ∙ opened ∙ sym (le-ltb (length (mfas_of given)) (lock.frame + suc k) (omega arith));
       },
       record {
-        member = sym (lt-ltb (lock.frame + k) (length (mfas_of given)) inside);
+        has_frame = sym (lt-ltb (lock.frame + k) (length (mfas_of given)) inside);
         hand = λ _. took.hand ∙ ap (frame_at given) u;
       },
     )
@@ -90,7 +90,7 @@ found_none given n n' lock k w w' old new h opened more none =
         ended = none.ended ∙ sym (lt-ltb (length (mfas_of given)) (lock.frame + suc k) (omega arith));
       },
       record {
-        member = sym (le-ltb (lock.frame + k) (length (mfas_of given)) (omega arith));
+        has_frame = sym (le-ltb (lock.frame + k) (length (mfas_of given)) (omega arith));
         hand = λ t. absurd (cc);
       },
     )
@@ -107,7 +107,7 @@ ended_before given n lock k w w' line h over cover up =
         ended = over ∙ sym (lt-ltb (length (mfas_of given)) (lock.frame + suc k) (omega arith));
       },
       record {
-        member = sym (le-ltb (lock.frame + k) (length (mfas_of given)) (omega arith));
+        has_frame = sym (le-ltb (lock.frame + k) (length (mfas_of given)) (omega arith));
         hand = λ t. absurd (cc);
       },
     )

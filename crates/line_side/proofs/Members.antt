@@ -1,7 +1,7 @@
 -- The frames of a multiframe, as they come into the hand.
 use Rattle.std.proofs.Common.{◌≡◌, ◌<◌, ◌≤◌, ◌+◌, ◌/◌, ◌%◌, ℕ, suc, Bool, true, false, cond, ltb, List, Option, Some, None, length, take, drop, arith, refl, ap, ◌∙◌}
 use Rattle.std.proofs.lemmas.Bool.{ltb-false, lt-ltb}
-use Rattle.multiframe.specs.LineTurns.{Lock, CutShort, Lost, Whole, lock_of, kept_if, multiframe, multiframe_at, standing, wrong_count}
+use Rattle.multiframe.specs.LineTurns.{Lock, CutShort, Lost, Whole, lock_of, kept_if, multiframe, multiframe_at, line_state, wrong_count}
 use Rattle.multiframe.specs.TurnPieces.{in_hand, hand_at}
 
 -- where a turn has a multiframe, its frames are whole
@@ -22,5 +22,5 @@ hand_of size ms (Some lock) member k e h =
 
 -- each of the eight pieces of a turn that has a multiframe has its next frame in hand
 pub whole_hand : (size : ℕ) (ms : List ℕ) (t k : ℕ) (member : Lock) → multiframe size ms t ≡ Some member → k < size
-    → in_hand size ms (standing size ms t) (suc k) ≡ Some (record { frame = member.frame + k; expected = (member.expected + k) % 256 })
-whole_hand size ms t k member e h = hand_of size ms (lock_of size ms (standing size ms t)) member k e h
+    → in_hand size ms (line_state size ms t) (suc k) ≡ Some (record { frame = member.frame + k; expected = (member.expected + k) % 256 })
+whole_hand size ms t k member e h = hand_of size ms (lock_of size ms (line_state size ms t)) member k e h

@@ -1,38 +1,51 @@
 -- The moves of an input line, over plain views.
-use Rattle.std.proofs.Common.{◌≡◌, ◌<◌, ◌+◌, ◌-◌, ◌%◌, ◌^◌, min, max, ℕ, Bool, true, false, eqb, ltb, List, ◌++◌, Some, length, arith, refl, sym, ap, ◌∙◌, append_assoc}
-use Rattle.std.specs.Prelude.{slice_index, option_map, ◌&&◌}
+use Rattle.std.proofs.Common.{◌≡◌, ◌<◌, ◌+◌, ◌-◌, ◌%◌, ◌^◌, min, max, ℕ, Bool, true, false, eqb, ltb, List, ◌++◌, Option, Some, None, length, arith, refl, sym, ap, ◌∙◌, append_assoc, length-append}
+use Rattle.std.specs.Prelude.{slice_index, option_map, ◌&&◌, IsSome, IsSomeAnd}
 use Rattle.std.proofs.lemmas.Bool.{ltb-true, lt-ltb}
 use Rattle.otn_ports.specs.Views.{InView}
 use Rattle.multiframe.specs.LineTurns.{one_if, looked_ahead, is_start}
-use Rattle.multiframe.specs.Alignment.{aligned_at, with_frame}
+use Rattle.multiframe.specs.Alignment.{Alignment, aligned_at, with_frame}
 use Rattle.line_side.specs.LineFile.{frame_at, frame_mfas, mfas_of}
 use Rattle.line_side.specs.Reader.{ReaderView, Advances, Begins}
 use Rattle.otn_base.specs.Counts.{saturated}
-use Rattle.line_side.specs.LineStands.{LineView}
-use Rattle.line_side.specs.LineMoves.{TakesNext, Tries}
+use Rattle.line_side.specs.LineStands.{LineView, taken_count}
+use Rattle.line_side.specs.LineMoves.{Keeps, TakesMember, TakesNext, Tries, Waits, StepMoves}
 use Rattle.line_side.specs.declared.tried.Tried.TheVariants.{Locks, Passes, Ends}
 use Rattle.line_side.proofs.Giving.{step_twice, may_first, may_second}
 use Rattle.line_side.proofs.Beginnings.{same_wanted}
 use Rattle.line_side.proofs.Mfas.{index_mfas}
+
+-- no frame was taken
+stays : (old new : LineView) → new.alignment ≡ old.alignment → TakesMember false old new
+stays old new e = record { aligned = λ t. absurd (cc); stays = λ _. e; count = (let f = ap taken_count e in omega arith) }
+
+-- one more frame was taken
+joined : (m pieces : ℕ) (o : Option Alignment) → IsSomeAnd o (λ a. length a.taken < pieces) → IsSome (option_map (with_frame m) o) × (taken_count (option_map (with_frame m) o) ≡ taken_count o + 1)
+joined m pieces None h = absurd h
+joined m pieces (Some a) h = (refl, simp length-append refl)
 
 pub takes_none : (old : LineView) (was is : InView) (r : ReaderView) → Advances false old.reader was r is → TakesNext false old was (record old { reader = r; ended = true }) is
 takes_none old was is r a = record {
   came = a.came;
   step = a.step;
   keeps = record { kind = refl; pieces = refl; lost = refl };
+  member = stays _ _ refl;
   lead_in = refl;
+  over = λ _. refl;
   frame = λ t. absurd (cc);
   none = λ _ given taken u w may h. let x = (a.line given taken u w may h).none refl in
       record { read = x.0; end = x.1; alignment = refl; ended = refl };
 }
 
-pub takes_frame : (old : LineView) (was is : InView) (r : ReaderView) (m : ℕ) → Advances true old.reader was r is → m ≡ frame_mfas r.hand
+pub takes_frame : (old : LineView) (was is : InView) (r : ReaderView) (m pieces : ℕ) → IsSomeAnd old.alignment (λ a. length a.taken < pieces) → Advances true old.reader was r is → m ≡ frame_mfas r.hand
     → TakesNext true old was (record old { reader = r; alignment = option_map (with_frame m) old.alignment }) is
-takes_frame old was is r m a e = record {
+takes_frame old was is r m pieces room a e = record {
   came = a.came;
   step = a.step;
   keeps = record { kind = refl; pieces = refl; lost = refl };
+  member = (let x = joined m pieces old.alignment room in record { aligned = λ _. x.0; stays = λ f. absurd (cc); count = x.1 });
   lead_in = refl;
+  over = λ f. absurd (cc);
   frame = λ _ given taken u w may h. let x = (a.line given taken u w may h).frame refl in
       record {
         read = x.0;
@@ -56,6 +69,7 @@ tries_ends size old was is r a = record {
   came = a.came;
   step = a.step;
   keeps = record { kind = refl; pieces = refl; lost = refl };
+  member = stays _ _ refl;
   passes_over = none_passed old.lead_in;
   passed = λ t. absurd (cc);
   locks = λ t. absurd (cc);
@@ -73,6 +87,7 @@ tries_passes size old was mid is r s a b = record {
   came = a.came ++ b.came;
   step = step_twice old.reader r s was mid is a.came b.came a.step b.step;
   keeps = record { kind = refl; pieces = refl; lost = refl };
+  member = stays _ _ refl;
   passes_over = one_passed old.lead_in;
   passed = λ _. (refl, refl);
   locks = λ t. absurd (cc);
@@ -102,12 +117,13 @@ start_looked size ms u e =
     let fits : eqb (slice_index ms u % size) 0 ≡ true = and_first (eqb (slice_index ms u % size) 0) _ (and_second (ltb (u + 1) (length ms)) _ e) in
     (inside, ap (λ b. b && eqb (slice_index ms u % size) 0) here ∙ fits)
 
-pub tries_locks : (size : ℕ) (old : LineView) (was mid is : InView) (r s : ReaderView) (m : ℕ) → Advances true old.reader was r mid → Begins size true r mid s is → m ≡ frame_mfas s.hand
+pub tries_locks : (size : ℕ) (old : LineView) (was mid is : InView) (r s : ReaderView) (m : ℕ) → old.alignment ≡ None → Advances true old.reader was r mid → Begins size true r mid s is → m ≡ frame_mfas s.hand
     → Tries size Locks old was (record old { reader = s; alignment = Some (with_frame m (aligned_at m)) }) is
-tries_locks size old was mid is r s m a b e = record {
+tries_locks size old was mid is r s m none a b e = record {
   came = a.came ++ b.came;
   step = step_twice old.reader r s was mid is a.came b.came a.step b.step;
   keeps = record { kind = refl; pieces = refl; lost = refl };
+  member = record { aligned = λ _. refl; stays = λ f. absurd (cc); count = (let e = ap taken_count none in omega arith) };
   passes_over = none_passed old.lead_in;
   passed = λ t. absurd (cc);
   locks = λ _ given taken u w may h.
@@ -125,3 +141,16 @@ tries_locks size old was mid is r s m a b e = record {
   passes = λ t. absurd (cc);
   ends = λ t. absurd (cc);
 }
+
+waited : (result : Bool) (old : LineView) (was : InView) (new : LineView) (is : InView) → Waits result old was new is → Keeps old new
+waited result old was new is w = rw w.line (record { kind = refl; pieces = refl; lost = refl })
+
+-- what stays in a piece, however the line stands
+pub step_keeps : (size : ℕ) (first result : Bool) (old : LineView) (was : InView) (new : LineView) (is : InView) → StepMoves size first result old was new is → Keeps old new
+step_keeps size first result old was new is m = by_cases first old.ended old.alignment refl refl refl
+  where
+    by_cases : (f ended : Bool) (alignment : Option Alignment) → first ≡ f → old.ended ≡ ended → old.alignment ≡ alignment → Keeps old new
+    by_cases f true a e g h = waited result old was new is (m.over g)
+    by_cases f false (Some a) e g h = (m.locked a g h).keeps
+    by_cases true false None e g h = (m.hunting g h e).keeps
+    by_cases false false None e g h = waited result old was new is (m.waiting g h e)

@@ -8,7 +8,7 @@ use Rattle.otn_base.specs.declared.line_kind.LineKind.TheVariants.{Otu2, Otu3}
 use Rattle.otn_ports.specs.Views.{InView}
 use Rattle.otn_ports.specs.Given.{Gave}
 use Rattle.otn_ports.proofs.GivenLaws.{gave_none, gave_twice}
-use Rattle.multiframe.specs.LineTurns.{Standing, lock_of, standing, multiframe}
+use Rattle.multiframe.specs.LineTurns.{LineState, lock_of, line_state, multiframe}
 use Rattle.multiframe.specs.Alignment.{Alignment}
 use Rattle.line_side.specs.LineForm.{LineForm, size_of}
 use Rattle.line_side.specs.LineFile.{mfas_of}
@@ -21,7 +21,7 @@ use Rattle.line_side.specs.declared.ending.Ending.{Ending}
 use Rattle.line_side.specs.declared.ending.Ending.TheVariants.{Open}
 use Rattle.line_side.proofs.Giving.{step_none, may_before}
 use Rattle.line_side.proofs.Turns.{LineIs, MemberIs, Moved, is_first, turn_piece}
-use Rattle.line_side.proofs.TurnEnds.{Ends, turn_end, turn_first, standing_suc, standing_none}
+use Rattle.line_side.proofs.TurnEnds.{Ends, turn_end, turn_first, line_state_suc, line_state_none}
 use Rattle.line_side.proofs.Hands.{hand_is}
 
 -- ---- a piece
@@ -94,28 +94,28 @@ stepped size first result old was new is m = by_cases first old.ended old.alignm
 
 -- the same line with so many pieces done, of which the last came so
 abbrev pub with_pieces : LineView → ℕ → Bool → LineView
-with_pieces line k member = record { kind = line.kind; alignment = line.alignment; reader = line.reader; pieces = k; member = member; ended = line.ended; lead_in = line.lead_in; lost = line.lost }
+with_pieces line k has_frame = record { kind = line.kind; alignment = line.alignment; reader = line.reader; pieces = k; has_frame = has_frame; ended = line.ended; lead_in = line.lead_in; lost = line.lost }
 
-is_line : (size : ℕ) (given : List ℕ) (n t k : ℕ) (result : Bool) (line : LineView) → LineIs size given n t (standing size (mfas_of given) t) (suc k) line → MemberIs size given (standing size (mfas_of given) t) k result line
+is_line : (size : ℕ) (given : List ℕ) (n t k : ℕ) (result : Bool) (line : LineView) → LineIs size given n t (line_state size (mfas_of given) t) (suc k) line → MemberIs size given (line_state size (mfas_of given) t) k result line
     → IsLine size given n t (with_pieces line (suc k) result)
 is_line size given n t k result line h m =
-    let hand = hand_is given (lock_of size (mfas_of given) (standing size (mfas_of given) t)) k result line.reader.hand m.member m.hand in
+    let hand = hand_is given (lock_of size (mfas_of given) (line_state size (mfas_of given) t)) k result line.reader.hand m.has_frame m.hand in
     record {
       read = h.read;
       alignment = h.alignment;
-      member = hand.member;
+      has_frame = hand.has_frame;
       hand = hand.frame;
       ended = h.ended;
       lead_in = h.lead_in;
       lost = h.lost;
     }
 
-of_line : (size : ℕ) (given : List ℕ) (n t : ℕ) (line : LineView) → IsLine size given n t line → LineIs size given n t (standing size (mfas_of given) t) line.pieces line
+of_line : (size : ℕ) (given : List ℕ) (n t : ℕ) (line : LineView) → IsLine size given n t line → LineIs size given n t (line_state size (mfas_of given) t) line.pieces line
 of_line size given n t line h = record { read = h.read; alignment = h.alignment; ended = h.ended; lead_in = h.lead_in; lost = h.lost }
 
 -- a line before a turn
-at_turn : (size : ℕ) (given : List ℕ) (n t : ℕ) (line : LineView) → LineIs size given n t (standing size (mfas_of given) t) 0 line → IsLine size given n t (with_pieces line 0 false)
-at_turn size given n t line h = record { read = h.read; alignment = h.alignment; member = refl; hand = tt; ended = h.ended; lead_in = h.lead_in; lost = h.lost }
+at_turn : (size : ℕ) (given : List ℕ) (n t : ℕ) (line : LineView) → LineIs size given n t (line_state size (mfas_of given) t) 0 line → IsLine size given n t (with_pieces line 0 false)
+at_turn size given n t line h = record { read = h.read; alignment = h.alignment; has_frame = refl; hand = tt; ended = h.ended; lead_in = h.lead_in; lost = h.lost }
 
 -- ---- the three laws
 
@@ -133,18 +133,18 @@ new_form k kind s scrambled e f =
 
 -- a new line stands before its first turn on any place
 pub new_stands : (form : LineForm) (first : InView) (line : LineView) → form_of line ≡ form → line.alignment ≡ None → line.reader.ahead ≡ None → line.reader.ending ≡ Open → line.reader.frames ≡ 0 → line.reader.rest ≡ 0
-    → HasCounted [] line.reader.seen → line.ended ≡ false → line.lead_in ≡ 0 → line.lost ≡ 0 → line.pieces ≡ 0 → line.member ≡ false → LineStands form first first [] 0 line
-new_stands form first line is_form alignment ahead opened frames rest seen ended lead lost pieces member = let size = size_of form in record {
+    → HasCounted [] line.reader.seen → line.ended ≡ false → line.lead_in ≡ 0 → line.lost ≡ 0 → line.pieces ≡ 0 → line.has_frame ≡ false → LineStands form first first [] 0 line
+new_stands form first line is_form alignment ahead opened frames rest seen ended lead lost pieces has_frame = let size = size_of form in record {
   is_form = is_form;
   gave = gave_none first;
   ending = record { died = λ d. absurd (cc); seen = λ s. absurd (cc) };
   over = λ closed. absurd (closed opened);
   is_line = λ given m.
-      let fresh : LineIs size given 0 0 (standing size (mfas_of given) 0) 0 line = (let P : Standing → Type 0 = λ s. LineIs size given 0 0 s 0 line in
-      subst P (sym (standing_none size (mfas_of given))) (turn_first size given line alignment ahead opened frames rest seen ended lead lost)) in
-      let P : ℕ → Type 0 = λ k. IsLine size given 0 0 (with_pieces line k line.member) in
+      let fresh : LineIs size given 0 0 (line_state size (mfas_of given) 0) 0 line = (let P : LineState → Type 0 = λ s. LineIs size given 0 0 s 0 line in
+      subst P (sym (line_state_none size (mfas_of given))) (turn_first size given line alignment ahead opened frames rest seen ended lead lost)) in
+      let P : ℕ → Type 0 = λ k. IsLine size given 0 0 (with_pieces line k line.has_frame) in
       let Q : Bool → Type 0 = λ b. IsLine size given 0 0 (with_pieces line 0 b) in
-      subst P (sym pieces) (subst Q (sym member) (at_turn size given 0 0 line fresh));
+      subst P (sym pieces) (subst Q (sym has_frame) (at_turn size given 0 0 line fresh));
 }
 
 -- a piece, by the bytes that came in it
@@ -153,9 +153,9 @@ piece_is : (size : ℕ) (was is : InView) (taken given : List ℕ) (t : ℕ) (re
     → IsLine size given (length (taken ++ s.came)) t (with_pieces new new.pieces result)
 piece_is size was is taken given t result old new s pieces h may =
     let line = of_line size given (length taken) t old h in
-    let before : LineIs size given (length taken) t (standing size (mfas_of given) t) old.pieces (with_pieces old (old.pieces + 1) false)
+    let before : LineIs size given (length taken) t (line_state size (mfas_of given) t) old.pieces (with_pieces old (old.pieces + 1) false)
     = record { read = line.read; alignment = line.alignment; ended = line.ended; lead_in = line.lead_in; lost = line.lost } in
-    let after = turn_piece size given (length taken) (length (taken ++ s.came)) t (standing size (mfas_of given) t) old.pieces result (with_pieces old (old.pieces + 1) false) new before (s.moved given taken may) in
+    let after = turn_piece size given (length taken) (length (taken ++ s.came)) t (line_state size (mfas_of given) t) old.pieces result (with_pieces old (old.pieces + 1) false) new before (s.moved given taken may) in
     let P : ℕ → Type 0 = λ k. IsLine size given (length (taken ++ s.came)) t (with_pieces new k result) in
     subst P (sym (pieces ∙ add-one old.pieces)) (is_line size given (length (taken ++ s.came)) t old.pieces result new after.0 after.1)
 
@@ -199,12 +199,12 @@ piece_gave size was is b result old new moves = let s = stepped size b result ol
 
 -- the end of a turn
 ends_of : (form : LineForm) (first now : InView) (taken given : List ℕ) (t : ℕ) (result : Bool) (old new : LineView) → old.pieces ≡ size_of form → EndMoves (size_of form) result old new
-    → LineStands form first now taken t old → MayBe form.scrambled old.reader.ending taken given → Ends (size_of form) given (length taken) t (standing (size_of form) (mfas_of given) t) result new
+    → LineStands form first now taken t old → MayBe form.scrambled old.reader.ending taken given → Ends (size_of form) given (length taken) t (line_state (size_of form) (mfas_of given) t) result new
 ends_of form first now taken given t result old new all m h may =
     let size = size_of form in
     let some = some_frames form.kind in
-    let P : ℕ → Type 0 = λ k. LineIs size given (length taken) t (standing size (mfas_of given) t) k old in
-    turn_end size given (length taken) t (standing size (mfas_of given) t) some.0 result old new some.1 refl (subst P all (of_line size given (length taken) t old (h.is_line given may))) m
+    let P : ℕ → Type 0 = λ k. LineIs size given (length taken) t (line_state size (mfas_of given) t) k old in
+    turn_end size given (length taken) t (line_state size (mfas_of given) t) some.0 result old new some.1 refl (subst P all (of_line size given (length taken) t old (h.is_line given may))) m
 
 -- how the bytes ended stays
 pub same_ending : (size : ℕ) (result : Bool) (old new : LineView) → EndMoves size result old new → new.reader.ending ≡ old.reader.ending
@@ -232,12 +232,12 @@ end_stands form first now taken t result old new all moves h =
       over = λ closed. h.over (λ opened. closed (same ∙ opened));
       is_line = λ given may.
           let e = ends_of form first now taken given t result old new turn.all m h (let P : Ending → Type 0 = λ e. MayBe form.scrambled e taken given in subst P same may) in
-          let P : Standing → Type 0 = λ s. LineIs size given (length taken) (suc t) s 0 new in
-          let next = subst P (sym (standing_suc size (mfas_of given) t)) e.line in
+          let P : LineState → Type 0 = λ s. LineIs size given (length taken) (suc t) s 0 new in
+          let next = subst P (sym (line_state_suc size (mfas_of given) t)) e.line in
           let Q : ℕ → Type 0 = λ t. IsLine size given (length taken) t new in
-          let R : ℕ → Type 0 = λ k. IsLine size given (length taken) (suc t) (with_pieces new k new.member) in
+          let R : ℕ → Type 0 = λ k. IsLine size given (length taken) (suc t) (with_pieces new k new.has_frame) in
           let S : Bool → Type 0 = λ b. IsLine size given (length taken) (suc t) (with_pieces new 0 b) in
-          subst Q (sym (add-one t)) (subst R (sym m.pieces) (subst S (sym m.member) (at_turn size given (length taken) (suc t) new next)));
+          subst Q (sym (add-one t)) (subst R (sym m.pieces) (subst S (sym m.has_frame) (at_turn size given (length taken) (suc t) new next)));
     }
 
 pub end_multiframe : (form : LineForm) (first now : InView) (taken given : List ℕ) (t : ℕ) (result : Bool) (old new : LineView) → old.pieces ≡ slots_of old.kind → EndMoves (slots_of old.kind) result old new

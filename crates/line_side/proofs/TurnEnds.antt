@@ -2,7 +2,7 @@
 use Rattle.std.proofs.Common.{[], ◌≡◌, ◌≤◌, ◌+◌, ◌-◌, ◌/◌, ◌%◌, ◌^◌, min, max, ℕ, suc, Bool, true, false, cond, ltb, leb, List, Option, Some, None, length, take, drop, arith, refl, sym, ap, ◌∙◌, subst}
 use Rattle.std.specs.Prelude.{slice_index, IsTrue, IfSome, is_some}
 use Rattle.std.proofs.lemmas.Bool.{ltb-true, ltb-false, lt-ltb, le-ltb, leb-true, leb-false}
-use Rattle.multiframe.specs.LineTurns.{Lock, Standing, Hunting, Locked, Ended, Outcome, CutShort, Lost, Whole, one_if, least_start, lock_from, lock_of, outcome_of, after_outcome, after_turn, used_in, used_at, wanted_in, wanted_from, wanted, lead_in, lead_in_of, lost_count, lost_at, is_lost, kept_if, after_hunt, standing, wrong_count, multiframe_at}
+use Rattle.multiframe.specs.LineTurns.{Lock, LineState, Hunting, Locked, Ended, Outcome, CutShort, Lost, Whole, one_if, least_start, lock_from, lock_of, outcome_of, after_outcome, after_turn, used_in, used_at, wanted_in, wanted_from, wanted, lead_in, lead_in_of, lost_count, lost_at, is_lost, kept_if, after_hunt, line_state, wrong_count, multiframe_at}
 use Rattle.multiframe.specs.Alignment.{taken_of, IsAlignmentOf}
 use Rattle.line_side.specs.LineFile.{first_frames, frame_at, mfas_of}
 use Rattle.line_side.specs.Counted.{HasCounted}
@@ -15,32 +15,32 @@ use Rattle.line_side.specs.LineMoves.{EndMoves}
 use Rattle.line_side.proofs.Beginnings.{same_wanted, same_used}
 use Rattle.line_side.proofs.Turns.{LineIs, HuntIs, as_hunt}
 
-wanted_suc : (size : ℕ) (ms : List ℕ) (t : ℕ) → wanted size ms (suc t) ≡ max (wanted size ms t) (wanted_in size ms (standing size ms t) size)
+wanted_suc : (size : ℕ) (ms : List ℕ) (t : ℕ) → wanted size ms (suc t) ≡ max (wanted size ms t) (wanted_in size ms (line_state size ms t) size)
 unfolding wanted
 wanted_suc size ms t = refl
 
-lead_in_suc : (size : ℕ) (ms : List ℕ) (t : ℕ) → lead_in size ms (suc t) ≡ lead_in size ms t + lead_in_of size ms (standing size ms t)
+lead_in_suc : (size : ℕ) (ms : List ℕ) (t : ℕ) → lead_in size ms (suc t) ≡ lead_in size ms t + lead_in_of size ms (line_state size ms t)
 unfolding lead_in
 lead_in_suc size ms t = refl
 
-lost_suc : (size : ℕ) (ms : List ℕ) (t : ℕ) → lost_count size ms (suc t) ≡ lost_count size ms t + lost_at size ms (lock_of size ms (standing size ms t))
+lost_suc : (size : ℕ) (ms : List ℕ) (t : ℕ) → lost_count size ms (suc t) ≡ lost_count size ms t + lost_at size ms (lock_of size ms (line_state size ms t))
 unfolding lost_count
 lost_suc size ms t = refl
 
-pub standing_suc : (size : ℕ) (ms : List ℕ) (t : ℕ) → standing size ms (suc t) ≡ after_turn size ms (standing size ms t)
-unfolding standing
-standing_suc size ms t = refl
+pub line_state_suc : (size : ℕ) (ms : List ℕ) (t : ℕ) → line_state size ms (suc t) ≡ after_turn size ms (line_state size ms t)
+unfolding line_state
+line_state_suc size ms t = refl
 
-pub standing_none : (size : ℕ) (ms : List ℕ) → standing size ms 0 ≡ Hunting 0
-unfolding standing
-standing_none size ms = refl
+pub line_state_none : (size : ℕ) (ms : List ℕ) → line_state size ms 0 ≡ Hunting 0
+unfolding line_state
+line_state_none size ms = refl
 
 -- all pieces of a turn are done: u frames are used
 record AtEnd (size : ℕ) (given : List ℕ) (n t u : ℕ) (line : LineView) : Type 0 where
   read : HasRead given n u (wanted size (mfas_of given) (suc t)) line.reader
   lead_in : line.lead_in ≡ saturated (lead_in size (mfas_of given) (suc t))
 
-at_end : (size : ℕ) (given : List ℕ) (n t : ℕ) (st : Standing) (p : ℕ) (line : LineView) → size ≡ suc p → standing size (mfas_of given) t ≡ st → LineIs size given n t st size line
+at_end : (size : ℕ) (given : List ℕ) (n t : ℕ) (st : LineState) (p : ℕ) (line : LineView) → size ≡ suc p → line_state size (mfas_of given) t ≡ st → LineIs size given n t st size line
     → AtEnd size given n t (used_in size (mfas_of given) st size) line
 at_end size given n t st p line q e h = record {
   read = same_wanted given n _ _ _ line.reader (sym (wanted_suc size (mfas_of given) t ∙ ap (λ s. max (wanted size (mfas_of given) t) (wanted_in size (mfas_of given) s size)) e)) h.read;
@@ -49,7 +49,7 @@ at_end size given n t st p line q e h = record {
 }
 
 -- the next turn
-begin : (size : ℕ) (given : List ℕ) (n t u : ℕ) (st : Standing) (result : Bool) (old new : LineView) → AtEnd size given n t u old → EndMoves size result old new
+begin : (size : ℕ) (given : List ℕ) (n t u : ℕ) (st : LineState) (result : Bool) (old new : LineView) → AtEnd size given n t u old → EndMoves size result old new
     → u ≡ used_in size (mfas_of given) st 0 → wanted_in size (mfas_of given) st 0 ≤ wanted size (mfas_of given) (suc t) → AlignedIn size (mfas_of given) st 0 new.alignment
     → new.ended ≡ ended_in size (mfas_of given) st 0 → new.lost ≡ saturated (lost_count size (mfas_of given) (suc t))
     → LineIs size given n (suc t) st 0 new
@@ -62,14 +62,14 @@ begin size given n t u st result old new h m used cover alignment ended lost = r
   lost = lost;
 }
 
-lost_more : (size : ℕ) (ms : List ℕ) (t : ℕ) (st : Standing) (lock : Option Lock) → standing size ms t ≡ st → lock_of size ms st ≡ lock → lost_count size ms (suc t) ≡ lost_count size ms t + lost_at size ms lock
+lost_more : (size : ℕ) (ms : List ℕ) (t : ℕ) (st : LineState) (lock : Option Lock) → line_state size ms t ≡ st → lock_of size ms st ≡ lock → lost_count size ms (suc t) ≡ lost_count size ms t + lost_at size ms lock
 lost_more size ms t st lock e l = lost_suc size ms t ∙ ap (λ s. lost_count size ms t + lost_at size ms (lock_of size ms s)) e ∙ ap (λ l. lost_count size ms t + lost_at size ms l) l
 
-wanted_all : (size : ℕ) (ms : List ℕ) (t : ℕ) (st : Standing) → standing size ms t ≡ st → wanted_in size ms st size ≤ wanted size ms (suc t)
+wanted_all : (size : ℕ) (ms : List ℕ) (t : ℕ) (st : LineState) → line_state size ms t ≡ st → wanted_in size ms st size ≤ wanted size ms (suc t)
 wanted_all size ms t st e = let x : wanted size ms (suc t) ≡ max (wanted size ms t) (wanted_in size ms st size) = wanted_suc size ms t ∙ ap (λ s. max (wanted size ms t) (wanted_in size ms s size)) e in omega arith
 
 -- what the end of a turn comes to
-pub record Ends (size : ℕ) (given : List ℕ) (n t : ℕ) (st : Standing) (result : Bool) (new : LineView) : Type 0 where
+pub record Ends (size : ℕ) (given : List ℕ) (n t : ℕ) (st : LineState) (result : Bool) (new : LineView) : Type 0 where
   pub line : LineIs size given n (suc t) (after_turn size (mfas_of given) st) 0 new
   pub multiframe : result ≡ is_some (multiframe_at size (mfas_of given) (lock_of size (mfas_of given) st))
 
@@ -164,7 +164,7 @@ locked_end size given n t lock cut wrong result old new c w h m = by_tests cut w
         subst Q (sym o) (whole_end size given n t lock result old new c (subst P o h) m)
 
 -- the end of a turn that hunted, by the least start among its eight frames
-hunt_end : (size : ℕ) (given : List ℕ) (n t i : ℕ) (least : Option ℕ) (p : ℕ) (result : Bool) (old new : LineView) → size ≡ suc p → standing size (mfas_of given) t ≡ Hunting i
+hunt_end : (size : ℕ) (given : List ℕ) (n t i : ℕ) (least : Option ℕ) (p : ℕ) (result : Bool) (old new : LineView) → size ≡ suc p → line_state size (mfas_of given) t ≡ Hunting i
     → least_start size (mfas_of given) i size ≡ least → HuntIs size given n t i least p old → AtEnd size given n t (used_at size (mfas_of given) (lock_from (mfas_of given) i least) i size) old
     → wanted_from size (mfas_of given) i least size ≤ wanted size (mfas_of given) (suc t) → EndMoves size result old new
     → LineIs size given n (suc t) (after_hunt size (mfas_of given) i (lock_from (mfas_of given) i least)) 0 new × (result ≡ is_some (multiframe_at size (mfas_of given) (lock_from (mfas_of given) i least)))
@@ -180,13 +180,13 @@ hunt_end size given n t i None p result old new q e l h at cover m = (by_test (l
     by_test : (b : Bool) → leb (i + size) (length (mfas_of given)) ≡ b → LineIs size given n (suc t) (cond (leb (i + size) (length (mfas_of given))) (Hunting (i + size)) Ended) 0 new
     by_test true f =
         let some = leb-true _ _ f in
-        let Q : Standing → Type 0 = λ s. LineIs size given n (suc t) s 0 new in
+        let Q : LineState → Type 0 = λ s. LineIs size given n (suc t) s 0 new in
         subst Q (sym (ap (λ b. cond b (Hunting (i + size)) Ended) f))
         (begin size given n t _ (Hunting (i + size)) result old new at m (let x : min (length (mfas_of given)) (i + size) ≡ i + size = omega arith in x) (omega arith) none.2
         (m.ended ∙ h.ended ∙ le-ltb (length (mfas_of given)) (i + size) some) counted)
     by_test false f =
         let few = leb-false _ _ f in
-        let Q : Standing → Type 0 = λ s. LineIs size given n (suc t) s 0 new in
+        let Q : LineState → Type 0 = λ s. LineIs size given n (suc t) s 0 new in
         subst Q (sym (ap (λ b. cond b (Hunting (i + size)) Ended) f))
         (begin size given n t _ Ended result old new at m (let x : min (length (mfas_of given)) (i + size) ≡ length (mfas_of given) = omega arith in x) (omega arith) tt
         (m.ended ∙ h.ended ∙ lt-ltb (length (mfas_of given)) (i + size) few) counted)
@@ -204,7 +204,7 @@ hunt_end size given n t i (Some s) p result old new q e l h at cover m =
     (x.line, x.multiframe)
 
 -- the end of any turn
-pub turn_end : (size : ℕ) (given : List ℕ) (n t : ℕ) (st : Standing) (p : ℕ) (result : Bool) (old new : LineView) → size ≡ suc p → standing size (mfas_of given) t ≡ st → LineIs size given n t st size old
+pub turn_end : (size : ℕ) (given : List ℕ) (n t : ℕ) (st : LineState) (p : ℕ) (result : Bool) (old new : LineView) → size ≡ suc p → line_state size (mfas_of given) t ≡ st → LineIs size given n t st size old
     → EndMoves size result old new → Ends size given n t st result new
 turn_end size given n t (Hunting i) p result old new q e h m =
     let least = least_start size (mfas_of given) i size in

@@ -2,7 +2,7 @@
 use Rattle.std.proofs.Common.{◌≡◌, ◌<◌, ◌≤◌, ◌+◌, ◌-◌, min, max, ℕ, zero, suc, Bool, true, false, List, [], ◌∷◌, ◌++◌, Option, Some, None, length, take, drop, arith, refl, sym, ap, ◌∙◌, subst}
 use Rattle.std.specs.Prelude.{slice_index, IfSome}
 use Rattle.std.proofs.lemmas.Bool.{lt-ltb, le-ltb}
-use Rattle.multiframe.specs.LineTurns.{Lock, Standing, Hunting, Locked, Ended, one_if, looked_ahead, least_start, lock_from, lock_of, used_in, used_at, wanted_in, wanted_from, wanted, lead_in, lead_in_from, lost_count}
+use Rattle.multiframe.specs.LineTurns.{Lock, LineState, Hunting, Locked, Ended, one_if, looked_ahead, least_start, lock_from, lock_of, used_in, used_at, wanted_in, wanted_from, wanted, lead_in, lead_in_from, lost_count}
 use Rattle.multiframe.specs.Alignment.{Alignment}
 use Rattle.line_side.specs.LineFile.{frame_at, mfas_of}
 use Rattle.line_side.specs.Reader.{HasRead}
@@ -13,18 +13,18 @@ use Rattle.line_side.specs.LineMoves.{TookFrame, FoundNone, HuntLocked, HuntFail
 use Rattle.line_side.proofs.Beginnings.{same_wanted, same_used}
 use Rattle.line_side.proofs.Moves.{start_looked}
 use Rattle.line_side.proofs.Mfas.{length_mfas}
-use Rattle.line_side.proofs.LockedTurns.{InLocked, MemberAt, member_at, take_next, took_next, found_none, ended_before}
+use Rattle.line_side.proofs.LockedTurns.{InLocked, MemberAt, has_frame_at, take_next, took_next, found_none, ended_before}
 
--- the line stands so before a turn, and k pieces of the turn are done
-pub record LineIs (size : ℕ) (given : List ℕ) (n t : ℕ) (st : Standing) (k : ℕ) (line : LineView) : Type 0 where
+-- the line has this state before a turn, and k pieces of the turn are done
+pub record LineIs (size : ℕ) (given : List ℕ) (n t : ℕ) (st : LineState) (k : ℕ) (line : LineView) : Type 0 where
   pub read : HasRead given n (used_in size (mfas_of given) st k) (max (wanted size (mfas_of given) t) (wanted_in size (mfas_of given) st k)) line.reader
   pub alignment : AlignedIn size (mfas_of given) st k line.alignment
   pub ended : line.ended ≡ ended_in size (mfas_of given) st k
   pub lead_in : line.lead_in ≡ saturated (lead_in size (mfas_of given) t + lead_in_by size (mfas_of given) st k)
   pub lost : line.lost ≡ saturated (lost_count size (mfas_of given) t)
 
-pub record MemberIs (size : ℕ) (given : List ℕ) (st : Standing) (k : ℕ) (result : Bool) (line : LineView) : Type 0 where
-  pub member : result ≡ member_at (mfas_of given) (lock_of size (mfas_of given) st) k
+pub record MemberIs (size : ℕ) (given : List ℕ) (st : LineState) (k : ℕ) (result : Bool) (line : LineView) : Type 0 where
+  pub has_frame : result ≡ has_frame_at (mfas_of given) (lock_of size (mfas_of given) st) k
   pub hand : result ≡ true → IfSome (lock_of size (mfas_of given) st) (λ lock. line.reader.hand ≡ frame_at given (lock.frame + k))
 
 -- the same where the turn hunts at frame i, k pieces after the first one, by the least start among the eight frames
@@ -36,7 +36,7 @@ pub record HuntIs (size : ℕ) (given : List ℕ) (n t i : ℕ) (least : Option 
   pub lost : line.lost ≡ saturated (lost_count size (mfas_of given) t)
 
 pub record HuntMember (size : ℕ) (given : List ℕ) (i : ℕ) (least : Option ℕ) (k : ℕ) (result : Bool) (line : LineView) : Type 0 where
-  pub member : result ≡ member_at (mfas_of given) (lock_from (mfas_of given) i least) k
+  pub has_frame : result ≡ has_frame_at (mfas_of given) (lock_from (mfas_of given) i least) k
   pub hand : result ≡ true → IfSome (lock_from (mfas_of given) i least) (λ lock. line.reader.hand ≡ frame_at given (lock.frame + k))
 
 pub as_hunt : (size : ℕ) (given : List ℕ) (n t i k : ℕ) (line : LineView) → LineIs size given n t (Hunting i) (suc k) line → HuntIs size given n t i (least_start size (mfas_of given) i size) k line
@@ -61,22 +61,22 @@ locked_piece : (size : ℕ) (given : List ℕ) (n n' : ℕ) (first result : Bool
     → Moved size given n n' first result old new → InLocked given n' lock (suc k) w' new × MemberAt given lock k result new
 locked_piece size given n n' first result lock k w w' old new h more cover m = by_ended old.ended result refl refl
   where
-    by_ended : (ended member : Bool) → old.ended ≡ ended → result ≡ member → InLocked given n' lock (suc k) w' new × MemberAt given lock k result new
-    by_ended true member e f =
+    by_ended : (ended has_frame : Bool) → old.ended ≡ ended → result ≡ has_frame → InLocked given n' lock (suc k) w' new × MemberAt given lock k result new
+    by_ended true has_frame e f =
         let (same, line, answer) = m.over e in
         let x = ended_before given n lock k w w' old h e cover (omega arith) in (
           rw (same, line) x.0,
           record {
-            member = answer ∙ x.1.member;
+            has_frame = answer ∙ x.1.has_frame;
             hand = λ t. absurd (cc);
           },
         )
     by_ended false true e f =
         let x = took_next given n n' lock k w w' old new h e more (m.frame _ e h.alignment f _ w h.read) in
-        (x.0, record { member = f ∙ x.1.member; hand = λ t. x.1.hand refl })
+        (x.0, record { has_frame = f ∙ x.1.has_frame; hand = λ t. x.1.hand refl })
     by_ended false false e f =
         let x = found_none given n n' lock k w w' old new h e more (m.none _ e h.alignment f _ w h.read) in
-        (x.0, record { member = f ∙ x.1.member; hand = λ t. absurd (cc) })
+        (x.0, record { has_frame = f ∙ x.1.has_frame; hand = λ t. absurd (cc) })
 
 -- a later piece of a turn that hunted
 hunt_piece : (size : ℕ) (given : List ℕ) (n n' t i : ℕ) (least : Option ℕ) (k : ℕ) (result : Bool) (old new : LineView) → HuntIs size given n t i least k old → Moved size given n n' false result old new
@@ -88,18 +88,18 @@ hunt_piece size given n n' t i None k result old new h m = same (by_ended old.en
     by_ended false e = m.waiting e h.alignment refl
 
     same : (n' ≡ n) × (new ≡ old) × (result ≡ false) → HuntIs size given n' t i None (suc k) new × HuntMember size given i None (suc k) result new
-    same (e, line, answer) = (rw (e, line) (record { read = h.read; alignment = h.alignment; ended = h.ended; lead_in = h.lead_in; lost = h.lost }), record { member = answer; hand = λ t. absurd (cc) })
+    same (e, line, answer) = (rw (e, line) (record { read = h.read; alignment = h.alignment; ended = h.ended; lead_in = h.lead_in; lost = h.lost }), record { has_frame = answer; hand = λ t. absurd (cc) })
 hunt_piece size given n n' t i (Some s) k result old new h m =
     let W = max (wanted size (mfas_of given) t) (wanted_from size (mfas_of given) i (Some s) (suc k)) in
     let W' = max (wanted size (mfas_of given) t) (wanted_from size (mfas_of given) i (Some s) (suc (suc k))) in
     let lock : Lock = record { frame = i + s; expected = slice_index (mfas_of given) (i + s) } in
     let x = locked_piece size given n n' false result lock (suc k) W W' old new (record { read = h.read; alignment = h.alignment; ended = h.ended }) (omega arith) (omega arith) m in (
       record { read = x.0.read; alignment = x.0.alignment; ended = x.0.ended; lead_in = m.lead_in _ h.alignment ∙ h.lead_in; lost = m.lost ∙ h.lost },
-      record { member = x.1.member; hand = x.1.hand },
+      record { has_frame = x.1.has_frame; hand = x.1.hand },
     )
 
 of_member : (size : ℕ) (given : List ℕ) (i k : ℕ) (result : Bool) (line : LineView) → HuntMember size given i (least_start size (mfas_of given) i size) k result line → MemberIs size given (Hunting i) k result line
-of_member size given i k result line h = record { member = h.member; hand = h.hand }
+of_member size given i k result line h = record { has_frame = h.has_frame; hand = h.hand }
 
 -- the first piece of a turn that hunts
 first_locks : (size : ℕ) (given : List ℕ) (n n' t i s : ℕ) (result : Bool) (old new : LineView) → LineIs size given n t (Hunting i) 0 old → Moved size given n n' true result old new → result ≡ true
@@ -120,7 +120,7 @@ first_locks size given n n' t i s result old new h m f x =
         lost = m.lost ∙ h.lost;
       },
       record {
-        member = f ∙ sym (lt-ltb (i + s + 0) (length (mfas_of given)) (omega arith));
+        has_frame = f ∙ sym (lt-ltb (i + s + 0) (length (mfas_of given)) (omega arith));
         hand = λ _. x.locked.hand ∙ ap (frame_at given) (sym here);
       },
     )
@@ -138,7 +138,7 @@ first_fails size given n n' t i result old new h m f x = (
         ∙ ap saturated (let e : lead_in size (mfas_of given) t + 0 + min size (length (mfas_of given) - i) ≡ lead_in size (mfas_of given) t + min size (length (mfas_of given) - i) = omega arith in e);
     lost = m.lost ∙ h.lost;
   },
-  record { member = f; hand = λ t. absurd (cc) },
+  record { has_frame = f; hand = λ t. absurd (cc) },
 )
 
 first_piece : (size : ℕ) (given : List ℕ) (n n' t i : ℕ) (result : Bool) (old new : LineView) → LineIs size given n t (Hunting i) 0 old → Moved size given n n' true result old new
@@ -164,7 +164,7 @@ is_first zero = true
 is_first (suc k) = false
 
 -- a piece of any turn
-pub turn_piece : (size : ℕ) (given : List ℕ) (n n' t : ℕ) (st : Standing) (k : ℕ) (result : Bool) (old new : LineView) → LineIs size given n t st k old → Moved size given n n' (is_first k) result old new
+pub turn_piece : (size : ℕ) (given : List ℕ) (n n' t : ℕ) (st : LineState) (k : ℕ) (result : Bool) (old new : LineView) → LineIs size given n t st k old → Moved size given n n' (is_first k) result old new
     → LineIs size given n' t st (suc k) new × MemberIs size given st k result new
 turn_piece size given n n' t (Hunting i) zero result old new h m = first_piece size given n n' t i result old new h m
 turn_piece size given n n' t (Hunting i) (suc k) result old new h m =
@@ -181,7 +181,7 @@ turn_piece size given n n' t (Locked lock) k result old new h m =
         lead_in = m.lead_in _ h.alignment ∙ h.lead_in ∙ ap (λ x. saturated (lead_in size (mfas_of given) t + x)) (none_by k);
         lost = m.lost ∙ h.lost;
       },
-      record { member = x.1.member; hand = x.1.hand },
+      record { has_frame = x.1.has_frame; hand = x.1.hand },
     )
   where
     none_by : (k : ℕ) → lead_in_by size (mfas_of given) (Locked lock) k ≡ 0
@@ -196,7 +196,7 @@ turn_piece size given n n' t Ended k result old new h m =
         lead_in = h.lead_in ∙ ap (λ x. saturated (lead_in size (mfas_of given) t + x)) (none_by k);
         lost = h.lost;
       }),
-      record { member = answer; hand = λ t. absurd (cc) },
+      record { has_frame = answer; hand = λ t. absurd (cc) },
     )
   where
     none_by : (k : ℕ) → lead_in_by size (mfas_of given) Ended k ≡ 0

@@ -7,5 +7,5 @@ pub mod LineNumbers
 pub mod LineMoves
 pub mod LineOutput
 pub mod Laws
-pub mod Rows
+pub mod FrameType
 pub mod Counted

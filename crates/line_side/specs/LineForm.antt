@@ -1,4 +1,4 @@
--- What is fixed of a line before its first frame: its kind, and whether it is scrambled.
+-- What is fixed of a line before its first frame, and the mask of one that is scrambled.
 use Rattle.std.specs.Prelude.{ℕ, ◌+◌, ◌%◌, Bool, true, false, List, [], ◌∷◌, bit_xor}
 use Rattle.otn_base.specs.LineSlots.{slots_of}
 use Rattle.otn_base.specs.declared.limits.TheConstants.{LINE_FRAME_BYTES}
@@ -6,6 +6,7 @@ use Rattle.otn_base.specs.declared.line_kind.LineKind.{LineKind}
 use Rattle.otn_base.specs.declared.line_kind.LineKind.TheVariants.{Otu2}
 use Rattle.otu_overhead.specs.Mask.{mask_byte}
 
+-- the kind of a line, and whether it is scrambled (G.709 clause 11.2)
 pub record LineForm : Type 0 where
   pub kind : LineKind
   pub scrambled : Bool

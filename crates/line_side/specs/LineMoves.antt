@@ -1,12 +1,12 @@
 -- What the moves of an input line within a piece do. `size` is the number of frames of a multiframe.
-use Rattle.std.specs.Prelude.{◌≡◌, ◌<◌, ◌+◌, ◌-◌, ◌^◌, min, max, ℕ, Bool, true, false, if◌then◌else◌, List, length, nat_lt, option_map, Some, None, IsSome, slice_index}
+use Rattle.std.specs.Prelude.{◌≡◌, ◌<◌, ◌+◌, ◌-◌, min, max, ℕ, Bool, true, false, if◌then◌else◌, List, length, nat_lt, option_map, Some, None, IsSome, slice_index}
 use Rattle.otn_ports.specs.Views.{InView}
 use Rattle.multiframe.specs.LineTurns.{Lock, one_if, looked_ahead, is_start, least_start}
 use Rattle.multiframe.specs.Alignment.{Alignment, aligned_at, with_frame, taken_of, EndsTurn}
 use Rattle.line_side.specs.LineFile.{frame_at, mfas_of, whole_frames}
 use Rattle.line_side.specs.Reader.{ReaderView, HasRead, OnAnyLine, ReadStep}
 use Rattle.otn_base.specs.Counts.{saturated}
-use Rattle.line_side.specs.LineStands.{LineView, members}
+use Rattle.line_side.specs.LineStands.{LineView, frames_taken}
 use Rattle.line_side.specs.declared.tried.Tried.{Tried}
 use Rattle.line_side.specs.declared.tried.Tried.TheVariants.{Locks, Passes, Ends}
 
@@ -20,7 +20,7 @@ pub record Keeps (old new : LineView) : Type 0 where
 pub record TakesMember (taken : Bool) (old new : LineView) : Type 0 where
   pub aligned : taken ≡ true → IsSome new.alignment
   pub stays : taken ≡ false → new.alignment ≡ old.alignment
-  pub count : members new ≡ members old + one_if taken
+  pub count : frames_taken new ≡ frames_taken old + one_if taken
 
 -- so many more lead-in frames were passed over
 abbrev pub PassesOver : LineView → ℕ → LineView → Type 0
@@ -41,11 +41,14 @@ pub record FoundNone (given : List ℕ) (n u w : ℕ) (old new : LineView) : Typ
   pub alignment : new.alignment ≡ old.alignment
   pub ended : new.ended ≡ true
 
+-- a piece of a locked turn: the next frame is taken, or the line ends where it is not whole
 pub record TakesNext (result : Bool) (old : LineView) (was : InView) (new : LineView) (is : InView) : Type 0 where
   pub came : List ℕ
   pub step : ReadStep old.reader was came new.reader is
   pub keeps : Keeps old new
+  pub member : TakesMember result old new
   pub lead_in : new.lead_in ≡ old.lead_in
+  pub over : result ≡ false → new.ended ≡ true
   pub frame : result ≡ true → OnAnyLine old.reader new.reader came (λ given n u w. TookFrame given n u (max w (u + 1)) old new)
   pub none : result ≡ false → OnAnyLine old.reader new.reader came (λ given n u w. FoundNone given n u (max w (u + 1)) old new)
 
@@ -62,20 +65,25 @@ pub record PassedBy (size : ℕ) (given : List ℕ) (n u w : ℕ) (r : ReaderVie
   pub read : HasRead given n (u + 1) w r
   pub start : is_start size (mfas_of given) u ≡ false
 
+-- whether the frame that was tried is lead-in
 abbrev pub is_passed : Tried → Bool
 is_passed Locks = false
 is_passed Passes = true
 is_passed Ends = false
 
+-- whether a multiframe begins with the frame that was tried
 abbrev pub is_locked : Tried → Bool
 is_locked Locks = true
 is_locked Passes = false
 is_locked Ends = false
 
+-- a hunt tries the next frame: the line locks on the multiframe that begins with it, passes over it, or ends where it is not
+-- whole
 pub record Tries (size : ℕ) (tried : Tried) (old : LineView) (was : InView) (new : LineView) (is : InView) : Type 0 where
   pub came : List ℕ
   pub step : ReadStep old.reader was came new.reader is
   pub keeps : Keeps old new
+  pub member : TakesMember (is_locked tried) old new
   pub passes_over : PassesOver old (one_if (is_passed tried)) new
   pub passed : tried ≡ Passes → (new.alignment ≡ old.alignment) × (new.ended ≡ old.ended)
   pub locks : tried ≡ Locks → OnAnyLine old.reader new.reader came (λ given n u w. LockedAt size given n u (max w (u + 1 + 1)) old new)
@@ -96,10 +104,13 @@ pub record HuntFailed (size : ℕ) (given : List ℕ) (n i w : ℕ) (old new : L
   pub ended : new.ended ≡ nat_lt (length (mfas_of given)) (i + size)
   pub passes_over : PassesOver old (min size (length (mfas_of given) - i)) new
 
+-- the first piece of a turn that hunts: frame after frame is tried until the line locks or ends, but no more than a multiframe
+-- has
 pub record Hunts (size : ℕ) (result : Bool) (old : LineView) (was : InView) (new : LineView) (is : InView) : Type 0 where
   pub came : List ℕ
   pub step : ReadStep old.reader was came new.reader is
   pub keeps : Keeps old new
+  pub member : TakesMember result old new
   pub locks : result ≡ true → OnAnyLine old.reader new.reader came (λ given n i w. (m : ℕ) × HuntLocked size given n i w m old new)
   pub fails : result ≡ false → OnAnyLine old.reader new.reader came (λ given n i w. HuntFailed size given n i w old new)
 
@@ -124,10 +135,10 @@ pub record EndMoves (size : ℕ) (result : Bool) (old new : LineView) : Type 0 w
   pub ended : new.ended ≡ old.ended
   pub lead_in : new.lead_in ≡ old.lead_in
   pub pieces : new.pieces ≡ 0
-  pub member : new.member ≡ false
+  pub has_frame : new.has_frame ≡ false
   pub over : old.ended ≡ true → (result ≡ false) × (new.lost ≡ old.lost)
   pub hunted : old.alignment ≡ None → (result ≡ false) × (new.lost ≡ old.lost) × (new.alignment ≡ None)
   pub locked : (ms : List ℕ) (lock : Lock) → old.ended ≡ false → old.alignment ≡ Some (taken_of size ms lock)
       → EndsTurn size ms lock result new.alignment × (new.lost ≡ (if result then old.lost else saturated (old.lost + 1)))
-  pub whole : result ≡ true → members old ≡ size
-  pub none_taken : members new ≡ 0
+  pub whole : result ≡ true → frames_taken old ≡ size
+  pub none_taken : frames_taken new ≡ 0

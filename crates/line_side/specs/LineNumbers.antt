@@ -4,7 +4,7 @@ use Rattle.otn_base.specs.declared.limits.TheConstants.{LINE_COLUMNS}
 use Rattle.frame_geometry.specs.declared.overhead.TheConstants.{SECTION_ROW, SM_BIP8_COLUMN, PM_ROW, PM_BIP8_COLUMN}
 use Rattle.frame_overhead.specs.TwoBefore.{wrong_parities}
 use Rattle.otu_overhead.specs.Section.{wrong_fas}
-use Rattle.multiframe.specs.LineTurns.{standing, used_in, lost_count}
+use Rattle.multiframe.specs.LineTurns.{line_state, used_in, lost_count}
 use Rattle.multiframe.specs.TurnPieces.{lead_in_so_far}
 use Rattle.line_side.specs.LineForm.{LineForm, size_of}
 use Rattle.line_side.specs.LineFile.{mfas_of}
@@ -19,7 +19,7 @@ use Rattle.line_side.specs.declared.ending.Ending.{Ending}
 -- frames with a wrong FAS, a wrong SM parity and a wrong PM parity.
 abbrev pub numbers_of : (form : LineForm) → (ending : Ending) → (given : List ℕ) → (t pieces : ℕ) → LineCounts
 numbers_of form ending given t pieces = record {
-  frames = saturated (used_in (size_of form) (mfas_of given) (standing (size_of form) (mfas_of given) t) pieces);
+  frames = saturated (used_in (size_of form) (mfas_of given) (line_state (size_of form) (mfas_of given) t) pieces);
   lead_in = saturated (lead_in_so_far (size_of form) (mfas_of given) t pieces);
   lost = saturated (lost_count (size_of form) (mfas_of given) t);
   rest = rest_of ending given;

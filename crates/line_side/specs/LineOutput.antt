@@ -89,6 +89,11 @@ pub record LineMade (n : ℕ) (form : LineForm) (first now : OutView) (puts : Li
   pub section : HasSent LINE_COLUMNS made line.section
   pub path : HasSent LINE_COLUMNS made line.path
 
+-- However the line has made frames for a place that is seen so now: of whatever form, whatever the place was before the line, and
+-- whatever was put into them.
+abbrev pub AsMade : (n : ℕ) → (now : OutView) → LineOutView → ((form : LineForm) → (first : OutView) → (puts : List FramePut) → Type 0) → Type 0
+AsMade n now line Holds = (form : LineForm) (first : OutView) (puts : List FramePut) → LineMade n form first now puts line → Holds form first puts
+
 -- a frame was written to a place, and counts or does not
 pub record Writes (counts : Bool) (old : OutView) (frame : List ℕ) (new : OutView) : Type 0 where
   pub went : List ℕ

@@ -4,7 +4,7 @@ use Rattle.otn_base.specs.declared.line_kind.LineKind.{LineKind}
 use Rattle.otn_ports.specs.Views.{InView, Live}
 use Rattle.otn_ports.specs.Given.{Gave}
 use Rattle.otn_ports.specs.Reads.{HasEnded}
-use Rattle.multiframe.specs.LineTurns.{Ended, Lock, standing, multiframe, used_in, wanted_so_far, lost_count}
+use Rattle.multiframe.specs.LineTurns.{Ended, Lock, line_state, multiframe, used_in, wanted_so_far, lost_count}
 use Rattle.multiframe.specs.Alignment.{Alignment}
 use Rattle.line_side.specs.LineForm.{LineForm, size_of}
 use Rattle.line_side.specs.LineFile.{frame_at, first_frames, mfas_of}
@@ -21,7 +21,7 @@ pub record LineView : Type 0 where
   pub alignment : Option Alignment
   pub reader : ReaderView
   pub pieces : ℕ
-  pub member : Bool
+  pub has_frame : Bool
   pub ended : Bool
   pub lead_in : ℕ
   pub lost : ℕ
@@ -30,27 +30,28 @@ pub record LineView : Type 0 where
 abbrev pub form_of : LineView → LineForm
 form_of line = record { kind = line.kind; scrambled = line.reader.scrambled }
 
+-- how many frames of its turn a line has taken that is aligned so: none while it hunts
 abbrev pub taken_count : Option Alignment → ℕ
 taken_count None = 0
 taken_count (Some a) = length a.taken
 
 -- how many of the pieces of this turn came to a frame of a multiframe
-abbrev pub members : LineView → ℕ
-members line = taken_count line.alignment
+abbrev pub frames_taken : LineView → ℕ
+frames_taken line = taken_count line.alignment
 
 -- the frames of the line that these bytes are which are used after so many pieces of turn t + 1: lead-in among them, and a
 -- frame that was looked ahead at once its turn takes it or passes over it
 abbrev pub used_frames : (size : ℕ) → (given : List ℕ) → (t pieces : ℕ) → List (List ℕ)
-used_frames size given t pieces = first_frames given (used_in size (mfas_of given) (standing size (mfas_of given) t) pieces)
+used_frames size given t pieces = first_frames given (used_in size (mfas_of given) (line_state size (mfas_of given) t) pieces)
 
 -- The line, whose multiframes have so many frames, is in turn t + 1 of the line that these bytes are, after line.pieces of its
 -- pieces. Of the bytes n were read: so many frames as the turns so far want, or all where they want one that is not whole.
 pub record IsLine (size : ℕ) (given : List ℕ) (n t : ℕ) (line : LineView) : Type 0 where
-  pub read : HasRead given n (used_in size (mfas_of given) (standing size (mfas_of given) t) line.pieces) (wanted_so_far size (mfas_of given) t line.pieces) line.reader
-  pub alignment : AlignedIn size (mfas_of given) (standing size (mfas_of given) t) line.pieces line.alignment
-  pub member : line.member ≡ is_some (in_hand size (mfas_of given) (standing size (mfas_of given) t) line.pieces)
-  pub hand : IfSome (in_hand size (mfas_of given) (standing size (mfas_of given) t) line.pieces) (λ member. line.reader.hand ≡ frame_at given member.frame)
-  pub ended : line.ended ≡ ended_in size (mfas_of given) (standing size (mfas_of given) t) line.pieces
+  pub read : HasRead given n (used_in size (mfas_of given) (line_state size (mfas_of given) t) line.pieces) (wanted_so_far size (mfas_of given) t line.pieces) line.reader
+  pub alignment : AlignedIn size (mfas_of given) (line_state size (mfas_of given) t) line.pieces line.alignment
+  pub has_frame : line.has_frame ≡ is_some (in_hand size (mfas_of given) (line_state size (mfas_of given) t) line.pieces)
+  pub hand : IfSome (in_hand size (mfas_of given) (line_state size (mfas_of given) t) line.pieces) (λ member. line.reader.hand ≡ frame_at given member.frame)
+  pub ended : line.ended ≡ ended_in size (mfas_of given) (line_state size (mfas_of given) t) line.pieces
   pub lead_in : line.lead_in ≡ saturated (lead_in_so_far size (mfas_of given) t line.pieces)
   pub lost : line.lost ≡ saturated (lost_count size (mfas_of given) t)
 
@@ -60,8 +61,15 @@ pub record LineStands (form : LineForm) (first now : InView) (taken : List ℕ) 
   pub is_form : form_of line ≡ form
   pub gave : Gave first taken now
   pub ending : EndedAs line.reader.ending now
+  -- once the bytes have ended, nothing is left of a live place
   pub over : line.reader.ending ≢ Open → now.state ≡ Live → HasEnded now.left now.ended
+  -- of all bytes that the line may turn out to have
   pub is_line : (given : List ℕ) → MayBe form.scrambled line.reader.ending taken given → IsLine (size_of form) given (length taken) t line
+
+-- However the line stands on a place that is seen so now: of whatever form, whatever the place was before the line, whatever bytes
+-- were taken of it, and in whatever turn.
+abbrev pub AsStood : (now : InView) → LineView → ((form : LineForm) → (first : InView) → (taken : List ℕ) → (t : ℕ) → Type 0) → Type 0
+AsStood now line Holds = (form : LineForm) (first : InView) (taken : List ℕ) (t : ℕ) → LineStands form first now taken t line → Holds form first taken t
 
 -- after a piece: more bytes were taken, and what the line may have from then on it might have before
 pub record PieceStands (form : LineForm) (first now : InView) (taken : List ℕ) (t : ℕ) (old new : LineView) : Type 0 where
@@ -72,13 +80,12 @@ pub record PieceStands (form : LineForm) (first now : InView) (taken : List ℕ)
 -- What holds of a line in each turn, whatever place it is read from and whatever it may turn out to have: `given` are all bytes
 -- of the line, and it stands in turn t + 1.
 abbrev pub InEachTurn : LineView → ((form : LineForm) → (given : List ℕ) → (t : ℕ) → Type 0) → Type 0
-InEachTurn line Holds = (form : LineForm) (first now : InView) (taken given : List ℕ) (t : ℕ) → LineStands form first now taken t line → MayBe form.scrambled line.reader.ending taken given
-    → Holds form given t
+InEachTurn line Holds = (now : InView) → AsStood now line (λ form first taken t. (given : List ℕ) → MayBe form.scrambled line.reader.ending taken given → Holds form given t)
 
 -- What holds of the frame of a multiframe to which the last piece of the turn came, if it came to one: of all bytes of the line
 -- and of the number of the frame with the MFAS expected in it.
 abbrev pub OfMember : LineView → ((given : List ℕ) → (member : Lock) → Type 0) → Type 0
-OfMember line Holds = InEachTurn line (λ form given t. IfSome (in_hand (size_of form) (mfas_of given) (standing (size_of form) (mfas_of given) t) line.pieces) (Holds given))
+OfMember line Holds = InEachTurn line (λ form given t. IfSome (in_hand (size_of form) (mfas_of given) (line_state (size_of form) (mfas_of given) t) line.pieces) (Holds given))
 
 -- The line takes no frame before its next turn: it has ended, or it hunts and has done so in this turn, in its first piece.
 abbrev pub AwaitsTurn : LineView → Type 0
@@ -87,4 +94,4 @@ AwaitsTurn line = line.ended ≡ false → (1 ≤ line.pieces) × (line.alignmen
 -- turn t + 1 has ended: whether it has a multiframe, and whether the line has ended
 pub record TurnEnded (form : LineForm) (given : List ℕ) (t : ℕ) (result : Bool) (new : LineView) : Type 0 where
   pub has_multiframe : result ≡ is_some (multiframe (size_of form) (mfas_of given) t)
-  pub has_ended : (new.ended ≡ true) ↔ (standing (size_of form) (mfas_of given) (t + 1) ≡ Ended)
+  pub has_ended : (new.ended ≡ true) ↔ (line_state (size_of form) (mfas_of given) (t + 1) ≡ Ended)

@@ -1,5 +1,5 @@
 -- The reader of a line: how far it has read.
-use Rattle.std.specs.Prelude.{◌≡◌, ◌≢◌, ◌<◌, ◌≤◌, ◌+◌, ◌-◌, ◌*◌, ◌%◌, ◌^◌, min, max, ℕ, Bool, true, false, List, [], ◌++◌, length, Option, Some, None, IfSome}
+use Rattle.std.specs.Prelude.{◌≡◌, ◌≢◌, ◌<◌, ◌≤◌, ◌+◌, ◌*◌, ◌%◌, max, ℕ, Bool, true, false, List, [], ◌++◌, length, Option, Some, None, IfSome}
 use Rattle.otn_base.specs.Counts.{saturated}
 use Rattle.otn_base.specs.declared.limits.TheConstants.{LINE_FRAME_BYTES}
 use Rattle.otn_ports.specs.Views.{InView, Live, Dead}
@@ -28,6 +28,7 @@ pub record ReaderView : Type 0 where
   pub rest : ℕ
   pub seen : Counted
 
+-- how many there are: one or none
 abbrev pub count_of : {A : Type 0} → Option A → ℕ
 count_of None = 0
 count_of (Some x) = 1
@@ -65,11 +66,12 @@ pub record FrameRead (scrambled : Bool) (reading : Reading) (was : InView) (fram
   pub end : (k : ℕ) → reading ≡ End k → (k ≡ length came) × (is.state ≢ Dead)
   pub lost : reading ≡ Lost → is.state ≡ Dead
 
+-- this frame, which was looked ahead at, is in hand, and so much was counted with it; without one nothing changes
 abbrev pub taking : Option (List ℕ) → Counted → ReaderView → ReaderView
 taking None seen r = r
 taking (Some frame) seen r = record { scrambled = r.scrambled; hand = frame; ahead = None; ending = r.ending; frames = saturated (r.frames + 1); rest = r.rest; seen = seen }
 
--- the frame that was looked ahead at is in hand, and so much was counted with it
+-- the frame that the reader looked ahead at, if it did, is in hand, and so much was counted with it
 abbrev pub with_ahead : Counted → ReaderView → ReaderView
 with_ahead seen r = taking r.ahead seen r
 
@@ -79,11 +81,13 @@ ending_after Full ending = ending
 ending_after (End n) ending = Seen
 ending_after Lost ending = Died
 
+-- how many bytes came after the last whole frame: as many as came of one that is not whole
 abbrev pub left_after : Reading → ℕ → ℕ
 left_after Full rest = rest
 left_after (End n) rest = n
 left_after Lost rest = rest
 
+-- the reader after a read of a frame that said this, but for the frame itself
 abbrev pub with_reading : Reading → ReaderView → ReaderView
 with_reading reading r = record r { ending = ending_after reading r.ending; rest = left_after reading r.rest }
 

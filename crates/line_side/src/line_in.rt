@@ -26,7 +26,7 @@ pub struct LineIn<const COUNTS: usize> {
     phase: Phase,
     reader: LineReader<COUNTS>,
     pieces: u8,
-    member: bool,
+    has_frame: bool,
     ended: bool,
     lead_in: u64,
     lost: u64,
@@ -40,19 +40,18 @@ impl<const COUNTS: usize> Model for LineIn<COUNTS> {
 
     ghost Value = { LineView };
 
-    ghost view = { λ l. record { kind = l.phase.kind; alignment = l.phase.alignment; reader = l.reader; pieces = l.pieces; member = l.member; ended = l.ended; lead_in = l.lead_in; lost = l.lost } };
+    ghost view = { λ l. record { kind = l.phase.kind; alignment = l.phase.alignment; reader = l.reader; pieces = l.pieces; has_frame = l.has_frame; ended = l.ended; lead_in = l.lead_in; lost = l.lost } };
 
     ghost invariant = { λ l. record {
       pieces : l.pieces ≤ slots_of l.phase.kind;
       taken : ForSome l.phase.alignment (λ a. length a.taken ≤ l.pieces);
-      member : l.member ≡ true → (1 ≤ l.pieces) × IsSome l.phase.alignment;
+      has_frame : l.has_frame ≡ true → (1 ≤ l.pieces) × IsSome l.phase.alignment;
     } };
 }
 
 impl<const COUNTS: usize> LineIn<COUNTS> {
-    ghost use Rattle.line_side.specs.LineForm.{LineForm};
-    ghost use Rattle.line_side.specs.LineStands.{LineStands, PieceStands, InEachTurn, OfMember, AwaitsTurn, TurnEnded, members};
-    ghost use Rattle.line_side.specs.LineMoves.{TakesNext, Tries, Hunts, StepMoves, EndMoves, TakesMember, is_locked};
+    ghost use Rattle.line_side.specs.LineStands.{LineStands, AsStood, PieceStands, InEachTurn, OfMember, AwaitsTurn, TurnEnded, frames_taken};
+    ghost use Rattle.line_side.specs.LineMoves.{TakesNext, Tries, Hunts, StepMoves, EndMoves};
     ghost use Rattle.line_side.specs.Reader.{AsksNoMore, rest_of};
     ghost use Rattle.line_side.specs.LineFile.{frame_at};
     ghost use Rattle.multiframe.specs.LineTurns.{one_if};
@@ -63,13 +62,13 @@ impl<const COUNTS: usize> LineIn<COUNTS> {
         ensures stands { IfOk result (λ line. (first : InView) → LineStands (record { kind = kind; scrambled = scrambled }) first first [] 0 line) }
         ensures kind { IfOk result (λ line. line.kind ≡ kind) }
         ensures pieces { IfOk result (λ line. line.pieces ≡ 0) }
-        ensures members { IfOk result (λ line. members line ≡ 0) }
+        ensures frames_taken { IfOk result (λ line. frames_taken line ≡ 0) }
     {
         Ok(LineIn {
             phase: Phase::new(kind),
             reader: LineReader::new(alloc, scrambled)?,
             pieces: 0,
-            member: false,
+            has_frame: false,
             ended: false,
             lead_in: 0,
             lost: 0,
@@ -81,13 +80,12 @@ impl<const COUNTS: usize> LineIn<COUNTS> {
     /// turn, reads nothing.
     pub fn piece<P: Source>(&mut self, place: &mut InPlaceOf<P>) -> bool
         requires { self.old.pieces < slots_of self.old.kind }
-        ensures stands { (form : LineForm) (first : InView) (taken : List ℕ) (t : ℕ) → LineStands form first (in_view P.Source place.old) taken t self.old
-            → PieceStands form first (in_view P.Source place.new) taken t self.old self.new }
+        ensures stands { AsStood (in_view P.Source place.old) self.old (λ form first taken t. PieceStands form first (in_view P.Source place.new) taken t self.old self.new) }
         ensures kind { self.new.kind ≡ self.old.kind }
         ensures pieces { self.new.pieces ≡ self.old.pieces + 1 }
-        ensures member { result ≡ self.new.member }
-        ensures members { members self.new ≡ members self.old + one_if result }
-        ensures most { members self.new ≤ self.new.pieces }
+        ensures has_frame { result ≡ self.new.has_frame }
+        ensures frames_taken { frames_taken self.new ≡ frames_taken self.old + one_if result }
+        ensures most { frames_taken self.new ≤ self.new.pieces }
 
         // bytes are taken of a live place, or none, and any other place is as it was
         ensures gave { (came : List ℕ) × Gave (in_view P.Source place.old) came (in_view P.Source place.new) }
@@ -102,15 +100,15 @@ impl<const COUNTS: usize> LineIn<COUNTS> {
     {
         let first = self.pieces == 0;
         self.pieces += 1;
-        self.member = false;
-        self.member = self.step(place, first);
-        self.member
+        self.has_frame = false;
+        self.has_frame = self.step(place, first);
+        self.has_frame
     }
 
     /// The frame in hand: one of the turn's multiframe, through the line's mask. The last piece has said that there is one.
     #[tactic(auto, using(crate::proofs::Ended::hand_in))]
     pub fn frame(&self) -> &Frame<LINE_COLUMNS>
-        requires { self.now.member ≡ true }
+        requires { self.now.has_frame ≡ true }
         ensures hand { result.now ≡ self.now.reader.hand }
         ensures line { OfMember self.now (λ given member. result.now ≡ frame_at given member.frame) }
     {
@@ -119,24 +117,23 @@ impl<const COUNTS: usize> LineIn<COUNTS> {
 
     /// The MFAS that is expected in the frame in hand. The last piece has said that there is one.
     pub fn expected(&self) -> u8
-        requires { self.now.member ≡ true }
+        requires { self.now.has_frame ≡ true }
         ensures alignment { IfSome self.now.alignment (λ a. result ≡ (a.expected + (self.now.pieces - 1)) % 256) }
         ensures line { OfMember self.now (λ given member. result ≡ member.expected) }
     {
-        let _ = &self.member;
         self.phase.expected(self.pieces - 1)
     }
 
     /// Ends the turn, all of whose pieces are done, and says whether it has a multiframe.
     pub fn end_turn(&mut self) -> bool
         requires { self.old.pieces ≡ slots_of self.old.kind }
-        ensures stands { (form : LineForm) (first now : InView) (taken : List ℕ) (t : ℕ) → LineStands form first now taken t self.old → LineStands form first now taken (t + 1) self.new }
+        ensures stands { (now : InView) → AsStood now self.old (λ form first taken t. LineStands form first now taken (t + 1) self.new) }
         ensures turn { InEachTurn self.old (λ form given t. TurnEnded form given t result self.new) }
         ensures kind { self.new.kind ≡ self.old.kind }
         ensures ending { self.new.reader.ending ≡ self.old.reader.ending }
         ensures pieces { self.new.pieces ≡ 0 }
-        ensures whole { result ≡ true → members self.old ≡ slots_of self.old.kind }
-        ensures members { members self.new ≡ 0 }
+        ensures whole { result ≡ true → frames_taken self.old ≡ slots_of self.old.kind }
+        ensures frames_taken { frames_taken self.new ≡ 0 }
     {
         self.close()
     }
@@ -147,7 +144,7 @@ impl<const COUNTS: usize> LineIn<COUNTS> {
         let hunted = self.phase.hunting();
         let whole = self.phase.end_turn();
         self.pieces = 0;
-        self.member = false;
+        self.has_frame = false;
         if self.ended || hunted {
             return false;
         }
@@ -184,14 +181,9 @@ impl<const COUNTS: usize> LineIn<COUNTS> {
         requires room { ForSome self.old.alignment (λ a. length a.taken < self.old.pieces) }
         requires pieces { 1 ≤ self.old.pieces }
         requires most { self.old.pieces ≤ slots_of self.old.kind }
-        requires fresh { self.old.member ≡ false }
+        requires fresh { self.old.has_frame ≡ false }
         ensures moves { StepMoves (slots_of self.old.kind) first result self.old (in_view P.Source place.old) self.new (in_view P.Source place.new) }
-        ensures kind { self.new.kind ≡ self.old.kind }
-        ensures pieces { self.new.pieces ≡ self.old.pieces }
-        ensures member { TakesMember result self.old self.new }
-        ensures missed { result ≡ false → self.new.ended ≡ false → self.new.alignment ≡ None }
-        ensures rests { self.old.ended ≡ true → place.new ≡ place.old }
-        ensures waits { (self.old.ended ≡ false → (first ≡ false) × (self.old.alignment ≡ None)) → (result ≡ false) × (place.new ≡ place.old) }
+        ensures waits { (self.old.ended ≡ false → (first ≡ false) × (self.old.alignment ≡ None)) → place.new ≡ place.old }
         ensures quiet { AsksNoMore self.old.reader.ending place.old self.new.reader.ending place.new }
     {
         if self.ended {
@@ -208,8 +200,6 @@ impl<const COUNTS: usize> LineIn<COUNTS> {
         requires room { IsSomeAnd self.old.alignment (λ a. length a.taken < self.old.pieces) }
         requires most { self.old.pieces ≤ slots_of self.old.kind }
         ensures takes { TakesNext result self.old (in_view P.Source place.old) self.new (in_view P.Source place.new) }
-        ensures member { TakesMember result self.old self.new }
-        ensures ended { result ≡ false → self.new.ended ≡ true }
         ensures quiet { AsksNoMore self.old.reader.ending place.old self.new.reader.ending place.new }
     {
         if !self.reader.advance(place) {
@@ -226,7 +216,6 @@ impl<const COUNTS: usize> LineIn<COUNTS> {
         requires pieces { 1 ≤ self.old.pieces }
         requires going { self.old.ended ≡ false }
         ensures hunts { Hunts (slots_of self.old.kind) result self.old (in_view P.Source place.old) self.new (in_view P.Source place.new) }
-        ensures member { TakesMember result self.old self.new }
         ensures quiet { AsksNoMore self.old.reader.ending place.old self.new.reader.ending place.new }
     {
         for _ in 0..self.phase.kind().slots() {
@@ -244,7 +233,6 @@ impl<const COUNTS: usize> LineIn<COUNTS> {
         requires hunting { self.old.alignment ≡ None }
         requires pieces { 1 ≤ self.old.pieces }
         ensures tries { Tries (slots_of self.old.kind) result self.old (in_view P.Source place.old) self.new (in_view P.Source place.new) }
-        ensures member { TakesMember (is_locked result) self.old self.new }
         ensures quiet { AsksNoMore self.old.reader.ending place.old self.new.reader.ending place.new }
     {
         if !self.reader.advance(place) {

@@ -43,9 +43,8 @@ impl Model for LineOut {
 impl LineOut {
     ghost use Rattle.std.specs.Borrow.{Lends, sem};
     ghost use Rattle.line_side.specs.contracts.line_out.LineOut.{the_row};
-    ghost use Rattle.line_side.specs.Rows.{frame_row};
-    ghost use Rattle.line_side.specs.LineForm.{LineForm};
-    ghost use Rattle.line_side.specs.LineOutput.{FramePut, LineMade};
+    ghost use Rattle.line_side.specs.FrameType.{line_frame};
+    ghost use Rattle.line_side.specs.LineOutput.{LineMade, AsMade};
     ghost use Rattle.otn_base.specs.Counts.{saturated};
     ghost use Rattle.otn_ports.specs.Given.{Gained};
 
@@ -74,7 +73,7 @@ impl LineOut {
 
     /// The next frame, all 0, to be filled.
     pub fn begin(&mut self) -> &mut Frame<LINE_COLUMNS>
-        ensures* writes_back { sem 𝓛 (Lends the_row frame_row self.entry result (λ w. record self.entry.now { frame = w })) }
+        ensures* writes_back { sem 𝓛 (Lends the_row line_frame self.entry result (λ w. record self.entry.now { frame = w })) }
         ensures zero { (place : ℕ) → slice_index result.now place ≡ 0 }
         ensures size { length result.now ≡ FRAME_BYTES }
     {
@@ -85,8 +84,8 @@ impl LineOut {
     /// Adds the overhead to the frame, which has this MFAS on a line whose slots are used so, and writes it through the
     /// line's mask. The MSI bytes are those of the map's slots, so the map of a line is one of its `kind`.
     pub fn finish<K: Sink>(&mut self, mfas: u8, map: &SlotMap, place: &mut OutPlaceOf<K>)
-        ensures made { (n : ℕ) (form : LineForm) (first : OutView) (puts : List FramePut) → LineMade n form first (out_view K.Sink place.old) puts self.old
-            → LineMade n form first (out_view K.Sink place.new) (puts ++ record { mfas = mfas; ports = map.now; bytes = self.old.frame } ∷ []) self.new }
+        ensures made { (n : ℕ) → AsMade n (out_view K.Sink place.old) self.old
+            (λ form first puts. LineMade n form first (out_view K.Sink place.new) (puts ++ record { mfas = mfas; ports = map.now; bytes = self.old.frame } ∷ []) self.new) }
         ensures form { self.new.form ≡ self.old.form }
 
         // bytes go to a live place, which may die of its own port's fault, and any other place is asked nothing

@@ -6,7 +6,7 @@ use Rattle.otn_base.specs.SlotList.{IsSlotList}
 use Rattle.line_side.specs.LineFile.{mfas_of}
 use Rattle.maintenance_signals.specs.Stream.{signal_byte}
 use Rattle.maintenance_signals.specs.declared.signal.Signal.TheVariants.{Ais}
-use Rattle.multiframe.specs.LineTurns.{Standing, Hunting, Locked, Ended, Lock, Outcome, CutShort, Lost, Whole, standing, multiframe, multiframe_at, lock_of, lock_from, least_start, outcome_of, after_outcome, after_hunt, kept_if, after_turn, has_ended}
+use Rattle.multiframe.specs.LineTurns.{LineState, Hunting, Locked, Ended, Lock, Outcome, CutShort, Lost, Whole, line_state, multiframe, multiframe_at, lock_of, lock_from, least_start, outcome_of, after_outcome, after_hunt, kept_if, after_turn, has_ended}
 use Rattle.tributary_model.specs.declared.turns.SinkState.TheVariants.{Down}
 use Rattle.tributary_model.specs.Places.{Tributary, View, turn_view}
 use Rattle.tributary_model.specs.Stretches.{state_after}
@@ -29,7 +29,7 @@ use Rattle.line_tool.proofs.PullWorlds.{is_tributary}
 -- ---- the turns of a line
 
 -- a turn with a multiframe leaves the line locked, and finds it going
-locked_after : (ms : List ℕ) (st : Standing) (lock : Lock) → multiframe_at 8 ms (lock_of 8 ms st) ≡ Some lock → (has_ended st ≡ false) × (has_ended (after_turn 8 ms st) ≡ false)
+locked_after : (ms : List ℕ) (st : LineState) (lock : Lock) → multiframe_at 8 ms (lock_of 8 ms st) ≡ Some lock → (has_ended st ≡ false) × (has_ended (after_turn 8 ms st) ≡ false)
 locked_after ms Ended lock e = absurd (let bad : ⊥ = cc in bad)
 locked_after ms (Locked at) lock e = (refl, go (outcome_of 8 ms at) e)
   where
@@ -48,13 +48,13 @@ locked_after ms (Hunting i) lock e = (refl, hunt (lock_from ms i (least_start 8 
     hunt None f = absurd (let bad : ⊥ = cc in bad)
     hunt (Some at) f = go at (outcome_of 8 ms at) f
 
-standing_next : (ms : List ℕ) (t : ℕ) → standing 8 ms (suc t) ≡ after_turn 8 ms (standing 8 ms t)
-unfolding standing
-standing_next ms t = refl
+line_state_next : (ms : List ℕ) (t : ℕ) → line_state 8 ms (suc t) ≡ after_turn 8 ms (line_state 8 ms t)
+unfolding line_state
+line_state_next ms t = refl
 
 -- a turn that shows something goes on, and so does the line after it
 goes_on : (own : Tributary) (given : List ℕ) (t : ℕ) (view : View) → own.line_slots ≡ 8 → view_at own given t ≡ Some view
-    → (has_ended (standing 8 (mfas_of given) t) ≡ false) × (has_ended (standing 8 (mfas_of given) (suc t)) ≡ false)
+    → (has_ended (line_state 8 (mfas_of given) t) ≡ false) × (has_ended (line_state 8 (mfas_of given) (suc t)) ≡ false)
 unfolding view_at
 goes_on own given t view size e =
     go (multiframe 8 (mfas_of given) t) refl (subst (λ n. turn_view own (option_map (frames_of own.line_slots given) (multiframe n (mfas_of given) t)) ≡ Some view) size e)
@@ -63,22 +63,22 @@ goes_on own given t view size e =
     ms = mfas_of given
 
     go : (o : Option Lock) → multiframe 8 ms t ≡ o → turn_view own (option_map (frames_of own.line_slots given) o) ≡ Some view
-        → (has_ended (standing 8 ms t) ≡ false) × (has_ended (standing 8 ms (suc t)) ≡ false)
+        → (has_ended (line_state 8 ms t) ≡ false) × (has_ended (line_state 8 ms (suc t)) ≡ false)
     go None f g = absurd (let bad : ⊥ = cc in bad)
     go (Some lock) f g =
-        let both = locked_after ms (standing 8 ms t) lock f in
-        (both.0, ap has_ended (standing_next ms t) ∙ both.1)
+        let both = locked_after ms (line_state 8 ms t) lock f in
+        (both.0, ap has_ended (line_state_next ms t) ∙ both.1)
 
 -- a line that goes on has gone on before
-went_on : (ms : List ℕ) (s n : ℕ) → s ≤ n → has_ended (standing 8 ms n) ≡ false → has_ended (standing 8 ms s) ≡ false
-went_on ms s n h going = go (has_ended (standing 8 ms s)) refl
+went_on : (ms : List ℕ) (s n : ℕ) → s ≤ n → has_ended (line_state 8 ms n) ≡ false → has_ended (line_state 8 ms s) ≡ false
+went_on ms s n h going = go (has_ended (line_state 8 ms s)) refl
   where
-    go : (t : Bool) → has_ended (standing 8 ms s) ≡ t → has_ended (standing 8 ms s) ≡ false
+    go : (t : Bool) → has_ended (line_state 8 ms s) ≡ t → has_ended (line_state 8 ms s) ≡ false
     go false e = e
-    go true e = absurd (let late : has_ended (standing 8 ms n) ≡ true = stays_ended ms s (n - s) n (omega arith) e in let bad : ⊥ = cc in bad)
+    go true e = absurd (let late : has_ended (line_state 8 ms n) ≡ true = stays_ended ms s (n - s) n (omega arith) e in let bad : ⊥ = cc in bad)
 
 -- a turn after which the line has ended shows nothing
-shows_none : (own : Tributary) (given : List ℕ) (t : ℕ) → own.line_slots ≡ 8 → has_ended (standing 8 (mfas_of given) (suc t)) ≡ true → view_at own given t ≡ None
+shows_none : (own : Tributary) (given : List ℕ) (t : ℕ) → own.line_slots ≡ 8 → has_ended (line_state 8 (mfas_of given) (suc t)) ≡ true → view_at own given t ≡ None
 shows_none own given t size ended = go (view_at own given t) refl
   where
     go : (o : Option View) → view_at own given t ≡ o → o ≡ None
@@ -150,7 +150,7 @@ flat_slices f xs g a (suc n) up each =
 -- ---- the laws
 
 -- the line goes on up to a turn that carries, and after it
-going_to : (port : ℕ) (slots given bytes p : List ℕ) (s b u : ℕ) → LineCarries (tributary port slots) given bytes p s b u → b ≤ u → (t : ℕ) → t ≤ suc u → has_ended (standing 8 (mfas_of given) t) ≡ false
+going_to : (port : ℕ) (slots given bytes p : List ℕ) (s b u : ℕ) → LineCarries (tributary port slots) given bytes p s b u → b ≤ u → (t : ℕ) → t ≤ suc u → has_ended (line_state 8 (mfas_of given) t) ≡ false
 going_to port slots given bytes p s b u h low t high =
     let seen = h.carries.each u low (omega arith) in
     went_on (mfas_of given) t (suc u) high (goes_on (tributary port slots) given u seen.0 refl seen.1.0).1
@@ -173,7 +173,7 @@ whole_groups port slots given bytes p u list h few ended =
     let m = length slots in
     let r = arrives port slots given bytes p 0 0 u list h in
     let two : u + 2 ≡ suc (suc u) = omega arith in
-    let last : has_ended (standing 8 (mfas_of given) (suc (suc u))) ≡ true = subst (λ n. has_ended (standing 8 (mfas_of given) n) ≡ true) two ended in
+    let last : has_ended (line_state 8 (mfas_of given) (suc (suc u))) ≡ true = subst (λ n. has_ended (line_state 8 (mfas_of given) n) ≡ true) two ended in
     let none : views (0 + suc u) ≡ None = ap views (let e : 0 + suc u ≡ suc u = omega arith in e) ∙ shows_none own given (suc u) refl last in
     let up = up_while_carried own bytes p views 0 u r u (omega arith) (omega arith) in
     let down : state_after own (None ∷ past_of views 0 (u + 1 - 0)) ≡ Down = down_without own (past_of views 0 (u + 1 - 0)) up in

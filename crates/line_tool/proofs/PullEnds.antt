@@ -7,7 +7,7 @@ use Rattle.line_side.specs.LineStands.{LineView, IsLine}
 use Rattle.line_side.specs.Reader.{HasRead, ReaderView, count_of, rest_of}
 use Rattle.line_side.specs.declared.ending.Ending.{Ending}
 use Rattle.line_side.specs.declared.ending.Ending.TheVariants.{Open, Seen, Died}
-use Rattle.multiframe.specs.LineTurns.{Lock, Standing, Hunting, Locked, Ended, Outcome, CutShort, Lost, Whole, lock_from, least_start, outcome_of, after_outcome, after_hunt, after_turn, standing, wanted, wanted_in, wanted_from, wanted_so_far, used_in}
+use Rattle.multiframe.specs.LineTurns.{Lock, LineState, Hunting, Locked, Ended, Outcome, CutShort, Lost, Whole, lock_from, least_start, outcome_of, after_outcome, after_hunt, after_turn, line_state, wanted, wanted_in, wanted_from, wanted_so_far, used_in}
 use Rattle.line_tool.specs.PullReport.{turns_of, frames_wanted, bytes_wanted}
 
 -- ---- between turns nothing more is wanted than by the turns before
@@ -30,27 +30,27 @@ after_hunting ms i (Some n) =
     lock_at : (i n : ℕ) → Lock
     lock_at i n = record { frame = i + n; expected = slice_index ms (i + n) }
 
-after_any : (ms : List ℕ) (st : Standing) → wanted_in 8 ms (after_turn 8 ms st) 0 ≤ wanted_in 8 ms st 8
+after_any : (ms : List ℕ) (st : LineState) → wanted_in 8 ms (after_turn 8 ms st) 0 ≤ wanted_in 8 ms st 8
 after_any ms (Hunting i) = after_hunting ms i (least_start 8 ms i 8)
 after_any ms (Locked lock) = after_locked ms lock (outcome_of 8 ms lock)
 after_any ms Ended = omega arith
 
-wanted_more : (ms : List ℕ) (t : ℕ) → wanted 8 ms (suc t) ≡ max (wanted 8 ms t) (wanted_in 8 ms (standing 8 ms t) 8)
+wanted_more : (ms : List ℕ) (t : ℕ) → wanted 8 ms (suc t) ≡ max (wanted 8 ms t) (wanted_in 8 ms (line_state 8 ms t) 8)
 unfolding wanted
 wanted_more ms t = refl
 
-standing_more : (ms : List ℕ) (t : ℕ) → standing 8 ms (suc t) ≡ after_turn 8 ms (standing 8 ms t)
-unfolding standing
-standing_more ms t = refl
+line_state_more : (ms : List ℕ) (t : ℕ) → line_state 8 ms (suc t) ≡ after_turn 8 ms (line_state 8 ms t)
+unfolding line_state
+line_state_more ms t = refl
 
-standing_first : (ms : List ℕ) → standing 8 ms 0 ≡ Hunting 0
-unfolding standing
-standing_first ms = refl
+line_state_first : (ms : List ℕ) → line_state 8 ms 0 ≡ Hunting 0
+unfolding line_state
+line_state_first ms = refl
 
-none_wanted : (ms : List ℕ) (t : ℕ) → wanted_in 8 ms (standing 8 ms t) 0 ≤ wanted 8 ms t
-none_wanted ms zero = subst (λ s. wanted_in 8 ms s 0 ≤ wanted 8 ms 0) (sym (standing_first ms)) (omega arith)
+none_wanted : (ms : List ℕ) (t : ℕ) → wanted_in 8 ms (line_state 8 ms t) 0 ≤ wanted 8 ms t
+none_wanted ms zero = subst (λ s. wanted_in 8 ms s 0 ≤ wanted 8 ms 0) (sym (line_state_first ms)) (omega arith)
 none_wanted ms (suc t) =
-    let after = subst (λ s. wanted_in 8 ms s 0 ≤ wanted_in 8 ms (standing 8 ms t) 8) (sym (standing_more ms t)) (after_any ms (standing 8 ms t)) in
+    let after = subst (λ s. wanted_in 8 ms s 0 ≤ wanted_in 8 ms (line_state 8 ms t) 8) (sym (line_state_more ms t)) (after_any ms (line_state 8 ms t)) in
     omega (arith, after, wanted_more ms t)
 
 between : (ms : List ℕ) (t : ℕ) → wanted_so_far 8 ms t 0 ≡ wanted 8 ms t
@@ -85,10 +85,10 @@ took_read given taken u r h = record {
 
 pub took_wanted : (given taken : List ℕ) (t : ℕ) (line : LineView) → IsLine 8 given (length taken) t line → line.pieces ≡ 0 → length (turns_of (mfas_of given)) ≡ t → TookWanted given taken line.reader
 took_wanted given taken t line is none count =
-    let read = subst (λ k. HasRead given (length taken) (used_in 8 (mfas_of given) (standing 8 (mfas_of given) t) k) (wanted_so_far 8 (mfas_of given) t k) line.reader) none is.read in
+    let read = subst (λ k. HasRead given (length taken) (used_in 8 (mfas_of given) (line_state 8 (mfas_of given) t) k) (wanted_so_far 8 (mfas_of given) t k) line.reader) none is.read in
     let turns = between (mfas_of given) t ∙ ap (wanted 8 (mfas_of given)) (sym count) in
-    took_read given taken (used_in 8 (mfas_of given) (standing 8 (mfas_of given) t) 0) line.reader
-    (subst (λ w. HasRead given (length taken) (used_in 8 (mfas_of given) (standing 8 (mfas_of given) t) 0) w line.reader) turns read)
+    took_read given taken (used_in 8 (mfas_of given) (line_state 8 (mfas_of given) t) 0) line.reader
+    (subst (λ w. HasRead given (length taken) (used_in 8 (mfas_of given) (line_state 8 (mfas_of given) t) 0) w line.reader) turns read)
 
 -- so many bytes were taken in the turns so far
 took_of : (given taken : List ℕ) (u w : ℕ) (r : ReaderView) → HasRead given (length taken) u w r → (e : Ending) → r.ending ≡ e → length taken ≡ min (length given) (16320 * w)
@@ -102,8 +102,8 @@ took_of given taken u w r h Died e = let o = h.over (λ f. cc) in omega (arith, 
 
 pub took_so_far : (given taken : List ℕ) (t : ℕ) (line : LineView) → IsLine 8 given (length taken) t line → line.pieces ≡ 0 → length taken ≡ bytes_wanted given t
 took_so_far given taken t line is none =
-    let read = subst (λ k. HasRead given (length taken) (used_in 8 (mfas_of given) (standing 8 (mfas_of given) t) k) (wanted_so_far 8 (mfas_of given) t k) line.reader) none is.read in
+    let read = subst (λ k. HasRead given (length taken) (used_in 8 (mfas_of given) (line_state 8 (mfas_of given) t) k) (wanted_so_far 8 (mfas_of given) t k) line.reader) none is.read in
     let turns = between (mfas_of given) t in
-    took_of given taken (used_in 8 (mfas_of given) (standing 8 (mfas_of given) t) 0) (wanted 8 (mfas_of given) t) line.reader
-    (subst (λ w. HasRead given (length taken) (used_in 8 (mfas_of given) (standing 8 (mfas_of given) t) 0) w line.reader) turns read)
+    took_of given taken (used_in 8 (mfas_of given) (line_state 8 (mfas_of given) t) 0) (wanted 8 (mfas_of given) t) line.reader
+    (subst (λ w. HasRead given (length taken) (used_in 8 (mfas_of given) (line_state 8 (mfas_of given) t) 0) w line.reader) turns read)
     line.reader.ending refl

@@ -13,7 +13,7 @@ use Rattle.line_side.specs.LineStands.{LineView}
 use Rattle.line_side.specs.MayBe.{MayBe}
 use Rattle.line_side.specs.declared.ending.Ending.{Ending}
 use Rattle.line_side.specs.declared.ending.Ending.TheVariants.{Open, Seen, Died}
-use Rattle.multiframe.specs.LineTurns.{standing, has_ended}
+use Rattle.multiframe.specs.LineTurns.{line_state, has_ended}
 use Rattle.tributary_model.specs.Places.{Tributary}
 use Rattle.otn_ports.specs.PortViews.{SinkView}
 use Rattle.line_tool.specs.Ends.{ReportAfter}
@@ -38,12 +38,12 @@ pub record TurnsSoFar (own : Tributary) (first now : InView) (t : ℕ) (tap : Ta
   pub taken : List ℕ
   pub stands : TapStands own first now taken t tap
   pub report : (given : List ℕ) → MayBe false tap.line.reader.ending taken given → new ≡ after old (emitted_until own given t)
-  pub unended : (given : List ℕ) → MayBe false tap.line.reader.ending taken given → (s : ℕ) → s < t → has_ended (standing 8 (mfas_of given) s) ≡ false
+  pub unended : (given : List ℕ) → MayBe false tap.line.reader.ending taken given → (s : ℕ) → s < t → has_ended (line_state 8 (mfas_of given) s) ≡ false
 
 -- whether the line has ended after these turns
 abbrev pub HasLast : (own : Tributary) (first now : InView) (t : ℕ) (tap : Tap) (old new : Option (List ℕ)) → TurnsSoFar own first now t tap old new → Bool → Type 0
 HasLast own first now t tap old new h ended =
-    (given : List ℕ) → MayBe false tap.line.reader.ending h.taken given → has_ended (standing 8 (mfas_of given) t) ≡ ended
+    (given : List ℕ) → MayBe false tap.line.reader.ending h.taken given → has_ended (line_state 8 (mfas_of given) t) ≡ ended
 
 -- one turn more
 emitted_more : (own : Tributary) (given : List ℕ) (t : ℕ) → emitted_until own given (t + 1) ≡ emitted_until own given t ++ emitted_at own given t
@@ -52,8 +52,8 @@ emitted_more own given t =
     flat_map-range_more (emitted_at own given) 0 t ∙ ap (λ s. emitted_until own given t ++ emitted_at own given s) last
 
 -- a line hunts before its first turn
-first_open : (ms : List ℕ) → has_ended (standing 8 ms 0) ≡ false
-unfolding standing
+first_open : (ms : List ℕ) → has_ended (line_state 8 ms 0) ≡ false
+unfolding line_state
 first_open ms = refl
 
 -- before the first turn
@@ -78,13 +78,13 @@ last_or_before s t within = by_test (ltb s t) refl
     by_test false e = let above = ltb-false s t e in inr (omega (arith, above, within))
 
 -- the line had not ended before turn t + 1 either
-still_unended : (ms : List ℕ) (t : ℕ) → ((s : ℕ) → s < t → has_ended (standing 8 ms s) ≡ false) → has_ended (standing 8 ms t) ≡ false
-    → (s : ℕ) → s < t + 1 → has_ended (standing 8 ms s) ≡ false
+still_unended : (ms : List ℕ) (t : ℕ) → ((s : ℕ) → s < t → has_ended (line_state 8 ms s) ≡ false) → has_ended (line_state 8 ms t) ≡ false
+    → (s : ℕ) → s < t + 1 → has_ended (line_state 8 ms s) ≡ false
 still_unended ms t before last s within = by_place (last_or_before s t within)
   where
-    by_place : (s < t) ⊎ (s ≡ t) → has_ended (standing 8 ms s) ≡ false
+    by_place : (s < t) ⊎ (s ≡ t) → has_ended (line_state 8 ms s) ≡ false
     by_place (inl less) = before s less
-    by_place (inr same) = ap (λ k. has_ended (standing 8 ms k)) same ∙ last
+    by_place (inr same) = ap (λ k. has_ended (line_state 8 ms k)) same ∙ last
 
 -- a turn more, after which the line has ended or not
 pub turns_more : (own : Tributary) (first was now : InView) (t : ℕ) (before later : Tap) (old gained new : Option (List ℕ)) (ended : Bool) (answer : After)
@@ -191,7 +191,7 @@ record AllTurns (own : Tributary) (taken : List ℕ) (line : LineView) (old new 
   pub took : (given : List ℕ) → MayBe false line.reader.ending taken given → TookWanted given taken line.reader
 
 all_turns : (own : Tributary) (first was : InView) (t : ℕ) (tap : Tap) (old new : Option (List ℕ)) → (h : TurnsSoFar own first was t tap old new) → t ≤ 16384
-    → ((given : List ℕ) → MayBe false tap.line.reader.ending h.taken given → (has_ended (standing 8 (mfas_of given) t) ≡ true) ⊎ (t ≡ 16384))
+    → ((given : List ℕ) → MayBe false tap.line.reader.ending h.taken given → (has_ended (line_state 8 (mfas_of given) t) ≡ true) ⊎ (t ≡ 16384))
     → tap.line.pieces ≡ 0 → AllTurns own h.taken tap.line old new
 all_turns own first was t tap old new h few last none = record {
   report = λ given may. h.report given may ∙ ap (after old) (sym (written_all own given t few (h.unended given may) (last given may)));
@@ -278,7 +278,7 @@ seen_ends own first now taken line old new all gave alive over seen =
 
 -- how the command ends with an answer
 pub turns_end : (ended : Ended) (own : Tributary) (first was now : InView) (t : ℕ) (tap : Tap) (old new : Option (List ℕ)) → (h : TurnsSoFar own first was t tap old new)
-    → t ≤ 16384 → ((given : List ℕ) → MayBe false tap.line.reader.ending h.taken given → (has_ended (standing 8 (mfas_of given) t) ≡ true) ⊎ (t ≡ 16384))
+    → t ≤ 16384 → ((given : List ℕ) → MayBe false tap.line.reader.ending h.taken given → (has_ended (line_state 8 (mfas_of given) t) ≡ true) ⊎ (t ≡ 16384))
     → tap.line.pieces ≡ 0 → AnswerRun tap.line was now ended → PullEnded own first now old new ended
 turns_end Done own first was now t tap old new h few last none a = by_end a.ends.2
   where

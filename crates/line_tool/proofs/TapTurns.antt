@@ -6,7 +6,7 @@ use Rattle.line_side.specs.LineForm.{plain_otu2}
 use Rattle.line_side.specs.LineFile.{mfas_of}
 use Rattle.line_side.specs.LineStands.{LineView, LineStands}
 use Rattle.line_side.specs.MayBe.{MayBe}
-use Rattle.multiframe.specs.LineTurns.{Standing, Hunting, Locked, Ended, standing, multiframe, has_ended}
+use Rattle.multiframe.specs.LineTurns.{LineState, Hunting, Locked, Ended, line_state, multiframe, has_ended}
 use Rattle.tributary_model.specs.Places.{Tributary, Taken, View}
 use Rattle.trib_sink.specs.Sink.{Sink, StandsAfter, ended_view}
 use Rattle.maintenance_signals.specs.Stream.{signal_byte}
@@ -51,7 +51,7 @@ tap_begins own tap size between line sink first = record {
 }
 
 -- whether the line has ended
-ended_is : (s : Standing) (ended : Bool) → (ended ≡ true → s ≡ Ended) × (s ≡ Ended → ended ≡ true) → ended ≡ has_ended s
+ended_is : (s : LineState) (ended : Bool) → (ended ≡ true → s ≡ Ended) × (s ≡ Ended → ended ≡ true) → ended ≡ has_ended s
 ended_is (Hunting i) true h = absurd (let e : Hunting i ≡ Ended = h.0 refl in cc)
 ended_is (Hunting i) false h = refl
 ended_is (Locked lock) true h = absurd (let e : Locked lock ≡ Ended = h.0 refl in cc)
@@ -89,7 +89,7 @@ pub turn_ends : (own : Tributary) (first now : InView) (taken : List ℕ) (t cou
     → LineStands plain_otu2 first now (taken ++ m.came) (t + 1) line
     → ((given : List ℕ) → MayBe false mid.line.reader.ending (taken ++ m.came) given → whole ≡ is_some (multiframe 8 (mfas_of given) t))
     → ((given : List ℕ) → MayBe false mid.line.reader.ending (taken ++ m.came) given
-    → (line.ended ≡ true → standing 8 (mfas_of given) (t + 1) ≡ Ended) × (standing 8 (mfas_of given) (t + 1) ≡ Ended → line.ended ≡ true))
+    → (line.ended ≡ true → line_state 8 (mfas_of given) (t + 1) ≡ Ended) × (line_state 8 (mfas_of given) (t + 1) ≡ Ended → line.ended ≡ true))
     → ((past : List (Option View)) (frames : List Taken) → StandsAfter own past frames mid.sink → StandsAfter own (ended_view own whole frames ∷ past) [] sink)
     → ((past : List (Option View)) (frames : List Taken) → StandsAfter own past frames mid.sink
     → into ≡ emission own (signal_byte Ais) past (ended_view own whole frames) ++ drop count room)
@@ -119,7 +119,7 @@ turn_ends own first now taken t count old mid whole line sink into room m eight 
           front into (emission own (signal_byte Ais) (views_until own given t) (ended_view own whole (frames_in 8 given t 8))) room count
           (bytes (views_until own given t) (frames_in 8 given t 8) st) (counts (views_until own given t) (frames_in 8 given t 8) st)
           ∙ ap (emission own (signal_byte Ais) (views_until own given t)) view ∙ emission_at own given t;
-      ended = λ given may. ended_is (standing 8 (mfas_of given) (t + 1)) line.ended (ends given (earlier given may));
+      ended = λ given may. ended_is (line_state 8 (mfas_of given) (t + 1)) line.ended (ends given (earlier given may));
     }
 
 -- what a turn emits is within its buffer

@@ -3,7 +3,7 @@ use Rattle.std.specs.Prelude.{◌≡◌, ℕ, ◌+◌, ◌-◌, ◌*◌, ◌/◌
 use Rattle.otn_base.specs.SlotList.{IsSlotList}
 use Rattle.otn_base.specs.declared.limits.TheConstants.{MOST_TURNS, OTU2_SLOTS}
 use Rattle.line_side.specs.LineFile.{mfas_of}
-use Rattle.multiframe.specs.LineTurns.{standing, has_ended}
+use Rattle.multiframe.specs.LineTurns.{line_state, has_ended}
 use Rattle.tributary_model.specs.Places.{Tributary}
 use Rattle.tributary_model.specs.Carries.{sent, Carries, IsSteady}
 use Rattle.tributary_model.specs.Carriage.{SaysAnew}
@@ -25,7 +25,7 @@ BeginsWithWhatIsCarried = (port : ℕ) (slots given bytes p : List ℕ) (u : ℕ
 -- Where the line ends in the turn after these, the report is exactly the whole groups that came: those of the turns 1 to u.
 abbrev pub IsTheWholeGroups : Type 0
 IsTheWholeGroups = (port : ℕ) (slots given bytes p : List ℕ) (u : ℕ)
-    → IsSlotList OTU2_SLOTS slots → LineCarries (tributary port slots) given bytes p 0 0 u → u + 2 ≤ MOST_TURNS → has_ended (standing OTU2_SLOTS (mfas_of given) (u + 2)) ≡ true
+    → IsSlotList OTU2_SLOTS slots → LineCarries (tributary port slots) given bytes p 0 0 u → u + 2 ≤ MOST_TURNS → has_ended (line_state OTU2_SLOTS (mfas_of given) (u + 2)) ≡ true
     → pull_report (tributary port slots) given ≡ take (length slots * (sent p u / length slots)) bytes
 
 -- Whatever came before turn b + 1: after a turn h + 1 from there on whose message has equal indicators, and at which no slot of

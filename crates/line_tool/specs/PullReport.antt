@@ -2,7 +2,7 @@
 use Rattle.std.specs.Prelude.{◌≡◌, ℕ, ◌+◌, ◌*◌, ◌<◌, ◌≤◌, min, not, Bool, true, false, List, [], Option, length, filter}
 use Rattle.std.specs.List.{flat_map, range_with_len}
 use Rattle.line_side.specs.LineFile.{mfas_of}
-use Rattle.multiframe.specs.LineTurns.{standing, wanted, has_ended}
+use Rattle.multiframe.specs.LineTurns.{line_state, wanted, has_ended}
 use Rattle.otn_base.specs.declared.limits.TheConstants.{LINE_FRAME_BYTES, MOST_TURNS, OTU2_SLOTS}
 use Rattle.tributary_model.specs.Places.{Tributary}
 use Rattle.device_model.specs.LineViews.{emitted_at}
@@ -16,7 +16,7 @@ tributary port slots = record { line_slots = OTU2_SLOTS; slots = slots; port = p
 -- The turns that are carried out, each said by the number of turns before it: 16,384 at most, and none after the one in which
 -- the line ended. The list has the MFAS bytes of the line's whole frames.
 unfoldable pub turns_of : (mfas : List ℕ) → List ℕ
-turns_of ms = filter (λ t. not (has_ended (standing OTU2_SLOTS ms t))) (range_with_len 0 MOST_TURNS)
+turns_of ms = filter (λ t. not (has_ended (line_state OTU2_SLOTS ms t))) (range_with_len 0 MOST_TURNS)
 
 -- what the sink emits in the turns 1 to t, in order
 abbrev pub emitted_until : Tributary → List ℕ → (t : ℕ) → List ℕ
@@ -53,6 +53,6 @@ MayFollow false rest = rest ≡ []
 -- and not all.
 pub record StoppedInTurn (own : Tributary) (given : List ℕ) (count t : ℕ) (old new : Option (List ℕ)) : Type 0 where
   pub few : t < MOST_TURNS
-  pub unended : (s : ℕ) → s ≤ t → has_ended (standing OTU2_SLOTS (mfas_of given) s) ≡ false
+  pub unended : (s : ℕ) → s ≤ t → has_ended (line_state OTU2_SLOTS (mfas_of given) s) ≡ false
   pub last : count ≡ bytes_wanted given (t + 1)
   pub gained : GainsPart (after old (emitted_until own given t)) new (emitted_at own given t)

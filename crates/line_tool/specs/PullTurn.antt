@@ -5,9 +5,9 @@ use Rattle.otn_base.specs.declared.line_kind.LineKind.TheVariants.{Otu2}
 use Rattle.otn_ports.specs.Views.{InView}
 use Rattle.line_side.specs.LineFile.{mfas_of}
 use Rattle.line_side.specs.LineForm.{plain_otu2}
-use Rattle.line_side.specs.LineStands.{LineStands, members}
+use Rattle.line_side.specs.LineStands.{LineStands, frames_taken}
 use Rattle.line_side.specs.MayBe.{MayBe}
-use Rattle.multiframe.specs.LineTurns.{standing, has_ended}
+use Rattle.multiframe.specs.LineTurns.{line_state, has_ended}
 use Rattle.tributary_model.specs.Places.{Tributary}
 use Rattle.trib_sink.specs.Sink.{StandsAfter}
 use Rattle.device_model.specs.LineViews.{views_until, emitted_at}
@@ -40,7 +40,7 @@ pub record IsInStep (n : ℕ) (tap : Tap) : Type 0 where
   pub line : tap.line.kind ≡ Otu2
   pub sink : tap.sink.slots.kind ≡ Otu2
   pub taken : n ≡ tap.sink.taken
-  pub members : members tap.line ≡ n
+  pub frames_taken : frames_taken tap.line ≡ n
 
 -- no piece of the next turn is done
 pub record IsBetweenTurns (tap : Tap) : Type 0 where
@@ -53,4 +53,4 @@ pub record TurnMoves (own : Tributary) (first now : InView) (taken : List ℕ) (
   pub stands : TapStands own first now (taken ++ came) (t + 1) new
   pub earlier : (given : List ℕ) → MayBe false new.line.reader.ending (taken ++ came) given → MayBe false old.line.reader.ending taken given
   pub emits : (given : List ℕ) → MayBe false new.line.reader.ending (taken ++ came) given → emitted ≡ emitted_at own given t
-  pub ended : (given : List ℕ) → MayBe false new.line.reader.ending (taken ++ came) given → new.line.ended ≡ has_ended (standing OTU2_SLOTS (mfas_of given) (t + 1))
+  pub ended : (given : List ℕ) → MayBe false new.line.reader.ending (taken ++ came) given → new.line.ended ≡ has_ended (line_state OTU2_SLOTS (mfas_of given) (t + 1))

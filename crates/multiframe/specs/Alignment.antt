@@ -1,8 +1,8 @@
--- How a line stands within a turn, by the MFAS bytes that were taken in it.
+-- The multiframe alignment of a line within a turn, by the MFAS bytes that were taken in it.
 use Rattle.std.specs.Prelude.{◌≡◌, ◌≤◌, ℕ, ◌+◌, ◌/◌, ◌%◌, ◌==◌, nat_le, if◌then◌else◌, List, [], ◌∷◌, ◌++◌, length, take, drop, Option, Some, None, ⊤, Bool, IsTrue, ◌↔◌}
 use Rattle.otn_base.specs.LineSlots.{slots_of}
 use Rattle.otn_base.specs.declared.line_kind.LineKind.{LineKind}
-use Rattle.multiframe.specs.LineTurns.{Lock, Standing, Hunting, Locked, Ended, Whole, outcome_of, after_outcome, wrong_count}
+use Rattle.multiframe.specs.LineTurns.{Lock, LineState, Hunting, Locked, Ended, Whole, outcome_of, after_outcome, wrong_count}
 
 -- a line that is locked: the MFAS that is expected in the turn's first frame, and those that were taken in this turn
 pub record Alignment : Type 0 where
@@ -44,8 +44,8 @@ pub record PhaseEnds (old : LinePhase) (result : Bool) (new : LinePhase) : Type 
 abbrev pub taken_of : ℕ → List ℕ → Lock → Alignment
 taken_of size ms lock = record { expected = lock.expected; taken = take size (drop lock.frame ms) }
 
--- The alignment between two turns where the line stands so. Of a line that has ended nothing is said.
-abbrev pub IsAlignmentOf : Standing → Option Alignment → Type 0
+-- The alignment between two turns of a line in this state. Of a line that has ended nothing is said.
+abbrev pub IsAlignmentOf : LineState → Option Alignment → Type 0
 IsAlignmentOf (Hunting i) alignment = alignment ≡ None
 IsAlignmentOf (Locked lock) alignment = alignment ≡ Some (aligned_at lock.expected)
 IsAlignmentOf Ended alignment = ⊤

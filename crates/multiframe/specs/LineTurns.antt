@@ -28,14 +28,14 @@ pub record Lock : Type 0 where
   pub frame : ℕ
   pub expected : ℕ
 
--- how a line stands before a turn: it hunts from a frame on, is locked, or has ended
-pub data Standing : Type 0 where
-  Hunting : ℕ → Standing
-  Locked : Lock → Standing
-  Ended : Standing
+-- the state of a line before a turn: it hunts from a frame on, is locked, or has ended
+pub data LineState : Type 0 where
+  Hunting : ℕ → LineState
+  Locked : Lock → LineState
+  Ended : LineState
 
 -- whether it has ended
-abbrev pub has_ended : Standing → Bool
+abbrev pub has_ended : LineState → Bool
 has_ended (Hunting i) = false
 has_ended (Locked lock) = false
 has_ended Ended = true
@@ -47,7 +47,7 @@ lock_from ms i (Some n) = Some (record { frame = i + n; expected = slice_index m
 
 -- where a turn is locked: the first frame of its multiframe. A turn that hunts at i locks at the first of the frames
 -- i to i + size - 1 at which a multiframe may begin
-abbrev pub lock_of : ℕ → List ℕ → Standing → Option Lock
+abbrev pub lock_of : ℕ → List ℕ → LineState → Option Lock
 lock_of size ms (Hunting i) = lock_from ms i (least_start size ms i size)
 lock_of size ms (Locked lock) = Some lock
 lock_of size ms Ended = None
@@ -79,27 +79,27 @@ outcome_of size ms lock =
     if nat_lt (length ms) (lock.frame + size) then CutShort
     else (if nat_lt (size / 2) (wrong_count lock.expected (take size (drop lock.frame ms))) then Lost else Whole)
 
--- how a line stands after a locked turn: ended; hunting from behind the lost multiframe on; or locked at the frame behind its multiframe
-abbrev pub after_outcome : ℕ → Lock → Outcome → Standing
+-- the state of a line after a locked turn: ended; hunting from behind the lost multiframe on; or locked at the frame behind its multiframe
+abbrev pub after_outcome : ℕ → Lock → Outcome → LineState
 after_outcome size lock CutShort = Ended
 after_outcome size lock Lost = Hunting (lock.frame + size)
 after_outcome size lock Whole = Locked (record { frame = lock.frame + size; expected = (lock.expected + size) % 256 })
 
--- how a line stands after a turn that hunted at i: as its lock's outcome says; without a lock it hunts size frames further on, or has ended
-abbrev pub after_hunt : ℕ → List ℕ → ℕ → Option Lock → Standing
+-- the state of a line after a turn that hunted at i: as its lock's outcome says; without a lock it hunts size frames further on, or has ended
+abbrev pub after_hunt : ℕ → List ℕ → ℕ → Option Lock → LineState
 after_hunt size ms i (Some lock) = after_outcome size lock (outcome_of size ms lock)
 after_hunt size ms i None = if nat_le (i + size) (length ms) then Hunting (i + size) else Ended
 
--- how a line stands after a turn before which it stood so
-abbrev pub after_turn : ℕ → List ℕ → Standing → Standing
+-- the state of a line after a turn, by the one before it
+abbrev pub after_turn : ℕ → List ℕ → LineState → LineState
 after_turn size ms (Hunting i) = after_hunt size ms i (lock_of size ms (Hunting i))
 after_turn size ms (Locked lock) = after_outcome size lock (outcome_of size ms lock)
 after_turn size ms Ended = Ended
 
--- how a line stands after t turns, which is before turn t + 1; turn 1 hunts at frame 0
-unfoldable pub standing : ℕ → List ℕ → ℕ → Standing
-standing size ms zero = Hunting 0
-standing size ms (suc t) = after_turn size ms (standing size ms t)
+-- the state of a line after t turns, which is before turn t + 1; turn 1 hunts at frame 0
+unfoldable pub line_state : ℕ → List ℕ → ℕ → LineState
+line_state size ms zero = Hunting 0
+line_state size ms (suc t) = after_turn size ms (line_state size ms t)
 
 -- the lock of a turn that has its whole multiframe
 abbrev pub kept_if : Outcome → Lock → Option Lock
@@ -115,7 +115,7 @@ multiframe_at size ms (Some lock) = kept_if (outcome_of size ms lock) lock
 -- the multiframe that turn t + 1 has, if it has one: that of the frames from `frame` to `frame + size - 1`, the n-th of
 -- which, from 0, has the expected MFAS `(expected + n) mod 256`
 abbrev pub multiframe : ℕ → List ℕ → ℕ → Option Lock
-multiframe size ms t = multiframe_at size ms (lock_of size ms (standing size ms t))
+multiframe size ms t = multiframe_at size ms (lock_of size ms (line_state size ms t))
 
 -- the lead-in frames of a turn that hunts at i: n where it locks at frame i + n, else a multiframe's number of frames, or all that are left
 abbrev pub lead_in_from : ℕ → List ℕ → ℕ → Option ℕ → ℕ
@@ -123,7 +123,7 @@ lead_in_from size ms i (Some n) = n
 lead_in_from size ms i None = min size (length ms - i)
 
 -- how many frames a turn passes over as lead-in, from the first one on that is not used before
-abbrev pub lead_in_of : ℕ → List ℕ → Standing → ℕ
+abbrev pub lead_in_of : ℕ → List ℕ → LineState → ℕ
 lead_in_of size ms (Hunting i) = lead_in_from size ms i (least_start size ms i size)
 lead_in_of size ms (Locked lock) = 0
 lead_in_of size ms Ended = 0
@@ -131,7 +131,7 @@ lead_in_of size ms Ended = 0
 -- the lead-in frames of turns 1 to t
 unfoldable pub lead_in : ℕ → List ℕ → ℕ → ℕ
 lead_in size ms zero = 0
-lead_in size ms (suc t) = lead_in size ms t + lead_in_of size ms (standing size ms t)
+lead_in size ms (suc t) = lead_in size ms t + lead_in_of size ms (line_state size ms t)
 
 -- whether a locked turn lost its multiframe
 abbrev pub is_lost : Outcome → Bool
@@ -147,7 +147,7 @@ lost_at size ms (Some lock) = one_if (is_lost (outcome_of size ms lock))
 -- how many of the turns 1 to t lost their multiframe
 unfoldable pub lost_count : ℕ → List ℕ → ℕ → ℕ
 lost_count size ms zero = 0
-lost_count size ms (suc t) = lost_count size ms t + lost_at size ms (lock_of size ms (standing size ms t))
+lost_count size ms (suc t) = lost_count size ms t + lost_at size ms (lock_of size ms (line_state size ms t))
 
 -- used_in for the first k pieces of a turn that hunts at i, where k is not 0: up to frame k of its multiframe; without a lock all that it hunted over
 abbrev pub used_at : ℕ → List ℕ → Option Lock → (i k : ℕ) → ℕ
@@ -157,7 +157,7 @@ used_at size ms None i k = min (length ms) (i + size)
 -- How many frames are used by the turns before and by the first k pieces of a turn. A turn is done in pieces of one
 -- frame each; the first one passes over the lead-in. Frames of a locked turn are used also where the line ends within
 -- it. A frame that was only looked ahead at is not used.
-abbrev pub used_in : ℕ → List ℕ → Standing → ℕ → ℕ
+abbrev pub used_in : ℕ → List ℕ → LineState → ℕ → ℕ
 used_in size ms (Hunting i) zero = i
 used_in size ms (Hunting i) (suc k) = used_at size ms (lock_of size ms (Hunting i)) i (suc k)
 used_in size ms (Locked lock) k = min (length ms) (lock.frame + k)
@@ -176,7 +176,7 @@ wanted_from size ms i None k = i + size + one_if (looked_ahead size ms (i + size
 -- above that of the whole frames says that it looked for a frame that is not whole. A hunt looks at each frame up to
 -- the one at which it locks and the one after it. Where it doesn't lock, it looks at all frames of a multiframe, and
 -- at one beyond them only where a multiframe might begin at the last of them.
-abbrev pub wanted_in : ℕ → List ℕ → Standing → ℕ → ℕ
+abbrev pub wanted_in : ℕ → List ℕ → LineState → ℕ → ℕ
 wanted_in size ms (Hunting i) zero = 0
 wanted_in size ms (Hunting i) (suc k) = wanted_from size ms i (least_start size ms i size) (suc k)
 wanted_in size ms (Locked lock) k = lock.frame + k
@@ -185,11 +185,11 @@ wanted_in size ms Ended k = 0
 -- how many frames the turns 1 to t want
 unfoldable pub wanted : ℕ → List ℕ → ℕ → ℕ
 wanted size ms zero = 0
-wanted size ms (suc t) = max (wanted size ms t) (wanted_in size ms (standing size ms t) size)
+wanted size ms (suc t) = max (wanted size ms t) (wanted_in size ms (line_state size ms t) size)
 
 -- how many frames the turns 1 to t and the first k pieces of the next turn want
 abbrev pub wanted_so_far : ℕ → List ℕ → (t k : ℕ) → ℕ
-wanted_so_far size ms t k = max (wanted size ms t) (wanted_in size ms (standing size ms t) k)
+wanted_so_far size ms t k = max (wanted size ms t) (wanted_in size ms (line_state size ms t) k)
 
 -- how many of a file's bytes are read where so many frames of so many bytes each are wanted: all, where one of them
 -- isn't whole

@@ -1,4 +1,4 @@
-// Where a line stands: it hunts for a multiframe, or is locked on one.
+// The multiframe alignment of a line: it hunts for a multiframe, or is locked on one.
 ghost use Rattle.std.specs.Prelude.{◌≡◌, ◌↔◌, ◌+◌, ◌%◌, ◌<◌, ℕ, List, Some, None, IsTrue, IsSome, IsSomeAnd, IfSome, option_map, length};
 ghost use Rattle.otn_base.specs.LineSlots.{IsSlotNumber, slots_of};
 ghost use Rattle.multiframe.specs.LineTurns.{begins, wrong_count};

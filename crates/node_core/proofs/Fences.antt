@@ -123,7 +123,7 @@ fence_lines_in plan first taken old new was is p m retired h = record {
       let stood = (h.used a line.0 line.1 u).0 in (
         subst (λ n. LineStands (form_in plan a) (line_in_at first a) (line_in_at is a) (taken.line a) n next) (sym m.past)
             (subst (λ v. LineStands (form_in plan a) (line_in_at first a) v (taken.line a) (old.past + 1) next) (sym place)
-            (ends.stands (form_in plan a) (line_in_at first a) (line_in_at was a) (taken.line a) old.past stood)),
+            (ends.stands (line_in_at was a) (form_in plan a) (line_in_at first a) (taken.line a) old.past stood)),
         ends.pieces ∙ sym (m.fresh.none (index_of (port.LineIn a))),
       );
   idle = λ a u. ap (λ l. get_or l a no_input) retired.line_in ∙ h.idle a u;
@@ -136,7 +136,7 @@ has_multiframe : (plan : Plan) (first : BaysView) (taken : InputBytes) (old new 
     → MayGive plan taken old inputs → (a : ℕ) → uses plan (port.LineIn a) ≡ true → get_or m.wholes a false ≡ is_some (multiframe (size_of (form_in plan a)) (mfas_of (inputs.line a)) old.past)
 has_multiframe plan first taken old new was inputs p m h may a u =
     let l = used_line plan old new p m a u in
-    l.ends.multiframe (form_in plan a) (line_in_at first a) (line_in_at was a) (taken.line a) (inputs.line a) old.past (h.used a l.line l.had u).0 (may.lines a l.line l.had u)
+    l.ends.multiframe (line_in_at was a) (form_in plan a) (line_in_at first a) (taken.line a) old.past (h.used a l.line l.had u).0 (inputs.line a) (may.lines a l.line l.had u)
 
 -- the pipe of a connection that is active in the next turn too
 pipe_goes_on : (plan : Plan) (first : BaysView) (taken : InputBytes) (old new : NodeView) (was : BaysView) (inputs : Inputs) → PlanStands plan old → (m : FenceMove old new)

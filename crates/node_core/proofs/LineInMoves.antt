@@ -13,7 +13,7 @@ use Rattle.line_side.specs.LineFile.{frame_at, mfas_of}
 use Rattle.line_side.specs.LineForm.{size_of}
 use Rattle.line_side.specs.LineStands.{PieceStands}
 use Rattle.line_side.specs.MayBe.{MayBe}
-use Rattle.multiframe.specs.LineTurns.{Lock, standing}
+use Rattle.multiframe.specs.LineTurns.{Lock, line_state}
 use Rattle.multiframe.specs.TurnPieces.{in_hand}
 use Rattle.plan_file.specs.declared.connection.Connection.{Connection}
 use Rattle.plan_file.specs.declared.connection.FromEnd.{FromEnd}
@@ -42,35 +42,35 @@ frames_none : (size : ℕ) (given : List ℕ) (past : ℕ) → frames_in size gi
 unfolding frames_in
 frames_none size given past = refl
 
-frames_suc : (size : ℕ) (given : List ℕ) (past k : ℕ) → frames_in size given past (suc k) ≡ frames_in size given past k ++ member_of given (in_hand size (mfas_of given) (standing size (mfas_of given) past) (suc k))
+frames_suc : (size : ℕ) (given : List ℕ) (past k : ℕ) → frames_in size given past (suc k) ≡ frames_in size given past k ++ member_of given (in_hand size (mfas_of given) (line_state size (mfas_of given) past) (suc k))
 unfolding frames_in
 frames_suc size given past k = refl
 
 frames_next : (size : ℕ) (given : List ℕ) (past k : ℕ)
-    → frames_in size given past (k + 1) ≡ frames_in size given past k ++ member_of given (in_hand size (mfas_of given) (standing size (mfas_of given) past) (k + 1))
+    → frames_in size given past (k + 1) ≡ frames_in size given past k ++ member_of given (in_hand size (mfas_of given) (line_state size (mfas_of given) past) (k + 1))
 frames_next size given past k = rw add-one (frames_suc size given past k)
 
 one_member : (given : List ℕ) (o : Option Lock) → length (member_of given o) ≤ 1
 one_member given None = omega arith
-one_member given (Some member) = omega arith
+one_member given (Some has_frame) = omega arith
 
 -- k pieces come to at most k
 frames_most : (size : ℕ) (given : List ℕ) (past k : ℕ) → length (frames_in size given past k) ≤ k
 frames_most size given past zero = rw (frames_none size given past) (omega arith)
 frames_most size given past (suc k) =
-    let came = member_of given (in_hand size (mfas_of given) (standing size (mfas_of given) past) (suc k)) in
+    let came = member_of given (in_hand size (mfas_of given) (line_state size (mfas_of given) past) (suc k)) in
     rw (frames_suc size given past k, length-append (frames_in size given past k) came)
-    (omega (arith, frames_most size given past k, one_member given (in_hand size (mfas_of given) (standing size (mfas_of given) past) (suc k))))
+    (omega (arith, frames_most size given past k, one_member given (in_hand size (mfas_of given) (line_state size (mfas_of given) past) (suc k))))
 
 -- the frame in hand, with the MFAS expected, where the last piece came to one
-abbrev came_to : (member : Bool) → (hand : List ℕ) → (expected : ℕ) → List Taken
+abbrev came_to : (has_frame : Bool) → (hand : List ℕ) → (expected : ℕ) → List Taken
 came_to true hand expected = record { frame = hand; expected = expected } ∷ []
 came_to false hand expected = []
 
-hand_is : (given hand : List ℕ) (expected : ℕ) (member : Bool) (o : Option Lock) → member ≡ is_some o → IfSome o (λ m. hand ≡ frame_at given m.frame) → (member ≡ true → IfSome o (λ m. expected ≡ m.expected))
-    → member_of given o ≡ came_to member hand expected
-hand_is given hand expected member None e h k = rw e refl
-hand_is given hand expected member (Some m) e h k = let is : expected ≡ m.expected = k e in rw (e, h, is) refl
+hand_is : (given hand : List ℕ) (expected : ℕ) (has_frame : Bool) (o : Option Lock) → has_frame ≡ is_some o → IfSome o (λ m. hand ≡ frame_at given m.frame) → (has_frame ≡ true → IfSome o (λ m. expected ≡ m.expected))
+    → member_of given o ≡ came_to has_frame hand expected
+hand_is given hand expected has_frame None e h k = rw e refl
+hand_is given hand expected has_frame (Some m) e h k = let is : expected ≡ m.expected = k e in rw (e, h, is) refl
 
 -- ---- the bytes that were taken
 
@@ -79,16 +79,16 @@ more_of a came taken = record { line = λ b. if b == a then taken.line b ++ came
 
 -- ---- connections that take nothing from the line
 
-takes_none : (member : Bool) (past a : ℕ) (link : Link) → is_from_line a link.from ≡ false → (member && takes_line past a link) ≡ false
-takes_none member past a link h = and_none member (takes_line past a link) (and_none (is_on past link) (is_from_line a link.from) h)
+takes_none : (has_frame : Bool) (past a : ℕ) (link : Link) → is_from_line a link.from ≡ false → (has_frame && takes_line past a link) ≡ false
+takes_none has_frame past a link h = and_none has_frame (takes_line past a link) (and_none (is_on past link) (is_from_line a link.from) h)
 
 -- it is of the same entry, and what is known of its clients is as it was
-took_kept : (member : Bool) (past a : ℕ) (frame : Taken) (old new : Link) → TookFrame (member && takes_line past a old) frame old new → Kept old new
-took_kept member past a frame old new t = record {
+took_kept : (has_frame : Bool) (past a : ℕ) (frame : Taken) (old new : Link) → TookFrame (has_frame && takes_line past a old) frame old new → Kept old new
+took_kept has_frame past a frame old new t = record {
   same = t.same;
   text = λ x n is from.
       let other : is_from_line a old.from ≡ false = ap (is_from_line a) (is.from ∙ ap origin_of from) in
-      ap (λ (link : Link). link.pipe.taking) (t.other (takes_none member past a old other));
+      ap (λ (link : Link). link.pipe.taking) (t.other (takes_none has_frame past a old other));
   receiver = λ x n is to. t.giving;
 }
 
@@ -142,10 +142,10 @@ given_same a old new same (target.Line b number slots) = same (port.LineOut b) (
 given_same a old new same (target.Client n) = same (port.ClientOut n) (λ e. cc)
 
 -- it takes the frame where it comes from the line
-took_line : (plan : Plan) (inputs : Inputs) (input : OwnInput) (x : Connection) (a number : ℕ) (slots : LineSlots) (past k j filled : ℕ) (hand : List ℕ) (expected : ℕ) (member : Bool) (old new : Link)
+took_line : (plan : Plan) (inputs : Inputs) (input : OwnInput) (x : Connection) (a number : ℕ) (slots : LineSlots) (past k j filled : ℕ) (hand : List ℕ) (expected : ℕ) (has_frame : Bool) (old new : Link)
     → x.from ≡ from_end.Line a number slots → IsLinkOf x old → IsActive x past → k < slots_of slots.kind
-    → frames_in (size_of (form_in plan a)) (inputs.line a) past (k + 1) ≡ frames_in (size_of (form_in plan a)) (inputs.line a) past k ++ came_to member hand expected
-    → TookFrame (member && takes_line past a old) (record { frame = hand; expected = expected }) old new
+    → frames_in (size_of (form_in plan a)) (inputs.line a) past (k + 1) ≡ frames_in (size_of (form_in plan a)) (inputs.line a) past k ++ came_to has_frame hand expected
+    → TookFrame (has_frame && takes_line past a old) (record { frame = hand; expected = expected }) old new
     → PipeStands x input j (frames_in (size_of (form_in plan a)) (inputs.line a) past k) false filled old.pipe
     → PipeStands x input j (frames_in (size_of (form_in plan a)) (inputs.line a) past (k + 1)) false filled new.pipe
 took_line plan inputs input x a number slots past k j filled hand expected true old new from is active less frames t h =
@@ -156,30 +156,30 @@ took_line plan inputs input x a number slots past k j filled hand expected true 
 took_line plan inputs input x a number slots past k j filled hand expected false old new from is active less frames t h =
     rw (frames, append-nil (frames_in (size_of (form_in plan a)) (inputs.line a) past k), t.other refl) h
 
-took_pipe : (plan : Plan) (inputs : Inputs) (input : OwnInput) (x : Connection) (a : ℕ) (old new : NodeView) (j filled : ℕ) (hand : List ℕ) (expected : ℕ) (member : Bool) (link next : Link) (from : FromEnd)
+took_pipe : (plan : Plan) (inputs : Inputs) (input : OwnInput) (x : Connection) (a : ℕ) (old new : NodeView) (j filled : ℕ) (hand : List ℕ) (expected : ℕ) (has_frame : Bool) (link next : Link) (from : FromEnd)
     → x.from ≡ from → IsLinkOf x link → IsActive x old.past → ((number : ℕ) (slots : LineSlots) → from ≡ from_end.Line a number slots → done_at old (port.LineIn a) < slots_of slots.kind)
     → done_at new (port.LineIn a) ≡ done_at old (port.LineIn a) + 1 → ((other : PortName) → other ≢ port.LineIn a → done_at new other ≡ done_at old other)
     → frames_in (size_of (form_in plan a)) (inputs.line a) old.past (done_at old (port.LineIn a) + 1)
-    ≡ frames_in (size_of (form_in plan a)) (inputs.line a) old.past (done_at old (port.LineIn a)) ++ came_to member hand expected
-    → TookFrame (member && takes_line old.past a link) (record { frame = hand; expected = expected }) link next
+    ≡ frames_in (size_of (form_in plan a)) (inputs.line a) old.past (done_at old (port.LineIn a)) ++ came_to has_frame hand expected
+    → TookFrame (has_frame && takes_line old.past a link) (record { frame = hand; expected = expected }) link next
     → PipeStands x input j (frames_by plan inputs from old.past (taken_pieces old (origin_of from))) (ended_by from (taken_pieces old (origin_of from))) filled link.pipe
     → PipeStands x input j (frames_by plan inputs from old.past (taken_pieces new (origin_of from))) (ended_by from (taken_pieces new (origin_of from))) filled next.pipe
-took_pipe plan inputs input x a old new j filled hand expected member link next (from_end.Line b number slots) from is active less more same frames t h = elim (eqb_tells b a) [
+took_pipe plan inputs input x a old new j filled hand expected has_frame link next (from_end.Line b number slots) from is active less more same frames t h = elim (eqb_tells b a) [
   | inl e ↦
       let from_a : x.from ≡ from_end.Line a number slots = from ∙ ap (λ b. from_end.Line b number slots) e.1 in
       let few : done_at old (port.LineIn a) < slots_of slots.kind = less number slots (ap (λ b. from_end.Line b number slots) e.1) in
       let stood : PipeStands x input j (frames_in (size_of (form_in plan a)) (inputs.line a) old.past (done_at old (port.LineIn a))) false filled link.pipe = rw e.1 at h in
-      rw (e.1, more) (took_line plan inputs input x a number slots old.past (done_at old (port.LineIn a)) j filled hand expected member link next from_a is active few frames t stood)
+      rw (e.1, more) (took_line plan inputs input x a number slots old.past (done_at old (port.LineIn a)) j filled hand expected has_frame link next from_a is active few frames t stood)
   | inr e ↦
       let other : is_from_line a link.from ≡ false = ap (is_from_line a) (is.from ∙ ap origin_of from) ∙ e.0 in
-      rw (t.other (takes_none member old.past a link other), same (port.LineIn b) (λ d. e.1 (cc))) h
+      rw (t.other (takes_none has_frame old.past a link other), same (port.LineIn b) (λ d. e.1 (cc))) h
 ]
-took_pipe plan inputs input x a old new j filled hand expected member link next (from_end.Client n) from is active less more same frames t h =
+took_pipe plan inputs input x a old new j filled hand expected has_frame link next (from_end.Client n) from is active less more same frames t h =
     let other : is_from_line a link.from ≡ false = ap (is_from_line a) (is.from ∙ ap origin_of from) in
-    rw (t.other (takes_none member old.past a link other), same (port.ClientIn n) (λ d. cc)) h
-took_pipe plan inputs input x a old new j filled hand expected member link next (from_end.Signal signal) from is active less more same frames t h =
+    rw (t.other (takes_none has_frame old.past a link other), same (port.ClientIn n) (λ d. cc)) h
+took_pipe plan inputs input x a old new j filled hand expected has_frame link next (from_end.Signal signal) from is active less more same frames t h =
     let other : is_from_line a link.from ≡ false = ap (is_from_line a) (is.from ∙ ap origin_of from) in
-    rw (t.other (takes_none member old.past a link other)) h
+    rw (t.other (takes_none has_frame old.past a link other)) h
 
 -- ---- the connections
 
@@ -195,7 +195,7 @@ line_in_pipes plan first was is a taken old new p r m counted ps kept h = record
   each = λ inputs may i x link at_i has on.
       let used = ready_used plan old (port.LineIn a) p r in
       let frame : Taken = record { frame = m.next.reader.hand; expected = m.reads.expected } in
-      let b = link_before (λ link next. TookFrame (m.next.member && takes_line old.past a link) frame link next) old.links new.links i link m.reads.took has in
+      let b = link_before (λ link next. TookFrame (m.next.has_frame && takes_line old.past a link) frame link next) old.links new.links i link m.reads.took has in
       let of_x = p.links i x b.old at_i b.known in
       let active : IsActive x old.past = rw m.past at on in
       let stood = h.each inputs (line_in_earlier plan first was is a taken old new p used m ps kept inputs may) i x b.old at_i b.known active in
@@ -203,16 +203,16 @@ line_in_pipes plan first was is a taken old new p r m counted ps kept h = record
       let line = ps.stands.is_line (inputs.line a) now in
       let size = size_of (form_in plan a) in
       let pieces : m.next.pieces ≡ done_at old (port.LineIn a) + 1 = omega (arith, m.reads.pieces) in
-      let came = hand_is (inputs.line a) m.next.reader.hand m.reads.expected m.next.member (in_hand size (mfas_of (inputs.line a)) (standing size (mfas_of (inputs.line a)) old.past) m.next.pieces) line.member line.hand
-      (λ member. m.reads.expects member (form_in plan a) first is (taken.line a ++ ps.came) (inputs.line a) old.past ps.stands now) in
-      let frames : frames_in size (inputs.line a) old.past (done_at old (port.LineIn a) + 1) ≡ frames_in size (inputs.line a) old.past (done_at old (port.LineIn a)) ++ came_to m.next.member m.next.reader.hand m.reads.expected
+      let came = hand_is (inputs.line a) m.next.reader.hand m.reads.expected m.next.has_frame (in_hand size (mfas_of (inputs.line a)) (line_state size (mfas_of (inputs.line a)) old.past) m.next.pieces) line.has_frame line.hand
+      (λ some. m.reads.expects some is (form_in plan a) first (taken.line a ++ ps.came) old.past ps.stands (inputs.line a) now) in
+      let frames : frames_in size (inputs.line a) old.past (done_at old (port.LineIn a) + 1) ≡ frames_in size (inputs.line a) old.past (done_at old (port.LineIn a)) ++ came_to m.next.has_frame m.next.reader.hand m.reads.expected
       = frames_next size (inputs.line a) old.past (done_at old (port.LineIn a))
-      ∙ ap (λ o. frames_in size (inputs.line a) old.past (done_at old (port.LineIn a)) ++ member_of (inputs.line a) o) (ap (in_hand size (mfas_of (inputs.line a)) (standing size (mfas_of (inputs.line a)) old.past)) (sym pieces))
+      ∙ ap (λ o. frames_in size (inputs.line a) old.past (done_at old (port.LineIn a)) ++ member_of (inputs.line a) o) (ap (in_hand size (mfas_of (inputs.line a)) (line_state size (mfas_of (inputs.line a)) old.past)) (sym pieces))
       ∙ ap (λ came. frames_in size (inputs.line a) old.past (done_at old (port.LineIn a)) ++ came) came in
       let same : (other : PortName) → other ≢ port.LineIn a → done_at new other ≡ done_at old other = λ other differ. done_same (port.LineIn a) old.pieces new.pieces other m.counted r.within differ in
       let less : (number : ℕ) (slots : LineSlots) → x.from ≡ from_end.Line a number slots → done_at old (port.LineIn a) < slots_of slots.kind
       = λ number slots from. omega (arith, few_of plan i a number slots x old p at_i from, ready_less plan old (port.LineIn a) p r) in
-      let after = took_pipe plan inputs (own_input inputs x) x a old new (own_turn x old.past) (given_pieces old b.old.to) m.next.reader.hand m.reads.expected m.next.member b.old link x.from refl of_x active less
+      let after = took_pipe plan inputs (own_input inputs x) x a old new (own_turn x old.past) (given_pieces old b.old.to) m.next.reader.hand m.reads.expected m.next.has_frame b.old link x.from refl of_x active less
       (done_more (port.LineIn a) old.pieces new.pieces m.counted) same frames b.goes (rw of_x.from at stood) in
       let from : link.from ≡ origin_of x.from = b.goes.same.from ∙ of_x.from in
       let given : given_pieces new link.to ≡ given_pieces old b.old.to = ap (given_pieces new) b.goes.same.to ∙ given_same a old new same b.old.to in
@@ -231,8 +231,8 @@ line_in_moves plan first taken a old new was is is_so m only h =
     let line = h.lines_in.used a m.line m.moved.had used in
     let ps = m.reads.stands (form_in plan a) (line_in_at first a) (taken.line a) old.past line.0 in
     let frame : Taken = record { frame = m.next.reader.hand; expected = m.reads.expected } in
-    let kept : EachLink Kept old.links new.links = each_goes (λ link next. TookFrame (m.next.member && takes_line old.past a link) frame link next) Kept old.links new.links
-    (λ link next. took_kept m.next.member old.past a frame link next) m.reads.took in
+    let kept : EachLink Kept old.links new.links = each_goes (λ link next. TookFrame (m.next.has_frame && takes_line old.past a link) frame link next) Kept old.links new.links
+    (λ link next. took_kept m.next.has_frame old.past a frame link next) m.reads.took in
     let earlier = line_in_earlier plan (line_in_at first a) (line_in_at was a) (line_in_at is a) a taken old new p used m ps kept in
     let same : (other : PortName) → other ≢ port.LineIn a → done_at new other ≡ done_at old other = λ other differ. done_same (port.LineIn a) old.pieces new.pieces other m.counted r.within differ in
     let more = more_of a ps.came taken in

@@ -28,14 +28,14 @@ pub none_at_all : (test : Link → Bool) (links : List Link) (i : ℕ) → lengt
 none_at_all test links i most before = record { is = λ k link e. before k link (let within = slice_get_within links k link e in omega arith) e }
 
 -- a piece that came to no frame of a multiframe leaves every connection as it was
-pub none_took : (past a : ℕ) (member : Bool) (frame : Taken) (links : List Link) → member ≡ false → EachLink (λ link then. TookFrame (member && takes_line past a link) frame link then) links links
-none_took past a member frame links off = record {
+pub none_took : (past a : ℕ) (has_frame : Bool) (frame : Taken) (links : List Link) → has_frame ≡ false → EachLink (λ link then. TookFrame (has_frame && takes_line past a link) frame link then) links links
+none_took past a has_frame frame links off = record {
   count = refl;
-  each = λ i old new at_old at_new. subst (λ then. TookFrame (member && takes_line past a old) frame old then) (same_Some old new (sym at_old ∙ at_new))
+  each = λ i old new at_old at_new. subst (λ then. TookFrame (has_frame && takes_line past a old) frame old then) (same_Some old new (sym at_old ∙ at_new))
       (subst (λ m. TookFrame (m && takes_line past a old) frame old old) (sym off) (frame_passed false frame old refl));
 }
 
-pub all_took : (past a : ℕ) (member : Bool) (frame : Taken) (links next : List Link) → member ≡ true → EachLink (λ link then. TookFrame (takes_line past a link) frame link then) links next
-    → EachLink (λ link then. TookFrame (member && takes_line past a link) frame link then) links next
-all_took past a member frame links next on h =
+pub all_took : (past a : ℕ) (has_frame : Bool) (frame : Taken) (links next : List Link) → has_frame ≡ true → EachLink (λ link then. TookFrame (takes_line past a link) frame link then) links next
+    → EachLink (λ link then. TookFrame (has_frame && takes_line past a link) frame link then) links next
+all_took past a has_frame frame links next on h =
     subst (λ (m : Bool). EachLink (λ link then. TookFrame (m && takes_line past a link) frame link then) links next) (sym on) h

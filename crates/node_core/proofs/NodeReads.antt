@@ -46,7 +46,7 @@ pub counts_told : (node : NodeView) (a : ℕ) (line : LineView) (counts : LineCo
 counts_told node a line counts has told = λ plan first taken now inputs other h may used at.
     let same : other ≡ line = one_at node.lines_in a other line at has in
     let stood = h.lines_in.used a line has used in
-    rw same (told (form_in plan a) (line_in_at first a) (line_in_at now a) (taken.line a) (inputs.line a) node.past stood.0 (may.lines a line has used))
+    rw same (told (line_in_at now a) (form_in plan a) (line_in_at first a) (taken.line a) node.past stood.0 (inputs.line a) (may.lines a line has used))
 
 pub frames_told : (node : NodeView) (b : ℕ) (line : LineOutView) (frames : ℕ) → HasLineOut node b line → frames ≡ line.frames → IsFrameCount node b frames
 frames_told node b line frames has told = λ other at. told ∙ ap (λ (l : LineOutView). l.frames) (one_at node.lines_out b line other has at)

@@ -18,7 +18,7 @@ use Rattle.line_side.specs.declared.ending.Ending.TheVariants.{Open, Seen, Died}
 use Rattle.line_side.proofs.Exits.{took_is}
 use Rattle.line_side.proofs.Frames.{length_parts}
 use Rattle.line_side.proofs.Mfas.{length_mfas}
-use Rattle.multiframe.specs.LineTurns.{Lock, Standing, Hunting, Locked, Ended, Outcome, CutShort, Lost, Whole, lock_from, least_start, outcome_of, after_outcome, after_hunt, after_turn, standing, wanted, wanted_in, wanted_from, wanted_so_far}
+use Rattle.multiframe.specs.LineTurns.{Lock, LineState, Hunting, Locked, Ended, Outcome, CutShort, Lost, Whole, lock_from, least_start, outcome_of, after_outcome, after_hunt, after_turn, line_state, wanted, wanted_in, wanted_from, wanted_so_far}
 use Rattle.device_model.specs.Moments.{line_taken}
 use Rattle.device_model.specs.Numbers.{ending_of, line_ending}
 use Rattle.node_core.specs.Asking.{ByteAsked, has_come, is_seen}
@@ -45,27 +45,27 @@ after_hunting ms p i (Some n) =
     lock_at : (i n : ℕ) → Lock
     lock_at i n = record { frame = i + n; expected = slice_index ms (i + n) }
 
-after_any : (ms : List ℕ) (p : ℕ) (st : Standing) → wanted_in (suc p) ms (after_turn (suc p) ms st) 0 ≤ wanted_in (suc p) ms st (suc p)
+after_any : (ms : List ℕ) (p : ℕ) (st : LineState) → wanted_in (suc p) ms (after_turn (suc p) ms st) 0 ≤ wanted_in (suc p) ms st (suc p)
 after_any ms p (Hunting i) = after_hunting ms p i (least_start (suc p) ms i (suc p))
 after_any ms p (Locked lock) = after_locked ms p lock (outcome_of (suc p) ms lock)
 after_any ms p Ended = omega arith
 
-wanted_more : (size : ℕ) (ms : List ℕ) (t : ℕ) → wanted size ms (suc t) ≡ max (wanted size ms t) (wanted_in size ms (standing size ms t) size)
+wanted_more : (size : ℕ) (ms : List ℕ) (t : ℕ) → wanted size ms (suc t) ≡ max (wanted size ms t) (wanted_in size ms (line_state size ms t) size)
 unfolding wanted
 wanted_more size ms t = refl
 
-standing_more : (size : ℕ) (ms : List ℕ) (t : ℕ) → standing size ms (suc t) ≡ after_turn size ms (standing size ms t)
-unfolding standing
-standing_more size ms t = refl
+line_state_more : (size : ℕ) (ms : List ℕ) (t : ℕ) → line_state size ms (suc t) ≡ after_turn size ms (line_state size ms t)
+unfolding line_state
+line_state_more size ms t = refl
 
-standing_first : (size : ℕ) (ms : List ℕ) → standing size ms 0 ≡ Hunting 0
-unfolding standing
-standing_first size ms = refl
+line_state_first : (size : ℕ) (ms : List ℕ) → line_state size ms 0 ≡ Hunting 0
+unfolding line_state
+line_state_first size ms = refl
 
-none_wanted : (p : ℕ) (ms : List ℕ) (t : ℕ) → wanted_in (suc p) ms (standing (suc p) ms t) 0 ≤ wanted (suc p) ms t
-none_wanted p ms zero = subst (λ s. wanted_in (suc p) ms s 0 ≤ wanted (suc p) ms 0) (sym (standing_first (suc p) ms)) (omega arith)
+none_wanted : (p : ℕ) (ms : List ℕ) (t : ℕ) → wanted_in (suc p) ms (line_state (suc p) ms t) 0 ≤ wanted (suc p) ms t
+none_wanted p ms zero = subst (λ s. wanted_in (suc p) ms s 0 ≤ wanted (suc p) ms 0) (sym (line_state_first (suc p) ms)) (omega arith)
 none_wanted p ms (suc t) =
-    let after = subst (λ s. wanted_in (suc p) ms s 0 ≤ wanted_in (suc p) ms (standing (suc p) ms t) (suc p)) (sym (standing_more (suc p) ms t)) (after_any ms p (standing (suc p) ms t)) in
+    let after = subst (λ s. wanted_in (suc p) ms s 0 ≤ wanted_in (suc p) ms (line_state (suc p) ms t) (suc p)) (sym (line_state_more (suc p) ms t)) (after_any ms p (line_state (suc p) ms t)) in
     omega (arith, after, wanted_more (suc p) ms t)
 
 between_turns : (p : ℕ) (ms : List ℕ) (t : ℕ) → wanted_so_far (suc p) ms t 0 ≡ wanted (suc p) ms t

@@ -5,7 +5,7 @@ use Rattle.std.specs.List.{range_with_len}
 use Rattle.std.proofs.lemmas.List.FromFn.{map-range_with_len_more, length-map-range_with_len}
 use Rattle.line_side.specs.LineFile.{mfas_of}
 use Rattle.line_side.proofs.Members.{whole_hand}
-use Rattle.multiframe.specs.LineTurns.{Lock, standing, multiframe}
+use Rattle.multiframe.specs.LineTurns.{Lock, line_state, multiframe}
 use Rattle.multiframe.specs.TurnPieces.{in_hand}
 use Rattle.trib_sink.specs.Sink.{ended_view}
 use Rattle.tributary_model.specs.Places.{Tributary, turn_view}
@@ -25,7 +25,7 @@ frames_in_hand size given past zero lock e few = refl
 frames_in_hand size given past (suc k) lock e few =
     let before = frames_in_hand size given past k lock e (omega arith) in
     let hand = whole_hand size (mfas_of given) past k lock e (omega arith) in
-    ap (λ xs. xs ++ member_of given (in_hand size (mfas_of given) (standing size (mfas_of given) past) (suc k))) before
+    ap (λ xs. xs ++ member_of given (in_hand size (mfas_of given) (line_state size (mfas_of given) past) (suc k))) before
     ∙ ap (λ member. map (member_at given lock) (range_with_len 0 k) ++ member_of given member) hand
     ∙ sym (map-range_with_len_more (member_at given lock) 0 k k (omega arith))
     ∙ ap (λ n. map (member_at given lock) (range_with_len 0 n)) (add-one k)

@@ -3,10 +3,9 @@ use Rattle.std.specs.Prelude.{◌≡◌, ◌<◌, ◌+◌, ◌*◌, ◌%◌, ℕ
 use Rattle.otn_base.specs.LineSlots.{LineSlots, slots_of}
 use Rattle.otn_ports.specs.Views.{InView, OutView}
 use Rattle.line_side.specs.LineFile.{mfas_of}
-use Rattle.line_side.specs.LineForm.{LineForm, size_of}
-use Rattle.line_side.specs.LineOutput.{LineOutView, FramePut, LineMade}
-use Rattle.line_side.specs.LineStands.{LineView, LineStands, PieceStands, OfMember}
-use Rattle.line_side.specs.MayBe.{MayBe}
+use Rattle.line_side.specs.LineForm.{size_of}
+use Rattle.line_side.specs.LineOutput.{LineOutView, FramePut, LineMade, AsMade}
+use Rattle.line_side.specs.LineStands.{LineView, LineStands, AsStood, PieceStands, InEachTurn, OfMember}
 use Rattle.maintenance_signals.specs.declared.signal.Signal.{Signal}
 use Rattle.multiframe.specs.LineTurns.{multiframe}
 use Rattle.plan_file.specs.declared.connection.Connection.{Connection}
@@ -84,12 +83,12 @@ pub record TookFrame (takes : Bool) (frame : Taken) (old new : Link) : Type 0 wh
 
 -- line a does a piece: where that came to a frame, the frame goes to each connection that takes from the line
 pub record ReadsLine (past a : ℕ) (old : LineView) (was : InView) (links : List Link) (new : LineView) (is : InView) (next : List Link) : Type 0 where
-  pub stands : (form : LineForm) (first : InView) (taken : List ℕ) (t : ℕ) → LineStands form first was taken t old → PieceStands form first is taken t old new
+  pub stands : AsStood was old (λ form first taken t. PieceStands form first is taken t old new)
   pub pieces : new.pieces ≡ old.pieces + 1
   pub kind : new.kind ≡ old.kind
   pub expected : ℕ
-  pub expects : new.member ≡ true → OfMember new (λ given member. expected ≡ member.expected)
-  pub took : EachLink (λ link then. TookFrame (new.member && takes_line past a link) (record { frame = new.reader.hand; expected = expected }) link then) links next
+  pub expects : new.has_frame ≡ true → OfMember new (λ given member. expected ≡ member.expected)
+  pub took : EachLink (λ link then. TookFrame (new.has_frame && takes_line past a link) (record { frame = new.reader.hand; expected = expected }) link then) links next
 
 -- ---- a piece of an output line
 
@@ -112,7 +111,7 @@ pub record FillLine (plan : Plan) (inputs : Inputs) (b past n : ℕ) (links : Li
 -- line b makes frame n of turn past + 1, into which each connection that gives to the line puts its own
 pub record WritesLine (past b n : ℕ) (old : LineOutView) (was : OutView) (links : List Link) (new : LineOutView) (is : OutView) (next : List Link) : Type 0 where
   pub put : FramePut
-  pub made : (form : LineForm) (first : OutView) (puts : List FramePut) → LineMade b form first was puts old → LineMade b form first is (puts ++ put ∷ []) new
+  pub made : AsMade b was old (λ form first puts. LineMade b form first is (puts ++ put ∷ []) new)
   pub form : new.form ≡ old.form
   pub mfas : put.mfas ≡ (size_of old.form * past + n) % 256
   pub gave : EachLink (λ link then. GaveFrame (gives_line past b link) n link then) links next
@@ -142,11 +141,10 @@ pub record GivesClient (past n : ℕ) (was : OutView) (links : List Link) (is : 
 
 -- the turn of a line that is used ends, and this says whether it has a multiframe
 pub record LineEnds (old new : LineView) (whole : Bool) : Type 0 where
-  pub stands : (form : LineForm) (first now : InView) (taken : List ℕ) (t : ℕ) → LineStands form first now taken t old → LineStands form first now taken (t + 1) new
+  pub stands : (now : InView) → AsStood now old (λ form first taken t. LineStands form first now taken (t + 1) new)
   pub ending : new.reader.ending ≡ old.reader.ending
   pub kind : new.kind ≡ old.kind
-  pub multiframe : (form : LineForm) (first now : InView) (taken given : List ℕ) (t : ℕ) → LineStands form first now taken t old → MayBe form.scrambled old.reader.ending taken given
-      → whole ≡ is_some (multiframe (size_of form) (mfas_of given) t)
+  pub multiframe : InEachTurn old (λ form given t. whole ≡ is_some (multiframe (size_of form) (mfas_of given) t))
   pub pieces : new.pieces ≡ 0
 
 -- what the end of turn past + 1 does to a connection, whose line has a multiframe in it or not

@@ -9,7 +9,7 @@ use Rattle.line_side.specs.LineForm.{size_of}
 use Rattle.line_side.specs.LineOutput.{LineOutView, FramePut, LineMade}
 use Rattle.line_side.specs.LineStands.{LineView, LineStands}
 use Rattle.line_side.specs.MayBe.{MayBe}
-use Rattle.multiframe.specs.LineTurns.{Lock, standing}
+use Rattle.multiframe.specs.LineTurns.{Lock, line_state}
 use Rattle.multiframe.specs.TurnPieces.{in_hand}
 use Rattle.plan_file.specs.Answer.{fault_in}
 use Rattle.plan_file.specs.declared.connection.Connection.{Connection}
@@ -51,7 +51,7 @@ member_of given (Some member) = record { frame = frame_at given member.frame; ex
 -- the frames of the multiframe of turn past + 1 that the first k pieces of the turn came to
 unfoldable pub frames_in : (size : ℕ) → (given : List ℕ) → (past k : ℕ) → List Taken
 frames_in size given past zero = []
-frames_in size given past (suc k) = frames_in size given past k ++ member_of given (in_hand size (mfas_of given) (standing size (mfas_of given) past) (suc k))
+frames_in size given past (suc k) = frames_in size given past k ++ member_of given (in_hand size (mfas_of given) (line_state size (mfas_of given) past) (suc k))
 
 -- what k pieces of a connection's own input took: the frames of a line, and whether a client's turn was taken
 abbrev pub frames_by : Plan → Inputs → FromEnd → (past k : ℕ) → List Taken

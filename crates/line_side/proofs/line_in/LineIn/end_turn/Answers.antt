@@ -6,13 +6,13 @@ use Rattle.line_side.proofs.Ended.{ended_is}
 use Rattle.line_side.proofs.line_in.LineIn.end_turn.Goals as goal
 
 pub returns-clause-stands : goal.returns-clause-stands
-returns-clause-stands g c = λ form first now taken t h. end_stands form first now taken t _ _ _ c.requires c.close.ensures h
+returns-clause-stands g c = λ now form first taken t h. end_stands form first now taken t _ _ _ c.requires c.close.ensures h
 
 pub returns-clause-ending : goal.returns-clause-ending
 returns-clause-ending g c = same_ending _ _ _ _ c.close.ensures
 
 pub returns-clause-turn : goal.returns-clause-turn
-returns-clause-turn g c = λ form first now taken given t h may.
+returns-clause-turn g c = λ now form first taken t h given may.
     let P : Ending → Type 0 = λ e. MayBe form.scrambled e taken given in
     let m = c.close.ensures in
     record {

@@ -5,6 +5,6 @@ use Rattle.line_side.proofs.line_in.LineIn.expected.Goals as goal
 
 pub returns-clause-line : goal.returns-clause-line
 returns-clause-line g c =
-    let some = (c.self.invariant.member (ap (λ (l : LineView). l.member) c.self.view_is ∙ c.requires)).0 in
+    let some = (c.self.invariant.has_frame (ap (λ (l : LineView). l.has_frame) c.self.view_is ∙ c.requires)).0 in
     let pieces : c.self.inside.pieces ≡ suc (c.self.inside.pieces - 1) = omega arith in
-    rw (← c.self.view_is) (λ form first now taken given t h may. expected_is form first now taken given t (c.self.inside.pieces - 1) c.expected.result _ pieces h may c.expected.ensures)
+    rw (← c.self.view_is) (λ now form first taken t h given may. expected_is form first now taken given t (c.self.inside.pieces - 1) c.expected.result _ pieces h may c.expected.ensures)

@@ -7,12 +7,11 @@ use Rattle.multiframe.proofs.TurnLaw.{some_slots}
 use Rattle.line_side.proofs.line_in.LineIn.hunt.Goals as goal
 
 pub loop-init : goal.loop-init
-loop-init g c = record { hunts = hunt_begins _ _ _; members = refl; quiet = λ h. (refl, h) }
+loop-init g c = record { hunts = hunt_begins _ _ _; quiet = λ h. (refl, h) }
 
 pub loop-preserved : goal.loop-preserved
 loop-preserved g c = record {
   hunts = hunt_passes _ _ _ _ _ _ _ _ c.loop.invariant.hunts (tries_as _ _ _ _ _ _ _ _ c.loop.invariant.hunts c.in-Passes.ensures.tries);
-  members = (let x = c.in-Passes.ensures.member.count in let y = c.loop.invariant.members in omega arith);
   quiet = λ h. (let x = c.loop.invariant.quiet h in let y = c.in-Passes.ensures.quiet x.1 in (y.0 ∙ x.0, y.1));
 }
 
@@ -32,20 +31,6 @@ returns-clause-hunts g c =
     let k : slots_of c.kind.result ≡ slots_of c.args.self.now.kind = ap slots_of (c.kind.ensures ∙ ap (λ (l : LineView). l.kind) c.self.view_is) in
     let all : c.loop.counter ≡ slots_of c.args.self.now.kind = omega arith in
     hunt_fails _ _ _ _ _ (some_slots c.args.self.now.kind) c.requires.going (subst P all c.loop.invariant.hunts)
-
-pub returns-in-Locks-clause-member : goal.returns-in-Locks-clause-member
-returns-in-Locks-clause-member g c = record {
-  aligned = c.in-Locks.ensures.member.aligned;
-  stays = λ f. absurd (cc);
-  count = (let x = c.in-Locks.ensures.member.count in let y = c.loop.invariant.members in omega arith);
-}
-
-pub returns-in-Ends-clause-member : goal.returns-in-Ends-clause-member
-returns-in-Ends-clause-member g c = record {
-  aligned = λ f. absurd (cc);
-  stays = λ _. c.in-Ends.ensures.member.stays refl ∙ c.loop.invariant.hunts.alignment;
-  count = (let x = c.in-Ends.ensures.member.count in let y = c.loop.invariant.members in omega arith);
-}
 
 pub returns-in-Locks-clause-quiet : goal.returns-in-Locks-clause-quiet
 returns-in-Locks-clause-quiet g c = λ h. let x = c.loop.invariant.quiet h in let y = c.in-Locks.ensures.quiet x.1 in (y.0 ∙ x.0, y.1)

@@ -5,4 +5,4 @@ pub returns-then-not-advance-clause-takes : goal.returns-then-not-advance-clause
 returns-then-not-advance-clause-takes g c = rw (← c.self.view_is) (takes_none _ _ _ _ c.if-not-advance.ensures.advances)
 
 pub returns-clause-takes : goal.returns-clause-takes
-returns-clause-takes g c = rw (← c.self.view_is, c.take.ensures) (takes_frame _ _ _ _ c.mfas.result c.if-not-advance.ensures.advances c.mfas.ensures)
+returns-clause-takes g c = let room = rw (← c.self.view_is) at c.requires.room in rw (← c.self.view_is, c.take.ensures) (takes_frame _ _ _ _ c.mfas.result _ room c.if-not-advance.ensures.advances c.mfas.ensures)

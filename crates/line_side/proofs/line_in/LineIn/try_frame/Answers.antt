@@ -8,5 +8,5 @@ pub returns-then-not-begins-clause-tries : goal.returns-then-not-begins-clause-t
 returns-then-not-begins-clause-tries g c = let began = rw c.kind.ensures at c.if-not-begins.ensures.begins in rw (← c.self.view_is, c.saturating_add-self-inside.ensures) (tries_passes _ _ _ _ _ _ _ c.if-not-advance.ensures.advances began)
 
 pub returns-clause-tries : goal.returns-clause-tries
-returns-clause-tries g c = let began = rw c.kind.ensures at c.if-not-begins.ensures.begins in rw (← c.self.view_is, c.take.ensures, c.lock.ensures)
-    (tries_locks _ _ _ _ _ _ _ c.mfas-mfas.result c.if-not-advance.ensures.advances began c.mfas-mfas.ensures)
+returns-clause-tries g c = let began = rw c.kind.ensures at c.if-not-begins.ensures.begins in let hunting = rw (← c.self.view_is) at c.requires.hunting in rw (← c.self.view_is, c.take.ensures, c.lock.ensures)
+    (tries_locks _ _ _ _ _ _ _ c.mfas-mfas.result hunting c.if-not-advance.ensures.advances began c.mfas-mfas.ensures)

@@ -7,12 +7,12 @@ use Rattle.line_tool.proofs.tap.Tap.take_piece.Goals as goal
 pub returns-then-not-piece-clause-moves : goal.returns-then-not-piece-clause-moves
 returns-then-not-piece-clause-moves g c = λ own first bytes t h.
     piece_none own first (in_view g.I.Source c.args.place.now) (in_view g.I.Source c.piece.new.place) bytes t c.args.self.now c.piece.new.self
-    c.piece.ensures.pieces (sym c.piece.ensures.member ∙ c.if-not-piece.true) h (c.piece.ensures.stands plain_otu2 first bytes t h.line)
+    c.piece.ensures.pieces (sym c.piece.ensures.has_frame ∙ c.if-not-piece.true) h (c.piece.ensures.stands plain_otu2 first bytes t h.line)
 
 pub returns-clause-moves : goal.returns-clause-moves
 returns-clause-moves g c = λ own first bytes t h.
     let p = c.piece.ensures.stands plain_otu2 first bytes t h.line in
     piece_frame own first (in_view g.I.Source c.args.place.now) (in_view g.I.Source c.piece.new.place) bytes t c.expected.result c.args.self.now c.piece.new.self c.take_frame.new.self
-    c.piece.ensures.pieces (sym c.piece.ensures.member ∙ c.if-not-piece.false) h p
-    (λ given may. c.expected.ensures.line plain_otu2 first (in_view g.I.Source c.piece.new.place) (bytes ++ p.came) given t p.stands may)
+    c.piece.ensures.pieces (sym c.piece.ensures.has_frame ∙ c.if-not-piece.false) h p
+    (λ given may. c.expected.ensures.line (in_view g.I.Source c.piece.new.place) plain_otu2 first (bytes ++ p.came) t p.stands given may)
     (λ past frames stands. rw c.frame.ensures.hand at c.take_frame.ensures.stands own past frames stands)

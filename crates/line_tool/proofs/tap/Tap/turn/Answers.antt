@@ -11,8 +11,8 @@ returns-clause-moves g c = λ own first taken t h.
     let line = c.end_turn-whole.ensures in
     let sink = c.end_turn.ensures in
     turn_ends own first now taken t c.end_turn.result c.args.self.now c.take_frames.new.self c.end_turn-whole.result c.end_turn-whole.new.self c.end_turn.new.self c.end_turn.new.into c.args.into.now
-    m c.take_frames.ensures.pieces line.pieces line.ending (line.stands plain_otu2 first now (taken ++ m.came) t m.stands.line)
-    (λ given may. (line.turn plain_otu2 first now (taken ++ m.came) given t m.stands.line may).has_multiframe) (λ given may. (line.turn plain_otu2 first now (taken ++ m.came) given t m.stands.line may).has_ended)
+    m c.take_frames.ensures.pieces line.pieces line.ending (line.stands now plain_otu2 first (taken ++ m.came) t m.stands.line)
+    (λ given may. (line.turn now plain_otu2 first (taken ++ m.came) t m.stands.line given may).has_multiframe) (λ given may. (line.turn now plain_otu2 first (taken ++ m.came) t m.stands.line given may).has_ended)
     (λ past frames st. sink.stands own past frames st) (λ past frames st. sink.bytes own past frames st) (λ past frames st. sink.count own past frames st)
 
 pub returns-clause-within : goal.returns-clause-within
