@@ -60,7 +60,8 @@ impl<const COLS: usize> Frame<COLS> {
         requires row_high { row ≤ 4 }
         requires col_low { 1 ≤ col }
         requires col_high { col ≤ COLS }
-        ensures { self.new ≡ slice_set self.old (place_of COLS row col) byte }
+        ensures written { self.new ≡ slice_set self.old (place_of COLS row col) byte }
+        ensures size { length self.new ≡ 4 * COLS }
     {
         self.bytes[COLS * (row as usize - 1) + (col as usize - 1)] = byte;
     }

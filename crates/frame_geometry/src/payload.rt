@@ -17,9 +17,9 @@ impl<const COLS: usize> Frame<COLS> {
         ensures bytes { result.now ≡ payload_row_of COLS row self.now }
         ensures size { length result.now ≡ PAYLOAD_COLUMNS }
     {
-        let _opened = &self.bytes;
+        let bytes = &self.bytes;
         let start = COLS * (row as usize - 1) + OVERHEAD_COLUMNS;
-        &self.bytes[start..start + PAYLOAD_COLUMNS]
+        &bytes[start..start + PAYLOAD_COLUMNS]
     }
 
     /// The payload of a row (1 to 4), to be written; every other byte stays.
@@ -32,8 +32,8 @@ impl<const COLS: usize> Frame<COLS> {
         ensures frame { length self.old ≡ 4 * COLS }
         ensures width { IsWidth COLS }
     {
-        let _opened = &self.bytes;
+        let bytes = &mut self.bytes;
         let start = COLS * (row as usize - 1) + OVERHEAD_COLUMNS;
-        self.bytes.slice_mut(start..start + PAYLOAD_COLUMNS)
+        bytes.slice_mut(start..start + PAYLOAD_COLUMNS)
     }
 }

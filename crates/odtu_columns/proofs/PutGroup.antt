@@ -40,8 +40,8 @@ group_kept_more slots bytes old frame now row first i is before place none =
     ∙ get_or-set_other frame (place_of 4080 row (first + get_or slots i 0)) place (get_or bytes i 0) 0 (none i (omega arith))
     ∙ before place (λ j l. none j (omega arith))
 
-pub size_more : (frame now : List ℕ) (place byte : ℕ) → now ≡ set frame place byte → length frame ≡ 16320 → length now ≡ 16320
-size_more frame now place byte is size = ap length is ∙ length-set frame place byte ∙ size
+pub size_before : (frame now : List ℕ) (place byte : ℕ) → now ≡ set frame place byte → length now ≡ 16320 → length frame ≡ 16320
+size_before frame now place byte is size = sym (length-set frame place byte) ∙ sym (ap length is) ∙ size
 
 -- a group that was put, read back
 pub group_back : (slots bytes now : List ℕ) (row first : ℕ) → length bytes ≡ length slots

@@ -27,7 +27,6 @@ pub fn put_message(frame: &mut Frame<LINE_COLUMNS>, bytes: [u8; 6])
     ensures message { message_of frame.new ≡ bytes }
     ensures kept { (place : ℕ) → ((row column : ℕ) → 1 ≤ row → row ≤ 3 → 15 ≤ column → column ≤ 16 → place ≡ place_of LINE_COLUMNS row column → ⊥) → slice_index frame.new place ≡ slice_index frame.old place }
 {
-    let _whole = frame.as_bytes();
     frame.set(1, NUMBER_COLUMN, bytes[0]);
     frame.set(2, NUMBER_COLUMN, bytes[1]);
     frame.set(3, NUMBER_COLUMN, bytes[2]);

@@ -73,7 +73,6 @@ fn set_group(frame: &mut Frame<LINE_COLUMNS>, row: u32, first: u32, slots: &[u8]
     ensures put { (i : ℕ) → i < length slots.now → slice_index frame.new (place_of LINE_COLUMNS row (first + slice_index slots.now i)) ≡ slice_index bytes.now i }
     ensures kept { (place : ℕ) → ((i : ℕ) → i < length slots.now → place ≡ place_of LINE_COLUMNS row (first + slice_index slots.now i) → ⊥) → slice_index frame.new place ≡ slice_index frame.old place }
 {
-    let _whole = frame.as_bytes();
     for (i, slot) in slots.iter().enumerate() {
         frame.set(row, first + *slot as u32, bytes[i]);
     }

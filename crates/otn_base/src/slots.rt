@@ -73,7 +73,8 @@ impl Slots {
 
     /// The greatest slot, in whose frame of a multiframe the justification bytes of the ODTU stand.
     pub fn last(&self) -> u8
-        ensures { slice_get self.now.list (length self.now.list - 1) ≡ Some result }
+        ensures last { slice_get self.now.list (length self.now.list - 1) ≡ Some result }
+        ensures list { IsSlotList (slots_of self.now.kind) self.now.list }
     {
         let list = self.list.as_slice();
         list[list.len() - 1]
@@ -81,14 +82,16 @@ impl Slots {
 
     /// Whether slot `k` is one of them.
     pub fn has(&self, k: u8) -> bool
-        ensures { IsTrue result ↔ Contains self.now.list k }
+        ensures has { IsTrue result ↔ Contains self.now.list k }
+        ensures list { IsSlotList (slots_of self.now.kind) self.now.list }
     {
         self.list.as_slice().contains(&k)
     }
 
     /// The numbers of the slots.
     pub fn as_slice(&self) -> &[u8]
-        ensures { result.now ≡ self.now.list }
+        ensures bytes { result.now ≡ self.now.list }
+        ensures list { IsSlotList (slots_of self.now.kind) result.now }
     {
         self.list.as_slice()
     }

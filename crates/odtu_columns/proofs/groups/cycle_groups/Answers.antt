@@ -14,11 +14,11 @@ returns c =
     let columns = c.slots-columns.result in
     let slots = c.as_slice.result.now in
     let size : length c.gather.new.into ≡ length slots * count =
-    c.gather.auto.into ∙ c.requires.size ∙ sym (ap (λ xs. length xs * count) c.as_slice.ensures) in
+    c.gather.auto.into ∙ c.requires.size ∙ sym (ap (λ xs. length xs * count) c.as_slice.ensures.bytes) in
     let same : take (columns * first + columns * count - columns * first) (drop (columns * first) payload) ≡ take (line * count) (drop (line * first) payload) =
     ap (λ s. take (s * first + s * count - s * first) (drop (s * first) payload)) c.slots-columns.ensures.slots
     ∙ ap (λ n. take n (drop (line * first) payload)) (let e : line * first + line * count - line * first ≡ line * count = omega arith in e) in
     gathered line payload (take (columns * first + columns * count - columns * first) (drop (columns * first) payload)) slots c.gather.new.into first count
-    (rw c.as_slice.ensures c.kind-kind.ensures.list) size same c.gather.ensures
+    (rw c.as_slice.ensures.bytes c.kind-kind.ensures.list) size same c.gather.ensures
     ∙ ap (λ k. run_groups (slots_of k) payload slots first count) c.kind-kind.ensures.kind
-    ∙ ap (λ xs. run_groups (slots_of c.args.slots.now.kind) payload xs first count) c.as_slice.ensures
+    ∙ ap (λ xs. run_groups (slots_of c.args.slots.now.kind) payload xs first count) c.as_slice.ensures.bytes

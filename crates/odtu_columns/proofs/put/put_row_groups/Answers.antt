@@ -17,7 +17,7 @@ returns-clause-put c =
     let frame = c.args.frame.now in
     let bytes = c.args.bytes.now in
     let long : length new ≡ 3808 = c.put_groups.auto.payload ∙ row.size in
-    let same = c.as_slice.ensures in
+    let same = c.as_slice.ensures.bytes in
     let law = row_was_put (slots_of kind) c.as_slice.result.now bytes frame c.payload_row_mut.result.now new c.args.row (number_of kind) c.requires.row_low c.requires.row_high (rw same c.kind-kind.ensures.list) (omega arith) row.bytes long put.put put.kept in
     rw (after_row_loan-whole 4080 c.args.row frame new long row.frame (omega arith) c.requires.row_low c.requires.row_high)
     (subst (λ k. RowWasPut (slots_of k) c.args.slots.now.list c.args.row bytes frame (with_payload_row 4080 c.args.row frame new)) c.kind-kind.ensures.kind

@@ -8,7 +8,7 @@ use Rattle.line_side.proofs.line_out.LineOut.finish.Goals as goal
 pub returns-clause-made : goal.returns-clause-made
 returns-clause-made g c = rw (← c.self.view_is) (λ n form first puts h.
     let inside = c.self.inside in
-    let put = c.set.ensures ∙ ap (λ byte. slice_set inside.frame (place_of 4080 4 15) byte) c.psi_byte.ensures in
+    let put = c.set.ensures.written ∙ ap (λ byte. slice_set inside.frame (place_of 4080 4 15) byte) c.psi_byte.ensures in
     let sized = ap length (sym c.as_bytes.ensures.bytes) ∙ c.as_bytes.ensures.size in
     let writes = rw c.as_bytes.ensures.bytes at c.send-counts.ensures.writes in
     let frames = c.saturating_add-self-inside.ensures ∙ ap (λ k. saturated (inside.frames + k)) c.one_if.ensures in
