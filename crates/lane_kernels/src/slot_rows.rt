@@ -57,10 +57,10 @@ impl<const SLOTS: usize> SlotRows<SLOTS> {
         ensures bytes { result.now ≡ slot_bytes SLOTS k self.now }
         ensures size { length result.now ≡ PAYLOAD_COLUMNS / SLOTS }
     {
-        let _opened = &self.bytes;
+        let bytes = &self.bytes;
         let columns = PAYLOAD_COLUMNS / SLOTS;
         let start = columns * (k as usize - 1);
-        &self.bytes[start..start + columns]
+        &bytes[start..start + columns]
     }
 
     /// The bytes of slot `k` (1 to `SLOTS`), to be written; every other byte stays.
@@ -74,10 +74,10 @@ impl<const SLOTS: usize> SlotRows<SLOTS> {
         ensures all { length self.old ≡ PAYLOAD_COLUMNS }
         ensures slots { IsSlotCount SLOTS }
     {
-        let _opened = &self.bytes;
+        let bytes = &mut self.bytes;
         let columns = PAYLOAD_COLUMNS / SLOTS;
         let start = columns * (k as usize - 1);
-        self.bytes.slice_mut(start..start + columns)
+        bytes.slice_mut(start..start + columns)
     }
 }
 
