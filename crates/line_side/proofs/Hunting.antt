@@ -1,4 +1,4 @@
--- A hunt: eight frames at most are tried, one after the other.
+-- A hunt: frames are tried one after the other, as many as a multiframe has at most.
 use Rattle.std.proofs.Common.{◌≡◌, ◌<◌, ◌≤◌, ◌+◌, ◌-◌, min, max, ℕ, zero, suc, Bool, true, false, List, [], ◌++◌, Some, None, length, arith, refl, sym, ap, ◌∙◌, append_assoc, append-nil, add-one, subst}
 use Rattle.std.proofs.lemmas.Bool.{lt-ltb, le-ltb}
 use Rattle.otn_base.specs.LineSlots.{slots_of}
@@ -26,6 +26,7 @@ pub record HuntAt (size : ℕ) (given : List ℕ) (n i w m : ℕ) (line : LineVi
   pub read : HasRead given n (i + m) (hunt_wanted size (mfas_of given) i m w) line.reader
   pub least : least_start size (mfas_of given) i m ≡ None
 
+-- a hunt goes on after it has passed over m frames
 pub record HuntsOn (size : ℕ) (old : LineView) (was : InView) (m : ℕ) (line : LineView) (is : InView) : Type 0 where
   pub came : List ℕ
   pub step : ReadStep old.reader was came line.reader is

@@ -13,6 +13,7 @@ use Rattle.line_side.specs.MayBe.{MayBe}
 use Rattle.otn_base.specs.Counts.{saturated}
 use Rattle.line_side.specs.declared.counts.LineCounts.{LineCounts}
 
+-- these numbers
 abbrev of : (frames lead_in lost rest fas sm pm : ℕ) → LineCounts
 of frames lead_in lost rest fas sm pm = record { frames = frames; lead_in = lead_in; lost = lost; rest = rest; fas = fas; sm = sm; pm = pm }
 

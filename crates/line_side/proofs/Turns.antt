@@ -23,11 +23,12 @@ pub record LineIs (size : ℕ) (given : List ℕ) (n t : ℕ) (st : LineState) (
   pub lead_in : line.lead_in ≡ saturated (lead_in size (mfas_of given) t + lead_in_by size (mfas_of given) st k)
   pub lost : line.lost ≡ saturated (lost_count size (mfas_of given) t)
 
+-- whether the piece after k pieces of the turn came to a frame of its multiframe, and to which
 pub record MemberIs (size : ℕ) (given : List ℕ) (st : LineState) (k : ℕ) (result : Bool) (line : LineView) : Type 0 where
   pub has_frame : result ≡ has_frame_at (mfas_of given) (lock_of size (mfas_of given) st) k
   pub hand : result ≡ true → IfSome (lock_of size (mfas_of given) st) (λ lock. line.reader.hand ≡ frame_at given (lock.frame + k))
 
--- the same where the turn hunts at frame i, k pieces after the first one, by the least start among the eight frames
+-- the same where the turn hunts at frame i, k pieces after the first one, by the least start among the frames tried
 pub record HuntIs (size : ℕ) (given : List ℕ) (n t i : ℕ) (least : Option ℕ) (k : ℕ) (line : LineView) : Type 0 where
   pub read : HasRead given n (used_at size (mfas_of given) (lock_from (mfas_of given) i least) i (suc k)) (max (wanted size (mfas_of given) t) (wanted_from size (mfas_of given) i least (suc k))) line.reader
   pub alignment : aligned_by (mfas_of given) (lock_from (mfas_of given) i least) (suc k) line.alignment
@@ -35,6 +36,7 @@ pub record HuntIs (size : ℕ) (given : List ℕ) (n t i : ℕ) (least : Option 
   pub lead_in : line.lead_in ≡ saturated (lead_in size (mfas_of given) t + lead_in_from size (mfas_of given) i least)
   pub lost : line.lost ≡ saturated (lost_count size (mfas_of given) t)
 
+-- the same where the turn hunts at frame i
 pub record HuntMember (size : ℕ) (given : List ℕ) (i : ℕ) (least : Option ℕ) (k : ℕ) (result : Bool) (line : LineView) : Type 0 where
   pub has_frame : result ≡ has_frame_at (mfas_of given) (lock_from (mfas_of given) i least) k
   pub hand : result ≡ true → IfSome (lock_from (mfas_of given) i least) (λ lock. line.reader.hand ≡ frame_at given (lock.frame + k))

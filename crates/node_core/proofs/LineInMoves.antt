@@ -52,7 +52,7 @@ frames_next size given past k = rw add-one (frames_suc size given past k)
 
 one_member : (given : List ℕ) (o : Option Lock) → length (member_of given o) ≤ 1
 one_member given None = omega arith
-one_member given (Some has_frame) = omega arith
+one_member given (Some member) = omega arith
 
 -- k pieces come to at most k
 frames_most : (size : ℕ) (given : List ℕ) (past k : ℕ) → length (frames_in size given past k) ≤ k
