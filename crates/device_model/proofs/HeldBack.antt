@@ -12,7 +12,7 @@ use Rattle.tributary_model.specs.Carriage.{IsUpAfter}
 use Rattle.tributary_model.specs.Carries.{sent, number_in, rest_in, CarriesTurn, past_of}
 use Rattle.tributary_model.specs.Damage.{emissions}
 use Rattle.tributary_model.specs.Emission.{data_bytes, emission}
-use Rattle.tributary_model.specs.Machine.{Machine, start, begins, next_said, waits_on, opened, went_on, given_of, kept_of, up_gives, after, gives, machine_after, state_of_standing}
+use Rattle.tributary_model.specs.Machine.{Machine, start, begun, next_said, waits_on, opened, went_on, given_of, kept_of, up_gives, after, gives, machine_after, state_of_standing}
 use Rattle.tributary_model.specs.Messages.{hears_message}
 use Rattle.tributary_model.specs.Passing.{joined_back}
 use Rattle.tributary_model.specs.Places.{Tributary, View, IsWhole, IsWholeTurn, AreWholeTurns}
@@ -165,7 +165,7 @@ unfolding machine_after
 start_is own = refl
 
 first_after : (m : ℕ) (view : View) (c d : ℕ) → hears_message None m view.message ≡ Pair c d true → after m false (Some view) start ≡ up_at (said_now c d None) []
-first_after m view c d e = ap (λ h. opened (begins (Some h)) (waits_on 0)) e
+first_after m view c d e = ap (λ h. opened (begun (Some h)) (waits_on 0)) e
 
 first_kept : (own : Tributary) (bytes p : List ℕ) (views : ℕ → Option View) (s u : ℕ) → Comes own bytes p views s u → s ≤ u
     → machine_after own (past_of views s 1) ≡ up_at (said_now (number_in (length own.slots) p 0) (rest_in (length own.slots) p 0) None) []

@@ -20,11 +20,6 @@ const MOST_FRAME: usize = 65_539;
 /// Bytes of a core header, and of an idle frame.
 const HEADER: usize = 4;
 
-// Four idle frames, which are put at once.
-const FOUR_IDLES: [u8; 16] = [
-    0xB6, 0xAB, 0x31, 0xE0, 0xB6, 0xAB, 0x31, 0xE0, 0xB6, 0xAB, 0x31, 0xE0, 0xB6, 0xAB, 0x31, 0xE0,
-];
-
 /// Makes the bytes of a stream of GFP frames, one after another. Contracts see what is left of the
 /// frame in hand, and the scrambler's register.
 #[derive(Drop)]
@@ -196,14 +191,23 @@ fn copy_front(into: &mut [u8], bytes: &[u8])
     into[..bytes.len()].copy_from_slice(bytes);
 }
 
+// Four idle frames, which are put at once.
+fn four_idles() -> [u8; 16]
+    ensures { result ≡ idle_bytes 4 }
+{
+    let [a, b, c, d] = IDLE_FRAME;
+    [a, b, c, d, a, b, c, d, a, b, c, d, a, b, c, d]
+}
+
 // Whole idle frames.
 fn put_idles(into: &mut [u8])
     requires { length into.old % 4 ≡ 0 }
     ensures { into.new ≡ idle_bytes (length into.old / 4) }
 {
+    let four = four_idles();
     let mut at = 0;
     while into.len() - at >= 16 {
-        into[at..at + 16].copy_from_slice(&FOUR_IDLES);
+        into[at..at + 16].copy_from_slice(&four);
         at += 16;
     }
     while at < into.len() {

@@ -83,7 +83,6 @@ impl SlotMap {
         ensures port { result ≡ port_at self.now slot }
         ensures bound { result ≤ length self.now }
     {
-        let _slots = self.kind.slots();
         self.ports[slot as usize - 1]
     }
 }
@@ -120,8 +119,6 @@ fn give(ports: &mut [u8], slots: &Slots, port: u8)
     ensures within { (slot : ℕ) → Contains slots.now.list slot → (1 ≤ slot) × (slot ≤ slots_of slots.now.kind) }
     ensures bound { (most : ℕ) → port ≤ most → All (λ port. port ≤ most) ports.old → All (λ port. port ≤ most) ports.new }
 {
-    let _rising = slots.count();
-    let _number = slots.kind().slots();
     give_each(ports, slots.as_slice(), port);
 }
 

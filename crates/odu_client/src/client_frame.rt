@@ -2,7 +2,7 @@
 ghost use Rattle.std.specs.Prelude.{◌≡◌, ◌*◌, ◌<◌, ◌≤◌, length, take, drop};
 ghost use Rattle.odu_client.specs.ClientFrames.{client_psi};
 ghost use Rattle.odu_client.specs.FramePuts.{RowWasPut, FrameWasPut};
-ghost use Rattle.otn_base.specs.declared.limits.TheConstants.{CLIENT_PAYLOAD_BYTES, PAYLOAD_COLUMNS};
+ghost use Rattle.otn_base.specs.declared.limits.TheConstants.{CLIENT_FRAME_BYTES, CLIENT_PAYLOAD_BYTES, PAYLOAD_COLUMNS};
 
 use frame_geometry::Frame;
 use frame_geometry::overhead::{FAS, PAYLOAD_COLUMN, PM_ROW, PSI_ROW, SECTION_ROW};
@@ -18,7 +18,6 @@ pub(crate) fn put_frame(frame: &mut Frame<CLIENT_COLUMNS>, mfas: u8, payload: &[
     requires { length payload.now ≡ CLIENT_PAYLOAD_BYTES }
     ensures { FrameWasPut mfas payload.now frame.new }
 {
-    let _opened = frame.as_bytes();
     let [a, b, c, d, e, f] = FAS;
     let none = [0; OVERHEAD_COLUMNS];
     put_row(
@@ -60,7 +59,8 @@ fn put_row(frame: &mut Frame<CLIENT_COLUMNS>, row: u32, overhead: &[u8], payload
     requires row_high { row ≤ 4 }
     requires overhead { length overhead.now ≡ 16 }
     requires payload { length payload.now ≡ PAYLOAD_COLUMNS }
-    ensures { RowWasPut row overhead.now payload.now frame.old frame.new }
+    ensures put { RowWasPut row overhead.now payload.now frame.old frame.new }
+    ensures size { length frame.old ≡ CLIENT_FRAME_BYTES }
 {
     put_run(frame, row, 1, overhead);
     put_run(frame, row, PAYLOAD_COLUMN, payload);

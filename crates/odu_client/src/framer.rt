@@ -39,7 +39,7 @@ pub struct ClientFramer {
 }
 
 impl Model for ClientFramer {
-    ghost use Rattle.std.specs.Prelude.{◌≡◌, ◌≤◌, drop, vec_len};
+    ghost use Rattle.std.specs.Prelude.{◌≡◌, ◌≤◌, drop, length, vec_len};
     ghost use Rattle.odu_client.specs.Framing.{FramerState};
     ghost use Rattle.otn_base.specs.declared.limits.TheConstants.{CLIENT_FRAME_BYTES, CLIENT_PAYLOAD_BYTES};
 
@@ -47,7 +47,7 @@ impl Model for ClientFramer {
 
     ghost view = { λ f. record { sapi = f.trace; stream = f.stream; path = f.path; mfas = f.mfas; left = drop f.at f.frame; fresh = f.fresh } };
 
-    ghost invariant = { λ f. (vec_len f.payload ≡ CLIENT_PAYLOAD_BYTES) × (f.at ≤ CLIENT_FRAME_BYTES) };
+    ghost invariant = { λ f. (vec_len f.payload ≡ CLIENT_PAYLOAD_BYTES) × (f.at ≤ CLIENT_FRAME_BYTES) × (length f.frame ≡ CLIENT_FRAME_BYTES) };
 }
 
 impl ClientFramer {
@@ -79,7 +79,6 @@ impl ClientFramer {
         self.mfas = 0;
         self.at = CLIENT_FRAME_BYTES;
         self.fresh = true;
-        let _opened = self.frame.as_bytes();
     }
 
     /// The next bytes of the client's stream. The lines were new or restarted when the framer was, and both were used since then
@@ -142,7 +141,6 @@ impl ClientFramer {
         ensures yes { result ≡ true → (self.now.fresh ≡ false) ⊎ (self.now.left ≡ []) }
         ensures not_yet { result ≡ false → (self.now.fresh ≡ true) × (1 ≤ length self.now.left) }
     {
-        let _opened = self.frame.as_bytes();
         if !self.fresh {
             return true;
         }
@@ -157,7 +155,6 @@ impl ClientFramer {
         ensures over { self.old.stream.answer ≢ Line.Packet → (place.new ≡ place.old) × (lines.new ≡ lines.old) × (self.new.stream.answer ≡ self.old.stream.answer) }
         ensures hand { self.old.left ≢ [] → (place.new ≡ place.old) × (lines.new ≡ lines.old) × (self.new ≡ self.old) }
     {
-        let _opened = self.frame.as_bytes();
         if self.at < CLIENT_FRAME_BYTES {
             return;
         }
@@ -178,7 +175,6 @@ impl ClientFramer {
         self.path.write(&mut self.frame, self.mfas, &self.trace);
         self.mfas = self.mfas.wrapping_add(1);
         self.at = 0;
-        let _opened = self.frame.as_bytes();
     }
 
     // The next bytes of the frame in hand, as many as there is room for: how many.

@@ -50,7 +50,8 @@ impl PathCheck {
         requires { parity ≡ parity_of COLS frame.now }
         ensures { (frames : List (List ℕ)) → HasChecked COLS PM_ROW PM_BIP8_COLUMN frames self.old → HasChecked COLS PM_ROW PM_BIP8_COLUMN (frames ++ frame.now ∷ []) self.new }
     {
-        let _bytes = frame.as_bytes();
+        // opens the invariant: the frame's width
+        let _opened = frame.as_bytes();
         self.pm.take(frame.get(PM_ROW, PM_BIP8_COLUMN), parity);
     }
 
@@ -67,6 +68,7 @@ pub fn stat<const COLS: usize>(frame: &Frame<COLS>) -> u8
     ensures stat { result ≡ stat_of COLS frame.now }
     ensures bound { result < 8 }
 {
-    let _bytes = frame.as_bytes();
+    // opens the invariant: the frame's width
+    let _opened = frame.as_bytes();
     frame.get(PM_ROW, STAT_COLUMN) % 8
 }

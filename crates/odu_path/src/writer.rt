@@ -1,5 +1,5 @@
 // What writes the path overhead of frames.
-ghost use Rattle.std.specs.Prelude.{◌≡◌, ℕ, List, [], ◌∷◌, ◌++◌, length};
+ghost use Rattle.std.specs.Prelude.{◌≡◌, ℕ, ◌*◌, List, [], ◌∷◌, ◌++◌, length};
 ghost use Rattle.frame_overhead.specs.Parity.{parity_of};
 
 use frame_geometry::Frame;
@@ -50,6 +50,7 @@ impl PathWriter {
         ensures frame { (frames : List (List ℕ)) → HasSent COLS frames self.old
             → IsOduFrame COLS trace.now mfas (or_zero (parity_due COLS frames)) frame.old frame.new }
         ensures sent { (frames : List (List ℕ)) → HasSent COLS frames self.old → HasSent COLS (frames ++ frame.new ∷ []) self.new }
+        ensures size { length frame.new ≡ 4 * COLS }
     {
         let parity = parity(frame);
         self.write_with(frame, mfas, trace, parity);
@@ -68,6 +69,7 @@ impl PathWriter {
             → IsOduFrame COLS trace.now mfas (or_zero (parity_due COLS frames)) frame.old frame.new }
         ensures sent { (frames : List (List ℕ)) → HasSent COLS frames self.old → HasSent COLS (frames ++ frame.new ∷ []) self.new }
         ensures parity { parity_of COLS frame.new ≡ parity }
+        ensures size { length frame.new ≡ 4 * COLS }
     {
         let bip = self.parities.due_byte();
         put_path(frame, trace.byte(mfas), bip);
@@ -81,13 +83,15 @@ ghost use Rattle.odu_path.specs.Path.{HasPath};
 fn put_path<const COLS: usize>(frame: &mut Frame<COLS>, tti: u8, bip: u8)
     ensures path { HasPath COLS tti bip frame.old frame.new }
     ensures parity { parity_of COLS frame.new ≡ parity_of COLS frame.old }
+    ensures size { length frame.new ≡ 4 * COLS }
 {
     let none = [0; ODU_COLUMNS];
     let mut path = [0; ODU_COLUMNS];
     path[PM_TTI_COLUMN as usize - 1] = tti;
     path[PM_BIP8_COLUMN as usize - 1] = bip;
     path[STAT_COLUMN as usize - 1] = NORMAL;
-    let _bytes = frame.as_bytes();
+    // opens the invariant: the frame's width
+    let _opened = frame.as_bytes();
     put_run(frame, 2, 1, &none);
     put_run(frame, PM_ROW, 1, &path);
     put_run(frame, 4, 1, &none);

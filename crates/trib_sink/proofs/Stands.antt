@@ -162,6 +162,7 @@ stands_next own past frames s frame message expected n msi number asked is bytes
 pub is_next : (s : Sink) (frame message : List ℕ) (expected n : ℕ) (msi : List (ℕ × ℕ)) → n ≡ s.taken → n < slots_of s.slots.kind → length msi ≤ length s.msi + 1 → (AreOfSlots s.msi → AreOfSlots msi)
     → IsSink s → IsSink (with_one s frame expected message msi)
 is_next s frame message expected n msi number low few slots h = record {
+  list = h.list;
   port_low = h.port_low;
   port_high = h.port_high;
   count = h.count;

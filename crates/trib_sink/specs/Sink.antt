@@ -23,9 +23,10 @@ pub record Sink : Type 0 where
   pub message : List ℕ
   pub msi : List (ℕ × ℕ)
 
--- what holds of every sink: its port is one of its line, and it has taken no more frames than a multiframe of the line has, with
+-- what holds of every sink: its slots rise, its port is one of its line, and it has taken no more frames than a multiframe of the line has, with
 -- all groups of each
 pub record IsSink (s : Sink) : Type 0 where
+  pub list : IsSlotList (slots_of s.slots.kind) s.slots.list
   pub port_low : 1 ≤ s.port
   pub port_high : s.port ≤ slots_of s.slots.kind
   pub count : s.following.extraction.slots ≡ length s.slots.list

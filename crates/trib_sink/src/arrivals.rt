@@ -33,7 +33,6 @@ pub(crate) fn message_so_far(
 fn greatest_slot(slots: &Slots) -> u8
     ensures { result ≡ greatest slots.now.list }
 {
-    let _rising = slots.count();
     slots.last()
 }
 
@@ -49,7 +48,6 @@ pub(crate) fn note_msi(
     ensures few { length came.new.items ≤ length came.old.items + 1 }
     ensures slots { AreOfSlots came.old.items → AreOfSlots came.new.items }
 {
-    let _rising = slots.count();
     if expected == 0 {
         return;
     }

@@ -19,7 +19,6 @@ pub(crate) fn groups_of_row(slots: &Slots) -> usize
     ensures groups { result ≡ row_cycles slots.now.kind }
     ensures inside { length slots.now.list * result ≤ PAYLOAD_COLUMNS }
 {
-    let _few = slots.count();
     match slots.kind() {
         LineKind::Otu2 => PAYLOAD_COLUMNS / OTU2_SLOTS,
         LineKind::Otu3 => PAYLOAD_COLUMNS / OTU3_SLOTS,

@@ -202,6 +202,7 @@ impl Follower {
         ensures most { result ≤ self.old.extraction.slots * GROUPS + (self.old.extraction.slots - 1) }
         ensures between { IsBetween self.old self.new }
     {
+        // opens the invariant: what is pending fits the standing
         let _opened = &self.payload;
         match next {
             Some(next) => match said.due {

@@ -1,13 +1,13 @@
 // What a message says to a sink, in the first turn of a stretch and in a later one.
 ghost use Rattle.std.specs.Prelude.{◌≡◌, ℕ};
-ghost use Rattle.tributary_model.specs.Machine.{begins, stays};
+ghost use Rattle.tributary_model.specs.Machine.{begun, gone_on};
 ghost use Rattle.trib_sink.specs.Following.{IsSmallHearing, IsSmallSaid, FitsFirst, FitsNext};
 
 use tributary_model::{Hearing, Said};
 
 /// What the first turn of a stretch says, where this message begins one.
 pub(crate) fn begun(heard: Option<Hearing>) -> Option<Said>
-    ensures said { result ≡ begins heard }
+    ensures said { result ≡ begun heard }
     ensures small { (slots : ℕ) → IsSmallHearing slots heard → FitsFirst slots result }
 {
     match heard {
@@ -25,7 +25,7 @@ pub(crate) fn begun(heard: Option<Hearing>) -> Option<Said>
 /// again where it is damaged. The third damaged message in a row ends the stretch; so does a lost one, or
 /// a turn in which nothing is heard.
 pub(crate) fn gone_on(said: Said, heard: Option<Hearing>) -> Option<Said>
-    ensures said { result ≡ stays heard said }
+    ensures said { result ≡ gone_on heard said }
     ensures small { (slots : ℕ) → IsSmallHearing slots heard → IsSmallSaid slots said → FitsNext slots result said.rest }
 {
     match heard {

@@ -99,7 +99,6 @@ impl TribSink {
         ensures slots { self.new.slots ≡ self.old.slots }
         ensures port { self.new.port ≡ self.old.port }
     {
-        let _rising = self.slots.count();
         self.follower.restart();
         let watches = [MsiWatch::new(self.port); MOST_SLOTS];
         self.watches = watches;

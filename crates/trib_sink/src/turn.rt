@@ -40,7 +40,6 @@ pub(crate) fn hear_turn(
     if !whole {
         return None;
     }
-    let _rising = slots.count();
     take_all(watches, came);
     if any_marked(watches, slots.as_slice()) {
         return None;

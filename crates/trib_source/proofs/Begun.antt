@@ -100,6 +100,7 @@ is_begun s capacity scratch stored m number r bytes items message h many said fi
     let nothing_out : length s.slots.list * data_count r.number r.asked ≡ 0 = ap (λ k. length s.slots.list * k) nothing ∙ omega arith in
     let groups : length s.slots.list * r.number ≡ length s.slots.list * said_number s.said = ap (λ k. length s.slots.list * k) (by ∙ said) in
     subst (λ k. IsSource (begun s k r bytes items message) capacity scratch number) (sym many) (record {
+      list = h.list;
       said_high = λ x e. (let same : (s.rest + length bytes) / length s.slots.list ≡ x = ap said_number e in omega arith);
       number_high = omega arith;
       filled_high = omega arith;

@@ -253,6 +253,7 @@ is_filled s capacity scratch stored more r left h low rows e is =
     let before = h.left_is in
     let after : length left + m * data_count s.number (s.asked + more) ≡ m * s.number + (m * said_number s.said + s.rest) = omega arith in
     record {
+      list = h.list;
       said_high = h.said_high;
       number_high = subst (λ k. k ≤ 15232) (sym number) h.number_high;
       filled_high = omega arith;

@@ -42,8 +42,9 @@ AreLeft m c q bytes asked left = left ≡ drop (m * (q + data_count c asked)) by
 abbrev pub groups_in_frames : (line_slots frames : ℕ) → ℕ
 groups_in_frames line_slots frames = ROWS * groups_in_row line_slots * frames
 
--- what holds of every source, with a ring for so many bytes, room for so many in which rows are laid out, and the number of its groups kept
+-- what holds of every source: its slots rise, with a ring for so many bytes, room for so many in which rows are laid out, and the number of its groups kept
 pub record IsSource (s : Source) (capacity scratch kept : ℕ) : Type 0 where
+  pub list : IsSlotList (slots_of s.slots.kind) s.slots.list
   pub said_high : ForSome s.said (λ n. n ≤ GROUPS)
   pub number_high : s.number ≤ GROUPS
   pub filled_high : s.filled ≤ slots_of s.slots.kind

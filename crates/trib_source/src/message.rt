@@ -43,7 +43,6 @@ pub(crate) fn put_own_message(
     ensures kept { (place : ℕ) → (Contains slots.now.list (n + 1) → (row column : ℕ) → 1 ≤ row → row ≤ 3 → 15 ≤ column → column ≤ 16 → place ≡ place_of LINE_COLUMNS row column → ⊥)
         → slice_index frame.new place ≡ slice_index frame.old place }
 {
-    let _rising = slots.count();
     if n + 1 == slots.last() {
         put_message(frame, message);
         return;

@@ -97,7 +97,6 @@ impl TribSource {
         ensures rest { self.new.rest ≡ 0 }
         ensures slots { self.new.slots ≡ self.old.slots }
     {
-        let _rising = self.slots.count();
         self.said = None;
         self.number = 0;
         self.runner = Runner::start(0);
@@ -159,7 +158,6 @@ impl TribSource {
         ensures rest { self.new.rest ≡ self.old.rest }
         ensures slots { self.new.slots ≡ self.old.slots }
     {
-        let _rising = self.slots.count();
         let asked = groups_before(self.slots.kind(), n);
         put_rows(
             &mut self.runner,

@@ -13,7 +13,7 @@ use Rattle.tributary_model.specs.Places.{Tributary, View, IsWhole, AreWholeTurns
 use Rattle.tributary_model.specs.Messages.{hears_message}
 use Rattle.tributary_model.specs.Stretches.{any_marked}
 use Rattle.tributary_model.specs.Emission.{data_bytes, emission}
-use Rattle.tributary_model.specs.Machine.{Machine, begins, next_said, waits_on, opened, went_on, given_of, kept_of, up_gives, after, gives, machine_after}
+use Rattle.tributary_model.specs.Machine.{Machine, begun, next_said, waits_on, opened, went_on, given_of, kept_of, up_gives, after, gives, machine_after}
 use Rattle.tributary_model.specs.Carries.{sent, number_in, rest_in, CarriesTurn, past_of}
 use Rattle.tributary_model.proofs.Law.{machine_next, machine_is_emission}
 use Rattle.tributary_model.proofs.Totals.{emitted_pieces, left_piece, groups_next}
@@ -54,14 +54,14 @@ anew_after m view c d s heard = go s.standing s.pending s.place
     go (Waiting n) pending place = record {
       said = said_now c d None;
       pending = [];
-      is = ap (λ h. opened (begins (Some h)) (waits_on n)) (heard None);
+      is = ap (λ h. opened (begun (Some h)) (waits_on n)) (heard None);
       number = refl;
       rest = refl;
     }
     go Down pending place = record {
       said = said_now c d None;
       pending = [];
-      is = ap (λ h. opened (begins (Some h)) (record { standing = Down; pending = []; place = place + m * 15168 })) (heard None);
+      is = ap (λ h. opened (begun (Some h)) (record { standing = Down; pending = []; place = place + m * 15168 })) (heard None);
       number = refl;
       rest = refl;
     }

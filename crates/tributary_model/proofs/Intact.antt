@@ -10,7 +10,7 @@ use Rattle.tributary_model.specs.Places.{Tributary, View, IsWholeTurn, AreWholeT
 use Rattle.tributary_model.specs.Messages.{hears_message}
 use Rattle.tributary_model.specs.Stretches.{Member, Part, WaitingTurn, DownTurn, StretchTurn, EndingTurn, groups_of, any_marked, goes_on, continues, next_part, course, state_of, state_after}
 use Rattle.tributary_model.specs.Emission.{data_bytes, emission}
-use Rattle.tributary_model.specs.Machine.{Machine, start, begins, stays, waits_on, opened, went_on, heard_in, after, up_gives, gives, machine_after, state_of_standing}
+use Rattle.tributary_model.specs.Machine.{Machine, start, begun, gone_on, waits_on, opened, went_on, heard_in, after, up_gives, gives, machine_after, state_of_standing}
 use Rattle.tributary_model.specs.Carries.{sent, number_in, rest_in, former_of, CarriesTurn, past_of}
 use Rattle.tributary_model.specs.Carriage.{Arrives, IsUpAfter, EmitsTwoLater, EmitsWhatIsCarried, IsUpWhileCarried, EmitsTheRest, HasEqualIndicators, SaysAnew, EmitsAfterDamage, IsUpAfterDamage}
 use Rattle.tributary_model.proofs.Law.{course_next, machine_next, machine_is_emission, state_is}
@@ -242,7 +242,7 @@ first_anew own bytes p views s u r high =
 
 -- the machine after it, and what it gives
 first_after : (m : ℕ) (view : View) (c d : ℕ) → hears_message None m view.message ≡ Pair c d true → after m false (Some view) start ≡ up_at (said_now c d None) []
-first_after m view c d e = ap (λ h. opened (begins (Some h)) (waits_on 0)) e
+first_after m view c d e = ap (λ h. opened (begun (Some h)) (waits_on 0)) e
 
 -- what is known of the first turns
 record Begins (own : Tributary) (bytes p : List ℕ) (views : ℕ → Option View) (s u : ℕ) : Type 0 where
@@ -323,7 +323,7 @@ up_while_carried own bytes p views s u r t low high = healed_up own bytes p view
 -- a machine that is Up, and Down after the turn, gives what is pending
 ends_pending : (m : ℕ) (ais : ℕ → ℕ) (marked : Bool) (view : Option View) (said : Said) (pending : List ℕ) → state_of_standing (after m marked view (up_at said pending)).standing ≡ StateDown
     → gives m ais marked view (up_at said pending) ≡ pending
-ends_pending m ais marked view said pending e = go (stays (heard_in (Some said.number) m marked view) said) e
+ends_pending m ais marked view said pending e = go (gone_on (heard_in (Some said.number) m marked view) said) e
   where
     fresh : List ℕ
     fresh = data_bytes said.number (groups_of view)

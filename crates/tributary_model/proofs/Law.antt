@@ -14,7 +14,7 @@ use Rattle.tributary_model.specs.Places.{Tributary, View, IsWhole, IsWholeTurn, 
 use Rattle.tributary_model.specs.Messages.{hears_message}
 use Rattle.tributary_model.specs.Stretches.{Member, Part, WaitingTurn, DownTurn, StretchTurn, EndingTurn, groups_of, any_marked, fit_pair, fit, is_damaged, two_damaged, goes_on_with, goes_on, is_of_stretch, idle, opens, continues, next_part, course, state_of, state_after}
 use Rattle.tributary_model.specs.Emission.{data_bytes, extracted, extracted_total, emitted_total, numbers_sum, emits_in, emits_at_end, down_run, stream_bytes, emits, emission, amount_of}
-use Rattle.tributary_model.specs.Machine.{Machine, start, first_said, begins, next_said, stays, given_of, kept_of, waits_on, opened, went_on, heard_in, after, down_gives, up_gives, gives, machine_after, state_of_standing}
+use Rattle.tributary_model.specs.Machine.{Machine, start, first_said, begun, next_said, gone_on, given_of, kept_of, waits_on, opened, went_on, heard_in, after, down_gives, up_gives, gives, machine_after, state_of_standing}
 use Rattle.tributary_model.proofs.Stretches.{IsSound, former_rest, left_over, sound_first, nothing_left, Grows, grows, left_at_end, end_count}
 use Rattle.tributary_model.proofs.Heard.{IsSmallPair, small_message}
 
@@ -67,9 +67,9 @@ two_is (x ∷ y ∷ rest) = go (is_damaged x.heard) (is_damaged y.heard) (damage
     go false t n = refl
 
 -- the first turn of a stretch
-begins_is : (m : ℕ) (own : Tributary) (marked : Bool) (view : Option View) → m ≡ length own.slots
-    → begins (heard_in None m marked view) ≡ option_map (λ first. said_of first []) (fit own marked view)
-begins_is m own marked view e = go marked view
+begun_is : (m : ℕ) (own : Tributary) (marked : Bool) (view : Option View) → m ≡ length own.slots
+    → begun (heard_in None m marked view) ≡ option_map (λ first. said_of first []) (fit own marked view)
+begun_is m own marked view e = go marked view
   where
     heard : (v : View) (h : Hearing) → first_said h ≡ option_map (λ first. said_of first []) (fit_pair v h)
     heard v (Pair n r true) = refl
@@ -77,7 +77,7 @@ begins_is m own marked view e = go marked view
     heard v Damaged = refl
     heard v Lost = refl
 
-    go : (b : Bool) (v : Option View) → begins (heard_in None m b v) ≡ option_map (λ first. said_of first []) (fit own b v)
+    go : (b : Bool) (v : Option View) → begun (heard_in None m b v) ≡ option_map (λ first. said_of first []) (fit own b v)
     go true v = refl
     go false None = refl
     go false (Some v) = ap (λ n. first_said (hears_message None n v.message)) e ∙ heard v (hears_message None (length own.slots) v.message)
@@ -97,11 +97,11 @@ next_is v last before Damaged = go (nat_le 2 (damaged_run (last ∷ before))) (t
     go true false e = cc
     go false true e = cc
 
-stays_is : (own : Tributary) (marked : Bool) (view : Option View) (last : Member) (before : List Member)
-    → stays (heard_in (Some last.number) (length own.slots) marked view) (said_of last before) ≡ option_map (λ next. said_of next (last ∷ before)) (goes_on own marked view (last ∷ before))
-stays_is own true view last before = refl
-stays_is own false None last before = refl
-stays_is own false (Some v) last before = next_is v last before (hears_message (Some last.number) (length own.slots) v.message)
+gone_on_is : (own : Tributary) (marked : Bool) (view : Option View) (last : Member) (before : List Member)
+    → gone_on (heard_in (Some last.number) (length own.slots) marked view) (said_of last before) ≡ option_map (λ next. said_of next (last ∷ before)) (goes_on own marked view (last ∷ before))
+gone_on_is own true view last before = refl
+gone_on_is own false None last before = refl
+gone_on_is own false (Some v) last before = next_is v last before (hears_message (Some last.number) (length own.slots) v.message)
 
 -- ---- what a turn brings
 
@@ -340,12 +340,12 @@ idle_groups m n before left h b a (inr e) = (15168, (omega arith, omega arith))
 
 -- a machine that waits or is down
 idle_machine_gives : (m : ℕ) (ais : ℕ → ℕ) (marked : Bool) (view : Option View) (w : Bool) (n place : ℕ)
-    → gives m ais marked view (cond w (waiting_at n) (down_at place)) ≡ cond w [] (down_gives (begins (heard_in None m marked view)) (stream_bytes ais place (m * 15168)))
+    → gives m ais marked view (cond w (waiting_at n) (down_at place)) ≡ cond w [] (down_gives (begun (heard_in None m marked view)) (stream_bytes ais place (m * 15168)))
 idle_machine_gives m ais marked view true n place = refl
 idle_machine_gives m ais marked view false n place = refl
 
 idle_machine_after : (m : ℕ) (marked : Bool) (view : Option View) (w : Bool) (n place : ℕ)
-    → after m marked view (cond w (waiting_at n) (down_at place)) ≡ cond w (opened (begins (heard_in None m marked view)) (waits_on n)) (opened (begins (heard_in None m marked view)) (down_at (place + m * 15168)))
+    → after m marked view (cond w (waiting_at n) (down_at place)) ≡ cond w (opened (begun (heard_in None m marked view)) (waits_on n)) (opened (begun (heard_in None m marked view)) (down_at (place + m * 15168)))
 idle_machine_after m marked view true n place = refl
 idle_machine_after m marked view false n place = refl
 
@@ -359,7 +359,7 @@ idle_turn own ais marked view parts h idle =
     let place = down_run parts * (m * 15168) in
     let part = opens parts o in
     let is : machine_of m parts ≡ cond w (waiting_at (length parts)) (down_at place) = idle_is m parts idle in
-    let first : begins (heard_in None m marked view) ≡ option_map (λ first. said_of first []) o = begins_is m own marked view refl in
+    let first : begun (heard_in None m marked view) ≡ option_map (λ first. said_of first []) o = begun_is m own marked view refl in
     let count = idle_count m ais parts w o refl in
     let one : Follows m ais marked view parts part = record {
       bytes =
@@ -421,7 +421,7 @@ stretch_turn own ais marked view last before parts (Some next) h whole sound e =
     let grown : Grows m next stretch (former_rest before) (data_bytes last.number next.groups) =
     grows m next last before sound turn.number turn.rest (ap length groups ∙ is_whole.many) (subst (All (λ g. length g ≡ m)) (sym groups) is_whole.each) in
     let fresh : data_bytes last.number (groups_of view) ≡ data_bytes last.number next.groups = ap (data_bytes last.number) (sym turn.groups) in
-    let said : stays (heard_in (Some last.number) m marked view) (said_of last before) ≡ Some (said_of next stretch) = stays_is own marked view last before ∙ ap (option_map (λ next. said_of next stretch)) e in
+    let said : gone_on (heard_in (Some last.number) m marked view) (said_of last before) ≡ Some (said_of next stretch) = gone_on_is own marked view last before ∙ ap (option_map (λ next. said_of next stretch)) e in
     let up_to = grown.up_to in
     let near = sound.near in
     let ahead : extracted_total m stretch ≤ m * (emitted_total m stretch / m + 15232) = groups_ahead m (numbers_sum before) (emitted_total m stretch) h sound.near in
@@ -443,7 +443,7 @@ stretch_turn own ais marked view last before parts (Some next) h whole sound e =
 stretch_turn own ais marked view last before parts None h whole sound e =
     let m = length own.slots in
     let stretch = last ∷ before in
-    let said : stays (heard_in (Some last.number) m marked view) (said_of last before) ≡ None = stays_is own marked view last before ∙ ap (option_map (λ next. said_of next stretch)) e in
+    let said : gone_on (heard_in (Some last.number) m marked view) (said_of last before) ≡ None = gone_on_is own marked view last before ∙ ap (option_map (λ next. said_of next stretch)) e in
     let gives_left : left_over m stretch ≡ emits_at_end m stretch = left_at_end m stretch sound in
     let count : emitted_total m stretch + length (emits_at_end m stretch) ≡ m * numbers_sum before = end_count m stretch sound in
     let near = sound.near in

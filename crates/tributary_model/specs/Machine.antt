@@ -51,9 +51,9 @@ first_said Damaged = None
 first_said Lost = None
 
 -- the same of what a turn has: nothing where nothing is heard in it
-abbrev pub begins : Option Hearing → Option Said
-begins None = None
-begins (Some heard) = first_said heard
+abbrev pub begun : Option Hearing → Option Said
+begun None = None
+begun (Some heard) = first_said heard
 
 -- what is said in the next turn, where the stretch goes on
 abbrev pub next_said : Said → Hearing → Option Said
@@ -64,9 +64,9 @@ next_said said Damaged =
     else Some (record { number = said.number; rest = said.rest; damaged = said.damaged + 1; due = Some said.rest })
 
 -- the same of what a turn has: the stretch ends where nothing is heard in it
-abbrev pub stays : Option Hearing → Said → Option Said
-stays None said = None
-stays (Some heard) said = next_said said heard
+abbrev pub gone_on : Option Hearing → Said → Option Said
+gone_on None said = None
+gone_on (Some heard) said = next_said said heard
 
 -- the first turn after the one that began a stretch emits nothing, and each later one all that is pending and as many of the
 -- bytes that it extracts as the remainder of two turns ago
@@ -95,9 +95,9 @@ went_on None said pending fresh = record { standing = Down; pending = []; place 
 
 -- the machine after a turn in which this was heard, and these bytes extracted
 abbrev pub after_standing : (m : ℕ) → Option Hearing → (fresh : List ℕ) → Machine → Standing → Machine
-after_standing m heard fresh s (Waiting n) = opened (begins heard) (waits_on n)
-after_standing m heard fresh s Down = opened (begins heard) (record { standing = Down; pending = []; place = s.place + m * NOMINAL })
-after_standing m heard fresh s (Up said) = went_on (stays heard said) said s.pending fresh
+after_standing m heard fresh s (Waiting n) = opened (begun heard) (waits_on n)
+after_standing m heard fresh s Down = opened (begun heard) (record { standing = Down; pending = []; place = s.place + m * NOMINAL })
+after_standing m heard fresh s (Up said) = went_on (gone_on heard said) said s.pending fresh
 
 -- the same, by how the machine itself stands
 abbrev pub after_heard : (m : ℕ) → Option Hearing → (fresh : List ℕ) → Machine → Machine
@@ -116,8 +116,8 @@ up_gives None said pending fresh = pending
 -- what a turn emits of a machine that stands so: nothing while Waiting; Down as `down_gives` says of the AIS stream; Up as `up_gives` says
 abbrev pub gives_standing : (m : ℕ) → (ais : ℕ → ℕ) → Option Hearing → (fresh : List ℕ) → Machine → Standing → List ℕ
 gives_standing m ais heard fresh s (Waiting n) = []
-gives_standing m ais heard fresh s Down = down_gives (begins heard) (stream_bytes ais s.place (m * NOMINAL))
-gives_standing m ais heard fresh s (Up said) = up_gives (stays heard said) said s.pending fresh
+gives_standing m ais heard fresh s Down = down_gives (begun heard) (stream_bytes ais s.place (m * NOMINAL))
+gives_standing m ais heard fresh s (Up said) = up_gives (gone_on heard said) said s.pending fresh
 
 -- the same, by how the machine itself stands
 abbrev pub gives_heard : (m : ℕ) → (ais : ℕ → ℕ) → Option Hearing → (fresh : List ℕ) → Machine → List ℕ

@@ -1,4 +1,4 @@
-use Rattle.std.proofs.Common.{◌≡◌, ◌+◌, ◌-◌, arith}
+use Rattle.std.proofs.Common.{◌≡◌, ◌+◌, ◌-◌, ◌∙◌, arith}
 use Rattle.gfp_frames.proofs.Idles.{idle_put, idles_put}
 use Rattle.gfp_frames.proofs.maker.put_idles.Goals as goal
 
@@ -7,7 +7,7 @@ loop-into-preserved c =
     let at = c.loop-into.at in
     let sixteen : at + 16 - at ≡ 16 = omega arith in
     let put =
-    idles_put c.loop-into.into at (at + 16 - at) c.copy_from_slice.new.self (omega arith) sixteen c.copy_from_slice.ensures.after c.loop-into.invariant.frames c.loop-into.invariant.idle in
+    idles_put c.loop-into.into at (at + 16 - at) c.copy_from_slice.new.self (omega arith) sixteen (c.copy_from_slice.ensures.after ∙ c.four_idles-four.ensures) c.loop-into.invariant.frames c.loop-into.invariant.idle in
     record { within = put.0; frames = omega arith; idle = put.1 }
 
 pub loop-at-preserved : goal.loop-at-preserved

@@ -1,4 +1,4 @@
-use Rattle.std.proofs.Common.{refl}
+use Rattle.std.proofs.Common.{refl, ◌∙◌}
 use Rattle.otn_base.specs.TrailTrace.{zeros}
 use Rattle.otn_base.proofs.Zeros.{get_or-zeros}
 use Rattle.odu_path.proofs.Bytes.{path_is, path_parity}
@@ -9,6 +9,9 @@ unfolding zeros
 returns-clause-path g c =
     path_is g.row.COLS c.args.tti c.args.bip (zeros 14) c.args.frame.now c.put_run.new.frame c.put_run-2.new.frame c.put_run-3.new.frame refl (get_or-zeros 14)
     c.put_run.ensures.put c.put_run-2.ensures.put c.put_run-3.ensures.put
+
+pub returns-clause-size : goal.returns-clause-size
+returns-clause-size g c = (returns-clause-path g c).size ∙ c.put_run.ensures.size
 
 pub returns-clause-parity : goal.returns-clause-parity
 returns-clause-parity g c =

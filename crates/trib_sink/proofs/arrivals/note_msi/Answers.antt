@@ -11,12 +11,12 @@ returns-then-expected-eq0-clause-bytes c = not_noted c.args.slots.now.list c.arg
 pub returns-then-has-clause-bytes : goal.returns-then-has-clause-bytes
 returns-then-has-clause-bytes c =
     let has : Contains c.args.slots.now.list (c.args.expected - 1) = search rules in
-    noted (slots_of c.args.slots.now.kind) c.args.slots.now.list c.args.frame.now c.args.expected c.get.result c.args.came.now.items c.push.new.self.items c.count-rising.ensures.list (omega arith) has c.push.ensures.items c.get.ensures
+    noted (slots_of c.args.slots.now.kind) c.args.slots.now.list c.args.frame.now c.args.expected c.get.result c.args.came.now.items c.push.new.self.items c.if-has.ensures.list (omega arith) has c.push.ensures.items c.get.ensures
 
 pub returns-then-has-clause-slots : goal.returns-then-has-clause-slots
 returns-then-has-clause-slots c =
     let has : Contains c.args.slots.now.list (c.args.expected - 1) = search rules in
-    noted_slots (slots_of c.args.slots.now.kind) c.args.slots.now.list c.args.expected c.get.result c.args.came.now.items c.push.new.self.items c.count-rising.ensures.list (few_of_kind c.args.slots.now.kind) has c.push.ensures.items
+    noted_slots (slots_of c.args.slots.now.kind) c.args.slots.now.list c.args.expected c.get.result c.args.came.now.items c.push.new.self.items c.if-has.ensures.list (few_of_kind c.args.slots.now.kind) has c.push.ensures.items
 
 pub returns-else-has-clause-bytes : goal.returns-else-has-clause-bytes
-returns-else-has-clause-bytes c = not_noted c.args.slots.now.list c.args.frame.now c.args.expected c.args.came.now.items (λ some has. let false_is_true = c.if-has.ensures.1 has in cc)
+returns-else-has-clause-bytes c = not_noted c.args.slots.now.list c.args.frame.now c.args.expected c.args.came.now.items (λ some has. let false_is_true = c.if-has.ensures.has.1 has in cc)

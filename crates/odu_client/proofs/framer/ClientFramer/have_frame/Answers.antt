@@ -1,4 +1,4 @@
-use Rattle.std.proofs.Common.{sym, ap, arith, length}
+use Rattle.std.proofs.Common.{sym, ap, arith}
 use Rattle.odu_client.proofs.Framing.{makes_none, some_drop}
 use Rattle.odu_client.proofs.framer.ClientFramer.have_frame.Goals as goal
 
@@ -6,7 +6,7 @@ pub returns-then-self-lt-CLIENT_FRAME_BYTES-clause-some :
     goal.returns-then-self-lt-CLIENT_FRAME_BYTES-clause-some
 returns-then-self-lt-CLIENT_FRAME_BYTES-clause-some g c =
     some_drop c.args.self.now.left c.self.inside.frame c.self.inside.at (sym (ap (λ f. f.left) c.self.view_is))
-    (let a = c.as_bytes-opened.ensures.size in let b = ap length c.as_bytes-opened.ensures.bytes in omega arith)
+    (let size = c.self.invariant.2 in omega arith)
 
 pub returns-then-self-lt-CLIENT_FRAME_BYTES-clause-makes :
     goal.returns-then-self-lt-CLIENT_FRAME_BYTES-clause-makes

@@ -10,7 +10,7 @@ use Rattle.odu_client.proofs.FrameBytes.{is_client_frame}
 use Rattle.odu_client.proofs.framer.ClientFramer.make_frame.Goals as goal
 
 pub returns-clause-some : goal.returns-clause-some
-returns-clause-some g c = some_left _ (let a = c.as_bytes-opened.ensures.size in let b = ap length c.as_bytes-opened.ensures.bytes in omega arith)
+returns-clause-some g c = some_left _ (let size = c.write.ensures.size in omega arith)
 
 pub returns-clause-makes : goal.returns-clause-makes
 returns-clause-makes g c = λ first taken gone h.

@@ -7,5 +7,5 @@ returns-clause-stands c =
     let i = c.self.inside in
     let w = c.new-watches.result in
     rw (c.clear.ensures, ← c.self.view_is)
-    (stands_start i.slots i.message i.port c.restart.new.self (replicate 32 w) c.count-rising.ensures.list
+    (stands_start i.slots i.message i.port c.restart.new.self (replicate 32 w) c.self.invariant.list
     c.restart.ensures.at c.restart.ensures.fresh c.restart.ensures.number (none_taken i.port w c.new-watches.ensures))

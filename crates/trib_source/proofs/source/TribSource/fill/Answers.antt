@@ -33,7 +33,7 @@ returns-clause-put c = λ own turns stands.
     let rows : RowsWerePut (slots_of i.slots.kind) i.slots.list (byte_laid (length i.slots.list) i.runner.number i.runner.asked i.ring.items) 4 c.args.frame.now c.put_rows.new.frame =
     subst (λ k. RowsWerePut (slots_of i.slots.kind) i.slots.list (byte_laid (length i.slots.list) k i.runner.asked i.ring.items) 4 c.args.frame.now c.put_rows.new.frame) h.kept_is c.put_rows.ensures.rows in
     let put : FramePut s c.args.n c.args.frame.now c.put_rows.new.frame c.put_own_message.new.frame =
-    record { list = c.count-rising.ensures.list; rows = rows; own = message.greatest; other = message.other; kept = message.kept } in
+    record { list = h.list; rows = rows; own = message.greatest; other = message.other; kept = message.kept } in
     own_frame own s i.ring.capacity (vec_len i.scratch) i.number turns c.args.n c.args.frame.now c.put_rows.new.frame c.put_own_message.new.frame h some put
     (subst (λ (x : Source). StandsAfter own turns c.args.n x) (sym c.self.view_is) stands)
 
@@ -46,7 +46,7 @@ returns-clause-kept c = λ port row column a b d f none.
     let rows : RowsWerePut (slots_of i.slots.kind) i.slots.list (byte_laid (length i.slots.list) i.runner.number i.runner.asked i.ring.items) 4 c.args.frame.now c.put_rows.new.frame =
     subst (λ k. RowsWerePut (slots_of i.slots.kind) i.slots.list (byte_laid (length i.slots.list) k i.runner.asked i.ring.items) 4 c.args.frame.now c.put_rows.new.frame) h.kept_is c.put_rows.ensures.rows in
     let put : FramePut s c.args.n c.args.frame.now c.put_rows.new.frame c.put_own_message.new.frame =
-    record { list = c.count-rising.ensures.list; rows = rows; own = message.greatest; other = message.other; kept = message.kept } in
+    record { list = h.list; rows = rows; own = message.greatest; other = message.other; kept = message.kept } in
     frame_kept s port c.args.n c.args.frame.now c.put_rows.new.frame c.put_own_message.new.frame put row column a b d f
     (subst (λ (x : Source). IsSourcePlace (tributary_of x.slots port) c.args.n row column → ⊥) (sym c.self.view_is) none)
 
