@@ -25,7 +25,7 @@ take_fresh-count-requires-clause-enough c =
     let wide : w * (done + 1) ≤ w * 4 = mul-le-mul_left w (omega arith) in
     subst (λ k. AreEnough k n (c.args.asked + c.cycles_in_row-cycles.result * done) left) (sym c.count-m.ensures.count)
     (subst (λ k. AreEnough m n k left) (sym at)
-    (enough_left m n a (w * done) c.args.ring.now.items left (ap (λ (b : Buffer _). b.items) c.loop-done.invariant.ring) c.requires.low (omega arith) c.requires.enough))
+    (enough_left m n a (w * done) c.args.ring.now.items left (ap (λ (b : Buffer _). b.items) c.loop-done.invariant.ring) c.requires.most (omega arith) c.requires.enough))
 
 pub loop-done-preserved : goal.loop-done-preserved
 loop-done-preserved c =
