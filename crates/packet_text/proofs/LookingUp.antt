@@ -7,7 +7,7 @@ use Rattle.hex.specs.Hex.{decode_of, decode_pairs, pair_value}
 use Rattle.hex.proofs.Pairs.{prepend, decode_step, decode_err, decode_done, decode_start}
 use Rattle.hex.proofs.HexLemmas.{decode_of-even}
 use Rattle.packet_text.specs.PacketText.{decoded}
-use Rattle.packet_text.specs.PairAnswers.{as_number}
+use Rattle.packet_text.specs.PairAnswers.{as_number, AnswersAll}
 use Rattle.packet_text.proofs.Asking.{kept_byte, kept_refusal}
 
 -- Of the digits so many pairs were looked up, and these are all bits that stood in any answer.
@@ -66,3 +66,10 @@ looked_up digits bytes i all size over h = ap decoded (decode_of-even digits (om
     by_test (inr large) =
         let t : nat_lt all 256 ≡ false = grind (arith, nat_tests) in
         rw t (h.refused large)
+
+-- a pair more is looked up in the table
+pub looked_on : (table digits bytes : List ℕ) (i all place : ℕ) → AnswersAll table → 2 * i + 1 < length digits → i < length bytes
+    → slice_index digits (2 * i) < 256 → slice_index digits (2 * i + 1) < 256 → place ≡ slice_index digits (2 * i) + 256 * slice_index digits (2 * i + 1)
+    → LookedUp digits bytes i all → LookedUp digits (slice_set bytes i (bit_and (slice_index table place) 255)) (i + 1) (bit_or all (slice_index table place))
+looked_on table digits bytes i all place right fits room first second at h =
+    one_more digits bytes i all (slice_index table place) fits room (ap (slice_index table) at ∙ right.at _ _ first second) h

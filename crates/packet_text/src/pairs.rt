@@ -34,6 +34,7 @@ impl DigitPairs {
     }
 
     /// Writes the bytes that the digits say to the slice, and says whether they are digits; if not, the slice's content is open.
+    #[tactic(auto, using(crate::proofs::LookingUp::looked_on, crate::proofs::LookingUp::looked_up))]
     pub(crate) fn decode(&self, digits: &[u8], bytes: &mut [u8]) -> bool
         requires { length digits.now ≡ 2 * length bytes.old }
         ensures { decoded (decode_of digits.now) ≡ (if result then Some bytes.new else None) }
@@ -50,6 +51,7 @@ impl DigitPairs {
 }
 
 // Asks for all pairs, by their second digit.
+#[tactic(auto, using(crate::proofs::Asking::row_kept))]
 fn ask_all(answers: &mut [u16])
     requires { length answers.old ≡ 65536 }
     ensures { AnswersAll answers.new }
@@ -74,6 +76,7 @@ fn ask_row(second: u8, row: &mut [u16])
 }
 
 // Asks for a pair.
+#[tactic(auto, using(crate::proofs::Asking::asked_ok))]
 fn ask(first: u8, second: u8) -> u16
     ensures { result ≡ as_number (pair_value first second 0) }
 {
