@@ -7,11 +7,11 @@ use Rattle.hex.proofs.HexLemmas.{decode_of-odd}
 use Rattle.packet_text.specs.PacketText.{without_cr, bytes_of_line, decoded}
 
 -- what a line gives by what its digits decode to
-pub read_ok : (line digits out : List ℕ) → digits ≡ without_cr line → length digits ≤ 131054 → decoded (decode_of digits) ≡ Some out → bytes_of_line line ≡ Some out
+pub read_ok : (line digits out back : List ℕ) (n : ℕ) → digits ≡ without_cr line → length digits ≤ 131054 → decoded (decode_of digits) ≡ Some out → length out ≡ n → bytes_of_line line ≡ Some (take n (out ++ back))
 unfolding bytes_of_line
-read_ok line digits out e fits h =
+read_ok line digits out back n e fits h size =
     let test : nat_le (length (without_cr line)) 131054 ≡ true = rw (← e) (grind (arith, nat_tests)) in
-    rw test (rw e at h)
+    rw (test, take_at out back n size) (rw e at h)
 
 pub read_none : (line digits : List ℕ) → digits ≡ without_cr line → decoded (decode_of digits) ≡ None → bytes_of_line line ≡ None
 unfolding bytes_of_line
@@ -29,6 +29,3 @@ unfolding bytes_of_line
 read_long line digits e long =
     let test : nat_le (length (without_cr line)) 131054 ≡ false = rw (← e) (grind (arith, nat_tests)) in
     rw test refl
-
-pub take_front : (out back : List ℕ) (n : ℕ) → length out ≡ n → take n (out ++ back) ≡ out
-take_front out back n e = take_at out back n e

@@ -11,6 +11,7 @@ const CR: u8 = b'\r';
 
 /// Writes the packet of a line to the front of the slice, and says how many bytes it has: none where the line is empty.
 /// None where the line is bad; the slice's content is then open.
+#[tactic(auto, using(crate::proofs::LineBytes::read_long, crate::proofs::LineBytes::read_odd, crate::proofs::LineBytes::read_none))]
 pub(crate) fn read_line(pairs: &DigitPairs, line: &[u8], packet: &mut [u8]) -> Option<usize>
     requires { length packet.old ≡ 65527 }
     ensures { MatchOption result (bytes_of_line line.now ≡ None) (λ n. (n ≤ 65527) × (bytes_of_line line.now ≡ Some (take n packet.new))) }
