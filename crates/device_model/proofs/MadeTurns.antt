@@ -8,7 +8,7 @@ use Rattle.std.proofs.Math.Nat.{mod-eq_of_lt, mul-suc, mul-zero, div-add-mod}
 use Rattle.line_side.specs.LineFile.{mfas_of}
 use Rattle.line_side.specs.LineForm.{size_of}
 use Rattle.line_side.proofs.Mfas.{index_mfas, length_mfas}
-use Rattle.multiframe.specs.LineTurns.{begins, is_start, least_or, least_start, Lock, LineState, Hunting, Locked, Ended, lock_from, lock_of, one_unless, wrong_count, CutShort, Lost, Whole, outcome_of, after_outcome, after_hunt, after_turn, line_state, kept_if, multiframe_at, multiframe}
+use Rattle.multiframe.specs.LineTurns.{starts, is_start, least_or, least_start, Lock, LineState, Hunting, Locked, Ended, lock_from, lock_of, one_unless, wrong_count, CutShort, Lost, Whole, outcome_of, after_outcome, after_hunt, after_turn, line_state, kept_if, multiframe_at, multiframe}
 use Rattle.plan_file.specs.declared.plan.Plan.{Plan}
 use Rattle.otn_base.specs.LineSlots.{slots_of}
 use Rattle.otn_base.specs.declared.line_kind.LineKind.{LineKind}
@@ -25,20 +25,20 @@ pub record GoOn (ms : List ℕ) : Type 0 where
 pub next_turn : (size past : ℕ) → size * (past + 1) ≡ size * past + size
 next_turn size past = ap (λ k. size * k) (add-one past) ∙ mul-suc size past
 
--- where the multiframe of turn past + 1 begins
+-- where the multiframe of turn past + 1 starts
 abbrev pub lock_at : (size past : ℕ) → Lock
 lock_at size past = record { frame = size * past; expected = size * past % 256 }
 
 -- ---- the first turn
 
-begins_here : (size first second : ℕ) → 0 < size → first ≡ 0 → second ≡ 1 → begins size first second ≡ true
+begins_here : (size first second : ℕ) → 0 < size → first ≡ 0 → second ≡ 1 → starts size first second ≡ true
 begins_here size first second some a b =
     let none : first % size ≡ 0 = ap (λ n. n % size) a ∙ mod-eq_of_lt some in
     and_from (first % size == 0) (second == first + 1) (eq-eqb (first % size) 0 none) (eq-eqb second (first + 1) (omega arith))
 
 starts_here : (size : ℕ) (ms : List ℕ) → 0 < size → 2 ≤ length ms → GoOn ms → is_start size ms 0 ≡ true
 starts_here size ms some many on =
-    and_from (nat_lt 1 (length ms)) (begins size (get_or ms 0 0) (get_or ms 1 0)) (lt-ltb 1 (length ms) (omega arith))
+    and_from (nat_lt 1 (length ms)) (starts size (get_or ms 0 0) (get_or ms 1 0)) (lt-ltb 1 (length ms) (omega arith))
     (begins_here size (get_or ms 0 0) (get_or ms 1 0) some (on.each 0 (omega arith)) (on.each 1 (omega arith)))
 
 first_start : (size : ℕ) (ms : List ℕ) (k : ℕ) → is_start size ms 0 ≡ true → least_start size ms 0 (suc k) ≡ Some 0

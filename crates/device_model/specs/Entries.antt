@@ -15,7 +15,7 @@ use Rattle.plan_file.specs.declared.plan.Plan.{Plan}
 
 -- ---- turns
 
--- the connection's first turn, among those of the plan
+-- how many turns of the plan are past before the connection's first, which is turn start
 abbrev pub first_turn : Connection → ℕ
 first_turn x = x.start - 1
 

@@ -3,7 +3,7 @@ use Rattle.std.proofs.Common.{◌≡◌, ◌≢◌, ◌≤◌, ◌+◌, ◌%◌,
 use Rattle.std.specs.Prelude.{slice_index, ◌&&◌, IfSome}
 use Rattle.std.proofs.lemmas.Bool.Decides.{nat_tests}
 use Rattle.otn_ports.specs.Views.{InView}
-use Rattle.multiframe.specs.LineTurns.{one_if, looked_ahead, is_start, begins}
+use Rattle.multiframe.specs.LineTurns.{one_if, looked_ahead, is_start, starts}
 use Rattle.line_side.specs.declared.ending.Ending.{Ending}
 use Rattle.line_side.specs.declared.ending.Ending.TheVariants.{Open, Seen, Died}
 use Rattle.line_side.specs.LineFile.{frame_at, frame_mfas, whole_frames, mfas_of}
@@ -61,7 +61,7 @@ begins_not size old was alone other = record {
 -- it has, and the next frame was looked size at
 looked : (size : ℕ) (given : List ℕ) (n' u w : ℕ) (result said : Bool) (r : ReaderView) → eqb (frame_mfas (frame_at given u) % size) 0 ≡ true → u + 1 ≤ whole_frames given
     → LookedAhead given n' (u + 1) (max w (u + 1 + 1)) result r
-    → (result ≡ false → said ≡ false) → (result ≡ true → IfSome r.ahead (λ frame. said ≡ begins size (frame_mfas (frame_at given u)) (frame_mfas frame)))
+    → (result ≡ false → said ≡ false) → (result ≡ true → IfSome r.ahead (λ frame. said ≡ starts size (frame_mfas (frame_at given u)) (frame_mfas frame)))
     → Began size given n' u w said r
 looked size given n' u w result said r fits within look none some =
     let count = length_mfas given in
@@ -87,15 +87,15 @@ looked size given n' u w result said r fits within look none some =
         let f = look.frame e in
         let inside : ltb (u + 1) (length (mfas_of given)) ≡ true = (let l = f.0 in let count = length_mfas given in grind (arith, nat_tests)) in
         let next : slice_index (mfas_of given) (u + 1) ≡ frame_mfas (frame_at given (u + 1)) = index_mfas given (u + 1) f.0 in
-        let P : Option (List ℕ) → Type 0 = λ a. IfSome a (λ frame. said ≡ begins size (frame_mfas (frame_at given u)) (frame_mfas frame)) in
-        let s : said ≡ begins size (frame_mfas (frame_at given u)) (frame_mfas (frame_at given (u + 1))) = subst P f.1 (some e) in
-        ap (λ b. b && begins size (slice_index (mfas_of given) u) (slice_index (mfas_of given) (u + 1))) inside
-        ∙ ap (λ m. begins size m (slice_index (mfas_of given) (u + 1))) mf
-        ∙ ap (λ m. begins size (frame_mfas (frame_at given u)) m) next
+        let P : Option (List ℕ) → Type 0 = λ a. IfSome a (λ frame. said ≡ starts size (frame_mfas (frame_at given u)) (frame_mfas frame)) in
+        let s : said ≡ starts size (frame_mfas (frame_at given u)) (frame_mfas (frame_at given (u + 1))) = subst P f.1 (some e) in
+        ap (λ b. b && starts size (slice_index (mfas_of given) u) (slice_index (mfas_of given) (u + 1))) inside
+        ∙ ap (λ m. starts size m (slice_index (mfas_of given) (u + 1))) mf
+        ∙ ap (λ m. starts size (frame_mfas (frame_at given u)) m) next
         ∙ sym s
 
 pub begins_by : (size : ℕ) (result said : Bool) (old : ReaderView) (was : InView) (new : ReaderView) (is : InView) → old.ahead ≡ None → eqb (frame_mfas old.hand % size) 0 ≡ true → LooksAhead result old was new is
-    → (result ≡ false → said ≡ false) → (result ≡ true → IfSome new.ahead (λ frame. said ≡ begins size (frame_mfas old.hand) (frame_mfas frame))) → Begins size said old was new is
+    → (result ≡ false → said ≡ false) → (result ≡ true → IfSome new.ahead (λ frame. said ≡ starts size (frame_mfas old.hand) (frame_mfas frame))) → Begins size said old was new is
 begins_by size result said old was new is alone fits look none some = record {
   came = look.came;
   step = look.step;
@@ -105,11 +105,11 @@ begins_by size result said old was new is alone fits look none some = record {
       let zero : count_of old.ahead ≡ 0 = ap count_of alone in
       looked size given (length (taken ++ look.came)) u w result said new
       (ap (λ frame. eqb (frame_mfas frame % size) 0) (sym hand) ∙ fits) (omega arith) (look.line given taken (u + 1) w may (same_used given (length taken) used (u + 1) w old e h)) none
-      (λ e. let P : List ℕ → Type 0 = λ hand. IfSome new.ahead (λ frame. said ≡ begins size (frame_mfas hand) (frame_mfas frame)) in subst P hand (some e));
+      (λ e. let P : List ℕ → Type 0 = λ hand. IfSome new.ahead (λ frame. said ≡ starts size (frame_mfas hand) (frame_mfas frame)) in subst P hand (some e));
 }
 
 -- what is said of the frame in hand and of the next MFAS
-pub some_said : (size : ℕ) (ahead : Option (List ℕ)) (first hand next : ℕ) (said : Bool) → said ≡ begins size first next → first ≡ hand → IfSome ahead (λ frame. next ≡ frame_mfas frame)
-    → IfSome ahead (λ frame. said ≡ begins size hand (frame_mfas frame))
+pub some_said : (size : ℕ) (ahead : Option (List ℕ)) (first hand next : ℕ) (said : Bool) → said ≡ starts size first next → first ≡ hand → IfSome ahead (λ frame. next ≡ frame_mfas frame)
+    → IfSome ahead (λ frame. said ≡ starts size hand (frame_mfas frame))
 some_said size None first hand next said e f h = tt
-some_said size (Some frame) first hand next said e f h = e ∙ ap (λ m. begins size m next) f ∙ ap (begins size hand) h
+some_said size (Some frame) first hand next said e f h = e ∙ ap (λ m. starts size m next) f ∙ ap (starts size hand) h

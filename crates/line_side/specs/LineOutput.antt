@@ -34,13 +34,13 @@ pub record FramePut : Type 0 where
 abbrev pub psi_byte_at : (ports : List ℕ) → (mfas row col byte : ℕ) → ℕ
 psi_byte_at ports mfas row col byte = if (row == PSI_ROW) && (col == PSI_COLUMN) then psi_of ports mfas else byte
 
--- The byte of line n in a row and a column of a frame with this parity, where a byte was put: section overhead and the columns
+-- The byte of line n in a row and a column of a frame that carries this BIP-8, where a byte was put: section overhead and the columns
 -- of the FEC, path overhead, and the PSI byte by the ports of the slots. Every other byte is as it was put.
 abbrev pub line_byte : (n bip : ℕ) → FramePut → (row col byte : ℕ) → ℕ
 line_byte n bip put row col byte =
     otu_byte put.mfas (line_tti n put.mfas) bip row col (path_byte (line_tti n put.mfas) bip row col (psi_byte_at put.ports put.mfas row col byte))
 
--- the frame of line n with this parity in which this was put
+-- the frame of line n that carries this BIP-8, in which this was put
 pub record IsLineFrame (n bip : ℕ) (put : FramePut) (frame : List ℕ) : Type 0 where
   pub size : length frame ≡ LINE_FRAME_BYTES
   pub byte : (row col : ℕ) → IsPlace LINE_COLUMNS row col → byte_of LINE_COLUMNS row col frame ≡ line_byte n bip put row col (byte_of LINE_COLUMNS row col put.bytes)

@@ -44,8 +44,8 @@ frames_taken line = taken_count line.alignment
 abbrev pub used_frames : (size : ℕ) → (given : List ℕ) → (t pieces : ℕ) → List (List ℕ)
 used_frames size given t pieces = first_frames given (used_in size (mfas_of given) (line_state size (mfas_of given) t) pieces)
 
--- The line, whose multiframes have so many frames, is in turn t + 1 of the line that these bytes are, after line.pieces of its
--- pieces. Of the bytes n were read: so many frames as the turns so far want, or all where they want one that is not whole.
+-- An input line whose bytes are `given` and whose multiframes have `size` frames is seen so after the turns 1 to t and line.pieces
+-- pieces of turn t + 1. Of `given` n bytes were read: so many frames as the turns so far want, or all where they want one that is not whole.
 pub record IsLine (size : ℕ) (given : List ℕ) (n t : ℕ) (line : LineView) : Type 0 where
   pub read : HasRead given n (used_in size (mfas_of given) (line_state size (mfas_of given) t) line.pieces) (wanted_so_far size (mfas_of given) t line.pieces) line.reader
   pub alignment : AlignedIn size (mfas_of given) (line_state size (mfas_of given) t) line.pieces line.alignment
@@ -56,7 +56,7 @@ pub record IsLine (size : ℕ) (given : List ℕ) (n t : ℕ) (line : LineView) 
   pub lost : line.lost ≡ saturated (lost_count size (mfas_of given) t)
 
 -- A line of this form stands in turn t + 1 after line.pieces of its pieces. `first` and `now` are views of its place, between
--- which these bytes were taken: whatever it may turn out to have behind them, it is a line of all these bytes.
+-- which these bytes were taken: whatever stands behind them, `IsLine` holds of both together, unscrambled.
 pub record LineStands (form : LineForm) (first now : InView) (taken : List ℕ) (t : ℕ) (line : LineView) : Type 0 where
   pub is_form : form_of line ≡ form
   pub gave : Gave first taken now
@@ -77,15 +77,15 @@ pub record PieceStands (form : LineForm) (first now : InView) (taken : List ℕ)
   pub stands : LineStands form first now (taken ++ came) t new
   pub earlier : (given : List ℕ) → MayBe form.scrambled new.reader.ending (taken ++ came) given → MayBe form.scrambled old.reader.ending taken given
 
--- What holds of a line in each turn, whatever place it is read from and whatever it may turn out to have: `given` are all bytes
+-- What holds of a line in the turn in which it stands, whichever that is, whatever place it is read from and whatever it may turn out to have: `given` are all bytes
 -- of the line, and it stands in turn t + 1.
-abbrev pub InEachTurn : LineView → ((form : LineForm) → (given : List ℕ) → (t : ℕ) → Type 0) → Type 0
-InEachTurn line Holds = (now : InView) → AsStood now line (λ form first taken t. (given : List ℕ) → MayBe form.scrambled line.reader.ending taken given → Holds form given t)
+abbrev pub InItsTurn : LineView → ((form : LineForm) → (given : List ℕ) → (t : ℕ) → Type 0) → Type 0
+InItsTurn line Holds = (now : InView) → AsStood now line (λ form first taken t. (given : List ℕ) → MayBe form.scrambled line.reader.ending taken given → Holds form given t)
 
 -- What holds of the frame of a multiframe to which the last piece of the turn came, if it came to one: of all bytes of the line
 -- and of the number of the frame with the MFAS expected in it.
 abbrev pub OfMember : LineView → ((given : List ℕ) → (member : Lock) → Type 0) → Type 0
-OfMember line Holds = InEachTurn line (λ form given t. IfSome (in_hand (size_of form) (mfas_of given) (line_state (size_of form) (mfas_of given) t) line.pieces) (Holds given))
+OfMember line Holds = InItsTurn line (λ form given t. IfSome (in_hand (size_of form) (mfas_of given) (line_state (size_of form) (mfas_of given) t) line.pieces) (Holds given))
 
 -- The line takes no frame before its next turn: it has ended, or it hunts and has done so in this turn, in its first piece.
 abbrev pub AwaitsTurn : LineView → Type 0

@@ -11,12 +11,12 @@ pub fn takes_the_wanted()
     ensures { TakesTheWanted }
 {}
 
-/// A line output has one file for what is put into its frames.
+/// An output line has one file for what is put into its frames.
 pub fn one_line_file()
     ensures { OneLineFile }
 {}
 
-/// Each frame of a line output's file is fixed by what was put into it and by the frame two before it.
+/// Each frame of an output line, before its mask, is fixed by what was put into it and by the frame two before it.
 pub fn frame_by_frame()
     ensures { FrameByFrame }
 {}
@@ -31,7 +31,7 @@ pub fn frames_through_mask()
     ensures { FramesThroughMask }
 {}
 
-/// What a scrambled line output writes is read back by a scrambled line input.
+/// What a scrambled output line writes is read back by a scrambled input line.
 pub fn masked_twice()
     ensures { MaskedTwice }
 {}

@@ -1,4 +1,4 @@
-// An input line: it finds multiframes in the frames that come, one in each turn.
+// An input line: it finds multiframes in the frames that come, one in a turn or none.
 ghost use Rattle.std.specs.Prelude.{◌≡◌, ◌≢◌, ◌↔◌, ◌+◌, ◌-◌, ◌%◌, ◌<◌, ◌≤◌, ℕ, List, [], true, false, None, IfOk, IfSome, IsSome, IsSomeAnd, IsTrue, length};
 ghost use Rattle.std.specs.Option.{ForSome};
 ghost use Rattle.otn_base.specs.LineSlots.{slots_of};
@@ -17,10 +17,10 @@ use otn_ports::{InPlaceOf, Source};
 use std::alloc::Global;
 use std::marker::Model;
 
-/// An input line of a node, of either kind, plain or scrambled. Each of its turns is one multiframe, of S frames where the
-/// line has S slots, done in S pieces of one frame each. It hunts for a multiframe, and passes over the frames before it as
-/// lead-in, which takes no turn; it is locked while at most half of the MFAS bytes of each multiframe differ from the
-/// expected ones (G.709 clause 15.6). It checks the overhead of the frames that it uses where `COUNTS` is 1.
+/// An input line of a node, of either kind, plain or scrambled. Each of its turns is done in S pieces where the
+/// line has S slots, and has one multiframe of S frames, or none. A turn that hunts looks for one (G.709 clause 15.6) that begins
+/// within S frames: the frames before it are lead-in. Where none begins there these S are lead-in, and the turn has none. The line
+/// stays locked, by a rule of ours, while at most half of the MFAS bytes of each multiframe differ from the expected ones. It checks the overhead of the frames that it uses where `COUNTS` is 1.
 #[derive(Drop)]
 pub struct LineIn<const COUNTS: usize> {
     phase: Phase,
@@ -50,7 +50,7 @@ impl<const COUNTS: usize> Model for LineIn<COUNTS> {
 }
 
 impl<const COUNTS: usize> LineIn<COUNTS> {
-    ghost use Rattle.line_side.specs.LineStands.{LineStands, AsStood, PieceStands, InEachTurn, OfMember, AwaitsTurn, TurnEnded, frames_taken};
+    ghost use Rattle.line_side.specs.LineStands.{LineStands, AsStood, PieceStands, InItsTurn, OfMember, AwaitsTurn, TurnEnded, frames_taken};
     ghost use Rattle.line_side.specs.LineMoves.{TakesNext, Tries, Hunts, StepMoves, EndMoves};
     ghost use Rattle.line_side.specs.Reader.{AsksNoMore, rest_of};
     ghost use Rattle.line_side.specs.LineFile.{frame_at};
@@ -75,7 +75,8 @@ impl<const COUNTS: usize> LineIn<COUNTS> {
         })
     }
 
-    /// Does the next piece of the turn, and says whether a frame of the turn's multiframe is now in hand. The first
+    /// Does the next piece of the turn, and says whether a frame of the multiframe on which the turn is locked is now in hand; that the
+    /// turn has this multiframe only `end_turn` says. The first
     /// piece of a turn that hunts reads up to S + 1 frames. A line that has ended, or that found no multiframe in this
     /// turn, reads nothing.
     pub fn piece<P: Source>(&mut self, place: &mut InPlaceOf<P>) -> bool
@@ -90,11 +91,11 @@ impl<const COUNTS: usize> LineIn<COUNTS> {
         // bytes are taken of a live place, or none, and any other place is as it was
         ensures gave { (came : List ℕ) × Gave (in_view P.Source place.old) came (in_view P.Source place.new) }
 
-        // once the end was seen, the place died or the line has ended, the place is asked nothing more
+        // once the end was seen, the place died or the line has ended, the place is asked nothing more (of a line that has ended `awaits` says it too)
         ensures quiet { self.old.reader.ending ≢ Open → place.new ≡ place.old }
         ensures ended { self.old.ended ≡ true → place.new ≡ place.old }
 
-        // after a piece that came to no frame of a multiframe the turn's others come to none, and ask the place nothing
+        // after a piece that came to no frame the turn's others come to none and ask the place nothing; so do all pieces of a line that has ended
         ensures missed { result ≡ false → AwaitsTurn self.new }
         ensures awaits { AwaitsTurn self.old → (result ≡ false) × (place.new ≡ place.old) }
     {
@@ -105,7 +106,7 @@ impl<const COUNTS: usize> LineIn<COUNTS> {
         self.has_frame
     }
 
-    /// The frame in hand: one of the turn's multiframe, through the line's mask. The last piece has said that there is one.
+    /// The frame in hand, unscrambled: one of the multiframe on which the turn is locked. The last piece has said that there is one.
     #[tactic(auto, using(crate::proofs::Ended::hand_in))]
     pub fn frame(&self) -> &Frame<LINE_COLUMNS>
         requires { self.now.has_frame ≡ true }
@@ -128,7 +129,7 @@ impl<const COUNTS: usize> LineIn<COUNTS> {
     pub fn end_turn(&mut self) -> bool
         requires { self.old.pieces ≡ slots_of self.old.kind }
         ensures stands { (now : InView) → AsStood now self.old (λ form first taken t. LineStands form first now taken (t + 1) self.new) }
-        ensures turn { InEachTurn self.old (λ form given t. TurnEnded form given t result self.new) }
+        ensures turn { InItsTurn self.old (λ form given t. TurnEnded form given t result self.new) }
         ensures kind { self.new.kind ≡ self.old.kind }
         ensures ending { self.new.reader.ending ≡ self.old.reader.ending }
         ensures pieces { self.new.pieces ≡ 0 }
@@ -154,7 +155,7 @@ impl<const COUNTS: usize> LineIn<COUNTS> {
         whole
     }
 
-    /// Whether the line has ended: no later turn has a multiframe.
+    /// Whether the line has ended: neither the turn in which that was found nor a later one has a multiframe.
     pub fn ended(&self) -> bool
         ensures { result ≡ self.now.ended }
     {
@@ -171,7 +172,7 @@ impl<const COUNTS: usize> LineIn<COUNTS> {
     /// How many bytes came after the last whole frame, where the end was seen.
     pub fn rest(&self) -> u64
         ensures rest { result ≡ self.now.reader.rest }
-        ensures line { InEachTurn self.now (λ form given t. result ≡ rest_of self.now.reader.ending given) }
+        ensures line { InItsTurn self.now (λ form given t. result ≡ rest_of self.now.reader.ending given) }
     {
         self.reader.rest()
     }
@@ -251,7 +252,7 @@ impl<const COUNTS: usize> LineIn<COUNTS> {
 }
 
 impl LineIn<1> {
-    ghost use Rattle.line_side.specs.LineStands.{InEachTurn};
+    ghost use Rattle.line_side.specs.LineStands.{InItsTurn};
     ghost use Rattle.line_side.specs.LineNumbers.{numbers_of};
 
     /// The numbers of the line so far.
@@ -261,7 +262,7 @@ impl LineIn<1> {
         ensures lead_in { result.lead_in ≡ self.now.lead_in }
         ensures lost { result.lost ≡ self.now.lost }
         ensures rest { result.rest ≡ self.now.reader.rest }
-        ensures line { InEachTurn self.now (λ form given t. result ≡ numbers_of form self.now.reader.ending given t self.now.pieces) }
+        ensures line { InItsTurn self.now (λ form given t. result ≡ numbers_of form self.now.reader.ending given t self.now.pieces) }
     {
         let seen = self.reader.seen();
         LineCounts {

@@ -48,7 +48,7 @@ impl LineOut {
     ghost use Rattle.otn_base.specs.Counts.{saturated};
     ghost use Rattle.otn_ports.specs.Given.{Gained};
 
-    /// Line output n, 0 to 3, of this kind, scrambled or plain, before its first frame.
+    /// Output line n, 0 to 3, of this kind, scrambled or plain, before its first frame.
     pub fn new(alloc: Global, line: u8, kind: LineKind, scrambled: bool) -> Result<LineOut, Memory>
         requires { line < 4 }
         ensures { IfOk result (λ out. (first : OutView) → LineMade line (record { kind = kind; scrambled = scrambled }) first first [] out) }
@@ -82,7 +82,7 @@ impl LineOut {
     }
 
     /// Adds the overhead to the frame, which has this MFAS on a line whose slots are used so, and writes it through the
-    /// line's mask. The MSI bytes are those of the map's slots, so the map of a line is one of its `kind`.
+    /// line's mask. The MSI bytes are those of the map's slots; no clause asks that the map be of the line's `kind`: the caller sees to it.
     pub fn finish<K: Sink>(&mut self, mfas: u8, map: &SlotMap, place: &mut OutPlaceOf<K>)
         ensures made { (n : ℕ) → AsMade n (out_view K.Sink place.old) self.old
             (λ form first puts. LineMade n form first (out_view K.Sink place.new) (puts ++ record { mfas = mfas; ports = map.now; bytes = self.old.frame } ∷ []) self.new) }

@@ -27,8 +27,8 @@ abbrev pub HasMultiframe : ℕ → Option Alignment → Type 0
 HasMultiframe size (Some a) = (length a.taken ≡ size) × (wrong_count a.expected a.taken ≤ size / 2)
 HasMultiframe size None = ⊥
 
--- after a whole multiframe the next one is expected, or the line hunts where more than half of the MFAS bytes differ; a
--- turn that was cut short changes nothing
+-- after a whole multiframe the next one is expected, or the line hunts where more than half of the MFAS bytes differ; after
+-- a turn that was cut short the same MFAS is expected again, and none is taken
 abbrev pub after_end : ℕ → Option Alignment → Option Alignment
 after_end size None = None
 after_end size (Some a) =
@@ -40,9 +40,9 @@ pub record PhaseEnds (old : LinePhase) (result : Bool) (new : LinePhase) : Type 
   pub multiframe : IsTrue result ↔ HasMultiframe (slots_of old.kind) old.alignment
   pub after : new ≡ record { kind = old.kind; alignment = after_end (slots_of old.kind) old.alignment }
 
--- the frames of a locked turn that there are, all taken
-abbrev pub taken_of : ℕ → List ℕ → Lock → Alignment
-taken_of size ms lock = record { expected = lock.expected; taken = take size (drop lock.frame ms) }
+-- of the first k frames of a locked turn those that there are, all taken
+abbrev pub taken_of : (k : ℕ) → List ℕ → Lock → Alignment
+taken_of k ms lock = record { expected = lock.expected; taken = take k (drop lock.frame ms) }
 
 -- The alignment between two turns of a line in this state. Of a line that has ended nothing is said.
 abbrev pub IsAlignmentOf : LineState → Option Alignment → Type 0

@@ -1,16 +1,18 @@
 -- The turns of a line. A turn is one multiframe of the line, found by the multiframe alignment signal (MFAS, the byte
 -- in row 1, column 7; G.709 clause 15.6). In all that follows `size` is the number of frames of a multiframe, and `ms`
 -- the list of the MFAS bytes of the line's whole frames, which count from 0. Turns count from 1.
+-- A name in `_in` is of the first k pieces of a turn, in `_of` of a whole turn by the state before it, in `_so_far` of the turns 1 to t and k
+-- pieces more; `_at`, `_from` and `_by` are cases of these.
 use Rattle.std.specs.Prelude.{ℕ, zero, suc, ◌+◌, ◌-◌, ◌*◌, ◌/◌, ◌%◌, min, max, Bool, true, false, ◌&&◌, ◌==◌, nat_lt, nat_le, if◌then◌else◌, List, [], ◌∷◌, length, take, drop, slice_index, Option, Some, None}
 
 -- a multiframe may begin with a frame of this MFAS where the next frame has that one: the first is a multiple of the
 -- number of frames of a multiframe, and the second one more
-abbrev pub begins : ℕ → (first second : ℕ) → Bool
-begins size first second = (first % size == 0) && (second == first + 1)
+abbrev pub starts : ℕ → (first second : ℕ) → Bool
+starts size first second = (first % size == 0) && (second == first + 1)
 
 -- a multiframe may begin at frame f: f and the next frame are whole, and their MFAS bytes are so
 abbrev pub is_start : ℕ → List ℕ → ℕ → Bool
-is_start size ms f = nat_lt (f + 1) (length ms) && begins size (slice_index ms f) (slice_index ms (f + 1))
+is_start size ms f = nat_lt (f + 1) (length ms) && starts size (slice_index ms f) (slice_index ms (f + 1))
 
 -- the least n that was found so far, or k where none was and a multiframe may begin there
 abbrev pub least_or : Option ℕ → Bool → ℕ → Option ℕ
@@ -23,7 +25,8 @@ unfoldable pub least_start : ℕ → List ℕ → ℕ → ℕ → Option ℕ
 least_start size ms i zero = None
 least_start size ms i (suc k) = least_or (least_start size ms i k) (is_start size ms (i + k)) k
 
--- multiframe alignment: the frame at which a multiframe begins, and the MFAS that is expected there
+-- multiframe alignment: a frame, and the MFAS that is expected in it. Of a turn, the frame at which its multiframe starts; of a piece
+-- (TurnPieces), the frame to which it came
 pub record Lock : Type 0 where
   pub frame : ℕ
   pub expected : ℕ
@@ -149,7 +152,8 @@ unfoldable pub lost_count : ℕ → List ℕ → ℕ → ℕ
 lost_count size ms zero = 0
 lost_count size ms (suc t) = lost_count size ms t + lost_at size ms (lock_of size ms (line_state size ms t))
 
--- used_in for the first k pieces of a turn that hunts at i, where k is not 0: up to frame k of its multiframe; without a lock all that it hunted over
+-- used_in, below, of a turn that hunts at i, where k is not 0: the frames before its multiframe and the first k of it; without a lock all that it
+-- hunted over
 abbrev pub used_at : ℕ → List ℕ → Option Lock → (i k : ℕ) → ℕ
 used_at size ms (Some lock) i k = min (length ms) (lock.frame + k)
 used_at size ms None i k = min (length ms) (i + size)
@@ -167,7 +171,7 @@ used_in size ms Ended k = length ms
 abbrev pub looked_ahead : ℕ → List ℕ → ℕ → Bool
 looked_ahead size ms f = nat_lt f (length ms) && (slice_index ms f % size == 0)
 
--- wanted_in for the first k pieces of a turn that hunts at i, where k is not 0: it locks at frame i + n, or nowhere
+-- wanted_in, below, of a turn that hunts at i, where k is not 0: it locks at frame i + n, or nowhere
 abbrev pub wanted_from : ℕ → List ℕ → ℕ → Option ℕ → ℕ → ℕ
 wanted_from size ms i (Some n) k = i + n + max 2 k
 wanted_from size ms i None k = i + size + one_if (looked_ahead size ms (i + size - 1))

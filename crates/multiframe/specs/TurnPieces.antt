@@ -43,7 +43,7 @@ abbrev pub aligned_by : List ℕ → Option Lock → ℕ → Option Alignment �
 aligned_by ms None k alignment = alignment ≡ None
 aligned_by ms (Some lock) k alignment = alignment ≡ Some (taken_of k ms lock)
 
--- the alignment after k pieces: in a locked turn those of the k frames that are whole are taken
+-- the alignment after k pieces: in a locked turn those of its first k frames that are whole were taken. Of a line that has ended nothing is said
 abbrev pub AlignedIn : ℕ → List ℕ → LineState → ℕ → Option Alignment → Type 0
 AlignedIn size ms (Hunting i) zero alignment = alignment ≡ None
 AlignedIn size ms (Hunting i) (suc k) alignment = aligned_by ms (lock_of size ms (Hunting i)) (suc k) alignment

@@ -1,7 +1,7 @@
 // The multiframe alignment of a line: it hunts for a multiframe, or is locked on one.
 ghost use Rattle.std.specs.Prelude.{◌≡◌, ◌↔◌, ◌+◌, ◌%◌, ◌<◌, ℕ, List, Some, None, IsTrue, IsSome, IsSomeAnd, IfSome, option_map, length};
 ghost use Rattle.otn_base.specs.LineSlots.{IsSlotNumber, slots_of};
-ghost use Rattle.multiframe.specs.LineTurns.{begins, wrong_count};
+ghost use Rattle.multiframe.specs.LineTurns.{starts, wrong_count};
 
 use otn_base::LineKind;
 use otn_base::limits::MOST_SLOTS;
@@ -40,7 +40,7 @@ impl Model for Phase {
 /// Whether a multiframe of a line of this kind may begin with a frame of the first MFAS, where the next frame has the
 /// second: the first is a multiple of the number of the line's slots, and the second is one more.
 pub fn starts(first: u8, second: u8, kind: LineKind) -> bool
-    ensures { result ≡ begins (slots_of kind) first second }
+    ensures { result ≡ starts (slots_of kind) first second }
 {
     first % kind.slots() == 0 && second as u32 == first as u32 + 1
 }
@@ -70,7 +70,7 @@ impl Phase {
         self.locked.is_none()
     }
 
-    /// Locks on a multiframe that begins with a frame of this MFAS, a multiple of the number of the line's slots. No
+    /// Locks on a multiframe that starts with a frame of this MFAS, a multiple of the number of the line's slots. No
     /// frame of it was taken yet.
     pub fn lock(&mut self, mfas: u8)
         requires hunting { self.old.alignment ≡ None }
@@ -108,8 +108,8 @@ impl Phase {
     }
 
     /// Ends the turn, and says whether it has a multiframe: all of its frames were taken, and at most half of them had
-    /// another MFAS than the expected one. Where more had, the line hunts. Where not all were taken, it stays as it
-    /// stood before the turn.
+    /// another MFAS than the expected one. Where more had, the line hunts. Where not all were taken, it stays
+    /// locked, expects the same MFAS again, and has taken none.
     pub fn end_turn(&mut self) -> bool
         ensures turn { PhaseEnds self.old result self.new }
 

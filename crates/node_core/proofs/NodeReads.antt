@@ -9,7 +9,7 @@ use Rattle.otn_base.specs.declared.kind.PortName.TheVariants as port
 use Rattle.otn_ports.specs.Views.{InView, line_in_at, client_in_at}
 use Rattle.line_side.specs.LineNumbers.{numbers_of}
 use Rattle.line_side.specs.LineOutput.{LineOutView}
-use Rattle.line_side.specs.LineStands.{LineView, InEachTurn}
+use Rattle.line_side.specs.LineStands.{LineView, InItsTurn}
 use Rattle.line_side.specs.declared.counts.LineCounts.{LineCounts}
 use Rattle.odu_client.specs.ClientInput.{ClientInput, packets_begun, is_spent, bad_line, emitted_before}
 use Rattle.otn_base.specs.Counts.{saturated}
@@ -42,7 +42,7 @@ use Rattle.node_core.proofs.Parts.{one_at, known_at, and_none}
 -- ---- lines
 
 pub counts_told : (node : NodeView) (a : ℕ) (line : LineView) (counts : LineCounts) → HasLineIn node a line
-    → InEachTurn line (λ form given t. counts ≡ numbers_of form line.reader.ending given t line.pieces) → IsLineCounts node a counts
+    → InItsTurn line (λ form given t. counts ≡ numbers_of form line.reader.ending given t line.pieces) → IsLineCounts node a counts
 counts_told node a line counts has told = λ plan first taken now inputs other h may used at.
     let same : other ≡ line = one_at node.lines_in a other line at has in
     let stood = h.lines_in.used a line has used in

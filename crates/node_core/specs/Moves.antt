@@ -5,7 +5,7 @@ use Rattle.otn_ports.specs.Views.{InView, OutView}
 use Rattle.line_side.specs.LineFile.{mfas_of}
 use Rattle.line_side.specs.LineForm.{size_of}
 use Rattle.line_side.specs.LineOutput.{LineOutView, FramePut, LineMade, AsMade}
-use Rattle.line_side.specs.LineStands.{LineView, LineStands, AsStood, PieceStands, InEachTurn, OfMember}
+use Rattle.line_side.specs.LineStands.{LineView, LineStands, AsStood, PieceStands, InItsTurn, OfMember}
 use Rattle.maintenance_signals.specs.declared.signal.Signal.{Signal}
 use Rattle.multiframe.specs.LineTurns.{multiframe}
 use Rattle.plan_file.specs.declared.connection.Connection.{Connection}
@@ -144,7 +144,7 @@ pub record LineEnds (old new : LineView) (whole : Bool) : Type 0 where
   pub stands : (now : InView) → AsStood now old (λ form first taken t. LineStands form first now taken (t + 1) new)
   pub ending : new.reader.ending ≡ old.reader.ending
   pub kind : new.kind ≡ old.kind
-  pub multiframe : InEachTurn old (λ form given t. whole ≡ is_some (multiframe (size_of form) (mfas_of given) t))
+  pub multiframe : InItsTurn old (λ form given t. whole ≡ is_some (multiframe (size_of form) (mfas_of given) t))
   pub pieces : new.pieces ≡ 0
 
 -- what the end of turn past + 1 does to a connection, whose line has a multiframe in it or not

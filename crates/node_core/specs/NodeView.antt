@@ -40,7 +40,7 @@ HasLink node i link = slice_get node.links i ≡ Some link
 abbrev pub done_at : NodeView → PortName → ℕ
 done_at node name = done_of node.pieces name
 
--- of the ports that a connection joins
+-- how many pieces are done of the port that a connection comes from, 0 of a signal, and of the port that it goes to
 abbrev pub taken_pieces : NodeView → Origin → ℕ
 taken_pieces node (origin.Line a) = done_at node (port.LineIn a)
 taken_pieces node (origin.Client n) = done_at node (port.ClientIn n)

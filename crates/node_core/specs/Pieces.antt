@@ -4,7 +4,7 @@ use Rattle.otn_base.specs.declared.kind.PortName.{PortName}
 use Rattle.multiframe.specs.LineTurns.{one_if}
 use Rattle.node_core.specs.Ports.{index_of, port_count}
 
--- by number of the port
+-- by number of the port (`index_of`): how many pieces it has in a turn, and how many are done in this one
 pub record PiecesView : Type 0 where
   pub wants : List ℕ
   pub done : List ℕ

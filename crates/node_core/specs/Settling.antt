@@ -28,14 +28,14 @@ use Rattle.node_core.specs.declared.link.Link.{Link}
 
 -- ---- settling
 
--- what a run leaves, but for the numbers of its ports, where its inputs are these
+-- where the inputs are these: how much was taken of the lines, and the outcome; what went to the outputs `OutputsStand` says
 pub record SettledOf (plan : Plan) (first last : BaysView) (takings : Takings) (taken : InputBytes) (node : NodeView) (outcome : Outcome) (inputs : Inputs) : Type 0 where
   pub may : MayGive plan taken node inputs
   pub took : (a : ℕ) → uses plan (port.LineIn a) ≡ true → TookOf plan inputs takings a
   pub outcome_is : IsOutcome plan inputs last outcome
 
--- A node past its last turn, of whose inputs these bytes were taken, was settled: each line that is used, whose end was not seen and whose
--- place is live was asked for one byte more, and no other place was asked.
+-- A node past its last turn, of whose inputs these bytes were taken, was settled: what was taken of its inputs in all, how their places
+-- are, and how the run ended. Which places were asked `LinesAsked` says.
 pub record Settled (plan : Plan) (first : BaysView) (taken : InputBytes) (node : NodeView) (last : BaysView) (outcome : Outcome) : Type 0 where
   pub takings : Takings
   pub line_in : (a : ℕ) → uses plan (port.LineIn a) ≡ true → InputLeft (line_in_at first a) (line_in_at last a) (takings.line a) (takings.line_more a)
@@ -75,7 +75,7 @@ abbrev pub IsLastState : NodeView → (i : ℕ) → Option FromState → Type 0
 IsLastState node i state = (plan : Plan) (first : BaysView) (taken : InputBytes) (now : BaysView) (inputs : Inputs) (x : Connection) → StandsAt plan first taken node now → node.turns ≤ node.past
     → MayGive plan taken node inputs → slice_get plan.connections i ≡ Some x → state ≡ last_state plan.turns x (own_input inputs x)
 
--- the numbers that a node of a plan tells when it is past its last turn, and settled so
+-- the numbers that a node of a plan tells: of its lines and client outputs at any moment, of its client inputs and connections past its last turn
 pub record ToldBy (plan : Plan) (node : NodeView) (numbers : Numbers) : Type 0 where
   pub line_in : (a : ℕ) → uses plan (port.LineIn a) ≡ true → IsLineCounts node a (numbers.line_in a)
   pub line_out : (b : ℕ) → uses plan (port.LineOut b) ≡ true → IsFrameCount node b (numbers.line_out b)

@@ -145,7 +145,7 @@ pub record StandsAt (plan : Plan) (first : BaysView) (taken : InputBytes) (node 
   pub clients_in : ClientsIn plan first taken node now
   pub clients_out : ClientsOut plan first taken node now
 
--- From one moment to a later one: more bytes were taken, and what the inputs may turn out to be from then on they might be before.
+-- From a moment on to one of the same plan, of whose inputs `more` are all bytes taken by then; which moment, the other clauses say: what the inputs may turn out to be from then on they might be before.
 pub record Later (plan : Plan) (first : BaysView) (taken : InputBytes) (old new : NodeView) (now : BaysView) : Type 0 where
   pub more : InputBytes
   pub stands : StandsAt plan first more new now

@@ -183,7 +183,7 @@ impl Node {
         give_client(n, self.past, &mut self.links, place);
     }
 
-    /// Ends the turn, no port being ready: hands on, stops, retires and starts.
+    /// Ends the turn, no port being ready: client places are retired where their connection stops and says so, connections hand on what came, and those whose first turn is next start.
     pub fn fence<P: Source, K: Sink>(&mut self, bays: &mut Rack<P, K>)
         requires going { self.old.past < self.old.turns }
         requires none { (port : PortName) → is_ready self.old port ≡ false }

@@ -23,8 +23,8 @@ pub struct ClientOutCounts {
     pub packets: u64,
 }
 
-/// The numbers of all ports of a settled node, by port number. Places of ports and connections that are not
-/// used hold zeros.
+/// The numbers of all ports of a settled node, by port number. Of ports and connections that the plan does
+/// not use no clause speaks.
 #[derive(Drop)]
 pub struct RunNumbers {
     /// Of each line input.
