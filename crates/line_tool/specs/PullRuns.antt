@@ -10,7 +10,7 @@ use Rattle.line_side.specs.declared.ending.Ending.TheVariants.{Seen}
 use Rattle.tributary_model.specs.Places.{Tributary}
 use Rattle.line_tool.specs.Ends.{line_status}
 use Rattle.line_tool.specs.Gains.{GainsPart}
-use Rattle.line_tool.specs.PullReport.{pull_report, LeavesBytes, bytes_taken}
+use Rattle.line_tool.specs.PullReport.{pull_report, LeavesBytes, bytes_taken, MayFollow, StoppedInTurn}
 use Rattle.line_tool.specs.PullTurn.{TurnMoves}
 use Rattle.line_tool.specs.AnswerWords.{Reports}
 use Rattle.line_tool.specs.declared.pull.After.{After}
