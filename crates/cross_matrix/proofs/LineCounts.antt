@@ -1,20 +1,21 @@
--- What a write of a packet's line makes of the count of packets.
-use Rattle.std.proofs.Common.{◌≡◌, ◌≢◌, ◌<◌, ◌≤◌, ◌+◌, ◌-◌, ◌/◌, ◌%◌, ◌^◌, ℕ, zero, suc, min, Bool, true, false, true≢false, ◌==◌, cond, List, [], ◌∷◌, ◌++◌, length, take, drop, slice_index, arith, refl, sym, ap, subst, inl, inr, ◌∙◌, append_assoc, append-nil, length-append}
+-- What the lines that are held, and a write of them, make of the count of packets.
+use Rattle.std.proofs.Common.{◌≡◌, ◌≢◌, ◌≤◌, ◌+◌, ◌-◌, ◌/◌, ◌%◌, ◌^◌, ℕ, zero, suc, min, Bool, true, false, true≢false, ◌==◌, cond, List, [], ◌∷◌, ◌++◌, length, take, drop, slice_index, arith, refl, sym, ap, subst, inl, inr, ◌∙◌, append_assoc, append-nil, length-append}
 use Rattle.std.specs.Prelude.{filter}
-use Rattle.std.proofs.lemmas.List.{take-append-drop, take-append-le}
+use Rattle.std.proofs.lemmas.List.{take-append-drop, take-append-le, length-take-le}
+use Rattle.std.proofs.Math.Seq.{take-length, drop-length}
 use Rattle.std.proofs.lemmas.List.Elements.{filter-append}
 use Rattle.hex.specs.Hex.{lower_digits, encode_with, encode_lower}
-use Rattle.otn_ports.specs.Given.{Lives, GainedBy}
+use Rattle.otn_ports.specs.Given.{Lives, Gained}
 use Rattle.otn_ports.specs.Sent.{IsSent}
 use Rattle.otn_ports.specs.Views.{State, Empty, Live, Dead, OutView}
-use Rattle.otn_ports.specs.Writes.{Writes, state_after_write}
+use Rattle.otn_ports.specs.Writes.{IsWriting, state_after_write}
 use Rattle.otn_ports.specs.declared.drain.Written.{Written}
 use Rattle.otn_ports.specs.declared.drain.Written.TheVariants as written
-use Rattle.otn_ports.proofs.GivenLaws.{gained_twice, write_gained, empty_not_live, dead_not_live}
+use Rattle.otn_ports.proofs.GivenLaws.{gained_twice, empty_not_live, dead_not_live}
 use Rattle.otn_base.specs.Counts.{saturated}
 use Rattle.packet_text.specs.PacketText.{packet_line, hex_text}
 use Rattle.device_model.specs.Numbers.{whole_lines, counted_packets}
-use Rattle.cross_matrix.specs.Receiving.{is_dead, LinesSent}
+use Rattle.cross_matrix.specs.Receiving.{is_dead, LinesSent, HeldView, NoneHeld, LinesHeld}
 
 -- ---- whole lines
 
@@ -48,15 +49,6 @@ digits_none packet = digits_clean lower_digits packet refl
 line_one : (packet : List ℕ) → whole_lines (packet_line packet) ≡ 1
 line_one packet = lines-append (encode_lower packet) (10 ∷ []) ∙ ap (λ n. n + 1) (digits_none packet)
 
-front_clean : (bytes : List ℕ) (n : ℕ) → whole_lines bytes ≡ 0 → whole_lines (take n bytes) ≡ 0
-front_clean bytes n h = let e = lines-append (take n bytes) (drop n bytes) in let f = ap whole_lines (take-append-drop n bytes) in omega arith
-
-part_none : (packet : List ℕ) (n : ℕ) → n < length (packet_line packet) → whole_lines (take n (packet_line packet)) ≡ 0
-part_none packet n less =
-    let size = length-append (encode_lower packet) (10 ∷ []) in
-    let short : n ≤ length (encode_lower packet) = omega arith in
-    ap whole_lines (take-append-le n (encode_lower packet) (10 ∷ []) short) ∙ front_clean (encode_lower packet) n (digits_none packet)
-
 -- ---- texts
 
 pub text-append : (ps qs : List (List ℕ)) → hex_text (ps ++ qs) ≡ hex_text ps ++ hex_text qs
@@ -87,8 +79,8 @@ counts_all Empty packets went e = refl
 counts_all Live packets went e = absurd (empty_not_live (sym e))
 counts_all Dead packets went e = absurd (cc)
 
-one_more : (n : ℕ) → min (saturated n + 1) (2 ^ 64 - 1) ≡ saturated (n + 1)
-one_more n = omega arith
+more_counted : (n m : ℕ) → min (saturated n + m) (2 ^ 64 - 1) ≡ saturated (n + m)
+more_counted n m = omega arith
 
 dead_not_empty : Dead ≢ Empty
 dead_not_empty e = cc
@@ -96,7 +88,11 @@ dead_not_empty e = cc
 live_not_empty : Live ≢ Empty
 live_not_empty e = cc
 
--- ---- one line more
+was_empty : (s now : State) (f g : ℕ) → Lives s now f g → now ≡ Empty → s ≡ Empty
+was_empty s now f g (inl (same, calm)) e = sym same ∙ e
+was_empty s now f g (inr (live, dead, failed)) e = absurd (dead_not_empty (sym dead ∙ e))
+
+-- ---- one packet more
 
 all_gone : (first now : OutView) (due : List ℕ) (h : IsSent first due now) → now.state ≡ Live → h.went ≡ due
 all_gone first now due h live = sym (append-nil h.went) ∙ ap (λ r. h.went ++ r) (sym (h.whole live)) ∙ h.parts
@@ -117,7 +113,7 @@ dead_of Live e = absurd (true≢false (sym e))
 dead_of Dead e = refl
 
 -- on a dead place no packet counts
-pub line_dead : (first now : OutView) (packets : List (List ℕ)) (packet : List ℕ) (count : ℕ) → now.state ≡ Dead → LinesSent first now packets count → LinesSent first now (packets ++ packet ∷ []) count
+line_dead : (first now : OutView) (packets : List (List ℕ)) (packet : List ℕ) (count : ℕ) → now.state ≡ Dead → LinesSent first now packets count → LinesSent first now (packets ++ packet ∷ []) count
 line_dead first now packets packet count dead h =
     let some = not_empty first.state now.state first.faults now.faults h.sent.gained.state (λ e. dead_not_empty (sym dead ∙ e)) in
     record {
@@ -125,100 +121,128 @@ line_dead first now packets packet count dead h =
       counted = h.counted ∙ ap saturated (counts_went first.state packets h.sent.went some ∙ sym (counts_went first.state (packets ++ packet ∷ []) h.sent.went some));
     }
 
--- of a line that is lost a part went out, without its line feed
-lost_line : (first old new : OutView) (packets : List (List ℕ)) (packet : List ℕ) (count : ℕ) → old.state ≡ Live → new.state ≡ Dead → GainedBy written.Lost old (packet_line packet) new
-    → LinesSent first old packets count → LinesSent first new (packets ++ packet ∷ []) count
-lost_line first old new packets packet count live dead (n, less, gained) h =
-    let some = not_empty first.state old.state first.faults old.faults h.sent.gained.state (λ e. live_not_empty (sym live ∙ e)) in
-    let part = take n (packet_line packet) in
-    record {
-      sent = record {
-        went = h.sent.went ++ part;
-        rest = drop n (packet_line packet);
-        parts =
-            append_assoc h.sent.went part (drop n (packet_line packet)) ∙ ap (λ line. h.sent.went ++ line) (take-append-drop n (packet_line packet))
-            ∙ ap (λ w. w ++ packet_line packet) (all_gone first old (hex_text packets) h.sent live) ∙ sym (text-more packets packet);
-        gained = gained_twice first old new h.sent.went part h.sent.gained gained;
-        whole = λ alive. absurd (dead_not_live (sym dead ∙ alive));
-      };
-      counted = h.counted ∙ ap saturated (
-          counts_went first.state packets h.sent.went some
-          ∙ (let both = lines-append h.sent.went part in let none = part_none packet n less in let same : whole_lines h.sent.went ≡ whole_lines (h.sent.went ++ part) = omega arith in same)
-          ∙ sym (counts_went first.state (packets ++ packet ∷ []) (h.sent.went ++ part) some)
-          );
-    }
+-- no line is held
+pub none_held : (first now : OutView) (packets : List (List ℕ)) (held : HeldView) → NoneHeld held → LinesSent first now packets held.packets → LinesHeld first now packets held
+unfolding hex_text
+none_held first now packets held none h = record { gone = packets; waiting = []; parts = append-nil packets; sent = h; text = none.text; count = none.count; dead = λ _. refl }
 
--- a line that went out whole counts
-whole_line : (first old new : OutView) (packets : List (List ℕ)) (packet : List ℕ) (count : ℕ) → old.state ≡ Live → GainedBy written.Whole old (packet_line packet) new
-    → LinesSent first old packets count → LinesSent first new (packets ++ packet ∷ []) (min (count + 1) (2 ^ 64 - 1))
-whole_line first old new packets packet count live (went, gained, all) h =
-    let some = not_empty first.state old.state first.faults old.faults h.sent.gained.state (λ e. live_not_empty (sym live ∙ e)) in
+-- for a dead place none is
+pub held_dead : (first now : OutView) (packets : List (List ℕ)) (packet : List ℕ) (held : HeldView) → now.state ≡ Dead → LinesHeld first now packets held → LinesHeld first now (packets ++ packet ∷ []) held
+unfolding hex_text
+held_dead first now packets packet held dead h =
+    let none = h.dead dead in
+    let P : List (List ℕ) → Type 0 = λ ps. LinesSent first now ps held.packets in
+    let sent : LinesSent first now packets held.packets = subst P (sym (append-nil h.gone) ∙ ap (λ ps. h.gone ++ ps) (sym none) ∙ h.parts) h.sent in
+    none_held first now (packets ++ packet ∷ []) held (record { text = h.text ∙ ap hex_text none; count = h.count ∙ ap length none }) (line_dead first now packets packet held.packets dead sent)
+
+-- and for any other each
+pub held_more : (first now : OutView) (packets : List (List ℕ)) (packet : List ℕ) (old new : HeldView) → is_dead now.state ≡ false → new.text ≡ old.text ++ packet_line packet → new.count ≡ old.count + 1 → new.packets ≡ old.packets
+    → LinesHeld first now packets old → LinesHeld first now (packets ++ packet ∷ []) new
+held_more first now packets packet old new alive text count same h = record {
+  gone = h.gone;
+  waiting = h.waiting ++ packet ∷ [];
+  parts = sym (append_assoc h.gone h.waiting (packet ∷ [])) ∙ ap (λ ps. ps ++ packet ∷ []) h.parts;
+  sent = rw same h.sent;
+  text = text ∙ ap (λ t. t ++ packet_line packet) h.text ∙ sym (text-more h.waiting packet);
+  count = count ∙ ap (λ n. n + 1) h.count ∙ sym (length-append h.waiting (packet ∷ []));
+  dead = λ e. absurd (true≢false (sym (ap is_dead e) ∙ alive));
+}
+
+-- ---- the lines leave
+
+text_lines : (packets : List (List ℕ)) → whole_lines (hex_text packets) ≡ length packets
+unfolding hex_text
+text_lines [] = refl
+text_lines (packet ∷ packets) = let both = lines-append (packet_line packet) (hex_text packets) in let one = line_one packet in let rest = text_lines packets in omega arith
+
+-- no more bytes go than there are
+pub went_within : (s : State) (r : Written) (n all : ℕ) → (s ≡ Live → IsWriting r n all) → (s ≢ Live → n ≡ 0) → n ≤ all
+went_within Live written.Whole n all live idle = let e = live refl in omega arith
+went_within Live written.Lost n all live idle = let e = live refl in omega arith
+went_within Empty r n all live idle = let e = idle empty_not_live in omega arith
+went_within Dead r n all live idle = let e = idle dead_not_live in omega arith
+
+-- the front of a front
+pub front_of_front : (n m : ℕ) (bytes : List ℕ) → n ≤ m → m ≤ length bytes → take n (take m bytes) ≡ take n bytes
+front_of_front n m bytes h k = let size = length-take-le m bytes k in sym (take-append-le n (take m bytes) (drop m bytes) (omega arith)) ∙ ap (take n) (take-append-drop m bytes)
+
+-- those that count are the whole lines that went
+lines_gone : (r : Written) (text : List ℕ) (waiting : List (List ℕ)) (n count more : ℕ) → IsWriting r n (length text) → (r ≡ written.Whole → more ≡ count) → (r ≡ written.Lost → more ≡ whole_lines (take n text)) → text ≡ hex_text waiting
+    → count ≡ length waiting → more ≡ whole_lines (take n text)
+lines_gone written.Whole text waiting n count more all whole lost e k = whole refl ∙ k ∙ sym (ap whole_lines (ap (λ m. take m text) all ∙ take-length text ∙ e) ∙ text_lines waiting)
+lines_gone written.Lost text waiting n count more less whole lost e k = lost refl
+
+rest_none : (r : Written) (s : State) (text : List ℕ) (n : ℕ) → IsWriting r n (length text) → s ≡ state_after_write Live r → s ≡ Live → drop n text ≡ []
+rest_none written.Whole s text n all e live = ap (λ m. drop m text) all ∙ drop-length text
+rest_none written.Lost s text n less e live = absurd (dead_not_live (sym e ∙ live))
+
+live_flushed : (first old new : OutView) (packets : List (List ℕ)) (held : HeldView) (r : Written) (n more : ℕ) → old.state ≡ Live → new.state ≡ state_after_write Live r → Gained old (take n held.text) new → IsWriting r n (length held.text)
+    → (r ≡ written.Whole → more ≡ held.count) → (r ≡ written.Lost → more ≡ whole_lines (take n held.text)) → LinesHeld first old packets held → LinesSent first new packets (min (held.packets + more) (2 ^ 64 - 1))
+live_flushed first old new packets held r n more live state gained writing whole lost h =
+    let was = h.sent.sent in
+    let part = take n held.text in
+    let some = not_empty first.state old.state first.faults old.faults was.gained.state (λ e. live_not_empty (sym live ∙ e)) in
     record {
       sent = record {
-        went = h.sent.went ++ went;
-        rest = [];
+        went = was.went ++ part;
+        rest = drop n held.text;
         parts =
-            append-nil (h.sent.went ++ went) ∙ ap (λ line. h.sent.went ++ line) (all live)
-            ∙ ap (λ w. w ++ packet_line packet) (all_gone first old (hex_text packets) h.sent live) ∙ sym (text-more packets packet);
-        gained = gained_twice first old new h.sent.went went h.sent.gained gained;
-        whole = λ _. refl;
+            append_assoc was.went part (drop n held.text) ∙ ap (λ text. was.went ++ text) (take-append-drop n held.text ∙ h.text)
+            ∙ ap (λ w. w ++ hex_text h.waiting) (all_gone first old (hex_text h.gone) was live) ∙ sym (text-append h.gone h.waiting) ∙ ap hex_text h.parts;
+        gained = gained_twice first old new was.went part was.gained gained;
+        whole = rest_none r new.state held.text n writing state;
       };
       counted =
-          ap (λ n. min (n + 1) (2 ^ 64 - 1)) (h.counted ∙ ap saturated (counts_went first.state packets h.sent.went some)) ∙ one_more (whole_lines h.sent.went)
+          ap (λ m. min (m + more) (2 ^ 64 - 1)) (h.sent.counted ∙ ap saturated (counts_went first.state h.gone was.went some)) ∙ more_counted (whole_lines was.went) more
           ∙ ap saturated (
-          sym (lines-append h.sent.went went ∙ ap (λ n. whole_lines h.sent.went + n) (ap whole_lines (all live) ∙ line_one packet))
-          ∙ sym (counts_went first.state (packets ++ packet ∷ []) (h.sent.went ++ went) some)
+          ap (λ m. whole_lines was.went + m) (lines_gone r held.text h.waiting n held.count more writing whole lost h.text h.count)
+          ∙ sym (lines-append was.went part) ∙ sym (counts_went first.state packets (was.went ++ part) some)
           );
     }
 
 -- on an empty place each counts
-empty_line : (first now : OutView) (packets : List (List ℕ)) (packet : List ℕ) (count : ℕ) → now.state ≡ Empty → LinesSent first now packets count
-    → LinesSent first now (packets ++ packet ∷ []) (min (count + 1) (2 ^ 64 - 1))
-empty_line first now packets packet count empty h =
-    let none = was_empty first.state now.state first.faults now.faults h.sent.gained.state empty in
+empty_flushed : (first now : OutView) (packets : List (List ℕ)) (held : HeldView) (more : ℕ) → now.state ≡ Empty → more ≡ held.count → LinesHeld first now packets held → LinesSent first now packets (min (held.packets + more) (2 ^ 64 - 1))
+empty_flushed first now packets held more empty e h =
+    let was = h.sent.sent in
+    let none = was_empty first.state now.state first.faults now.faults was.gained.state empty in
     record {
-      sent = idle_text first now packets packet (λ l. empty_not_live (sym empty ∙ l)) h.sent;
+      sent = record {
+        went = was.went;
+        rest = was.rest ++ hex_text h.waiting;
+        parts = sym (append_assoc was.went was.rest (hex_text h.waiting)) ∙ ap (λ x. x ++ hex_text h.waiting) was.parts ∙ sym (text-append h.gone h.waiting) ∙ ap hex_text h.parts;
+        gained = was.gained;
+        whole = λ alive. absurd (empty_not_live (sym empty ∙ alive));
+      };
       counted =
-          ap (λ n. min (n + 1) (2 ^ 64 - 1)) (h.counted ∙ ap saturated (counts_all first.state packets h.sent.went none)) ∙ one_more (length packets)
-          ∙ ap saturated (sym (length-append packets (packet ∷ [])) ∙ sym (counts_all first.state (packets ++ packet ∷ []) h.sent.went none));
+          ap (λ m. min (m + more) (2 ^ 64 - 1)) (h.sent.counted ∙ ap saturated (counts_all first.state h.gone was.went none)) ∙ more_counted (length h.gone) more
+          ∙ ap saturated (ap (λ m. length h.gone + m) (e ∙ h.count) ∙ sym (length-append h.gone h.waiting) ∙ ap length h.parts ∙ sym (counts_all first.state packets was.went none));
     }
+
+-- for a dead one nothing was held
+dead_flushed : (first now : OutView) (packets : List (List ℕ)) (held : HeldView) (more : ℕ) → now.state ≡ Dead → more ≡ held.count → LinesHeld first now packets held → LinesSent first now packets (min (held.packets + more) (2 ^ 64 - 1))
+dead_flushed first now packets held more dead e h =
+    let none = h.dead dead in
+    let same : h.gone ≡ packets = sym (append-nil h.gone) ∙ ap (λ ps. h.gone ++ ps) (sym none) ∙ h.parts in
+    let P : List (List ℕ) → Type 0 = λ ps. LinesSent first now ps (min (held.packets + more) (2 ^ 64 - 1)) in
+    let count = counted_packets first.state h.gone h.sent.sent.went in
+    subst P same (record {
+      sent = h.sent.sent;
+      counted = ap (λ m. min (held.packets + m) (2 ^ 64 - 1)) (e ∙ h.count ∙ ap length none) ∙ ap (λ m. min (m + 0) (2 ^ 64 - 1)) h.sent.counted ∙ more_counted count 0 ∙ ap saturated (n_plus_0 count);
+    })
   where
-    was_empty : (s now : State) (f g : ℕ) → Lives s now f g → now ≡ Empty → s ≡ Empty
-    was_empty s now f g (inl (same, calm)) e = sym same ∙ e
-    was_empty s now f g (inr (live, dead, failed)) e = absurd (dead_not_empty (sym dead ∙ e))
+    n_plus_0 : (n : ℕ) → n + 0 ≡ n
+    n_plus_0 n = omega arith
 
--- from what the write of a packet's line ensures: a line that is lost does not count
-pub line_lost : (first old new : OutView) (packets : List (List ℕ)) (packet : List ℕ) (count : ℕ) (r : Written) → r ≡ written.Lost → new.state ≡ state_after_write old.state r
-    → (old.state ≡ Live → Writes r old (packet_line packet) new) → (old.state ≢ Live → (new ≡ old) × (r ≡ written.Whole)) → LinesSent first old packets count → LinesSent first new (packets ++ packet ∷ []) count
-line_lost first old new packets packet count r is state live idle h = by_state old.state refl
+-- from what the write of the lines ensures
+pub flushed : (first old new : OutView) (packets : List (List ℕ)) (held : HeldView) (r : Written) (n more : ℕ) → new.state ≡ state_after_write old.state r → (old.state ≢ Live → (new ≡ old) × (r ≡ written.Whole)) → Gained old (take n held.text) new
+    → (old.state ≡ Live → IsWriting r n (length held.text)) → (r ≡ written.Whole → more ≡ held.count) → (r ≡ written.Lost → more ≡ whole_lines (take n held.text)) → LinesHeld first old packets held
+    → LinesSent first new packets (min (held.packets + more) (2 ^ 64 - 1))
+flushed first old new packets held r n more state idle gained writing whole lost h = by_state old.state refl
   where
-    lost_whole : written.Lost ≢ written.Whole
-    lost_whole e = cc
+    P : OutView → Type 0
+    P place = LinesSent first place packets (min (held.packets + more) (2 ^ 64 - 1))
 
-    gained : GainedBy written.Lost old (packet_line packet) new
-    gained = let P : Written → Type 0 = λ w. GainedBy w old (packet_line packet) new in subst P is (write_gained r old new (packet_line packet) state live idle)
-
-    by_state : (s : State) → old.state ≡ s → LinesSent first new (packets ++ packet ∷ []) count
-    by_state Live e = lost_line first old new packets packet count e (state ∙ ap (λ s. state_after_write s r) e ∙ ap (state_after_write Live) is) gained h
-    by_state Empty e = absurd (lost_whole (sym is ∙ (idle (λ l. empty_not_live (sym e ∙ l))).1))
-    by_state Dead e = absurd (lost_whole (sym is ∙ (idle (λ l. dead_not_live (sym e ∙ l))).1))
-
--- and any other does, where the place was not dead
-pub line_counts : (first old new : OutView) (packets : List (List ℕ)) (packet : List ℕ) (count : ℕ) (r : Written) → r ≢ written.Lost → is_dead old.state ≡ false → new.state ≡ state_after_write old.state r
-    → (old.state ≡ Live → Writes r old (packet_line packet) new) → (old.state ≢ Live → (new ≡ old) × (r ≡ written.Whole)) → LinesSent first old packets count
-    → LinesSent first new (packets ++ packet ∷ []) (min (count + 1) (2 ^ 64 - 1))
-line_counts first old new packets packet count r other alive state live idle h = by_state old.state refl
-  where
-    is_whole : (w : Written) → w ≢ written.Lost → w ≡ written.Whole
-    is_whole written.Whole some = refl
-    is_whole written.Lost some = absurd (some refl)
-
-    gained : GainedBy written.Whole old (packet_line packet) new
-    gained = let P : Written → Type 0 = λ w. GainedBy w old (packet_line packet) new in subst P (is_whole r other) (write_gained r old new (packet_line packet) state live idle)
-
-    by_state : (s : State) → old.state ≡ s → LinesSent first new (packets ++ packet ∷ []) (min (count + 1) (2 ^ 64 - 1))
-    by_state Live e = whole_line first old new packets packet count e gained h
-    by_state Empty e =
-        let P : OutView → Type 0 = λ place. LinesSent first place (packets ++ packet ∷ []) (min (count + 1) (2 ^ 64 - 1)) in
-        subst P (sym (idle (λ l. empty_not_live (sym e ∙ l))).0) (empty_line first old packets packet count e h)
-    by_state Dead e = absurd (true≢false (sym (ap is_dead e) ∙ alive))
+    by_state : (s : State) → old.state ≡ s → LinesSent first new packets (min (held.packets + more) (2 ^ 64 - 1))
+    by_state Live e = live_flushed first old new packets held r n more e (state ∙ ap (λ s. state_after_write s r) e) gained (writing e) whole lost h
+    by_state Empty e = let same = idle (λ l. empty_not_live (sym e ∙ l)) in subst P (sym same.0) (empty_flushed first old packets held more e (whole same.1) h)
+    by_state Dead e = let same = idle (λ l. dead_not_live (sym e ∙ l)) in subst P (sym same.0) (dead_flushed first old packets held more e (whole same.1) h)

@@ -19,7 +19,8 @@ use Rattle.otn_ports.proofs.GivenLaws.{gained_none}
 use Rattle.otn_base.specs.Counts.{saturated}
 use Rattle.packet_text.specs.PacketText.{hex_text}
 use Rattle.device_model.specs.Numbers.{counted_packets}
-use Rattle.cross_matrix.specs.Receiving.{ReceiverView, last_run, ReceiverStands, LinesSent, RunRead, AllRead}
+use Rattle.cross_matrix.specs.Receiving.{ReceiverView, last_run, ReceiverStands, LinesSent, HeldView, NoneHeld, LinesHeld, RunRead, AllRead, HoldsAfter}
+use Rattle.cross_matrix.proofs.LineCounts.{none_held}
 
 -- all runs but the last
 abbrev pub front_runs : List (List ℕ) → List (List ℕ)
@@ -85,45 +86,45 @@ delivered-broken xs =
 
 -- ---- steps
 
-same_lines : (first now : OutView) (ps qs : List (List ℕ)) (count : ℕ) → ps ≡ qs → LinesSent first now ps count → LinesSent first now qs count
-same_lines first now ps qs count e h = let P : List (List ℕ) → Type 0 = λ x. LinesSent first now x count in subst P e h
+same_lines : (first now : OutView) (ps qs : List (List ℕ)) (held : HeldView) → ps ≡ qs → LinesHeld first now ps held → LinesHeld first now qs held
+same_lines first now ps qs held e h = let P : List (List ℕ) → Type 0 = λ x. LinesHeld first now x held in subst P e h
 
 same_read : (xs ys : List ℕ) (reader : ReaderState) → xs ≡ ys → HasRead xs reader → HasRead ys reader
 same_read xs ys reader e h = let P : List ℕ → Type 0 = λ x. HasRead x reader in subst P e h
 
 -- the run that is open is read on
-pub goes_on : (first now : OutView) (came : List Arrival) (reader : ReaderState) (count : ℕ) → AllRead first now came reader count → RunRead first now (flat_map delivered (before came)) (open_run came) reader count
-goes_on first now came reader count h = record { read = h.read; lines = same_lines first now (flat_map delivered (runs_of came)) (flat_map delivered (before came) ++ delivered (open_run came)) count (delivered-same came) h.lines }
+pub goes_on : (first now : OutView) (came : List Arrival) (reader : ReaderState) (held : HeldView) → AllRead first now came reader held → RunRead first now (flat_map delivered (before came)) (open_run came) reader held
+goes_on first now came reader held h = record { read = h.read; lines = same_lines first now (flat_map delivered (runs_of came)) (flat_map delivered (before came) ++ delivered (open_run came)) held (delivered-same came) h.lines }
 
-pub whole_read : (first now : OutView) (came : List Arrival) (frame : List ℕ) (reader : ReaderState) (count : ℕ)
-    → RunRead first now (flat_map delivered (before came)) (open_run came ++ payload_of frame) reader count → AllRead first now (came ++ Handed frame ∷ []) reader count
-whole_read first now came frame reader count h = record {
+pub whole_read : (first now : OutView) (came : List Arrival) (frame : List ℕ) (reader : ReaderState) (held : HeldView)
+    → RunRead first now (flat_map delivered (before came)) (open_run came ++ payload_of frame) reader held → AllRead first now (came ++ Handed frame ∷ []) reader held
+whole_read first now came frame reader held h = record {
   read = same_read (open_run came ++ payload_of frame) (last_run (runs_of (came ++ Handed frame ∷ []))) reader (sym (ap last_run (runs-handed came frame) ∙ last-append (before came) (open_run came ++ payload_of frame))) h.read;
-  lines = same_lines first now (flat_map delivered (before came) ++ delivered (open_run came ++ payload_of frame)) (flat_map delivered (runs_of (came ++ Handed frame ∷ []))) count (sym (delivered-handed came frame)) h.lines;
+  lines = same_lines first now (flat_map delivered (before came) ++ delivered (open_run came ++ payload_of frame)) (flat_map delivered (runs_of (came ++ Handed frame ∷ []))) held (sym (delivered-handed came frame)) h.lines;
 }
 
 -- a break begins a run
-pub break_read : (first now : OutView) (came : List Arrival) (old new : ReaderState) (count : ℕ) → HasRead [] new → AllRead first now came old count → AllRead first now (came ++ Broken ∷ []) new count
-break_read first now came old new count fresh h = record {
+pub break_read : (first now : OutView) (came : List Arrival) (old new : ReaderState) (held : HeldView) → HasRead [] new → AllRead first now came old held → AllRead first now (came ++ Broken ∷ []) new held
+break_read first now came old new held fresh h = record {
   read =
       same_read [] (last_run (runs_of (came ++ Broken ∷ []))) new
       (sym (ap last_run (runs-broken came) ∙ last-append (before came ++ open_run came ∷ []) [])) fresh;
-  lines = same_lines first now (flat_map delivered (runs_of came)) (flat_map delivered (runs_of (came ++ Broken ∷ []))) count (sym (delivered-broken came)) h.lines;
+  lines = same_lines first now (flat_map delivered (runs_of came)) (flat_map delivered (runs_of (came ++ Broken ∷ []))) held (sym (delivered-broken came)) h.lines;
 }
 
-pub none_sent : (first now : OutView) (packets : List (List ℕ)) (count : ℕ) → LinesSent first now packets count → LinesSent first now (packets ++ []) count
-none_sent first now packets count = same_lines first now packets (packets ++ []) count (sym (append-nil packets))
+pub none_more : (first now : OutView) (packets : List (List ℕ)) (held : HeldView) → LinesHeld first now packets held → LinesHeld first now (packets ++ []) held
+none_more first now packets held = same_lines first now packets (packets ++ []) held (sym (append-nil packets))
 
 -- some bytes more of a run, which deliver these packets
-pub run_more : (first old new : OutView) (earlier : List (List ℕ)) (taken came : List ℕ) (packets : List (List ℕ)) (was is : ReaderState) (count counted : ℕ) → delivered (taken ++ came) ≡ delivered taken ++ packets → HasRead (taken ++ came) is
-    → (LinesSent first old (earlier ++ delivered taken) count → LinesSent first new ((earlier ++ delivered taken) ++ packets) counted) → RunRead first old earlier taken was count → RunRead first new earlier (taken ++ came) is counted
-run_more first old new earlier taken came packets was is count counted e read goes h = record {
+pub run_more : (first old new : OutView) (earlier : List (List ℕ)) (taken came : List ℕ) (packets : List (List ℕ)) (was is : ReaderState) (held kept : HeldView) → delivered (taken ++ came) ≡ delivered taken ++ packets → HasRead (taken ++ came) is
+    → (LinesHeld first old (earlier ++ delivered taken) held → LinesHeld first new ((earlier ++ delivered taken) ++ packets) kept) → RunRead first old earlier taken was held → RunRead first new earlier (taken ++ came) is kept
+run_more first old new earlier taken came packets was is held kept e read goes h = record {
   read = read;
-  lines = same_lines first new ((earlier ++ delivered taken) ++ packets) (earlier ++ delivered (taken ++ came)) counted (append_assoc earlier (delivered taken) packets ∙ ap (λ ps. earlier ++ ps) (sym e)) (goes h.lines);
+  lines = same_lines first new ((earlier ++ delivered taken) ++ packets) (earlier ++ delivered (taken ++ came)) kept (append_assoc earlier (delivered taken) packets ∙ ap (λ ps. earlier ++ ps) (sym e)) (goes h.lines);
 }
 
-pub run_same : (first now : OutView) (earlier : List (List ℕ)) (taken others : List ℕ) (reader : ReaderState) (count : ℕ) → taken ≡ others → RunRead first now earlier taken reader count → RunRead first now earlier others reader count
-run_same first now earlier taken others reader count e h = let P : List ℕ → Type 0 = λ x. RunRead first now earlier x reader count in subst P e h
+pub run_same : (first now : OutView) (earlier : List (List ℕ)) (taken others : List ℕ) (reader : ReaderState) (held : HeldView) → taken ≡ others → RunRead first now earlier taken reader held → RunRead first now earlier others reader held
+run_same first now earlier taken others reader held e h = let P : List ℕ → Type 0 = λ x. RunRead first now earlier x reader held in subst P e h
 
 -- ---- pieces of bytes, and rows of a frame
 
@@ -142,10 +143,10 @@ piece_within bytes done k within h = let e = ap length (take_rest bytes done) in
 four_rows : (taken a b c d : List ℕ) → taken ++ a ++ b ++ c ++ d ≡ taken ++ (a ++ b ++ c ++ d)
 four_rows taken a b c d = ap (λ x. x ++ d) (ap (λ x. x ++ c) (append_assoc taken a b) ∙ append_assoc taken (a ++ b) c) ∙ append_assoc taken (a ++ b ++ c) d
 
-pub frame_read : (first now : OutView) (earlier : List (List ℕ)) (taken frame a b c d : List ℕ) (reader : ReaderState) (count : ℕ) → a ≡ payload_row_of 3824 1 frame → b ≡ payload_row_of 3824 2 frame
-    → c ≡ payload_row_of 3824 3 frame → d ≡ payload_row_of 3824 4 frame → RunRead first now earlier (taken ++ a ++ b ++ c ++ d) reader count → RunRead first now earlier (taken ++ payload_of frame) reader count
-frame_read first now earlier taken frame a b c d reader count ea eb ec ed h =
-    run_same first now earlier (taken ++ a ++ b ++ c ++ d) (taken ++ payload_of frame) reader count (four_rows taken a b c d ∙ rw (ea, eb, ec, ed) refl) h
+pub frame_read : (first now : OutView) (earlier : List (List ℕ)) (taken frame a b c d : List ℕ) (reader : ReaderState) (held : HeldView) → a ≡ payload_row_of 3824 1 frame → b ≡ payload_row_of 3824 2 frame
+    → c ≡ payload_row_of 3824 3 frame → d ≡ payload_row_of 3824 4 frame → RunRead first now earlier (taken ++ a ++ b ++ c ++ d) reader held → RunRead first now earlier (taken ++ payload_of frame) reader held
+frame_read first now earlier taken frame a b c d reader held ea eb ec ed h =
+    run_same first now earlier (taken ++ a ++ b ++ c ++ d) (taken ++ payload_of frame) reader held (four_rows taken a b c d ∙ rw (ea, eb, ec, ed) refl) h
 
 -- ---- the receiver
 
@@ -175,35 +176,57 @@ none_counted Empty = refl
 none_counted Live = refl
 none_counted Dead = refl
 
-pub stands_none : (first : OutView) (aligner : AlignerState) (reader : ReaderState) (frames : ℕ) → HasAligned [] aligner → HasRead [] reader → frames ≡ 0
-    → ReceiverStands first first [] (record { aligner = aligner; reader = reader; frames = frames; packets = 0 })
-stands_none first aligner reader frames aligned read e = record {
+pub stands_none : (first : OutView) (aligner : AlignerState) (reader : ReaderState) (frames packets : ℕ) → HasAligned [] aligner → HasRead [] reader → frames ≡ 0 → packets ≡ 0
+    → ReceiverStands first first [] (record { aligner = aligner; reader = reader; frames = frames; packets = packets })
+stands_none first aligner reader frames packets aligned read e none = record {
   aligned = aligned;
   read = same_read [] (last_run (runs_of (arrivals []))) reader (sym run-none) read;
   sent = record { went = []; rest = []; parts = sym text-none; gained = gained_none first; whole = λ _. refl };
   frames = e ∙ ap saturated (sym frames-none);
-  packets = sym (ap (λ ps. saturated (counted_packets first.state ps [])) packets-none ∙ ap saturated (none_counted first.state));
+  packets = none ∙ sym (ap (λ ps. saturated (counted_packets first.state ps [])) packets-none ∙ ap saturated (none_counted first.state));
 }
 
--- what stands of a receiver, without its aligner
-pub all_read : (first now : OutView) (arrived : List ℕ) (receiver : ReceiverView) → ReceiverStands first now arrived receiver → AllRead first now (arrivals arrived) receiver.reader receiver.packets
-unfolding arriving_text arriving_packets
-all_read first now arrived receiver h = record { read = h.read; lines = record { sent = h.sent; counted = h.packets } }
+-- where no line is held: a receiver before some bytes, and after them
+pub holds_first : (first now : OutView) (arrived : List ℕ) (receiver : ReceiverView) (held : HeldView) → NoneHeld held → held.packets ≡ receiver.packets → ReceiverStands first now arrived receiver
+    → HoldsAfter first now arrived receiver.aligner receiver.frames receiver.reader held
+unfolding arriving_text
+holds_first first now arrived receiver held none same h = record {
+  aligned = h.aligned;
+  whole = h.frames;
+  read = h.read;
+  lines = none_held first now (arriving_packets arrived) held none (record { sent = h.sent; counted = same ∙ h.packets });
+}
+
+pub stands_last : (first old new : OutView) (arrived : List ℕ) (held : HeldView) (receiver : ReceiverView) → (LinesHeld first old (arriving_packets arrived) held → LinesSent first new (arriving_packets arrived) receiver.packets)
+    → HoldsAfter first old arrived receiver.aligner receiver.frames receiver.reader held → ReceiverStands first new arrived receiver
+unfolding arriving_text
+stands_last first old new arrived held receiver goes h = record {
+  aligned = h.aligned;
+  read = h.read;
+  sent = (goes h.lines).sent;
+  frames = h.whole;
+  packets = (goes h.lines).counted;
+}
+
+-- what is held after some bytes, without the aligner
+pub all_read : (first now : OutView) (arrived : List ℕ) (aligner : AlignerState) (frames : ℕ) (reader : ReaderState) (held : HeldView) → HoldsAfter first now arrived aligner frames reader held → AllRead first now (arrivals arrived) reader held
+unfolding arriving_packets
+all_read first now arrived aligner frames reader held h = record { read = h.read; lines = h.lines }
 
 -- bytes came, and what arrived with them was read
-pub stands_more : (first old now : OutView) (arrived came frame : List ℕ) (r : Aligned) (was is : ReceiverView) → AlignsBy arrived came r frame is.aligner → is.frames ≡ frames_after was.frames r
-    → AllRead first now (arrivals arrived ++ news r frame) is.reader is.packets → ReceiverStands first old arrived was → ReceiverStands first now (arrived ++ came) is
-unfolding arriving_text arriving_packets
-stands_more first old now arrived came frame r was is aligns frames all h =
-    let P : List Arrival → Type 0 = λ xs. AllRead first now xs is.reader is.packets in
+pub holds_more : (first old now : OutView) (arrived came frame : List ℕ) (r : Aligned) (was is : AlignerState) (before after : ℕ) (reader next : ReaderState) (held kept : HeldView) → AlignsBy arrived came r frame is → after ≡ frames_after before r
+    → AllRead first now (arrivals arrived ++ news r frame) next kept → HoldsAfter first old arrived was before reader held → HoldsAfter first now (arrived ++ came) is after next kept
+unfolding arriving_packets
+holds_more first old now arrived came frame r was is before after reader next held kept aligns frames all h =
+    let P : List Arrival → Type 0 = λ xs. AllRead first now xs next kept in
     let read = subst P (sym aligns.arrived) all in
     record {
       aligned = aligns.aligned;
+      whole = frames ∙ frames_go_on arrived came frame r is before aligns h.whole;
       read = read.read;
-      sent = read.lines.sent;
-      frames = frames ∙ frames_go_on arrived came frame r is.aligner was.frames aligns h.frames;
-      packets = read.lines.counted;
+      lines = read.lines;
     }
 
-pub stands_same : (first now : OutView) (arrived others : List ℕ) (receiver : ReceiverView) → arrived ≡ others → ReceiverStands first now arrived receiver → ReceiverStands first now others receiver
-stands_same first now arrived others receiver e h = let P : List ℕ → Type 0 = λ x. ReceiverStands first now x receiver in subst P e h
+pub holds_same : (first now : OutView) (arrived others : List ℕ) (aligner : AlignerState) (frames : ℕ) (reader : ReaderState) (held : HeldView) → arrived ≡ others → HoldsAfter first now arrived aligner frames reader held
+    → HoldsAfter first now others aligner frames reader held
+holds_same first now arrived others aligner frames reader held e h = let P : List ℕ → Type 0 = λ x. HoldsAfter first now x aligner frames reader held in subst P e h

@@ -1,5 +1,5 @@
 -- A client's output: the packets that arrive, written as text.
-use Rattle.std.specs.Prelude.{◌≡◌, ℕ, ◌==◌, Bool, true, false, List, [], ◌∷◌, ◌++◌, length, filter, flat_map}
+use Rattle.std.specs.Prelude.{◌≡◌, ℕ, Bool, true, false, List, [], ◌∷◌, ◌++◌, length, flat_map}
 use Rattle.otn_ports.specs.Sent.{IsSent}
 use Rattle.otn_ports.specs.Views.{State, Empty, Live, Dead, OutView}
 use Rattle.gfp_frames.specs.Delivered.{delivered}
@@ -46,12 +46,47 @@ pub record LinesSent (first now : OutView) (packets : List (List ℕ)) (count : 
   pub sent : IsSent first (hex_text packets) now
   pub counted : count ≡ saturated (counted_packets first.state packets sent.went)
 
--- the reader has read these bytes of a run: behind earlier packets, the text of those that they deliver was due to the place
-pub record RunRead (first now : OutView) (earlier : List (List ℕ)) (taken : List ℕ) (reader : ReaderState) (count : ℕ) : Type 0 where
+-- what is seen of lines that are held: their text, how many they are, and how many packets count
+pub record HeldView : Type 0 where
+  pub text : List ℕ
+  pub count : ℕ
+  pub packets : ℕ
+
+-- no line is held
+pub record NoneHeld (held : HeldView) : Type 0 where
+  pub text : held.text ≡ []
+  pub count : held.count ≡ 0
+
+-- and no packet counts
+pub record IsNew (held : HeldView) : Type 0 where
+  pub none : NoneHeld held
+  pub packets : held.packets ≡ 0
+
+-- Of these packets, the text of the first was due to a place, and so many of them count; that of the others is held. For a dead place
+-- none is held.
+pub record LinesHeld (first now : OutView) (packets : List (List ℕ)) (held : HeldView) : Type 0 where
+  pub gone : List (List ℕ)
+  pub waiting : List (List ℕ)
+  pub parts : gone ++ waiting ≡ packets
+  pub sent : LinesSent first now gone held.packets
+  pub text : held.text ≡ hex_text waiting
+  pub count : held.count ≡ length waiting
+  pub dead : now.state ≡ Dead → waiting ≡ []
+
+-- the reader has read these bytes of a run: behind earlier packets, those that they deliver are due to the place
+pub record RunRead (first now : OutView) (earlier : List (List ℕ)) (taken : List ℕ) (reader : ReaderState) (held : HeldView) : Type 0 where
   pub read : HasRead taken reader
-  pub lines : LinesSent first now (earlier ++ delivered taken) count
+  pub lines : LinesHeld first now (earlier ++ delivered taken) held
 
 -- all that arrived was read
-pub record AllRead (first now : OutView) (came : List Arrival) (reader : ReaderState) (count : ℕ) : Type 0 where
+pub record AllRead (first now : OutView) (came : List Arrival) (reader : ReaderState) (held : HeldView) : Type 0 where
   pub read : HasRead (last_run (runs_of came)) reader
-  pub lines : LinesSent first now (flat_map delivered (runs_of came)) count
+  pub lines : LinesHeld first now (flat_map delivered (runs_of came)) held
+
+-- These bytes have arrived at a receiver with this aligner and this reader, where so many whole frames were handed on: the packets that
+-- they deliver are due to the place.
+pub record HoldsAfter (first now : OutView) (arrived : List ℕ) (aligner : AlignerState) (frames : ℕ) (reader : ReaderState) (held : HeldView) : Type 0 where
+  pub aligned : HasAligned arrived aligner
+  pub whole : frames ≡ saturated (arriving_frames arrived)
+  pub read : HasRead (last_run (runs_of (arrivals arrived))) reader
+  pub lines : LinesHeld first now (arriving_packets arrived) held

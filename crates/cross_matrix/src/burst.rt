@@ -23,23 +23,24 @@ use std::alloc::Global;
 use std::marker::Model;
 use trib_sink::TribSink;
 
-/// Bytes that a turn brought, in a buffer with room for those of any turn. It is seen as the list of them,
-/// beside the room.
+/// Bytes that a turn brought, in a buffer with room for those of any turn, from `first` to `last`. It is seen as
+/// the list of them, beside the room.
 #[derive(Drop)]
 pub(crate) struct Burst {
     buffer: Vec<u8>,
-    len: usize,
+    first: usize,
+    last: usize,
 }
 
 impl Model for Burst {
-    ghost use Rattle.std.specs.Prelude.{◌≤◌, take, vec_len};
+    ghost use Rattle.std.specs.Prelude.{◌≤◌, slice_range, vec_len};
     ghost use Rattle.cross_matrix.specs.Bursts.{BurstView};
 
     ghost Value = { BurstView };
 
-    ghost view = { λ b. record { bytes = take b.len b.buffer.items; room = vec_len b.buffer } };
+    ghost view = { λ b. record { bytes = slice_range b.buffer.items b.first b.last; room = vec_len b.buffer } };
 
-    ghost invariant = { λ b. b.len ≤ vec_len b.buffer };
+    ghost invariant = { λ b. (b.first ≤ b.last) × (b.last ≤ vec_len b.buffer) };
 }
 
 impl Burst {
@@ -49,7 +50,8 @@ impl Burst {
     {
         Ok(Burst {
             buffer: vec![in alloc; 0u8; room]?,
-            len: 0,
+            first: 0,
+            last: 0,
         })
     }
 
@@ -57,20 +59,22 @@ impl Burst {
     pub(crate) fn bytes(&self) -> &[u8]
         ensures { result.now ≡ self.now.bytes }
     {
-        &self.buffer[..self.len]
+        &self.buffer[self.first..self.last]
     }
 
     /// Drops the bytes.
     pub(crate) fn clear(&mut self)
         ensures { self.new ≡ record self.old { bytes = [] } }
     {
-        self.len = 0;
+        self.first = 0;
+        self.last = 0;
     }
 
-    /// What a sink emits in the turn that ends with this: the bytes are these.
+    /// What a sink emits in the turn that ends with this: the bytes are these, in a buffer of the sink's, which
+    /// keeps this one in exchange.
     pub(crate) fn take_turn(&mut self, sink: &mut TribSink, whole: bool)
         requires whole { IsTrue whole → sink.old.taken ≡ slots_of sink.old.slots.kind }
-        requires room { length sink.old.slots.list * (GROUPS + 1) ≤ self.old.room }
+        requires room { self.old.room ≡ length sink.old.slots.list * (GROUPS + 1) }
         ensures bytes { (own : Tributary) (past : List (Option View)) (frames : List Taken) → StandsAfter own past frames sink.old
             → self.new.bytes ≡ emission own (signal_byte Ais) past (ended_view own whole frames) }
         ensures stands { (own : Tributary) (past : List (Option View)) (frames : List Taken) → StandsAfter own past frames sink.old
@@ -80,8 +84,9 @@ impl Burst {
         ensures port { sink.new.port ≡ sink.old.port }
         ensures room_stays { self.new.room ≡ self.old.room }
     {
-        let count = sink.end_turn(whole, &mut self.buffer);
-        self.len = count.min(self.buffer.len());
+        let emitted = sink.hand_over(whole, &mut self.buffer);
+        self.first = emitted.start;
+        self.last = emitted.end;
     }
 
     /// The next bytes, so many, of a client's stream.
@@ -101,7 +106,8 @@ impl Burst {
         ensures room_stays { self.new.room ≡ self.old.room }
     {
         fill_front(framer, lines, place, &mut self.buffer, count);
-        self.len = count;
+        self.first = 0;
+        self.last = count;
     }
 
     /// The next bytes, so many, of a signal's stream.
@@ -112,7 +118,8 @@ impl Burst {
         ensures room_stays { self.new.room ≡ self.old.room }
     {
         next_front(stream, &mut self.buffer, count);
-        self.len = count;
+        self.first = 0;
+        self.last = count;
     }
 }
 

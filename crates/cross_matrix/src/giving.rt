@@ -15,8 +15,7 @@ ghost use Rattle.cross_matrix.specs.Receiving.{ReceiverStands};
 ghost use Rattle.cross_matrix.specs.Parts.{OnSource, OnReceiver, IsToClient, GivesTo, GivingStands, frames_filled, IsBegun, IsReceived};
 
 use crate::receiver::Receiver;
-use frame_geometry::Frame;
-use otn_base::limits::LINE_COLUMNS;
+use odtu_columns::FillFrame;
 use otn_ports::{OutPlaceOf, Sink};
 use trib_source::TribSource;
 
@@ -83,12 +82,12 @@ fn begin_line(source: &mut TribSource, bytes: &[u8])
 }
 
 /// Fills frame `n` of the turn of the output line.
-pub(crate) fn fill_line(part: &mut GivingPart, n: u8, frame: &mut Frame<LINE_COLUMNS>)
+pub(crate) fn fill_line<F: FillFrame>(part: &mut GivingPart, n: u8, frame: &mut F)
     requires line { OnSource part.old (λ source. (n < slots_of source.slots.kind) × (n ≡ source.filled) × IsSome source.said) }
-    ensures put { (own : Tributary) (turns : List (List ℕ)) → OnSource part.old (StandsAfter own turns n) → WasPut own turns (length turns - 1) n frame.old frame.new }
+    ensures put { (own : Tributary) (turns : List (List ℕ)) → OnSource part.old (StandsAfter own turns n) → WasPut own turns (length turns - 1) n (F.bytes frame.old) (F.bytes frame.new) }
     ensures stands { (own : Tributary) (turns : List (List ℕ)) → OnSource part.old (StandsAfter own turns n) → OnSource part.new (StandsAfter own turns (n + 1)) }
     ensures kept { (port row column : ℕ) → 1 ≤ row → row ≤ ROWS → 1 ≤ column → column ≤ COLUMNS
-        → OnSource part.old (λ source. IsSourcePlace (tributary_of source.slots port) n row column → ⊥) → byte_at frame.new row column ≡ byte_at frame.old row column }
+        → OnSource part.old (λ source. IsSourcePlace (tributary_of source.slots port) n row column → ⊥) → byte_at (F.bytes frame.new) row column ≡ byte_at (F.bytes frame.old) row column }
     ensures entry { (to : ToEnd) → GivesTo to part.old → GivesTo to part.new }
     ensures filled { frames_filled part.new ≡ frames_filled part.old + 1 }
     ensures begun { IsBegun part.new }

@@ -24,6 +24,7 @@ use crate::Pipe;
 use crate::giving::GivingPart;
 use crate::taking::TakingPart;
 use frame_geometry::Frame;
+use odtu_columns::FillFrame;
 use otn_base::limits::LINE_COLUMNS;
 use otn_ports::{InPlaceOf, OutPlaceOf, Sink, Source};
 use trib_sink::TribSink;
@@ -57,9 +58,9 @@ impl Pipe {
     }
 
     /// Fills the connection's own places in the next frame of the turn of its output line. Every other byte stays.
-    pub fn fill_next(&mut self, frame: &mut Frame<LINE_COLUMNS>)
+    pub fn fill_next<F: FillFrame>(&mut self, frame: &mut F)
         ensures put { (x : Connection) (b port : ℕ) (slots : LineSlots) (input : OwnInput) (j n : ℕ) (frames : List Taken) (ended : Bool) → x.to ≡ to_end.Line b port slots
-            → n < slots_of slots.kind → PipeStands x input j frames ended n self.old → WasPut (tributary_of slots port) (got_by x input (suc j)) j n frame.old frame.new }
+            → n < slots_of slots.kind → PipeStands x input j frames ended n self.old → WasPut (tributary_of slots port) (got_by x input (suc j)) j n (F.bytes frame.old) (F.bytes frame.new) }
         ensures stands { (x : Connection) (b port : ℕ) (slots : LineSlots) (input : OwnInput) (j n : ℕ) (frames : List Taken) (ended : Bool) → x.to ≡ to_end.Line b port slots
             → n < slots_of slots.kind → PipeStands x input j frames ended n self.old → PipeStands x input j frames ended (n + 1) self.new }
         ensures entry { (x : Connection) → IsPipeOf x self.old → IsPipeOf x self.new }

@@ -4,13 +4,14 @@
 //! - `pipe`: a connection's pipe; `in_turn`: its calls for a caller that keeps no count of frames.
 //! - `build`: the pipe of an entry of a plan.
 //! - `taking`, `giving`: its two parts.
-//! - `receiver`: a client's output, from arriving bytes to lines of text.
+//! - `receiver`: a client's output, from arriving bytes to lines of text; `held_lines`: the lines until they leave.
 //! - `burst`: the bytes of one turn.
 #![tactic(auto)]
 
 mod build;
 mod burst;
 mod giving;
+mod held_lines;
 mod in_turn;
 mod pipe;
 mod receiver;

@@ -29,6 +29,7 @@ use crate::taking::{
     text_numbers,
 };
 use frame_geometry::Frame;
+use odtu_columns::FillFrame;
 use otn_base::limits::LINE_COLUMNS;
 use otn_ports::{InPlaceOf, OutPlaceOf, Sink, Source};
 use std::marker::Model;
@@ -118,14 +119,14 @@ impl Pipe {
     }
 
     /// Fills the connection's own places in frame `n`, from 0, of the turn of its output line. Every other byte stays.
-    pub fn fill_frame(&mut self, n: u8, frame: &mut Frame<LINE_COLUMNS>)
+    pub fn fill_frame<F: FillFrame>(&mut self, n: u8, frame: &mut F)
         requires line { OnSource self.old.giving (λ source. (n < slots_of source.slots.kind) × (n ≡ source.filled) × IsSome source.said) }
         ensures put { (x : Connection) (b port : ℕ) (slots : LineSlots) (input : OwnInput) (j : ℕ) (frames : List Taken) (ended : Bool) → x.to ≡ to_end.Line b port slots
-            → PipeStands x input j frames ended n self.old → WasPut (tributary_of slots port) (got_by x input (suc j)) j n frame.old frame.new }
+            → PipeStands x input j frames ended n self.old → WasPut (tributary_of slots port) (got_by x input (suc j)) j n (F.bytes frame.old) (F.bytes frame.new) }
         ensures stands { (x : Connection) (input : OwnInput) (j : ℕ) (frames : List Taken) (ended : Bool) → PipeStands x input j frames ended n self.old
             → PipeStands x input j frames ended (n + 1) self.new }
         ensures kept { (port row column : ℕ) → 1 ≤ row → row ≤ ROWS → 1 ≤ column → column ≤ COLUMNS
-            → OnSource self.old.giving (λ source. IsSourcePlace (tributary_of source.slots port) n row column → ⊥) → byte_at frame.new row column ≡ byte_at frame.old row column }
+            → OnSource self.old.giving (λ source. IsSourcePlace (tributary_of source.slots port) n row column → ⊥) → byte_at (F.bytes frame.new) row column ≡ byte_at (F.bytes frame.old) row column }
         ensures entry { (x : Connection) → IsPipeOf x self.old → IsPipeOf x self.new }
         ensures filled { frames_filled self.new.giving ≡ frames_filled self.old.giving + 1 }
         ensures begun { IsBegun self.new.giving }

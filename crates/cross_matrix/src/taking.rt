@@ -87,7 +87,7 @@ pub(crate) fn take_line(part: &mut TakingPart, n: u8, frame: &Frame<LINE_COLUMNS
 /// Ends a turn of the connection's line: what its sink emits came.
 pub(crate) fn end_line(part: &mut TakingPart, whole: bool, came: &mut Burst)
     requires line { OnSink part.old (λ sink. IsTrue whole → sink.taken ≡ slots_of sink.slots.kind) }
-    requires room { OnSink part.old (λ sink. length sink.slots.list * (GROUPS + 1) ≤ came.old.room) }
+    requires room { OnSink part.old (λ sink. came.old.room ≡ length sink.slots.list * (GROUPS + 1)) }
     ensures stands { (x : Connection) (a port : ℕ) (slots : LineSlots) (shows : ℕ → Option View) (j : ℕ) (frames : List Taken)
         → TakingStands (from_end.Line a port slots) x (of_line shows) j frames false part.old → ended_view (tributary_of slots port) whole frames ≡ shows (first_turn x + j)
         → TakingStands (from_end.Line a port slots) x (of_line shows) j [] true part.new }

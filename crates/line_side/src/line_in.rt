@@ -75,7 +75,7 @@ impl<const COUNTS: usize> LineIn<COUNTS> {
         })
     }
 
-    /// Does the next piece of the turn, and says whether a frame of the multiframe on which the turn is locked is now in hand; that the
+    /// Does the next piece of the turn, of the same place as the last piece, which nothing else has read since, and says whether a frame of the multiframe on which the turn is locked is now in hand; that the
     /// turn has this multiframe only `end_turn` says. The first
     /// piece of a turn that hunts reads up to S + 1 frames. A line that has ended, or that found no multiframe in this
     /// turn, reads nothing.

@@ -1,5 +1,5 @@
 -- A turn of a sink on a line, from its pieces.
-use Rattle.std.proofs.Common.{◌≡◌, ◌≤◌, ◌+◌, ◌∙◌, ℕ, Bool, true, false, List, [], ◌∷◌, ◌++◌, Option, length, take, drop, refl, sym, ap, subst, arith, add-one, append-nil, append_assoc, length-append}
+use Rattle.std.proofs.Common.{◌≡◌, ◌+◌, ◌∙◌, ℕ, Bool, true, false, List, [], ◌∷◌, ◌++◌, Option, refl, sym, ap, subst, add-one, append-nil, append_assoc}
 use Rattle.std.specs.Prelude.{is_some}
 use Rattle.otn_ports.specs.Views.{InView}
 use Rattle.line_side.specs.LineForm.{plain_otu2}
@@ -59,20 +59,6 @@ ended_is (Locked lock) false h = refl
 ended_is Ended true h = refl
 ended_is Ended false h = absurd (let e : false ≡ true = h.1 refl in cc)
 
--- what is at the front of a buffer
-front : (new emitted old : List ℕ) (n : ℕ) → new ≡ emitted ++ drop n old → n ≡ length emitted → take n new ≡ emitted
-front new emitted old n e count = ap (take n) e ∙ ap (λ k. take k (emitted ++ drop n old)) count ∙ take_of emitted (drop n old)
-  where
-    take_of : (xs ys : List ℕ) → take (length xs) (xs ++ ys) ≡ xs
-    take_of [] ys = refl
-    take_of (x ∷ xs) ys = ap (λ zs. x ∷ zs) (take_of xs ys)
-
--- it is no longer than the buffer
-pub front_within : (new emitted old : List ℕ) (n : ℕ) → new ≡ emitted ++ drop n old → n ≡ length emitted → length new ≡ length old → n ≤ length old
-front_within new emitted old n e count same =
-    let size : length new ≡ length emitted + length (drop n old) = ap length e ∙ length-append emitted (drop n old) in
-    omega (arith, size, count, same)
-
 -- one turn more
 views_more : (own : Tributary) (given : List ℕ) (t : ℕ) → views_until own given (t + 1) ≡ view_at own given t ∷ views_until own given t
 unfolding views_until
@@ -84,18 +70,16 @@ unfolding emitted_at
 emission_at own given t = refl
 
 -- the end of a turn whose pieces are done
-pub turn_ends : (own : Tributary) (first now : InView) (taken : List ℕ) (t count : ℕ) (old mid : Tap) (whole : Bool) (line : LineView) (sink : Sink) (into room : List ℕ)
+pub turn_ends : (own : Tributary) (first now : InView) (taken : List ℕ) (t : ℕ) (old mid : Tap) (whole : Bool) (line : LineView) (sink : Sink) (emitted : List ℕ)
     → (m : TapMoves own first now taken t old mid) → mid.line.pieces ≡ 8 → line.pieces ≡ 0 → line.reader.ending ≡ mid.line.reader.ending
     → LineStands plain_otu2 first now (taken ++ m.came) (t + 1) line
     → ((given : List ℕ) → MayBe false mid.line.reader.ending (taken ++ m.came) given → whole ≡ is_some (multiframe 8 (mfas_of given) t))
     → ((given : List ℕ) → MayBe false mid.line.reader.ending (taken ++ m.came) given
     → (line.ended ≡ true → line_state 8 (mfas_of given) (t + 1) ≡ Ended) × (line_state 8 (mfas_of given) (t + 1) ≡ Ended → line.ended ≡ true))
     → ((past : List (Option View)) (frames : List Taken) → StandsAfter own past frames mid.sink → StandsAfter own (ended_view own whole frames ∷ past) [] sink)
-    → ((past : List (Option View)) (frames : List Taken) → StandsAfter own past frames mid.sink
-    → into ≡ emission own (signal_byte Ais) past (ended_view own whole frames) ++ drop count room)
-    → ((past : List (Option View)) (frames : List Taken) → StandsAfter own past frames mid.sink → count ≡ length (emission own (signal_byte Ais) past (ended_view own whole frames)))
-    → TurnMoves own first now taken t old (record { line = line; sink = sink }) (take count into)
-turn_ends own first now taken t count old mid whole line sink into room m eight none ending stands multi ends sinks bytes counts =
+    → ((past : List (Option View)) (frames : List Taken) → StandsAfter own past frames mid.sink → emitted ≡ emission own (signal_byte Ais) past (ended_view own whole frames))
+    → TurnMoves own first now taken t old (record { line = line; sink = sink }) emitted
+turn_ends own first now taken t old mid whole line sink emitted m eight none ending stands multi ends sinks bytes =
     let earlier : (given : List ℕ) → MayBe false line.reader.ending (taken ++ m.came) given → MayBe false mid.line.reader.ending (taken ++ m.came) given
     = λ given may. subst (λ e. MayBe false e (taken ++ m.came) given) ending may in
     let took : (given : List ℕ) → MayBe false mid.line.reader.ending (taken ++ m.came) given → StandsAfter own (views_until own given t) (frames_in 8 given t 8) mid.sink
@@ -116,22 +100,7 @@ turn_ends own first now taken t count old mid whole line sink into room m eight 
       emits = λ given may.
           let st = took given (earlier given may) in
           let view = turn_frames own 8 given t whole m.stands.size (multi given (earlier given may)) in
-          front into (emission own (signal_byte Ais) (views_until own given t) (ended_view own whole (frames_in 8 given t 8))) room count
-          (bytes (views_until own given t) (frames_in 8 given t 8) st) (counts (views_until own given t) (frames_in 8 given t 8) st)
+          bytes (views_until own given t) (frames_in 8 given t 8) st
           ∙ ap (emission own (signal_byte Ais) (views_until own given t)) view ∙ emission_at own given t;
       ended = λ given may. ended_is (line_state 8 (mfas_of given) (t + 1)) line.ended (ends given (earlier given may));
     }
-
--- what a turn emits is within its buffer
-pub turn_within : (own : Tributary) (first now : InView) (taken : List ℕ) (t count : ℕ) (old mid : Tap) (whole : Bool) (into room : List ℕ)
-    → TapMoves own first now taken t old mid
-    → ((past : List (Option View)) (frames : List Taken) → StandsAfter own past frames mid.sink
-    → into ≡ emission own (signal_byte Ais) past (ended_view own whole frames) ++ drop count room)
-    → ((past : List (Option View)) (frames : List Taken) → StandsAfter own past frames mid.sink → count ≡ length (emission own (signal_byte Ais) past (ended_view own whole frames)))
-    → length into ≡ length room → count ≤ length room
-turn_within own first now taken t count old mid whole into room m bytes counts same =
-    let given = taken ++ m.came in
-    let may : MayBe false mid.line.reader.ending (taken ++ m.came) given = record { rest = []; over = λ _. refl; parts = sym (append-nil (taken ++ m.came)) } in
-    let st = m.stands.sink given may in
-    front_within into (emission own (signal_byte Ais) (views_until own given t) (ended_view own whole (frames_in 8 given t mid.line.pieces))) room count
-    (bytes (views_until own given t) (frames_in 8 given t mid.line.pieces) st) (counts (views_until own given t) (frames_in 8 given t mid.line.pieces) st) same

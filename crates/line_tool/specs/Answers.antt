@@ -44,12 +44,12 @@ pub record SlotRan (slot : ℕ) (old new : Device) (status : Status) : Type 0 wh
   pub stopped : status ≡ ReportFault → StoppedInFrame slot taken (length taken) old.report.got new.report.got
   -- Cut is the answer exactly where the line is dead
   pub cut : (status ≡ Cut) ↔ ((line_zero new).state ≡ Dead)
-  -- and, where no write failed, Unfinished exactly where it is not, and bytes were taken behind the whole frames that are used; Done is the answer where none of
+  -- and, where no write failed, Unfinished exactly where the line is not dead, and bytes were taken behind the whole frames that are used; Done is the answer where none of
   -- Memory, ReportFault, Cut and Unfinished is
   pub unfinished : status ≢ ReportFault → (status ≡ Unfinished) ↔ (((line_zero new).state ≢ Dead) × HasBytesBehind (length taken))
-  -- where no write failed, all that there is was taken, so that a line that is not dead has answered its end, or 131,072 frames and one byte more, which
-  -- are the most
+  -- never more than 131,072 frames and one byte
   pub most : length taken ≤ most_taken
+  -- where no write failed, all that there is was taken, so that a line that is not dead has answered its end, or that many
   pub all : status ≢ ReportFault → (line_zero new).state ≢ Dead → HasEnded (line_zero new).left (line_zero new).ended ⊎ (length taken ≡ most_taken)
 
 -- ---- `pull PORT K,K`: what the sink of a tributary on line input 0 emits, turn by turn

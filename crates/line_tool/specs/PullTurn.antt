@@ -21,14 +21,6 @@ pub record TapStands (own : Tributary) (first now : InView) (taken : List ℕ) (
   pub line : LineStands plain_otu2 first now taken t tap.line
   pub sink : (given : List ℕ) → MayBe false tap.line.reader.ending taken given → StandsAfter own (views_until own given t) (frames_in OTU2_SLOTS given t tap.line.pieces) tap.sink
 
--- it stands so in some turn of some tributary
-pub record StandsSomewhere (now : InView) (tap : Tap) : Type 0 where
-  pub own : Tributary
-  pub first : InView
-  pub taken : List ℕ
-  pub t : ℕ
-  pub stands : TapStands own first now taken t tap
-
 -- some pieces of a turn went by
 pub record TapMoves (own : Tributary) (first now : InView) (taken : List ℕ) (t : ℕ) (old new : Tap) : Type 0 where
   pub came : List ℕ

@@ -7,7 +7,7 @@ ghost use Rattle.otn_base.specs.declared.limits.TheConstants.{GROUPS, OTU2_SLOTS
 ghost use Rattle.otn_ports.specs.PortViews.{sink_view};
 ghost use Rattle.line_tool.specs.Ends.{ReportAfter};
 ghost use Rattle.line_tool.specs.PullReport.{tributary};
-ghost use Rattle.line_tool.specs.PullTurn.{TapStands, StandsSomewhere, IsBetweenTurns};
+ghost use Rattle.line_tool.specs.PullTurn.{TapStands, IsBetweenTurns};
 
 use crate::beyond::ask_for_more;
 use crate::ended::Ended;
@@ -56,16 +56,15 @@ fn turn_room(alloc: Global, slots: &Slots) -> Result<Vec<u8>, AllocError>
     vec![in alloc; 0; slots.count() as usize * (GROUPS + 1)]
 }
 
-// The turns, with a sink before the first one and room for what it emits.
+// The turns, with a sink before the first one and a buffer as large as its own.
 fn write_turns<I: Source, K: Sink>(
     tap: &mut Tap,
     line: &mut InPlaceOf<I>,
     report: &mut K,
-    room: &mut [u8],
+    room: &mut Vec<u8>,
 ) -> Ended
     requires between { IsBetweenTurns tap.old }
-    requires stands { StandsSomewhere (in_view I.Source line.old) tap.old }
-    requires room { length tap.old.sink.slots.list * (GROUPS + 1) ≤ length room.old }
+    requires room { vec_len room.old ≡ length tap.old.sink.slots.list * (GROUPS + 1) }
     ensures run { (own : Tributary) → ((first : InView) → TapStands own first first [] 0 tap.old)
         → PullEnded own (in_view I.Source line.old) (in_view I.Source line.new) (K.got report.old) (K.got report.new) result }
     ensures report { ReportAfter (Some result) (sink_view K.Sink report.old) (sink_view K.Sink report.new) }
@@ -85,19 +84,19 @@ fn write_turn<I: Source, K: Sink>(
     tap: &mut Tap,
     line: &mut InPlaceOf<I>,
     report: &mut K,
-    room: &mut [u8],
+    room: &mut Vec<u8>,
 ) -> After
     requires between { IsBetweenTurns tap.old }
-    requires room { length tap.old.sink.slots.list * (GROUPS + 1) ≤ length room.old }
-    requires stands { StandsSomewhere (in_view I.Source line.old) tap.old }
+    requires room { vec_len room.old ≡ length tap.old.sink.slots.list * (GROUPS + 1) }
     ensures run { (own : Tributary) (first : InView) (taken : List ℕ) (t : ℕ) → TapStands own first (in_view I.Source line.old) taken t tap.old
         → TurnRun own first (in_view I.Source line.new) taken t tap.old tap.new (K.got report.old) (K.got report.new) result }
     ensures between { IsBetweenTurns tap.new }
     ensures slots { tap.new.sink.slots ≡ tap.old.sink.slots }
+    ensures room_stays { vec_len room.new ≡ vec_len room.old }
     ensures report { ReportAfter (fault_of result) (sink_view K.Sink report.old) (sink_view K.Sink report.new) }
 {
-    let count = tap.turn(line, room);
-    if write_whole(report, &room[..count]) == Written::Lost {
+    let emitted = tap.turn(line, room);
+    if write_whole(report, &room[emitted]) == Written::Lost {
         return After::ReportFailed;
     }
     if tap.line().ended() {

@@ -1,5 +1,5 @@
 // The sink of a tributary on an input line.
-ghost use Rattle.std.specs.Prelude.{◌≡◌, ◌+◌, ◌*◌, ◌<◌, ◌≤◌, ℕ, List, [], IfOk, length, take};
+ghost use Rattle.std.specs.Prelude.{◌≡◌, ◌+◌, ◌*◌, ◌<◌, ◌≤◌, ℕ, List, [], IfOk, length, slice_range, vec_len};
 ghost use Rattle.otn_ports.specs.InPlace.{in_view};
 ghost use Rattle.otn_ports.specs.Views.{InView};
 ghost use Rattle.tributary_model.specs.Places.{Tributary};
@@ -11,6 +11,7 @@ use otn_base::limits::OTU2_SLOTS;
 use otn_base::{LineKind, Memory, Slots};
 use otn_ports::{InPlaceOf, Source};
 use std::alloc::Global;
+use std::ops::Range;
 use trib_sink::TribSink;
 
 /// A sink that sees the turns of a line, from the first one on.
@@ -20,7 +21,7 @@ pub(crate) struct Tap {
     sink: TribSink,
 }
 
-ghost use Rattle.line_tool.specs.PullTurn.{TapStands, TapMoves, TurnMoves, StandsSomewhere, IsInStep, IsBetweenTurns};
+ghost use Rattle.line_tool.specs.PullTurn.{TapStands, TapMoves, TurnMoves, IsInStep, IsBetweenTurns};
 
 impl Tap {
     /// A sink of these slots and this tributary port, 1 to 8, before the line's first turn. Takes all memory that it will
@@ -38,21 +39,26 @@ impl Tap {
         Ok(Tap { line, sink })
     }
 
-    /// Does a turn. What the sink emits in it stands at the front of `into`, which has room for 15,233 bytes a slot, and the
-    /// answer is how many bytes that is.
-    pub(crate) fn turn<I: Source>(&mut self, place: &mut InPlaceOf<I>, into: &mut [u8]) -> usize
+    /// Does a turn. What the sink emits in it stands in what is `room` afterwards, from where to where the answer says;
+    /// the sink keeps what was `room` before, of 15,233 bytes a slot.
+    pub(crate) fn turn<I: Source>(
+        &mut self,
+        place: &mut InPlaceOf<I>,
+        room: &mut Vec<u8>,
+    ) -> Range<usize>
         requires between { IsBetweenTurns self.old }
-        requires stands { StandsSomewhere (in_view I.Source place.old) self.old }
-        requires room { length self.old.sink.slots.list * (GROUPS + 1) ≤ length into.old }
+        requires room { vec_len room.old ≡ length self.old.sink.slots.list * (GROUPS + 1) }
         ensures moves { (own : Tributary) (first : InView) (taken : List ℕ) (t : ℕ) → TapStands own first (in_view I.Source place.old) taken t self.old
-            → TurnMoves own first (in_view I.Source place.new) taken t self.old self.new (take result into.new) }
-        ensures within { result ≤ length into.old }
+            → TurnMoves own first (in_view I.Source place.new) taken t self.old self.new (slice_range room.new.items result.start result.end) }
+        ensures in_order { result.start ≤ result.end }
+        ensures within { result.end ≤ vec_len room.new }
+        ensures room_stays { vec_len room.new ≡ vec_len room.old }
         ensures between { IsBetweenTurns self.new }
         ensures slots { self.new.sink.slots ≡ self.old.sink.slots }
     {
         self.take_frames(place);
         let whole = self.line.end_turn();
-        self.sink.end_turn(whole, into)
+        self.sink.hand_over(whole, room)
     }
 
     // The eight pieces of a turn.

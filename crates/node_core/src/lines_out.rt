@@ -1,5 +1,5 @@
 // A piece of an output line.
-ghost use Rattle.std.specs.Prelude.{◌≡◌, ◌<◌, ◌≤◌, ◌+◌, ◌*◌, ◌%◌, ℕ, true, false, length};
+ghost use Rattle.std.specs.Prelude.{◌≡◌, ◌<◌, ◌≤◌, ◌+◌, ◌*◌, ◌%◌, ℕ, true, false, length, slice_index};
 ghost use Rattle.otn_base.specs.LineSlots.{LineSlots, slots_of};
 ghost use Rattle.otn_base.specs.declared.limits.TheConstants.{LINE_FRAME_BYTES as FRAME_BYTES};
 ghost use Rattle.otn_ports.specs.OutPlace.{out_view};
@@ -11,17 +11,20 @@ use crate::link::{Link, Target};
 use frame_geometry::Frame;
 use line_side::LineOut;
 use msi_table::SlotMap;
+use odtu_columns::{FillFrame, SlotFrame};
 use otn_base::limits::LINE_COLUMNS;
 use otn_base::{LineKind, Slots};
 use otn_ports::{OutPlaceOf, Sink};
 
 /// One piece of line output `b`: frame `n`, from 0, of turn past + 1, into which each active connection to the line puts its own.
+/// What `slots` holds is of no account, before and behind the call.
 pub(crate) fn write_line<K: Sink>(
     line: &mut LineOut,
     b: u8,
     past: u32,
     n: u8,
     links: &mut Vec<Link>,
+    slots: &mut SlotFrame,
     place: &mut OutPlaceOf<K>,
 )
     requires frame { n < slots_of line.old.form.kind }
@@ -29,20 +32,82 @@ pub(crate) fn write_line<K: Sink>(
 {
     let kind = line.kind();
     let map = slot_map(kind, b, past, links);
-    fill_links(b, past, links, line.begin());
+    let by_slots = is_by_slots(kind, b, past, links);
+    fill_line(by_slots, b, past, links, slots, line.begin());
     line.finish(mfas_of(kind, past, n), &map, place);
 }
 
-// Each active connection to line output `b` puts its own into a frame.
-fn fill_links(b: u8, past: u32, links: &mut Vec<Link>, frame: &mut Frame<LINE_COLUMNS>)
+// Whether a frame of line output `b` is best kept by slots while it is filled in turn past + 1: on an OTU2, to which several
+// connections give, and each has one slot. The frame is the same.
+fn is_by_slots(kind: LineKind, b: u8, past: u32, links: &[Link]) -> bool {
+    let mut count = 0u32;
+    for link in links {
+        if link.gives_line(b, past) {
+            if !has_one_slot(&link.to) {
+                return false;
+            }
+            count = count.saturating_add(1);
+        }
+    }
+    kind == LineKind::Otu2 && count > 1
+}
+
+fn has_one_slot(to: &Target) -> bool {
+    match to {
+        Target::Line(_, _, slots) => slots.as_slice().len() == 1,
+        Target::Client(_) => false,
+    }
+}
+
+// Each active connection to line output `b` puts its own into a frame that is all 0.
+fn fill_line(
+    by_slots: bool,
+    b: u8,
+    past: u32,
+    links: &mut Vec<Link>,
+    slots: &mut SlotFrame,
+    frame: &mut Frame<LINE_COLUMNS>,
+)
+    requires blank { (place : ℕ) → slice_index frame.old place ≡ 0 }
     ensures gave { (n : ℕ) → EachLink (λ link then. GaveFrame (gives_line past b link) n link then) links.old.items links.new.items }
-    ensures puts { LinkByLink (λ link before now. PutsOwn (gives_line past b link) link before now) links.old.items frame.old frame.new }
+    ensures puts { FromBlank (λ link before now. PutsOwn (gives_line past b link) link before now) links.old.items frame.new }
     ensures size { length frame.new ≡ FRAME_BYTES }
+{
+    if by_slots {
+        fill_by_slots(b, past, links, slots, frame);
+        return;
+    }
+    fill_links(b, past, links, frame);
+    let _size = frame.as_bytes();
+}
+
+// The same, by way of a frame that is kept by slots, whatever it holds.
+fn fill_by_slots(
+    b: u8,
+    past: u32,
+    links: &mut Vec<Link>,
+    slots: &mut SlotFrame,
+    frame: &mut Frame<LINE_COLUMNS>,
+)
+    requires blank { (place : ℕ) → slice_index frame.old place ≡ 0 }
+    ensures gave { (n : ℕ) → EachLink (λ link then. GaveFrame (gives_line past b link) n link then) links.old.items links.new.items }
+    ensures puts { FromBlank (λ link before now. PutsOwn (gives_line past b link) link before now) links.old.items frame.new }
+    ensures size { length frame.new ≡ FRAME_BYTES }
+{
+    slots.clear();
+    fill_links(b, past, links, slots);
+    slots.join_into(frame);
+    let _size = frame.as_bytes();
+}
+
+// Each active connection to line output `b` puts its own into a frame.
+fn fill_links<F: FillFrame>(b: u8, past: u32, links: &mut Vec<Link>, frame: &mut F)
+    ensures gave { (n : ℕ) → EachLink (λ link then. GaveFrame (gives_line past b link) n link then) links.old.items links.new.items }
+    ensures puts { LinkByLink (λ link before now. PutsOwn (gives_line past b link) link before now) links.old.items (F.bytes frame.old) (F.bytes frame.new) }
 {
     for link in links.iter_mut() {
         link.fill_frame(b, past, frame);
     }
-    let _size = frame.as_bytes();
 }
 
 // The tributary ports of the slots of line output `b`, which is of this kind, in turn past + 1.

@@ -17,6 +17,7 @@ ghost use Rattle.node_core.specs.NodeMoves.{Starts, whole_for, ends_here};
 use cross_matrix::Pipe;
 use device_model::{FromState, accepted_plans};
 use frame_geometry::Frame;
+use odtu_columns::FillFrame;
 use otn_base::limits::LINE_COLUMNS;
 use otn_base::{Memory, Slots};
 use otn_ports::{InPlaceOf, OutPlaceOf, Sink, Source};
@@ -130,9 +131,9 @@ impl Link {
     }
 
     /// Fills its own places in a frame of line output `b`, if it gives to the line in turn past + 1.
-    pub(crate) fn fill_frame(&mut self, b: u8, past: u32, frame: &mut Frame<LINE_COLUMNS>)
+    pub(crate) fn fill_frame<F: FillFrame>(&mut self, b: u8, past: u32, frame: &mut F)
         ensures gave { (n : ℕ) → GaveFrame (gives_line past b self.old) n self.old self.new }
-        ensures puts { PutsOwn (gives_line past b self.old) self.old frame.old frame.new }
+        ensures puts { PutsOwn (gives_line past b self.old) self.old (F.bytes frame.old) (F.bytes frame.new) }
     {
         if self.gives_line(b, past) {
             self.pipe.fill_next(frame);

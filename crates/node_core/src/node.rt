@@ -24,6 +24,7 @@ use crate::pieces::Pieces;
 use crate::retire::retire_all;
 use crate::turn::{end_lines, fence_all, start_all};
 use line_side::{LineIn, LineOut};
+use odtu_columns::SlotFrame;
 use otn_base::{Memory, PortName};
 use otn_ports::{InPlaceOf, OutPlaceOf, Rack, Sink, Source};
 use plan_file::Plan;
@@ -39,6 +40,8 @@ pub struct Node {
     pub(crate) lines_in: Vec<LineIn>,
     pub(crate) lines_out: Vec<LineOut>,
     pub(crate) links: Vec<Link>,
+    // In hand only within a step of an output line.
+    pub(crate) slots: SlotFrame,
 }
 
 impl Model for Node {
@@ -66,6 +69,7 @@ impl Node {
         let lines_in = new_lines_in(alloc, plan)?;
         let lines_out = new_lines_out(alloc, plan)?;
         let links = new_links(alloc, plan)?;
+        let slots = SlotFrame::new(alloc)?;
         Ok(Node {
             turns: plan.turns,
             past: 0,
@@ -73,6 +77,7 @@ impl Node {
             lines_in,
             lines_out,
             links,
+            slots,
         })
     }
 
@@ -163,6 +168,7 @@ impl Node {
             self.past,
             n,
             &mut self.links,
+            &mut self.slots,
             place,
         );
     }

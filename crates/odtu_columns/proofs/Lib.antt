@@ -8,3 +8,7 @@ pub mod PutRows
 pub mod PutMessage
 pub mod PutBack
 pub mod PutGroup
+pub mod BySlots
+pub mod SlotBytes
+pub mod JoinRows
+pub mod MessageFrames

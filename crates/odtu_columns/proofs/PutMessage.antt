@@ -13,7 +13,7 @@ here f g k b e h = ap (λ xs. get_or xs k 0) e ∙ get_or-set_same f k b 0 h
 pub long : (f g : List ℕ) (k b : ℕ) → g ≡ set f k b → length g ≡ length f
 long f g k b e = ap length e ∙ length-set f k b
 
-six : (bytes : List ℕ) → length bytes ≡ 6 → (get_or bytes 0 0 ∷ get_or bytes 1 0 ∷ get_or bytes 2 0 ∷ get_or bytes 3 0 ∷ get_or bytes 4 0 ∷ get_or bytes 5 0 ∷ []) ≡ bytes
+pub six : (bytes : List ℕ) → length bytes ≡ 6 → (get_or bytes 0 0 ∷ get_or bytes 1 0 ∷ get_or bytes 2 0 ∷ get_or bytes 3 0 ∷ get_or bytes 4 0 ∷ get_or bytes 5 0 ∷ []) ≡ bytes
 six [] e = absurd (omega arith)
 six (a ∷ []) e = absurd (omega arith)
 six (a ∷ b ∷ []) e = absurd (omega arith)

@@ -20,7 +20,7 @@ written_byte row i frame payload low high size long h =
     ∙ get_or_append_left payload rest 0 i (omega arith)
 
 -- any other byte
-kept_byte : (row place : ℕ) (frame payload : List ℕ) → 1 ≤ row → row ≤ 4 → length frame ≡ 16320 → length payload ≡ 3808 → (place < place_of 4080 row 17) ⊎ (place_of 4080 row 17 + 3808 ≤ place)
+pub kept_byte : (row place : ℕ) (frame payload : List ℕ) → 1 ≤ row → row ≤ 4 → length frame ≡ 16320 → length payload ≡ 3808 → (place < place_of 4080 row 17) ⊎ (place_of 4080 row 17 + 3808 ≤ place)
     → get_or (with_payload_row 4080 row frame payload) place 0 ≡ get_or frame place 0
 kept_byte row place frame payload low high size long (inl h) =
     let start = place_of 4080 row 17 in
@@ -36,7 +36,7 @@ kept_byte row place frame payload low high size long (inr h) =
     ∙ get_or-drop (start + length payload) frame (place - start - 3808) 0
     ∙ ap (λ k. get_or frame k 0) (let e : start + length payload + (place - start - 3808) ≡ place = omega arith in e)
 
-where_is : (start place : ℕ) → ((place < start) ⊎ (start + 3808 ≤ place)) ⊎ ((start ≤ place) × (place - start < 3808))
+pub where_is : (start place : ℕ) → ((place < start) ⊎ (start + 3808 ≤ place)) ⊎ ((start ≤ place) × (place - start < 3808))
 where_is start place = grind arith
 
 pub row_was_put : (line : ℕ) (slots bytes before payload new : List ℕ) (row : ℕ) → IsSlotNumber line → 1 ≤ row → row ≤ 4 → IsSlotList line slots → length before ≡ 16320 → payload ≡ payload_row_of 4080 row before → length new ≡ 3808

@@ -1,3 +1,4 @@
+pub mod BySlots
 pub mod Columns
 pub mod Groups
 pub mod Message

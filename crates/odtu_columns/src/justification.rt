@@ -1,8 +1,8 @@
 // The justification bytes of an ODTU.
-ghost use Rattle.std.specs.Prelude.{◌≡◌, ◌≤◌, ℕ, slice_index};
+ghost use Rattle.std.specs.Prelude.{◌≡◌, ◌≤◌, ℕ, length, slice_index};
 ghost use Rattle.frame_geometry.specs.Places.{place_of};
 ghost use Rattle.odtu_columns.specs.Message.{message_of};
-ghost use Rattle.otn_base.specs.declared.limits.TheConstants.{LINE_COLUMNS};
+ghost use Rattle.otn_base.specs.declared.limits.TheConstants.{LINE_COLUMNS, LINE_FRAME_BYTES};
 
 use frame_geometry::Frame;
 use frame_geometry::overhead::{NUMBER_COLUMN, REMAINDER_COLUMN};
@@ -24,6 +24,7 @@ pub fn message(frame: &Frame<LINE_COLUMNS>) -> [u8; 6]
 
 /// Writes JC1 to JC6 of a frame, in this order; every other byte stays.
 pub fn put_message(frame: &mut Frame<LINE_COLUMNS>, bytes: [u8; 6])
+    ensures size { length frame.new ≡ LINE_FRAME_BYTES }
     ensures message { message_of frame.new ≡ bytes }
     ensures kept { (place : ℕ) → ((row column : ℕ) → 1 ≤ row → row ≤ 3 → 15 ≤ column → column ≤ 16 → place ≡ place_of LINE_COLUMNS row column → ⊥) → slice_index frame.new place ≡ slice_index frame.old place }
 {

@@ -4,18 +4,24 @@
 //! - `groups`: a byte of each of the slots that one ODTU takes, cycle by cycle.
 //! - `put`: the same, written.
 //! - `justification`: its justification bytes.
+//! - `fill`: `FillFrame`, a frame that sources fill.
+//! - `slot_frame`: `SlotFrame`, such a frame that is kept by slots.
 //! - `line`: the kernels below them, for a line of either kind.
 #![tactic(auto)]
 
+mod fill;
 mod groups;
 mod justification;
 mod line;
 mod put;
 mod slot;
+mod slot_frame;
 #[cfg(test)]
 mod tests;
 
+pub use fill::FillFrame;
 pub use groups::{cycle_group, cycle_groups, group, row_groups};
 pub use justification::{message, put_message};
 pub use put::{put_group, put_row_groups, put_slot_row};
 pub use slot::slot_row;
+pub use slot_frame::SlotFrame;

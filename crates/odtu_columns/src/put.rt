@@ -78,8 +78,8 @@ fn set_group(frame: &mut Frame<LINE_COLUMNS>, row: u32, first: u32, slots: &[u8]
     }
 }
 
-// Writes the groups of a row into its payload.
-fn put_groups(kind: LineKind, slots: &[u8], bytes: &[u8], payload: &mut [u8])
+/// Writes the groups of a row into its payload.
+pub(crate) fn put_groups(kind: LineKind, slots: &[u8], bytes: &[u8], payload: &mut [u8])
     requires list { IsSlotList (slots_of kind) slots.now }
     requires size { length bytes.now ≡ length slots.now * (PAYLOAD_COLUMNS / slots_of kind) }
     requires payload { length payload.old ≡ PAYLOAD_COLUMNS }

@@ -1,8 +1,9 @@
 // Worked values: where the payload byte in column c is (c - 17) mod 256.
-ghost use Rattle.std.specs.Prelude.{◌≡◌, ◌≤◌, IfOk};
+ghost use Rattle.std.specs.Prelude.{◌≡◌, ◌≤◌, IfOk, length};
 
 use super::{
-    group, message, put_group, put_message, put_row_groups, put_slot_row, row_groups, slot_row,
+    FillFrame, SlotFrame, group, message, put_group, put_message, put_row_groups, put_slot_row,
+    row_groups, slot_row,
 };
 use frame_geometry::Frame;
 use otn_base::{LineKind, Slots};
@@ -243,5 +244,53 @@ fn put_into_columns(rt: HostRuntime) -> Result<(), Fail> {
         let there = frame.get(row.clamp(1, 4), col.clamp(1, 4080));
         assert_eq!(rt; there, byte, "row {row}, column {col}");
     }
+    Ok(())
+}
+
+// Puts the same byte into each group of a row, for some slots of an OTU2, and a message.
+fn fill_slots<F: FillFrame>(frame: &mut F, row: u32, list: &[u8], byte: u8) -> Result<(), Fail>
+    requires row_low { 1 ≤ row }
+    requires row_high { row ≤ 4 }
+    requires room { length list.now ≤ 8 }
+{
+    let slots = slots_on(LineKind::Otu2, list)?;
+    let groups = [byte; 3808];
+    frame.fill_row_groups(row, &slots, &groups[..476 * list.len()]);
+    frame.fill_message([byte, 2, 3, 4, 5, 6]);
+    Ok(())
+}
+
+// Fills a frame by one slot after the other, of which slot 5 is put by none, and then by two at once.
+fn fill_one_by_one<F: FillFrame>(frame: &mut F) -> Result<(), Fail> {
+    for row in 1..5u32 {
+        for slot in [7u8, 1, 2, 3, 4, 6, 8] {
+            fill_slots(frame, row, &[slot], 16 * slot + row as u8)?;
+        }
+    }
+    fill_slots(frame, 3, &[2, 5], 9)
+}
+
+#[test]
+fn slots_one_after_another(rt: HostRuntime) -> Result<(), Fail> {
+    let mut by_slots = SlotFrame::new(rt.alloc())?;
+    let mut frame = Frame::<4080>::new(rt.alloc())?;
+    let mut joined = Frame::<4080>::new(rt.alloc())?;
+    fill_one_by_one(&mut frame)?;
+    fill_one_by_one(&mut by_slots)?;
+    by_slots.join_into(&mut joined);
+    assert_eq!(rt; joined.as_bytes() == frame.as_bytes(), true);
+    for (row, col, byte) in [
+        (1u32, 17u32, 0x11u8),
+        (4, 24, 0x84),
+        (2, 21, 0),
+        (3, 21, 9),
+        (2, 16, 2),
+    ] {
+        assert_eq!(rt; joined.get(row, col), byte, "row {row}, column {col}");
+    }
+    by_slots.clear();
+    joined.clear();
+    by_slots.join_into(&mut joined);
+    assert_eq!(rt; joined.as_bytes().iter().all(|byte| *byte == 0), true);
     Ok(())
 }

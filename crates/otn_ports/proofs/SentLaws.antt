@@ -1,10 +1,11 @@
 -- What is gone of what was due to a place: one whole write, and one move after the other.
-use Rattle.std.proofs.Common.{◌≡◌, ◌≢◌, ℕ, List, [], ◌++◌, take, drop, refl, sym, ap, ◌∙◌, append_assoc, append-nil, inr}
+use Rattle.std.proofs.Common.{◌≡◌, ◌≢◌, ℕ, List, [], ◌++◌, length, take, drop, refl, sym, ap, ◌∙◌, append_assoc, append-nil, inr}
 use Rattle.std.proofs.lemmas.List.{take-append-drop}
+use Rattle.otn_ports.specs.Bytes.{HasFailed}
 use Rattle.otn_ports.specs.Given.{GainedBy}
 use Rattle.otn_ports.specs.Sent.{IsSent}
 use Rattle.otn_ports.specs.Views.{State, Empty, Live, Dead, OutView}
-use Rattle.otn_ports.specs.Writes.{Writes, state_after_write}
+use Rattle.otn_ports.specs.Writes.{Sends, Writes, IsWriting, state_after_write}
 use Rattle.otn_ports.specs.declared.drain.Written.{Written}
 use Rattle.otn_ports.specs.declared.drain.Written.TheVariants as written
 use Rattle.otn_ports.proofs.GivenLaws.{gained_none, gained_twice, write_gained, empty_not_live, dead_not_live}
@@ -92,3 +93,12 @@ lost_sent old mid new bytes live (n, less, sends, failed) e = rw e (record {
   };
   whole = λ alive. absurd (dead_not_live alive);
 })
+
+-- a part of lines that went, where the write of all was lost
+pub part_lost : (old mid : OutView) (bytes : List ℕ) (r : Written) (n : ℕ) → r ≡ written.Lost → Sends old (take n bytes) mid → IsWriting r n (length bytes) → (r ≡ written.Lost → HasFailed old.faults mid.faults) → Writes written.Lost old bytes mid
+part_lost old mid bytes written.Whole n e sends less failed = absurd (cc)
+part_lost old mid bytes written.Lost n e sends less failed = (n, less, sends, failed e)
+
+-- and the place was then made dead
+pub lost_writes : (old mid new : OutView) (bytes : List ℕ) → Writes written.Lost old bytes mid → new ≡ record mid { state = Dead } → Writes written.Lost old bytes new
+lost_writes old mid new bytes (n, less, sends, failed) e = rw e (n, less, record { boxed = sends.boxed; got = sends.got; keeps = sends.keeps; faults = sends.faults; number = sends.number }, failed)

@@ -3,6 +3,7 @@ pub mod Bytes
 pub mod Choosing
 pub mod Given
 pub mod InPlace
+pub mod Lines
 pub mod Listed
 pub mod Memory
 pub mod OnePlace

@@ -3,7 +3,7 @@ ghost use Rattle.std.specs.Prelude.{◌≡◌, ◌≢◌, ◌<◌, ◌≤◌, le
 ghost use Rattle.otn_ports.specs.Bytes.{after, HasFailed};
 ghost use Rattle.otn_ports.specs.OutPlace.{live_out};
 ghost use Rattle.otn_ports.specs.PortViews.{sink_view, SinkWrites};
-ghost use Rattle.otn_ports.specs.Writes.{Gains, Writes, IsWriting};
+ghost use Rattle.otn_ports.specs.Writes.{Gains, Sends, Writes, IsWriting};
 
 use crate::{Failed, Sink};
 
@@ -62,4 +62,20 @@ pub(crate) fn drain_counted<K: Sink>(port: &mut K, number: &mut u64, bytes: &[u8
     let (written, went) = drain(port, bytes);
     *number = number.saturating_add(went as u64);
     written
+}
+
+/// Writes lines to the port of a live place until all are out or a call fails, counts their bytes, and says how many went.
+pub(crate) fn lines_counted<K: Sink>(
+    port: &mut K,
+    number: &mut u64,
+    lines: &[u8],
+) -> (Written, usize)
+    ensures sends { Sends (live_out K.Sink port.old number.old) (take result.1 lines.now) (live_out K.Sink port.new number.new) }
+    ensures writing { IsWriting result.0 result.1 (length lines.now) }
+    ensures cause { result.0 ≡ Written.Lost → HasFailed (K.faults port.old) (K.faults port.new) }
+    ensures well { result.0 ≢ Written.Lost → K.faults port.new ≡ K.faults port.old }
+{
+    let (written, went) = port.write_lines(lines);
+    *number = number.saturating_add(went as u64);
+    (written, went)
 }

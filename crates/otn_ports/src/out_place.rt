@@ -1,12 +1,13 @@
 // A place for an output: it is empty, its port is live, or its port has failed and is called no more.
-ghost use Rattle.std.specs.Prelude.{◌≡◌, ◌≢◌, true, false, Some, MatchOption, length};
+ghost use Rattle.std.specs.Prelude.{◌≡◌, ◌≢◌, true, false, Some, MatchOption, length, take};
+ghost use Rattle.otn_ports.specs.Given.{Gained};
 ghost use Rattle.otn_ports.specs.OutPlace.{dead_out};
 ghost use Rattle.otn_ports.specs.Retiring.{retired_out};
 ghost use Rattle.otn_ports.specs.Sent.{IsSent};
 ghost use Rattle.otn_ports.specs.Views.{Live, Dead};
-ghost use Rattle.otn_ports.specs.Writes.{Writes, state_after_write};
+ghost use Rattle.otn_ports.specs.Writes.{Writes, IsWriting, state_after_write};
 
-use crate::drain::drain_counted;
+use crate::drain::{drain_counted, lines_counted};
 use crate::{OutPort, Sealed, Sink, Written};
 use std::mem;
 
@@ -56,6 +57,33 @@ impl<K: Sink> OutPlaceOf<K> {
             self.die();
         }
         written
+    }
+
+    /// Writes lines, each with its LF at its end, and says how many bytes went: all lines at once to a file of the system, and to
+    /// any other port each line for itself. What is said of `write_all` holds.
+    pub fn write_lines(&mut self, lines: &[u8]) -> (Written, usize)
+        ensures state { (out_view K.Sink self.new).state ≡ state_after_write (out_view K.Sink self.old).state result.0 }
+        ensures live { (out_view K.Sink self.old).state ≡ Live
+            → Writes result.0 (out_view K.Sink self.old) lines.now (out_view K.Sink self.new) }
+        ensures idle { (out_view K.Sink self.old).state ≢ Live → (self.new ≡ self.old) × (result ≡ (Written.Whole, 0)) }
+        ensures sent { IsSent (out_view K.Sink self.old) lines.now (out_view K.Sink self.new) }
+        ensures went { Gained (out_view K.Sink self.old) (take result.1 lines.now) (out_view K.Sink self.new) }
+        ensures writing { (out_view K.Sink self.old).state ≡ Live → IsWriting result.0 result.1 (length lines.now) }
+        ensures well { result.0 ≢ Written.Lost → (out_view K.Sink self.new).faults ≡ (out_view K.Sink self.old).faults }
+        ensures empty { length lines.now ≡ 0 → (self.new ≡ self.old) × (result ≡ (Written.Whole, 0)) }
+    {
+        if lines.is_empty() {
+            return (Written::Whole, 0);
+        }
+        let (answer, went) = match self {
+            OutPlaceOf::Live(port, number) => lines_counted(port, number, lines),
+            OutPlaceOf::Empty => return (Written::Whole, 0),
+            OutPlaceOf::Dead(..) => return (Written::Whole, 0),
+        };
+        if answer == Written::Lost {
+            self.die();
+        }
+        (answer, went)
     }
 
     /// A live place becomes empty, and its port is dropped. An empty or a dead place stays.

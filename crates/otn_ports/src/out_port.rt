@@ -4,7 +4,7 @@ ghost use Rattle.otn_ports.specs.Bytes.{after, sent, HasFailed};
 ghost use Rattle.otn_ports.specs.Memory.{TakesWhatFits};
 ghost use Rattle.otn_ports.specs.Ports.{out_got, out_faults, out_keeps, is_out_boxed, held_room};
 
-use crate::{Failed, MemSink, Sink};
+use crate::{Failed, MemSink, Sink, Written};
 
 /// What an output place holds. Each call on it, and each of its meanings, is that of what it holds.
 #[derive(Drop)]
@@ -36,6 +36,13 @@ impl Sink for OutPort {
         match self {
             OutPort::Boxed(sink) => sink.write(bytes),
             OutPort::Held(sink) => sink.write(bytes),
+        }
+    }
+
+    fn write_lines(&mut self, lines: &[u8]) -> (Written, usize) {
+        match self {
+            OutPort::Boxed(sink) => sink.write_lines(lines),
+            OutPort::Held(sink) => sink.write_lines(lines),
         }
     }
 

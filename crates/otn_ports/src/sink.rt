@@ -1,8 +1,12 @@
 // A port that takes bytes, and may fail at any call.
-ghost use Rattle.std.specs.Prelude.{◌≡◌, ◌<◌, ◌≤◌, ℕ, Bool, true, false, List, Option, Some, length, IfOk, IsSome, OnOk, OnErr, MatchOption};
+ghost use Rattle.std.specs.Prelude.{◌≡◌, ◌≢◌, ◌<◌, ◌≤◌, ℕ, Bool, true, false, List, Option, Some, length, take, IfOk, IsSome, OnOk, OnErr, MatchOption};
 ghost use Rattle.otn_ports.specs.Bytes.{after, sent, HasFailed};
+ghost use Rattle.otn_ports.specs.Lines.{IsFirstLine};
+ghost use Rattle.otn_ports.specs.Writes.{IsWriting};
 
-use crate::Failed;
+use crate::{Failed, Written};
+
+const LF: u8 = b'\n';
 
 /// A port that takes bytes, such as a file.
 pub trait Sink: Drop {
@@ -35,4 +39,40 @@ pub trait Sink: Drop {
     fn kept(&self) -> Option<&[u8]>
         ensures kept { MatchOption result (keeps self.now ≡ false) (λ bytes. (keeps self.now ≡ true) × (got self.now ≡ Some bytes.now)) }
         ensures tells { keeps self.now ≡ true → IsSome (got self.now) };
+
+    /// Writes lines, each with its LF at its end, until all are out or a call fails, and says how many bytes went. Each line is
+    /// written for itself, by as many calls as it takes, so that a call never has bytes of two lines; a port that has no need of
+    /// that writes all lines at once.
+    fn write_lines(&mut self, lines: &[u8]) -> (Written, usize)
+        ensures within { result.1 ≤ length lines.now }
+        ensures bytes { got self.new ≡ after (got self.old) (take result.1 lines.now) }
+        ensures writing { IsWriting result.0 result.1 (length lines.now) }
+        ensures later { faults self.old ≤ faults self.new }
+        ensures cause { result.0 ≡ Written.Lost → HasFailed (faults self.old) (faults self.new) }
+        ensures well { result.0 ≢ Written.Lost → faults self.new ≡ faults self.old }
+        ensures keeps { keeps self.new ≡ keeps self.old }
+        ensures same { boxed self.new ≡ boxed self.old }
+    {
+        let mut done = 0;
+        while done < lines.len() {
+            let line = first_line(&lines[done..]);
+            match self.write(&lines[done..done + line]) {
+                Ok(n) => done += n,
+                Err(Failed) => return (Written::Lost, done),
+            }
+        }
+        (Written::Whole, done)
+    }
+}
+
+// How many bytes the first line has with its LF: all, where there is no LF.
+fn first_line(bytes: &[u8]) -> usize
+    ensures { IsFirstLine bytes.now result }
+{
+    for (n, byte) in bytes.iter().enumerate() {
+        if *byte == LF {
+            return n + 1;
+        }
+    }
+    bytes.len()
 }

@@ -4,8 +4,10 @@ ghost use Rattle.std.specs.Prelude.{◌≤◌, IfOk};
 use super::system::{read_some, write_some};
 use super::*;
 use std::alloc::Global;
+use std::cell::Cell;
 use std::fs::File;
 use std::io::{Error, ErrorKind, Read, Write};
+use std::rc::Rc;
 use std::test::Fail;
 use std::{env, fs, io, process};
 
@@ -280,5 +282,94 @@ fn a_short_write_is_told_as_it_was(rt: HostRuntime) -> Result<(), Fail> {
     let mut place = OutPlaceOf::Live(sink, 0);
     assert_eq!(rt; place.write_all(&bytes), Written::Whole);
     assert_eq!(rt; went(&place), 1_904);
+    Ok(())
+}
+
+// A sink that takes five bytes a call at most, and lists how many each of its first calls was given.
+#[derive(Drop)]
+struct CallList {
+    given: [usize; 6],
+    calls: usize,
+}
+
+impl CallList {
+    fn list(&mut self, given: usize) {
+        if self.calls < 6 {
+            self.given[self.calls] = given;
+            self.calls += 1;
+        }
+    }
+}
+
+impl Sink for CallList {
+    ghost use Rattle.std.specs.Prelude.{None, false};
+
+    ghost got = { λ _. None };
+
+    ghost faults = { λ _. 0 };
+
+    ghost keeps = { λ _. false };
+
+    fn write(&mut self, bytes: &[u8]) -> Result<usize, Failed> {
+        self.list(bytes.len());
+        Ok(bytes.len().min(5))
+    }
+
+    fn kept(&self) -> Option<&[u8]> {
+        None
+    }
+}
+
+const LINES: &[u8] = b"ab\ncdefghi\n\nj\nkl";
+
+#[test]
+fn each_line_is_written_for_itself(rt: HostRuntime) {
+    let mut sink = CallList {
+        given: [0; 6],
+        calls: 0,
+    };
+    assert_eq!(rt; sink.write_lines(LINES), (Written::Whole, 16));
+    assert_eq!(rt; sink.given, [3, 8, 3, 1, 2, 2]);
+}
+
+#[test]
+fn lines_up_to_a_failed_call_went(rt: HostRuntime) -> Result<(), Fail> {
+    let alloc = rt.alloc();
+    let sink = ListedSink::with_room(alloc, 99, [3_u32].to_vec(alloc)?)?;
+    let mut place = OutPlaceOf::Live(sink, 0);
+    assert_eq!(rt; place.write_lines(LINES), (Written::Lost, 11));
+    assert_eq!(rt; place.kept(), Some(b"ab\ncdefghi\n".as_slice()));
+    assert_eq!(rt; place.write_lines(LINES), (Written::Whole, 0));
+    Ok(())
+}
+
+// A writer that takes all and counts its calls.
+#[derive(Drop)]
+struct CountedWriter {
+    calls: Rc<Cell<u32>>,
+}
+
+impl Write for CountedWriter {
+    fn write(&mut self, bytes: &[u8]) -> io::Result<usize> {
+        self.calls.set(self.calls.get().saturating_add(1));
+        Ok(bytes.len())
+    }
+
+    fn flush(&mut self) -> io::Result<()> {
+        Ok(())
+    }
+}
+
+#[test]
+fn a_writer_takes_all_lines_at_once(rt: HostRuntime) -> Result<(), Fail> {
+    let alloc = rt.alloc();
+    let calls = Rc::new(alloc, Cell::new(0_u32))?;
+    let writer = CountedWriter {
+        calls: calls.clone()?,
+    };
+    let sink: Box<dyn Sink> = Box::new(alloc, WriterSink::over(writer))?;
+    let mut place = OutPlace::Live(OutPort::Boxed(sink), 0);
+    assert_eq!(rt; place.write_lines(LINES), (Written::Whole, 16));
+    assert_eq!(rt; calls.get(), 1);
     Ok(())
 }

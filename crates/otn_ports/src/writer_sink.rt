@@ -1,9 +1,10 @@
 // A sink over a writer of the system, such as a file or the standard output.
-ghost use Rattle.std.specs.Prelude.{◌≡◌, ◌<◌, ◌≤◌, false, true, None, Ok, OnErr, IfOk, IsErr, is_some, length};
+ghost use Rattle.std.specs.Prelude.{◌≡◌, ◌≢◌, ◌<◌, ◌≤◌, false, true, None, Ok, OnErr, IfOk, IsErr, is_some, length, take};
 ghost use Rattle.otn_ports.specs.Bytes.{faults_after, HasFailed};
+ghost use Rattle.otn_ports.specs.Writes.{IsWriting};
 
 use crate::system::{count, write_some};
-use crate::{Failed, Sink};
+use crate::{Failed, Sink, Written};
 use std::fs::File;
 use std::io::{Stdout, Write};
 
@@ -65,7 +66,7 @@ impl<W> WriterSink<W> {
 }
 
 impl<W: Write + Drop> Sink for WriterSink<W> {
-    ghost use Rattle.std.specs.Io.KnownBytes.{WriteAppends};
+    ghost use Rattle.std.specs.Io.KnownBytes.{Appends, WriteAppends};
     ghost use Rattle.otn_ports.specs.Adapters.{writer_faults, has_writer, writer_bytes};
 
     ghost got = { λ _. None };
@@ -96,6 +97,26 @@ impl<W: Write + Drop> Sink for WriterSink<W> {
         };
         count(&mut self.failed, answer);
         answer
+    }
+
+    /// Many lines in one call of the writer, as far as it takes them.
+    fn write_lines(&mut self, lines: &[u8]) -> (Written, usize)
+        ensures within { result.1 ≤ length lines.now }
+        ensures system { Appends (writer_bytes W.contents self.old) (writer_bytes W.contents self.new) (take result.1 lines.now) }
+        ensures writing { IsWriting result.0 result.1 (length lines.now) }
+        ensures later { writer_faults self.old ≤ writer_faults self.new }
+        ensures cause { result.0 ≡ Written.Lost → HasFailed (writer_faults self.old) (writer_faults self.new) }
+        ensures well { result.0 ≢ Written.Lost → writer_faults self.new ≡ writer_faults self.old }
+        ensures writer { has_writer self.new ≡ has_writer self.old }
+    {
+        let mut done = 0;
+        while done < lines.len() {
+            match self.write(&lines[done..]) {
+                Ok(n) => done += n,
+                Err(Failed) => return (Written::Lost, done),
+            }
+        }
+        (Written::Whole, done)
     }
 
     fn kept(&self) -> Option<&[u8]>

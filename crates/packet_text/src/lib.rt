@@ -16,4 +16,4 @@ mod writing;
 pub use laws::{given_is_among, written_reads_back};
 pub use line::Line;
 pub use packet_lines::PacketLines;
-pub use writing::write_packet;
+pub use writing::{put_line, write_packet};

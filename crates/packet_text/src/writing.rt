@@ -1,5 +1,5 @@
 // A packet's line.
-ghost use Rattle.std.specs.Prelude.{◌≡◌, ◌≢◌, ◌+◌, ◌*◌, ◌≤◌, ◌∷◌, ◌++◌, [], length, take};
+ghost use Rattle.std.specs.Prelude.{◌≡◌, ◌≢◌, ◌+◌, ◌*◌, ◌≤◌, ◌∷◌, ◌++◌, [], length, take, drop};
 ghost use Rattle.hex.specs.Hex.{encode_lower};
 ghost use Rattle.otn_ports.specs.OutPlace.{out_view};
 ghost use Rattle.otn_ports.specs.Views.{Live};
@@ -23,13 +23,24 @@ pub fn write_packet<K: Sink>(place: &mut OutPlaceOf<K>, packet: &[u8], text: &mu
         → Writes result (out_view K.Sink place.old) (packet_line packet.now) (out_view K.Sink place.new) }
     ensures idle { (out_view K.Sink place.old).state ≢ Live → (place.new ≡ place.old) × (result ≡ Written.Whole) }
 {
-    let n = 2 * packet.len() + 1;
-    put_line(packet, &mut text[..n]);
+    let n = put_line(packet, text);
     place.write_all(&text[..n])
 }
 
-// Puts a packet's line into the slice.
-fn put_line(packet: &[u8], line: &mut [u8])
+/// Puts a packet's line at the front of the slice: its hex digits, in lower case, and LF. Says how many bytes the line has.
+pub fn put_line(packet: &[u8], text: &mut [u8]) -> usize
+    requires fits { length packet.now ≤ 65531 }
+    requires room { 2 * length packet.now + 1 ≤ length text.old }
+    ensures size { result ≡ 2 * length packet.now + 1 }
+    ensures line { text.new ≡ packet_line packet.now ++ drop result text.old }
+{
+    let n = 2 * packet.len() + 1;
+    fill_line(packet, &mut text[..n]);
+    n
+}
+
+// Fills the slice with a packet's line.
+fn fill_line(packet: &[u8], line: &mut [u8])
     requires fits { length packet.now ≤ 65531 }
     requires room { length line.old ≡ 2 * length packet.now + 1 }
     ensures { line.new ≡ packet_line packet.now }

@@ -43,9 +43,9 @@ room_behind m at end cycle run groups room e l h =
     omega arith
 
 -- behind the bytes of this turn there is room for the groups of a row more
-pub row_room : (m asked n end room : ℕ) → end ≤ m * asked → asked + n ≤ 15232 → room ≡ m * 15232 → end + m * n ≤ room
+pub row_room : (m asked n end room : ℕ) → end ≤ m * asked → asked + n ≤ 15232 → room ≡ m * 15233 → end + m * n ≤ room
 row_room m asked n end room few fits is =
-    let wide : m * (asked + n) ≤ m * 15232 = mul-le-mul_left m fits in
+    let wide : m * (asked + n) ≤ m * 15233 = mul-le-mul_left m (let less : asked + n ≤ 15233 = omega arith in less) in
     let apart : m * (asked + n) ≡ m * asked + m * n = omega arith in
     omega arith
 
@@ -53,10 +53,4 @@ row_room m asked n end room few fits is =
 pub row_after : (m asked n end now : ℕ) → end ≤ m * asked → now ≤ end + m * n → now ≤ m * (asked + n)
 row_after m asked n end now few more =
     let apart : m * (asked + n) ≡ m * asked + m * n = omega arith in
-    omega arith
-
--- the bytes of a turn are those of a multiframe at most
-pub turn_room : (m asked end : ℕ) → end ≤ m * asked → asked ≤ 15232 → end ≤ m * 15232
-turn_room m asked end few low =
-    let wide : m * asked ≤ m * 15232 = mul-le-mul_left m low in
     omega arith

@@ -172,3 +172,23 @@ is_next s frame message expected n msi number low few slots h = record {
   msi_few = (let f = h.msi_few in omega arith);
   msi_slots = slots h.msi_slots;
 }
+
+-- ---- what the last turn emitted is handed out
+
+-- a sink without what its last turn emitted
+abbrev pub emptied : Sink → Sink
+emptied s = record s { following = record s.following { extraction = record s.following.extraction { emitted = [] } } }
+
+pub stands_emptied : (own : Tributary) (past : List (Option View)) (frames : List Taken) (s : Sink) → StandsAfter own past frames s → StandsAfter own past frames (emptied s)
+stands_emptied own past frames s h = record {
+  own_is = h.own_is;
+  slots = h.slots;
+  whole = h.whole;
+  at = record { standing = h.at.standing; pending = h.at.pending; stream = h.at.stream };
+  watched = h.watched;
+  taken = h.taken;
+  fresh = h.fresh;
+  number = h.number;
+  message = h.message;
+  msi = h.msi;
+}

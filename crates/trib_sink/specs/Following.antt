@@ -1,5 +1,5 @@
 -- How a sink follows its tributary.
-use Rattle.std.specs.Prelude.{◌≡◌, ℕ, ◌<◌, ◌≤◌, List, [], Bool, Option, Some, None}
+use Rattle.std.specs.Prelude.{◌≡◌, ℕ, ◌+◌, ◌*◌, ◌-◌, ◌<◌, ◌≤◌, List, [], Bool, Option, Some, None}
 use Rattle.otn_base.specs.declared.limits.TheConstants.{GROUPS}
 use Rattle.maintenance_signals.specs.declared.signal.Signal.TheVariants.{Ais}
 use Rattle.maintenance_signals.specs.Given.{StreamPlace, HasGiven}
@@ -79,3 +79,7 @@ pub record IsBetween (before now : Following) : Type 0 where
 abbrev pub listener_after : Following → Option Hearing → Option ℕ
 listener_after f None = f.listener
 listener_after f (Some heard) = kept_after (former_of f.standing) heard
+
+-- the most bytes that a turn emits: all groups of a multiframe, and a part of one
+abbrev pub most_of : (slots : ℕ) → ℕ
+most_of slots = slots * GROUPS + (slots - 1)

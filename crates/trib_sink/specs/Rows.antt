@@ -36,9 +36,10 @@ abbrev pub with_frame : (fresh : List ℕ) → (c before : ℕ) → (slots : Lin
 with_frame fresh c before slots frame =
     with_rows (with_rows fresh c before slots frame 1) c (before + row_cycles slots.kind + row_cycles slots.kind) slots frame 3
 
--- what is extracted when the data groups of a frame were taken too
+-- what is extracted when the data groups of a frame were taken too; what the last turn emitted is gone
 abbrev pub after_frame : (slots : LineSlots) → (frame : List ℕ) → Extraction → Extraction
 after_frame slots frame e = record e {
   asked = e.asked + row_cycles slots.kind + row_cycles slots.kind + row_cycles slots.kind + row_cycles slots.kind;
   fresh = with_frame e.fresh e.number e.asked slots frame;
+  emitted = [];
 }

@@ -1,5 +1,5 @@
 // How a sink follows its tributary from turn to turn, without totals.
-ghost use Rattle.std.specs.Prelude.{◌≡◌, ◌+◌, ◌-◌, ◌*◌, ◌<◌, ◌≤◌, [], ◌++◌, Some, IfOk, length, take, drop};
+ghost use Rattle.std.specs.Prelude.{◌≡◌, ◌+◌, ◌*◌, ◌<◌, ◌≤◌, [], ◌++◌, Some, IfOk, length, take, drop, slice_range, vec_len};
 ghost use Rattle.otn_base.specs.declared.limits.TheConstants.{GROUPS, MOST_SLOTS, NOMINAL};
 ghost use Rattle.maintenance_signals.specs.declared.signal.Signal.TheVariants.{Ais};
 ghost use Rattle.maintenance_signals.specs.Stream.{signal_byte};
@@ -7,7 +7,7 @@ ghost use Rattle.tributary_model.specs.declared.turns.Standing.TheVariants.{Wait
 ghost use Rattle.tributary_model.specs.Emission.{stream_bytes};
 ghost use Rattle.tributary_model.specs.Messages.{hears_message};
 ghost use Rattle.tributary_model.specs.Machine.{Machine, start, opened, waits_on, went_on, down_gives, up_gives, former_of, number_of, after_heard, gives_heard};
-ghost use Rattle.trib_sink.specs.Following.{Keeps, FitsStanding, FitsDue, FitsFirst, FitsNext, IsSmallHearing, IsAt, IsBetween, kept_after};
+ghost use Rattle.trib_sink.specs.Following.{Keeps, FitsStanding, FitsDue, FitsFirst, FitsNext, IsSmallHearing, IsAt, IsBetween, kept_after, most_of};
 ghost use Rattle.trib_sink.specs.Rows.{row_cycles, after_frame};
 
 use crate::hear::hear_message;
@@ -20,6 +20,7 @@ use otn_base::limits::{LINE_COLUMNS, NOMINAL};
 use otn_base::{Memory, Slots};
 use std::alloc::Global;
 use std::marker::Model;
+use std::ops::Range;
 use tributary_model::{Hearing, Said, Standing};
 
 /// How a sink stands between two turns or within one, with the bytes that it extracted.
@@ -101,40 +102,57 @@ impl Follower {
         hear_message(&mut self.listener, message, self.payload.slots() as u32)
     }
 
-    /// Ends a turn in which this was heard: `into` has at its front what the turn emits, and the answer is
-    /// how many bytes that is. How it stands then does not depend on its place in the AIS stream (`standing`, where 0 is any
-    /// place).
-    pub(crate) fn pass(&mut self, heard: Option<Hearing>, into: &mut [u8]) -> usize
+    /// Ends a turn in which this was heard. How it stands then does not depend on its place in the AIS stream
+    /// (`standing`, where 0 is any place).
+    pub(crate) fn pass(&mut self, heard: Option<Hearing>)
         requires small { IsSmallHearing self.old.extraction.slots heard }
-        requires room { self.old.extraction.slots * (GROUPS + 1) ≤ length into.old }
         ensures standing { self.new.standing ≡ (after_heard self.old.extraction.slots heard self.old.extraction.fresh (record { standing = self.old.standing; pending = self.old.extraction.pending; place = 0 })).standing }
         ensures at { (s : Machine) → IsAt s self.old → IsAt (after_heard self.old.extraction.slots heard self.old.extraction.fresh s) self.new }
-        ensures bytes { (s : Machine) → IsAt s self.old → into.new ≡ gives_heard self.old.extraction.slots (signal_byte Ais) heard self.old.extraction.fresh s ++ drop result into.old }
-        ensures count { (s : Machine) → IsAt s self.old → result ≡ length (gives_heard self.old.extraction.slots (signal_byte Ais) heard self.old.extraction.fresh s) }
-        ensures most { result ≤ self.old.extraction.slots * GROUPS + (self.old.extraction.slots - 1) }
+        ensures bytes { (s : Machine) → IsAt s self.old → self.new.extraction.emitted ≡ gives_heard self.old.extraction.slots (signal_byte Ais) heard self.old.extraction.fresh s }
+        ensures most { length self.new.extraction.emitted ≤ most_of self.old.extraction.slots }
         ensures between { IsBetween self.old self.new }
     {
         match self.standing {
-            Standing::Waiting(n) => self.wait(n, begun(heard)),
-            Standing::Down => self.stay_down(begun(heard), into),
-            Standing::Up(said) => self.stay_up(said, gone_on(said, heard), into),
+            Standing::Waiting(n) => self.from_waiting(n, begun(heard)),
+            Standing::Down => self.from_down(begun(heard)),
+            Standing::Up(said) => self.from_up(said, gone_on(said, heard)),
         }
     }
 
+    /// What the last turn emitted, before a frame is taken.
+    pub(crate) fn emitted(&self) -> &[u8]
+        ensures { result.now ≡ self.now.extraction.emitted }
+    {
+        self.payload.emitted()
+    }
+
+    /// Hands out what the last turn emitted, before a frame is taken: in the buffer with which this one, of as many bytes, changes
+    /// places, from where to where the answer says.
+    pub(crate) fn hand_over(&mut self, buffer: &mut Vec<u8>) -> Range<usize>
+        requires room { vec_len buffer.old ≡ self.old.extraction.slots * (GROUPS + 1) }
+        requires fresh { self.old.extraction.fresh ≡ [] }
+        ensures state { self.new ≡ record self.old { extraction = record self.old.extraction { emitted = [] } } }
+        ensures bytes { slice_range buffer.new.items result.start result.end ≡ self.old.extraction.emitted }
+        ensures in_order { result.start ≤ result.end }
+        ensures within { result.end ≤ vec_len buffer.new }
+        ensures room_stays { vec_len buffer.new ≡ vec_len buffer.old }
+    {
+        self.payload.hand_over(buffer)
+    }
+
     // Ends a turn before which it was Waiting: emits nothing.
-    fn wait(&mut self, n: u8, first: Option<Said>) -> usize
+    fn from_waiting(&mut self, n: u8, first: Option<Said>)
         requires standing { self.old.standing ≡ Waiting n }
         requires first { FitsFirst self.old.extraction.slots first }
         ensures standing { self.new.standing ≡ (opened first (waits_on n)).standing }
         ensures at { (s : Machine) → IsAt s self.old → IsAt (opened first (waits_on n)) self.new }
         ensures between { IsBetween self.old self.new }
-        ensures count { result ≡ 0 }
+        ensures bytes { self.new.extraction.emitted ≡ [] }
     {
         match first {
-            Some(said) => self.settle(Standing::Up(said)),
+            Some(said) => self.stand_anew(Standing::Up(said)),
             None => self.wait_on(n),
         }
-        0
     }
 
     // Waits one turn more, or is Down.
@@ -143,133 +161,116 @@ impl Follower {
         ensures standing { self.new.standing ≡ (waits_on n).standing }
         ensures at { (s : Machine) → IsAt s self.old → IsAt (waits_on n) self.new }
         ensures between { IsBetween self.old self.new }
+        ensures bytes { self.new.extraction.emitted ≡ [] }
     {
         if n >= 2 {
-            self.settle(Standing::Down);
+            self.stand_anew(Standing::Down);
         } else {
-            self.settle(Standing::Waiting(n + 1));
+            self.stand_anew(Standing::Waiting(n + 1));
         }
     }
 
     // Ends a turn before which it was Down: emits nothing where it begins a stretch, else the next bytes of AIS.
-    fn stay_down(&mut self, first: Option<Said>, into: &mut [u8]) -> usize
+    fn from_down(&mut self, first: Option<Said>)
         requires standing { self.old.standing ≡ StandingDown }
         requires first { FitsFirst self.old.extraction.slots first }
-        requires room { self.old.extraction.slots * NOMINAL ≤ length into.old }
         ensures standing { self.new.standing ≡ (opened first (record { standing = StandingDown; pending = []; place = 0 })).standing }
         ensures at { (s : Machine) → IsAt s self.old → IsAt (opened first (record { standing = StandingDown; pending = []; place = s.place + self.old.extraction.slots * NOMINAL })) self.new }
-        ensures bytes { (s : Machine) → IsAt s self.old → into.new ≡ down_gives first (stream_bytes (signal_byte Ais) s.place (self.old.extraction.slots * NOMINAL)) ++ drop result into.old }
-        ensures count { (s : Machine) → IsAt s self.old → result ≡ length (down_gives first (stream_bytes (signal_byte Ais) s.place (self.old.extraction.slots * NOMINAL))) }
-        ensures most { result ≤ self.old.extraction.slots * GROUPS + (self.old.extraction.slots - 1) }
+        ensures bytes { (s : Machine) → IsAt s self.old → self.new.extraction.emitted ≡ down_gives first (stream_bytes (signal_byte Ais) s.place (self.old.extraction.slots * NOMINAL)) }
+        ensures most { length self.new.extraction.emitted ≤ most_of self.old.extraction.slots }
         ensures between { IsBetween self.old self.new }
     {
         match first {
-            Some(said) => {
-                self.settle(Standing::Up(said));
-                0
-            }
-            None => self.give_ais(into),
+            Some(said) => self.stand_anew(Standing::Up(said)),
+            None => self.give_ais(),
         }
     }
 
     // Emits the next bytes of AIS.
     #[tactic(auto, unfolding(maintenance_signals::specs::Stream::signal_bytes, tributary_model::specs::Emission::stream_bytes))]
-    fn give_ais(&mut self, into: &mut [u8]) -> usize
+    fn give_ais(&mut self)
         requires standing { self.old.standing ≡ StandingDown }
-        requires room { self.old.extraction.slots * NOMINAL ≤ length into.old }
         ensures standing { self.new.standing ≡ StandingDown }
         ensures at { (s : Machine) → IsAt s self.old → IsAt (record { standing = StandingDown; pending = []; place = s.place + self.old.extraction.slots * NOMINAL }) self.new }
-        ensures bytes { (s : Machine) → IsAt s self.old → into.new ≡ stream_bytes (signal_byte Ais) s.place (self.old.extraction.slots * NOMINAL) ++ drop result into.old }
-        ensures count { result ≡ self.old.extraction.slots * NOMINAL }
-        ensures most { result ≤ self.old.extraction.slots * GROUPS + (self.old.extraction.slots - 1) }
+        ensures bytes { (s : Machine) → IsAt s self.old → self.new.extraction.emitted ≡ stream_bytes (signal_byte Ais) s.place (self.old.extraction.slots * NOMINAL) }
+        ensures most { length self.new.extraction.emitted ≤ most_of self.old.extraction.slots }
         ensures between { IsBetween self.old self.new }
     {
-        let count = self.payload.slots() * NOMINAL;
-        self.signal.next(&mut into[..count]);
-        self.payload.clear(0);
-        count
+        self.payload.give_signal(&mut self.signal);
     }
 
     // Ends a turn before which it was Up: as `next` says where the stretch goes on, else as its ending turn.
-    fn stay_up(&mut self, said: Said, next: Option<Said>, into: &mut [u8]) -> usize
+    fn from_up(&mut self, said: Said, next: Option<Said>)
         requires standing { self.old.standing ≡ Up said }
         requires next { FitsNext self.old.extraction.slots next said.rest }
-        requires room { self.old.extraction.slots * (GROUPS + 1) ≤ length into.old }
         ensures standing { self.new.standing ≡ (went_on next said self.old.extraction.pending self.old.extraction.fresh).standing }
         ensures at { (s : Machine) → IsAt s self.old → IsAt (went_on next said s.pending self.old.extraction.fresh) self.new }
-        ensures bytes { (s : Machine) → IsAt s self.old → into.new ≡ up_gives next said s.pending self.old.extraction.fresh ++ drop result into.old }
-        ensures count { (s : Machine) → IsAt s self.old → result ≡ length (up_gives next said s.pending self.old.extraction.fresh) }
-        ensures most { result ≤ self.old.extraction.slots * GROUPS + (self.old.extraction.slots - 1) }
+        ensures bytes { (s : Machine) → IsAt s self.old → self.new.extraction.emitted ≡ up_gives next said s.pending self.old.extraction.fresh }
+        ensures most { length self.new.extraction.emitted ≤ most_of self.old.extraction.slots }
         ensures between { IsBetween self.old self.new }
     {
         // opens the invariant: what is pending fits the standing
         let _opened = &self.payload;
         match next {
             Some(next) => match said.due {
-                Some(due) => self.go_on(due, next, into),
+                Some(due) => self.go_on(due, next),
                 None => self.go_first(next),
             },
-            None => self.end(into),
+            None => self.end(),
         }
     }
 
     // The first turn after the one that began a stretch emits nothing.
-    fn go_first(&mut self, next: Said) -> usize
+    fn go_first(&mut self, next: Said)
         requires pending { self.old.extraction.pending ≡ [] }
         requires next { (next.number ≤ GROUPS) × (next.rest < self.old.extraction.slots) }
         requires left { FitsDue self.old.extraction.slots (self.old.extraction.pending ++ self.old.extraction.fresh) next.due }
         ensures standing { self.new.standing ≡ Up next }
         ensures at { (s : Machine) → IsAt s self.old → IsAt (record { standing = Up next; pending = s.pending ++ self.old.extraction.fresh; place = 0 }) self.new }
         ensures between { IsBetween self.old self.new }
-        ensures count { result ≡ 0 }
+        ensures bytes { self.new.extraction.emitted ≡ [] }
     {
         self.payload.keep_all(next.number);
         self.signal.restart();
         self.standing = Standing::Up(next);
-        0
     }
 
     // A later one emits all pending bytes and as many of its own as are due.
-    fn go_on(&mut self, due: u16, next: Said, into: &mut [u8]) -> usize
+    fn go_on(&mut self, due: u16, next: Said)
         requires next { (next.number ≤ GROUPS) × (next.rest < self.old.extraction.slots) }
         requires left { FitsDue self.old.extraction.slots (drop due self.old.extraction.fresh) next.due }
         requires due { due < self.old.extraction.slots }
-        requires room { self.old.extraction.slots * (GROUPS + 1) ≤ length into.old }
         ensures standing { self.new.standing ≡ Up next }
         ensures at { (s : Machine) → IsAt s self.old → IsAt (record { standing = Up next; pending = drop due self.old.extraction.fresh; place = 0 }) self.new }
-        ensures bytes { into.new ≡ self.old.extraction.pending ++ take due self.old.extraction.fresh ++ drop result into.old }
-        ensures count { result ≡ length (self.old.extraction.pending ++ take due self.old.extraction.fresh) }
-        ensures most { result ≤ self.old.extraction.slots * GROUPS + (self.old.extraction.slots - 1) }
+        ensures bytes { self.new.extraction.emitted ≡ self.old.extraction.pending ++ take due self.old.extraction.fresh }
+        ensures most { length self.new.extraction.emitted ≤ most_of self.old.extraction.slots }
         ensures between { IsBetween self.old self.new }
     {
-        let count = self.payload.give_due(due, next.number, into);
+        self.payload.give_due(due, next.number);
         self.signal.restart();
         self.standing = Standing::Up(next);
-        count
     }
 
     // The ending turn emits all pending bytes.
-    fn end(&mut self, into: &mut [u8]) -> usize
-        requires { self.old.extraction.slots * GROUPS ≤ length into.old }
+    fn end(&mut self)
         ensures standing { self.new.standing ≡ StandingDown }
         ensures at { (s : Machine) → IsAt s self.old → IsAt (record { standing = StandingDown; pending = []; place = 0 }) self.new }
-        ensures bytes { into.new ≡ self.old.extraction.pending ++ drop result into.old }
-        ensures count { result ≡ length self.old.extraction.pending }
-        ensures most { result ≤ self.old.extraction.slots * GROUPS + (self.old.extraction.slots - 1) }
+        ensures bytes { self.new.extraction.emitted ≡ self.old.extraction.pending }
+        ensures most { length self.new.extraction.emitted ≤ most_of self.old.extraction.slots }
         ensures between { IsBetween self.old self.new }
     {
-        let count = self.payload.give_pending(into);
+        self.payload.give_pending();
         self.signal.restart();
         self.standing = Standing::Down;
-        count
     }
 
-    // Begins a turn with nothing pending.
-    fn settle(&mut self, standing: Standing)
+    // Emits nothing, and begins a turn with nothing pending.
+    fn stand_anew(&mut self, standing: Standing)
         requires { FitsStanding self.old.extraction.slots [] standing }
         ensures standing { self.new.standing ≡ standing }
         ensures at { (s : Machine) → IsAt s self.old → IsAt (record { standing = standing; pending = []; place = 0 }) self.new }
         ensures between { IsBetween self.old self.new }
+        ensures bytes { self.new.extraction.emitted ≡ [] }
     {
         self.payload.clear(number(standing));
         self.signal.restart();

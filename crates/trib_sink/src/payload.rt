@@ -1,21 +1,27 @@
-// The bytes that a sink extracted and did not emit, in two buffers.
-ghost use Rattle.std.specs.Prelude.{◌≡◌, ◌+◌, ◌*◌, ◌≤◌, [], ◌++◌, IfOk, length, take, drop, vec_len};
+// The bytes that a sink extracted, in two buffers: a turn that ends emits them in one, the other keeps what is pending.
+ghost use Rattle.std.specs.Prelude.{◌≡◌, ◌+◌, ◌*◌, ◌≤◌, ℕ, [], ◌++◌, IfOk, length, take, drop, slice_range, vec_len};
+ghost use Rattle.maintenance_signals.specs.declared.signal.Signal.{Signal};
+ghost use Rattle.maintenance_signals.specs.Given.{HasGiven};
+ghost use Rattle.maintenance_signals.specs.Stream.{signal_bytes};
 ghost use Rattle.otn_base.specs.LineSlots.{slots_of};
-ghost use Rattle.otn_base.specs.declared.limits.TheConstants.{GROUPS, MOST_SLOTS, PAYLOAD_COLUMNS};
+ghost use Rattle.otn_base.specs.declared.limits.TheConstants.{GROUPS, MOST_SLOTS, NOMINAL, PAYLOAD_COLUMNS};
 ghost use Rattle.trib_sink.specs.Rows.{row_cycles, row_data, with_rows, after_frame};
 
 use crate::extract;
 use frame_geometry::Frame;
 use gmp_rule::Runner;
-use otn_base::limits::{GROUPS, LINE_COLUMNS, PAYLOAD_COLUMNS};
+use maintenance_signals::SignalBytes;
+use otn_base::limits::{GROUPS, LINE_COLUMNS, NOMINAL, PAYLOAD_COLUMNS};
 use otn_base::{Memory, Slots};
 use std::alloc::{AllocError, Global};
 use std::marker::Model;
 use std::mem;
+use std::ops::Range;
 
-/// The bytes of a tributary's data groups: those that earlier turns left pending, and those that this
-/// turn extracted. The first stand in one buffer, from `first` to `last`, the others at the front of the other one, up to
-/// `end`; after a turn the buffers change places.
+/// The bytes of a tributary's data groups: those that earlier turns left pending, in one buffer, from `first`
+/// to `last`, and those that this turn extracted, at the front of the other one, up to `end`. When a turn
+/// ends, what it emits is gathered in the former, behind its pending bytes, and the buffers change places. It
+/// stands there, from `from` to `past`, until a frame is taken.
 #[derive(Drop)]
 pub(crate) struct Payload {
     slots: usize,
@@ -25,27 +31,29 @@ pub(crate) struct Payload {
     last: usize,
     fresh: Vec<u8>,
     end: usize,
+    from: usize,
+    past: usize,
 }
 
 impl Model for Payload {
-    ghost use Rattle.std.specs.Prelude.{take, drop, vec_len};
+    ghost use Rattle.std.specs.Prelude.{take, drop, slice_range, vec_len};
     ghost use Rattle.trib_sink.specs.Extraction.{Extraction, HasRoom};
 
     ghost Value = { Extraction };
 
-    ghost view = { λ p. record { slots = p.slots; number = p.runner.number; asked = p.runner.asked; pending = drop p.first (take p.last p.kept.items); fresh = take p.end p.fresh.items } };
+    ghost view = { λ p. record { slots = p.slots; number = p.runner.number; asked = p.runner.asked; pending = drop p.first (take p.last p.kept.items); fresh = take p.end p.fresh.items; emitted = slice_range p.fresh.items p.from p.past } };
 
-    ghost invariant = { λ p. HasRoom p.slots p.runner.number p.runner.asked p.first p.last (vec_len p.kept) p.end (vec_len p.fresh) };
+    ghost invariant = { λ p. HasRoom p.slots p.runner.number p.runner.asked p.first p.last (vec_len p.kept) p.end p.from p.past (vec_len p.fresh) };
 }
 
 impl Payload {
     /// Nothing extracted, for so many slots. Takes all memory that it will ever need.
     pub(crate) fn new(alloc: Global, slots: usize) -> Result<Self, Memory>
         requires { slots ≤ MOST_SLOTS }
-        ensures { IfOk result (λ p. p ≡ record { slots = slots; number = 0; asked = 0; pending = []; fresh = [] }) }
+        ensures { IfOk result (λ p. p ≡ record { slots = slots; number = 0; asked = 0; pending = []; fresh = []; emitted = [] }) }
     {
-        let kept = room(alloc, slots * GROUPS)?;
-        let fresh = room(alloc, slots * GROUPS)?;
+        let kept = room(alloc, slots * (GROUPS + 1))?;
+        let fresh = room(alloc, slots * (GROUPS + 1))?;
         Ok(Payload {
             slots,
             runner: Runner::start(0),
@@ -54,6 +62,8 @@ impl Payload {
             last: 0,
             fresh,
             end: 0,
+            from: 0,
+            past: 0,
         })
     }
 
@@ -81,20 +91,34 @@ impl Payload {
         requires high { row ≤ 3 }
         requires count { length slots.now.list ≡ self.old.slots }
         requires asked { self.old.asked + 2 * row_cycles slots.now.kind ≤ GROUPS }
-        ensures { self.new ≡ record self.old { asked = self.old.asked + row_cycles slots.now.kind + row_cycles slots.now.kind; fresh = with_rows self.old.fresh self.old.number self.old.asked slots.now frame.now row } }
+        ensures { self.new ≡ record self.old { asked = self.old.asked + row_cycles slots.now.kind + row_cycles slots.now.kind; fresh = with_rows self.old.fresh self.old.number self.old.asked slots.now frame.now row; emitted = [] } }
     {
         self.take_row(frame.payload_row(row), slots);
         self.take_row(frame.payload_row(row + 1), slots);
     }
 
-    /// Drops all bytes, and begins a turn whose groups are data by this number.
+    // Extracts the data groups of a row, over what was emitted.
+    fn take_row(&mut self, payload: &[u8], slots: &Slots)
+        requires payload { length payload.now ≡ PAYLOAD_COLUMNS }
+        requires count { length slots.now.list ≡ self.old.slots }
+        requires asked { self.old.asked + row_cycles slots.now.kind ≤ GROUPS }
+        ensures { self.new ≡ record self.old { asked = self.old.asked + row_cycles slots.now.kind; fresh = self.old.fresh ++ row_data (slots_of slots.now.kind) self.old.number self.old.asked payload.now slots.now.list (row_cycles slots.now.kind); emitted = [] } }
+    {
+        self.end = extract::take_row(&mut self.runner, payload, slots, &mut self.fresh, self.end);
+        self.from = 0;
+        self.past = 0;
+    }
+
+    /// Emits nothing, drops all bytes, and begins a turn whose groups are data by this number.
     pub(crate) fn clear(&mut self, number: u16)
         requires { number ≤ GROUPS }
-        ensures { self.new ≡ record self.old { number = number; asked = 0; pending = []; fresh = [] } }
+        ensures { self.new ≡ record self.old { number = number; asked = 0; pending = []; fresh = []; emitted = [] } }
     {
         self.first = 0;
         self.last = 0;
         self.end = 0;
+        self.from = 0;
+        self.past = 0;
         self.runner = Runner::start(number as u32);
     }
 
@@ -102,57 +126,92 @@ impl Payload {
     pub(crate) fn keep_all(&mut self, number: u16)
         requires number { number ≤ GROUPS }
         requires first { self.old.pending ≡ [] }
-        ensures { self.new ≡ record self.old { number = number; asked = 0; pending = self.old.pending ++ self.old.fresh; fresh = [] } }
+        ensures { self.new ≡ record self.old { number = number; asked = 0; pending = self.old.pending ++ self.old.fresh; fresh = []; emitted = [] } }
     {
         mem::swap(&mut self.kept, &mut self.fresh);
         self.first = 0;
         self.last = self.end;
         self.end = 0;
+        self.from = 0;
+        self.past = 0;
         self.runner = Runner::start(number as u32);
     }
 
     /// Emits all pending bytes and as many of this turn's as are due, keeps the others pending, and
     /// begins a turn whose groups are data by this number.
-    pub(crate) fn give_due(&mut self, due: u16, number: u16, into: &mut [u8]) -> usize
+    pub(crate) fn give_due(&mut self, due: u16, number: u16)
         requires number { number ≤ GROUPS }
-        requires room { self.old.slots * GROUPS + due ≤ length into.old }
-        ensures state { self.new ≡ record self.old { number = number; asked = 0; pending = drop due self.old.fresh; fresh = [] } }
-        ensures bytes { into.new ≡ self.old.pending ++ take due self.old.fresh ++ drop result into.old }
-        ensures count { result ≡ length (self.old.pending ++ take due self.old.fresh) }
-        ensures most { result ≤ self.old.slots * GROUPS + due }
+        requires due { due ≤ self.old.slots }
+        ensures state { self.new ≡ record self.old { number = number; asked = 0; pending = drop due self.old.fresh; fresh = []; emitted = self.old.pending ++ take due self.old.fresh } }
+        ensures most { length self.new.emitted ≤ self.old.slots * GROUPS + due }
     {
         let due = self.end.min(due as usize);
-        let held = copy_to(&self.kept[self.first..self.last], into, 0);
-        let count = copy_to(&self.fresh[..due], into, held);
+        let past = copy_to(&self.fresh[..due], &mut self.kept, self.last);
         mem::swap(&mut self.kept, &mut self.fresh);
+        self.from = self.first;
+        self.past = past;
         self.first = due;
         self.last = self.end;
         self.end = 0;
         self.runner = Runner::start(number as u32);
-        count
     }
 
     /// Emits all pending bytes and drops those of this turn.
-    pub(crate) fn give_pending(&mut self, into: &mut [u8]) -> usize
-        requires { self.old.slots * GROUPS ≤ length into.old }
-        ensures state { self.new ≡ record self.old { number = 0; asked = 0; pending = []; fresh = [] } }
-        ensures bytes { into.new ≡ self.old.pending ++ drop result into.old }
-        ensures count { result ≡ length self.old.pending }
-        ensures most { result ≤ self.old.slots * GROUPS }
+    #[tactic(auto, using(crate::proofs::Emitted::between))]
+    pub(crate) fn give_pending(&mut self)
+        ensures state { self.new ≡ record self.old { number = 0; asked = 0; pending = []; fresh = []; emitted = self.old.pending } }
+        ensures most { length self.new.emitted ≤ self.old.slots * GROUPS }
     {
-        let count = copy_to(&self.kept[self.first..self.last], into, 0);
-        self.clear(0);
-        count
+        mem::swap(&mut self.kept, &mut self.fresh);
+        self.from = self.first;
+        self.past = self.last;
+        self.first = 0;
+        self.last = 0;
+        self.end = 0;
+        self.runner = Runner::start(0);
     }
 
-    // Extracts the data groups of a row.
-    fn take_row(&mut self, payload: &[u8], slots: &Slots)
-        requires payload { length payload.now ≡ PAYLOAD_COLUMNS }
-        requires count { length slots.now.list ≡ self.old.slots }
-        requires asked { self.old.asked + row_cycles slots.now.kind ≤ GROUPS }
-        ensures { self.new ≡ record self.old { asked = self.old.asked + row_cycles slots.now.kind; fresh = self.old.fresh ++ row_data (slots_of slots.now.kind) self.old.number self.old.asked payload.now slots.now.list (row_cycles slots.now.kind) } }
+    /// Emits the next bytes of a signal's stream, 15,168 a slot, and drops all others.
+    pub(crate) fn give_signal(&mut self, stream: &mut SignalBytes)
+        ensures state { self.new ≡ record self.old { number = 0; asked = 0; pending = []; fresh = []; emitted = self.new.emitted } }
+        ensures bytes { (signal : Signal) (given : ℕ) → HasGiven signal given stream.old → self.new.emitted ≡ signal_bytes signal given (self.old.slots * NOMINAL) }
+        ensures given { (signal : Signal) (given : ℕ) → HasGiven signal given stream.old → HasGiven signal (given + self.old.slots * NOMINAL) stream.new }
+        ensures most { length self.new.emitted ≤ self.old.slots * NOMINAL }
     {
-        self.end = extract::take_row(&mut self.runner, payload, slots, &mut self.fresh, self.end);
+        let count = self.slots * NOMINAL;
+        next_front(stream, &mut self.fresh, count);
+        self.first = 0;
+        self.last = 0;
+        self.end = 0;
+        self.from = 0;
+        self.past = count;
+        self.runner = Runner::start(0);
+    }
+
+    /// What the last turn emitted.
+    pub(crate) fn emitted(&self) -> &[u8]
+        ensures { result.now ≡ self.now.emitted }
+    {
+        &self.fresh[self.from..self.past]
+    }
+
+    /// Hands out what the last turn emitted, before a frame is taken: the buffer in which it stands changes places with this one, of
+    /// as many bytes, and the answer is where it stands there.
+    pub(crate) fn hand_over(&mut self, buffer: &mut Vec<u8>) -> Range<usize>
+        requires room { vec_len buffer.old ≡ self.old.slots * (GROUPS + 1) }
+        requires fresh { self.old.fresh ≡ [] }
+        ensures state { self.new ≡ record self.old { emitted = [] } }
+        ensures bytes { slice_range buffer.new.items result.start result.end ≡ self.old.emitted }
+        ensures in_order { result.start ≤ result.end }
+        ensures within { result.end ≤ vec_len buffer.new }
+        ensures room_stays { vec_len buffer.new ≡ vec_len buffer.old }
+    {
+        let emitted = self.from..self.past;
+        mem::swap(&mut self.fresh, buffer);
+        self.end = 0;
+        self.from = 0;
+        self.past = 0;
+        emitted
     }
 }
 
@@ -172,4 +231,14 @@ fn copy_to(bytes: &[u8], into: &mut [u8], at: usize) -> usize
     let end = at + bytes.len();
     into[at..end].copy_from_slice(bytes);
     end
+}
+
+// The next bytes of a signal's stream, so many, to the front of a slice.
+fn next_front(stream: &mut SignalBytes, into: &mut [u8], count: usize)
+    requires { count ≤ length into.old }
+    ensures bytes { (signal : Signal) (given : ℕ) → HasGiven signal given stream.old → take count into.new ≡ signal_bytes signal given count }
+    ensures given { (signal : Signal) (given : ℕ) → HasGiven signal given stream.old → HasGiven signal (given + count) stream.new }
+    ensures size { length into.new ≡ length into.old }
+{
+    stream.next(&mut into[..count]);
 }

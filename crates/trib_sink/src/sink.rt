@@ -1,5 +1,5 @@
 // The sink of a tributary.
-ghost use Rattle.std.specs.Prelude.{◌≡◌, ◌+◌, ◌-◌, ◌*◌, ◌<◌, ◌≤◌, [], ◌∷◌, ◌++◌, IfOk, IsTrue, length, drop};
+ghost use Rattle.std.specs.Prelude.{◌≡◌, ◌+◌, ◌-◌, ◌*◌, ◌<◌, ◌≤◌, [], ◌∷◌, ◌++◌, IfOk, IsTrue, length, drop, slice_range, vec_len};
 ghost use Rattle.maintenance_signals.specs.declared.signal.Signal.TheVariants.{Ais};
 ghost use Rattle.maintenance_signals.specs.Stream.{signal_byte};
 ghost use Rattle.otn_base.specs.LineSlots.{slots_of};
@@ -8,6 +8,7 @@ ghost use Rattle.tributary_model.specs.Places.{tributary_of};
 ghost use Rattle.tributary_model.specs.Stretches.{state_after};
 ghost use Rattle.tributary_model.specs.Emission.{emission};
 ghost use Rattle.tributary_model.specs.Machine.{state_of_standing};
+ghost use Rattle.trib_sink.specs.Following.{most_of};
 
 use crate::arrivals::{message_so_far, note_msi};
 use crate::follower::Follower;
@@ -19,6 +20,7 @@ use otn_base::limits::{LINE_COLUMNS, MOST_SLOTS};
 use otn_base::{Memory, Slots};
 use std::alloc::Global;
 use std::marker::Model;
+use std::ops::Range;
 use tributary_model::{SinkState, Standing};
 
 /// The sink of one tributary of a line. Contracts say after which turns it stands: of which views they
@@ -48,7 +50,7 @@ impl TribSink {
     ghost use Rattle.trib_sink.specs.Sink.{AfterAnyTurns, StandsAfter, ended_view};
 
     /// A sink of these slots and this tributary port (1 to the number of the line's slots), before its
-    /// first turn. Takes all memory that it will ever need, 30,464 bytes a slot; answers `Memory` where there
+    /// first turn. Takes all memory that it will ever need, 30,466 bytes a slot; answers `Memory` where there
     /// is none.
     pub fn new(alloc: Global, slots: &Slots, port: u8) -> Result<TribSink, Memory>
         requires low { 1 ≤ port }
@@ -132,7 +134,42 @@ impl TribSink {
         ensures bytes { AfterAnyTurns self.old (λ own past frames. into.new ≡ emission own (signal_byte Ais) past (ended_view own whole frames) ++ drop result into.old) }
         ensures count { AfterAnyTurns self.old (λ own past frames. result ≡ length (emission own (signal_byte Ais) past (ended_view own whole frames))) }
         ensures within { result ≤ length into.old }
-        ensures most { result ≤ length self.old.slots.list * GROUPS + (length self.old.slots.list - 1) }
+        ensures most { result ≤ most_of (length self.old.slots.list) }
+        ensures taken { self.new.taken ≡ 0 }
+        ensures slots { self.new.slots ≡ self.old.slots }
+        ensures port { self.new.port ≡ self.old.port }
+    {
+        self.pass_turn(whole);
+        copy_front(self.follower.emitted(), into)
+    }
+
+    /// Ends a turn as `end_turn` does, without a copy: the bytes that the turn emits stand in what is `buffer`
+    /// afterwards, from where to where the answer says. The sink keeps what was `buffer` before, of exactly 15,233
+    /// bytes a slot, as its own buffers are.
+    pub fn hand_over(&mut self, whole: bool, buffer: &mut Vec<u8>) -> Range<usize>
+        requires whole { IsTrue whole → self.old.taken ≡ slots_of self.old.slots.kind }
+        requires room { vec_len buffer.old ≡ length self.old.slots.list * (GROUPS + 1) }
+        ensures stands { AfterAnyTurns self.old (λ own past frames. StandsAfter own (ended_view own whole frames ∷ past) [] self.new) }
+        ensures bytes { AfterAnyTurns self.old (λ own past frames. slice_range buffer.new.items result.start result.end ≡ emission own (signal_byte Ais) past (ended_view own whole frames)) }
+        ensures in_order { result.start ≤ result.end }
+        ensures within { result.end ≤ vec_len buffer.new }
+        ensures most { result.end - result.start ≤ most_of (length self.old.slots.list) }
+        ensures room_stays { vec_len buffer.new ≡ vec_len buffer.old }
+        ensures taken { self.new.taken ≡ 0 }
+        ensures slots { self.new.slots ≡ self.old.slots }
+        ensures port { self.new.port ≡ self.old.port }
+    {
+        self.pass_turn(whole);
+        self.follower.hand_over(buffer)
+    }
+
+    // Ends a turn; what it emits is kept until a frame is taken.
+    fn pass_turn(&mut self, whole: bool)
+        requires whole { IsTrue whole → self.old.taken ≡ slots_of self.old.slots.kind }
+        ensures stands { AfterAnyTurns self.old (λ own past frames. StandsAfter own (ended_view own whole frames ∷ past) [] self.new) }
+        ensures bytes { AfterAnyTurns self.old (λ own past frames. self.new.following.extraction.emitted ≡ emission own (signal_byte Ais) past (ended_view own whole frames)) }
+        ensures most { length self.new.following.extraction.emitted ≤ most_of (length self.old.slots.list) }
+        ensures fresh { self.new.following.extraction.fresh ≡ [] }
         ensures taken { self.new.taken ≡ 0 }
         ensures slots { self.new.slots ≡ self.old.slots }
         ensures port { self.new.port ≡ self.old.port }
@@ -145,11 +182,21 @@ impl TribSink {
             &mut self.watches,
             &mut self.follower,
         );
-        let count = self.follower.pass(heard, into);
+        self.follower.pass(heard);
         self.came.clear();
         self.taken = 0;
-        count
     }
+}
+
+// Writes these bytes to the front of a slice, and says how many they are.
+fn copy_front(bytes: &[u8], into: &mut [u8]) -> usize
+    requires { length bytes.now ≤ length into.old }
+    ensures count { result ≡ length bytes.now }
+    ensures bytes { into.new ≡ bytes.now ++ drop result into.old }
+{
+    let count = bytes.len();
+    into[..count].copy_from_slice(bytes);
+    count
 }
 
 // How a sink stands, as a caller sees it.

@@ -1,5 +1,7 @@
 // A sink on turns whose emission is known by hand.
 ghost use Rattle.std.specs.Prelude.{◌≡◌, ◌+◌, ◌*◌, ◌≤◌, [], IfOk, length, vec_len};
+ghost use Rattle.std.specs.Option.{ForSome};
+ghost use Rattle.otn_base.specs.LineSlots.{slots_of};
 ghost use Rattle.otn_base.specs.declared.limits.TheConstants.{GROUPS};
 
 use super::{SinkState, TribSink};
@@ -28,7 +30,24 @@ struct Shown {
     fill: u8,
 }
 
-// Takes all frames of one turn, with the MSI byte of port 1 at each slot, and ends the turn.
+// Takes all frames of one turn, with the MSI byte of port 1 at each slot.
+fn take_frames(sink: &mut TribSink, frame: &mut Frame<4080>, shown: Shown)
+    requires kind { sink.old.slots.kind ≡ shown.kind }
+    requires taken { sink.old.taken ≡ 0 }
+    ensures taken { sink.new.taken ≡ slots_of shown.kind }
+    ensures slots { sink.new.slots ≡ sink.old.slots }
+{
+    for n in 0..shown.kind.slots() {
+        write_frame(
+            frame,
+            if n == shown.at { shown.message } else { [0; 6] },
+            shown.fill,
+        );
+        sink.take_frame(n, frame, n);
+    }
+}
+
+// Takes all frames of one turn, and ends it.
 fn pass_turn(
     sink: &mut TribSink,
     frame: &mut Frame<4080>,
@@ -42,14 +61,7 @@ fn pass_turn(
     ensures taken { sink.new.taken ≡ 0 }
     ensures slots { sink.new.slots ≡ sink.old.slots }
 {
-    for n in 0..shown.kind.slots() {
-        write_frame(
-            frame,
-            if n == shown.at { shown.message } else { [0; 6] },
-            shown.fill,
-        );
-        sink.take_frame(n, frame, n);
-    }
+    take_frames(sink, frame, shown);
     sink.end_turn(whole, into)
 }
 
@@ -254,6 +266,16 @@ const FULL: [(u16, u16, usize); 4] = [
     (15_232, 0, 487_424),
 ];
 
+// The message that says this pair, after one that said the former number.
+fn saying(former: Option<u16>, number: u16, rest: u16) -> [u8; 6]
+    requires former { ForSome former (λ n. n ≤ GROUPS) }
+    requires number { number ≤ GROUPS }
+{
+    let [jc1, jc2, jc3] = say(former, number);
+    let [jc4, jc5, jc6] = say_d(rest.min(1023));
+    [jc1, jc2, jc3, jc4, jc5, jc6]
+}
+
 // The pair, counted from 1, at which another number of bytes is emitted, or 0 where there is none. The message
 // stands in frame `at` of each turn.
 fn first_wrong_pair(
@@ -274,13 +296,12 @@ fn first_wrong_pair(
         t = t.saturating_add(1);
         let (number, rest, count) = *pair;
         let number = number.min(15_232);
-        let [jc1, jc2, jc3] = say(former, number);
-        let [jc4, jc5, jc6] = say_d(rest.min(1023));
+        let message = saying(former, number, rest);
         former = Some(number);
         let shown = Shown {
             kind,
             at,
-            message: [jc1, jc2, jc3, jc4, jc5, jc6],
+            message,
             fill: t,
         };
         if pass_turn(sink, frame, shown, true, into) != count {
@@ -324,6 +345,84 @@ fn all_of_32_slots(rt: HostRuntime) -> Result<(), Fail> {
             first_wrong_pair(&mut sink, &mut frame, kind, 31, &FULL, &mut into),
             0
         );
+    }
+    Ok(())
+}
+
+// Pairs, each with whether its turn has a multiframe: a stretch with a remainder, its ending turn, and AIS.
+const MIXED: [(u16, u16, bool); 8] = [
+    (15_000, 1, true),
+    (15_000, 1, true),
+    (15_000, 2, true),
+    (15_001, 0, true),
+    (15_000, 2, true),
+    (0, 0, false),
+    (0, 0, false),
+    (0, 0, false),
+];
+
+// The turn, counted from 1, in which one sink hands over other bytes than one of as many slots copies, or 0
+// where there is none.
+fn first_unlike(
+    copying: &mut TribSink,
+    handing: &mut TribSink,
+    frame: &mut Frame<4080>,
+    turns: &[(u16, u16, bool)],
+    into: &mut [u8],
+    buffer: &mut Vec<u8>,
+) -> u8
+    requires kind { copying.old.slots.kind ≡ LineKind.Otu2 }
+    requires handing_kind { handing.old.slots.kind ≡ LineKind.Otu2 }
+    requires taken { copying.old.taken ≡ 0 }
+    requires handing_taken { handing.old.taken ≡ 0 }
+    requires room { length copying.old.slots.list * (GROUPS + 1) ≤ length into.old }
+    requires handing_room { vec_len buffer.old ≡ length handing.old.slots.list * (GROUPS + 1) }
+{
+    let mut t = 0u8;
+    let mut former = None;
+    for turn in turns {
+        t = t.saturating_add(1);
+        let (number, rest, whole) = *turn;
+        let number = number.min(15_232);
+        let message = saying(former, number, rest);
+        former = Some(number);
+        let shown = Shown {
+            kind: LineKind::Otu2,
+            at: 2,
+            message,
+            fill: t,
+        };
+        let count = pass_turn(copying, frame, shown, whole, into);
+        take_frames(handing, frame, shown);
+        let emitted = handing.hand_over(whole, buffer);
+        if into.get(..count) != buffer.get(emitted) {
+            return t;
+        }
+    }
+    0
+}
+
+#[test]
+fn handed_over_as_copied(rt: HostRuntime) -> Result<(), Fail> {
+    let slots = Slots::new(&[1, 2, 3], LineKind::Otu2).ok_or("three slots")?;
+    let mut frame = Frame::<4080>::new(rt.alloc())?;
+    let mut into = buffer(rt.alloc(), 45_699)?;
+    let mut exchanged = buffer(rt.alloc(), 45_699)?;
+    let mut copying = TribSink::new(rt.alloc(), &slots, 1)?;
+    let mut handing = TribSink::new(rt.alloc(), &slots, 1)?;
+    if slots.count() == 3 {
+        assert_eq!(rt;
+            first_unlike(
+                &mut copying,
+                &mut handing,
+                &mut frame,
+                &MIXED,
+                &mut into,
+                &mut exchanged
+            ),
+            0
+        );
+        assert_eq!(rt; handing.state(), SinkState::Down);
     }
     Ok(())
 }

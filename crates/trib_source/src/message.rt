@@ -11,11 +11,9 @@ ghost use Rattle.cnd_codec.specs.Remainder.{says_rest};
 ghost use Rattle.tributary_model.specs.Places.{greatest};
 
 use cnd_codec::say_d;
-use frame_geometry::Frame;
 use jc_codec::say;
-use odtu_columns::put_message;
+use odtu_columns::FillFrame;
 use otn_base::Slots;
-use otn_base::limits::LINE_COLUMNS;
 
 /// The six bytes that say a number after a former one, or without one, and the bytes over.
 pub(crate) fn say_turn(former: Option<u16>, number: u16, rest: u16) -> [u8; 6]
@@ -31,23 +29,18 @@ pub(crate) fn say_turn(former: Option<u16>, number: u16, rest: u16) -> [u8; 6]
 
 /// Puts the message into frame `n` where it is the frame of the greatest slot, and bytes 0 into its place
 /// where it is that of another one; every other byte stays.
-pub(crate) fn put_own_message(
-    slots: &Slots,
-    n: u8,
-    message: [u8; 6],
-    frame: &mut Frame<LINE_COLUMNS>,
-)
+pub(crate) fn put_own_message<F: FillFrame>(slots: &Slots, n: u8, message: [u8; 6], frame: &mut F)
     requires { n < slots_of slots.now.kind }
-    ensures greatest { n + 1 ≡ greatest slots.now.list → message_of frame.new ≡ message }
-    ensures other { Contains slots.now.list (n + 1) → n + 1 ≢ greatest slots.now.list → message_of frame.new ≡ 0 ∷ 0 ∷ 0 ∷ 0 ∷ 0 ∷ 0 ∷ [] }
+    ensures greatest { n + 1 ≡ greatest slots.now.list → message_of (F.bytes frame.new) ≡ message }
+    ensures other { Contains slots.now.list (n + 1) → n + 1 ≢ greatest slots.now.list → message_of (F.bytes frame.new) ≡ 0 ∷ 0 ∷ 0 ∷ 0 ∷ 0 ∷ 0 ∷ [] }
     ensures kept { (place : ℕ) → (Contains slots.now.list (n + 1) → (row column : ℕ) → 1 ≤ row → row ≤ 3 → 15 ≤ column → column ≤ 16 → place ≡ place_of LINE_COLUMNS row column → ⊥)
-        → slice_index frame.new place ≡ slice_index frame.old place }
+        → slice_index (F.bytes frame.new) place ≡ slice_index (F.bytes frame.old) place }
 {
     if n + 1 == slots.last() {
-        put_message(frame, message);
+        frame.fill_message(message);
         return;
     }
     if slots.has(n + 1) {
-        put_message(frame, [0; 6]);
+        frame.fill_message([0; 6]);
     }
 }

@@ -8,10 +8,9 @@ ghost use Rattle.trib_source.specs.Source.{groups_in_frames};
 
 use crate::lay::lay_groups;
 use circular_buffer::HeapCircularBuffer;
-use frame_geometry::Frame;
 use gmp_rule::{Runner, data_groups};
-use odtu_columns::put_row_groups;
-use otn_base::limits::{GROUPS, LINE_COLUMNS, OTU2_SLOTS, OTU3_SLOTS, PAYLOAD_COLUMNS, ROWS};
+use odtu_columns::FillFrame;
+use otn_base::limits::{GROUPS, OTU2_SLOTS, OTU3_SLOTS, PAYLOAD_COLUMNS, ROWS};
 use otn_base::{LineKind, Slots};
 
 // The rows of a frame, in the type of their numbers.
@@ -26,14 +25,14 @@ const BY_RUNS: u32 = GROUPS as u32 * 3 / 4;
 /// Puts the groups of a frame, behind so many groups of a turn with so many data groups, into the columns
 /// of the slots, row by row: out of the ring what is data. The next group that the runner is asked about
 /// is the first of the frame.
-pub(crate) fn put_rows(
+pub(crate) fn put_rows<F: FillFrame>(
     runner: &mut Runner,
     number: u32,
     asked: u32,
     ring: &mut HeapCircularBuffer<u8>,
     slots: &Slots,
     scratch: &mut [u8],
-    frame: &mut Frame<LINE_COLUMNS>,
+    frame: &mut F,
 )
     requires number { number ≡ runner.old.number }
     requires most { number ≤ GROUPS }
@@ -41,7 +40,7 @@ pub(crate) fn put_rows(
     requires high { asked + ROWS * groups_in_row (slots_of slots.now.kind) ≤ GROUPS }
     requires scratch { length scratch.old ≡ 2 * (length slots.now.list * groups_in_row (slots_of slots.now.kind)) }
     requires enough { AreEnough (length slots.now.list) number runner.old.asked ring.old.items }
-    ensures rows { RowsWerePut (slots_of slots.now.kind) slots.now.list (byte_laid (length slots.now.list) number runner.old.asked ring.old.items) ROWS frame.old frame.new }
+    ensures rows { RowsWerePut (slots_of slots.now.kind) slots.now.list (byte_laid (length slots.now.list) number runner.old.asked ring.old.items) ROWS (F.bytes frame.old) (F.bytes frame.new) }
     ensures ring { ring.new ≡ record ring.old { items = drop (data_bytes (length slots.now.list) number runner.old.asked (ROWS * groups_in_row (slots_of slots.now.kind))) ring.old.items } }
     ensures runner { runner.new ≡ record runner.old { asked = runner.old.asked + ROWS * groups_in_row (slots_of slots.now.kind) } }
 {
@@ -58,7 +57,7 @@ pub(crate) fn put_rows(
             goes_by_runs(number, m),
             row,
         );
-        put_row_groups(frame, done + 1, slots, row);
+        frame.fill_row_groups(done + 1, slots, row);
     }
 }
 

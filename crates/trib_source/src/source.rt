@@ -9,9 +9,9 @@ ghost use Rattle.trib_source.specs.Source.{said_number};
 use crate::message::{put_own_message, say_turn};
 use crate::rows::{cycles_in_row, groups_before, put_rows};
 use circular_buffer::HeapCircularBuffer;
-use frame_geometry::Frame;
 use gmp_rule::Runner;
-use otn_base::limits::{GROUPS, LINE_COLUMNS};
+use odtu_columns::FillFrame;
+use otn_base::limits::GROUPS;
 use otn_base::{Memory, Slots};
 use std::alloc::Global;
 use std::marker::Model;
@@ -145,13 +145,13 @@ impl TribSource {
     /// slots, where `n` frames of it were filled: the groups into the payload columns of the slots; the message into the
     /// frame of the greatest slot, and bytes 0 into the same places of the frames of the others. Every other byte stays: `put`
     /// says so after known turns, `kept` of any source.
-    pub fn fill(&mut self, n: u8, frame: &mut Frame<LINE_COLUMNS>)
+    pub fn fill<F: FillFrame>(&mut self, n: u8, frame: &mut F)
         requires number { n < slots_of self.old.slots.kind }
         requires filled { n ≡ self.old.filled }
         requires begun { IsSome self.old.said }
-        ensures put { (own : Tributary) (turns : List (List ℕ)) → StandsAfter own turns n self.old → WasPut own turns (length turns - 1) n frame.old frame.new }
+        ensures put { (own : Tributary) (turns : List (List ℕ)) → StandsAfter own turns n self.old → WasPut own turns (length turns - 1) n (F.bytes frame.old) (F.bytes frame.new) }
         ensures kept { (port row column : ℕ) → 1 ≤ row → row ≤ ROWS → 1 ≤ column → column ≤ LINE_COLUMNS → (IsSourcePlace (tributary_of self.old.slots port) n row column → ⊥)
-            → byte_at frame.new row column ≡ byte_at frame.old row column }
+            → byte_at (F.bytes frame.new) row column ≡ byte_at (F.bytes frame.old) row column }
         ensures stands { (own : Tributary) (turns : List (List ℕ)) → StandsAfter own turns n self.old → StandsAfter own turns (n + 1) self.new }
         ensures begun { IsSome self.new.said }
         ensures filled { self.new.filled ≡ self.old.filled + 1 }

@@ -9,7 +9,7 @@ use Rattle.jc_codec.specs.Message.{says}
 use Rattle.cnd_codec.specs.Remainder.{says_rest}
 use Rattle.tributary_model.specs.Places.{Tributary, View}
 
--- how many bytes the first t turns bring: A(t - 1), with A of docs/FORMATS.md, whose turns count from 0
+-- how many bytes the first t turns bring: A(t) of docs/FORMATS.md, where turns count from 1; A(t - 1) where they count from 0, as here
 abbrev pub sent : List ℕ → (t : ℕ) → ℕ
 sent p t = sum (take t p)
 

@@ -1,5 +1,5 @@
 -- The stretches in which a sink follows its tributary. Turns are listed with the last first: a past is the views of all turns
--- since the sink began, and these turns are called its connection. Read from the end: course, next_part, fit and goes_on.
+-- since the sink began, its course. Read from the end: course, next_part, fit and goes_on.
 use Rattle.std.specs.Prelude.{ℕ, ◌==◌, nat_lt, List, [], ◌∷◌, ◌++◌, Bool, true, false, not, ◌&&◌, if◌then◌else◌, Option, Some, None, length, map, filter}
 use Rattle.std.specs.List.{list_any}
 use Rattle.msi_table.specs.Marks.{is_marked}
@@ -125,7 +125,7 @@ next_part own marked view (DownTurn ∷ parts) = opens (DownTurn ∷ parts) (fit
 next_part own marked view (EndingTurn stretch ∷ parts) = opens (EndingTurn stretch ∷ parts) (fit own marked view)
 next_part own marked view (StretchTurn stretch ∷ parts) = continues stretch (goes_on own marked view stretch)
 
--- The course of a connection: what each of its turns is, the last first.
+-- The course of a sink: what each of its turns is, the last first.
 unfoldable pub course : Tributary → List (Option View) → List Part
 course own [] = []
 course own (view ∷ past) = let before = course own past in next_part own (any_marked own (view ∷ past)) view before ∷ before

@@ -7,18 +7,18 @@ pub loop-done-preserved : goal.loop-done-preserved
 loop-done-preserved g c =
     let bytes = c.args.bytes.now in
     let done = c.loop-done.done in
-    let more = c.read_some-more.result.0 in
+    let more = c.read_some-done.result in
+    let new = c.read_some-done.new in
     record {
-      within = piece_within bytes done more c.loop-done.invariant.within c.read_some-more.ensures.within;
-      room = search rules;
+      within = piece_within bytes done more c.loop-done.invariant.within c.read_some-done.ensures.within;
       stands = λ first earlier taken h.
-          run_same first (out_view g.K.Sink c.read_some-more.new.place) earlier (taken ++ take done bytes ++ take more (take (length bytes - done) (drop done bytes))) (taken ++ take (done + more) bytes) c.read_some-more.new.reader
-          c.read_some-more.result.1 (more_taken taken bytes done more) (c.read_some-more.ensures.stands first earlier (taken ++ take done bytes) (c.loop-done.invariant.stands first earlier taken h));
+          run_same first (out_view g.K.Sink new.place) earlier (taken ++ take done bytes ++ take more (take (length bytes - done) (drop done bytes))) (taken ++ take (done + more) bytes) new.reader new.lines
+          (more_taken taken bytes done more) (c.read_some-done.ensures.stands first earlier (taken ++ take done bytes) (c.loop-done.invariant.stands first earlier taken h));
     }
 
 pub returns : goal.returns
 returns g c = λ first earlier taken h.
     let bytes = c.args.bytes.now in
     let done = c.loop-done.done in
-    run_same first (out_view g.K.Sink c.loop-done.place) earlier (taken ++ take done bytes) (taken ++ bytes) c.loop-done.reader c.loop-done.counted (all_taken taken bytes done c.loop-done.invariant.within (search rules))
+    run_same first (out_view g.K.Sink c.loop-done.place) earlier (taken ++ take done bytes) (taken ++ bytes) c.loop-done.reader c.loop-done.lines (all_taken taken bytes done c.loop-done.invariant.within (search rules))
     (c.loop-done.invariant.stands first earlier taken h)

@@ -1,16 +1,14 @@
-use Rattle.std.proofs.Common.{◌≡◌, ◌≤◌, ◌++◌, ◌-◌, ℕ, List, length, take}
+use Rattle.std.proofs.Common.{◌≤◌, ◌++◌, ◌-◌, ℕ, List, length, take}
 use Rattle.otn_ports.specs.OutPlace.{out_view}
 use Rattle.otn_ports.specs.Views.{OutView}
-use Rattle.cross_matrix.specs.declared.receiver.TheConstants.{MOST_LINE}
 use Rattle.cross_matrix.specs.Receiving.{RunRead}
 use Rattle.cross_matrix.proofs.receiver.read_bytes.Given as goal
 
 abbrev pub invariant-loop-done : goal.invariant-loop-done
 invariant-loop-done g l = record {
   within : l.done ≤ length l.bytes;
-  room : length l.text ≡ MOST_LINE;
-  stands : (first : OutView) (earlier : List (List ℕ)) (taken : List ℕ) → RunRead first (out_view g.K.Sink l.fn.place) earlier taken l.fn.reader l.fn.count
-      → RunRead first (out_view g.K.Sink l.place) earlier (taken ++ take l.done l.bytes) l.reader l.counted;
+  stands : (first : OutView) (earlier : List (List ℕ)) (taken : List ℕ) → RunRead first (out_view g.K.Sink l.fn.place) earlier taken l.fn.reader l.fn.lines
+      → RunRead first (out_view g.K.Sink l.place) earlier (taken ++ take l.done l.bytes) l.reader l.lines;
 }
 
 abbrev pub decreases-loop-done : goal.decreases-loop-done

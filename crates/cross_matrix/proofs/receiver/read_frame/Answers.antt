@@ -9,6 +9,6 @@ returns g c = λ first earlier taken h.
     let b = c.payload_row-2.result.now in
     let third = c.payload_row-3.result.now in
     let d = c.payload_row-4.result.now in
-    frame_read first (out_view g.K.Sink c.read_bytes.new.place) earlier taken c.args.frame.now a b third d c.read_bytes.new.reader c.read_bytes.result c.payload_row.ensures.bytes c.payload_row-2.ensures.bytes
-    c.payload_row-3.ensures.bytes c.payload_row-4.ensures.bytes
-    (c.read_bytes.ensures first earlier (taken ++ a ++ b ++ third) (c.read_bytes-third.ensures first earlier (taken ++ a ++ b) (c.read_bytes-second.ensures first earlier (taken ++ a) (c.read_bytes-first.ensures first earlier taken h))))
+    let last = c.read_bytes-4.new in
+    frame_read first (out_view g.K.Sink last.place) earlier taken c.args.frame.now a b third d last.reader last.lines c.payload_row.ensures.bytes c.payload_row-2.ensures.bytes c.payload_row-3.ensures.bytes c.payload_row-4.ensures.bytes
+    (c.read_bytes-4.ensures first earlier (taken ++ a ++ b ++ third) (c.read_bytes-3.ensures first earlier (taken ++ a ++ b) (c.read_bytes-2.ensures first earlier (taken ++ a) (c.read_bytes.ensures first earlier taken h))))

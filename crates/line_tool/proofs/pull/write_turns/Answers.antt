@@ -12,8 +12,8 @@ use Rattle.line_tool.proofs.pull.write_turns.Goals as goal
 pub loop-init : goal.loop-init
 loop-init g c = record {
   between = c.requires.between;
-  somewhere = c.requires.stands;
   slots = refl;
+  room = refl;
   so_far = λ own stands. turns_none own (in_view g.I.Source c.args.line.now) c.args.tap.now (g.K.Sink.got c.args.report.now) stands;
   report = report_same (sink_view g.K.Sink c.args.report.now);
 }
@@ -21,17 +21,10 @@ loop-init g c = record {
 pub loop-preserved : goal.loop-preserved
 loop-preserved g c =
     let step = c.in-NextTurn.ensures in
-    let some = c.loop.invariant.somewhere in
     record {
       between = step.between;
-      somewhere = record {
-        own = some.own;
-        first = some.first;
-        taken = some.taken ++ (step.run some.own some.first some.taken some.t some.stands).moves.came;
-        t = some.t + 1;
-        stands = (step.run some.own some.first some.taken some.t some.stands).moves.stands;
-      };
       slots = step.slots ∙ c.loop.invariant.slots;
+      room = step.room_stays ∙ c.loop.invariant.room;
       so_far = λ own stands.
           let first = in_view g.I.Source c.args.line.now in
           let h = c.loop.invariant.so_far own stands in

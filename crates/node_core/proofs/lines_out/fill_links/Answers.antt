@@ -6,7 +6,7 @@ use Rattle.node_core.proofs.LinkSteps.{step_more, one_gone, all_gone, as_it_was,
 use Rattle.node_core.proofs.lines_out.fill_links.Goals as goal
 
 pub loop-link-preserved : goal.loop-link-preserved
-loop-link-preserved c =
+loop-link-preserved g c =
     let olds = c.args.links.now.items in
     let news = c.loop-link.link-items in
     let i = c.loop-link.link-index in
@@ -19,12 +19,12 @@ loop-link-preserved c =
       gone = λ n. one_gone (Goes n) i olds news d c.fill_frame.new.self less (c.loop-link.invariant.gone n) (c.fill_frame.ensures.gave n);
       rest = λ new steps.
           c.loop-link.invariant.rest new
-          (step_more Step olds i d c.loop-link.frame c.fill_frame.new.frame new less
-          (subst (λ link. Step link c.loop-link.frame c.fill_frame.new.frame) (as_it_was (Goes 0) i olds news d less (c.loop-link.invariant.gone 0)) c.fill_frame.ensures.puts) steps);
+          (step_more Step olds i d (g.F.FillFrame.bytes c.loop-link.frame) (g.F.FillFrame.bytes c.fill_frame.new.frame) new less
+          (subst (λ link. Step link (g.F.FillFrame.bytes c.loop-link.frame) (g.F.FillFrame.bytes c.fill_frame.new.frame)) (as_it_was (Goes 0) i olds news d less (c.loop-link.invariant.gone 0)) c.fill_frame.ensures.puts) steps);
     }
 
 pub returns-clause-gave : goal.returns-clause-gave
-returns-clause-gave c =
+returns-clause-gave g c =
     let olds = c.args.links.now.items in
     let news = c.loop-link.link-items in
     let i = c.loop-link.link-index in

@@ -10,19 +10,19 @@ use Rattle.node_core.proofs.lines_out.write_line.Goals as goal
 pub returns : goal.returns
 returns g c =
     let kind = c.kind-kind.result in
-    let put : FramePut = record { mfas = c.mfas_of.result; ports = c.slot_map-map.result; bytes = c.fill_links.new.frame } in
+    let put : FramePut = record { mfas = c.mfas_of.result; ports = c.slot_map-map.result; bytes = c.fill_line.new.frame } in
     let is : kind ≡ c.args.line.now.form.kind = c.kind-kind.ensures in
     let allots = subst (λ links. FromBlank (λ link before now. AllotsOwn kind (gives_line c.args.past c.args.b link) link before now) links put.ports) c.deref.ensures.value c.slot_map-map.ensures.allots in
     record {
       writes = record {
         put = put;
-        made = λ form first puts h. c.finish.ensures.made c.args.b form first puts (made_on c.fill_links.new.frame h);
+        made = λ form first puts h. c.finish.ensures.made c.args.b form first puts (made_on c.fill_line.new.frame h);
         form = c.finish.ensures.form;
         mfas = subst (λ k. put.mfas ≡ (slots_of k * c.args.past + c.args.n) % 256) is c.mfas_of.ensures;
-        gave = c.fill_links.ensures.gave c.args.n;
+        gave = c.fill_line.ensures.gave c.args.n;
       };
       due = λ plan inputs accepted is_form fill.
           frame_due plan inputs c.args.b c.args.past c.args.n c.args.links.now.items kind put accepted (is ∙ ap (λ (form : LineForm). form.kind) is_form)
-          (subst (λ k. c.args.n < slots_of k) (sym is) c.requires.frame) fill c.mfas_of.ensures c.slot_map-map.ensures.size allots c.fill_links.ensures.size
-          (record { first = c.begin.result.now; blank = record { zero = c.begin.ensures.zero }; steps = c.fill_links.ensures.puts });
+          (subst (λ k. c.args.n < slots_of k) (sym is) c.requires.frame) fill c.mfas_of.ensures c.slot_map-map.ensures.size allots c.fill_line.ensures.size
+          c.fill_line.ensures.puts;
     }

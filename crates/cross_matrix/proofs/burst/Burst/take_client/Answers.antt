@@ -1,4 +1,4 @@
-use Rattle.std.proofs.Common.{rules, ◌≡◌, length, ◌-◌, drop}
+use Rattle.std.proofs.Common.{rules, arith, ◌≡◌, length, ◌-◌, drop}
 use Rattle.otn_ports.proofs.Lists.{take_all}
 use Rattle.cross_matrix.proofs.burst.Burst.take_client.Goals as goal
 
@@ -6,4 +6,5 @@ use Rattle.cross_matrix.proofs.burst.Burst.take_client.Goals as goal
 pub returns-clause-fills : goal.returns-clause-fills
 returns-clause-fills g c = λ first taken gone h.
     let whole : length c.fill_front.new.into ≡ c.self.inside.buffer.len = search rules in
-    rw (take_all c.self.inside.buffer.len c.fill_front.new.into (drop (length c.fill_front.new.into) c.self.inside.buffer.items) whole) (c.fill_front.ensures.fills first taken gone h)
+    let from_0 : c.args.count - 0 ≡ c.args.count = omega arith in
+    rw (take_all c.self.inside.buffer.len c.fill_front.new.into (drop (length c.fill_front.new.into) c.self.inside.buffer.items) whole, from_0) (c.fill_front.ensures.fills first taken gone h)

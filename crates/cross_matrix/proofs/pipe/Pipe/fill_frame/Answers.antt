@@ -7,14 +7,14 @@ use Rattle.cross_matrix.proofs.PipeMoves.{was_put, filled_on, parts_of}
 use Rattle.cross_matrix.proofs.pipe.Pipe.fill_frame.Goals as goal
 
 pub returns-clause-put : goal.returns-clause-put
-returns-clause-put c = λ x b port slots input j frames ended e h.
+returns-clause-put g c = λ x b port slots input j frames ended e h.
     let i = c.self.inside in
     let old : PipeView = record { taking = i.taking; giving = i.giving; paces = i.paces.items; start = i.start; slots = i.slots; came = i.came.bytes; gives = i.gives.bytes } in
     let now : PipeStands x input j frames ended c.args.n old = subst (PipeStands x input j frames ended c.args.n) (sym c.self.view_is) h in
     was_put x b port slots input j c.args.n i.giving _ _ e now.giving c.fill_line.ensures.put
 
 pub returns-clause-stands : goal.returns-clause-stands
-returns-clause-stands c = λ x input j frames ended h.
+returns-clause-stands g c = λ x input j frames ended h.
     let i = c.self.inside in
     let old : PipeView = record { taking = i.taking; giving = i.giving; paces = i.paces.items; start = i.start; slots = i.slots; came = i.came.bytes; gives = i.gives.bytes } in
     let now : PipeStands x input j frames ended c.args.n old = subst (PipeStands x input j frames ended c.args.n) (sym c.self.view_is) h in
@@ -28,5 +28,5 @@ returns-clause-stands c = λ x input j frames ended h.
     }
 
 pub returns-clause-kept : goal.returns-clause-kept
-returns-clause-kept c = λ port row column low high left right other.
+returns-clause-kept g c = λ port row column low high left right other.
     c.fill_line.ensures.kept port row column low high left right (subst (λ (p : PipeView). OnSource p.giving (λ source. IsSourcePlace (tributary_of source.slots port) c.args.n row column → ⊥)) (sym c.self.view_is) other)

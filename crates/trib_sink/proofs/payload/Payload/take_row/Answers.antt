@@ -35,5 +35,7 @@ invariant_of-self c =
       kept_is = search rules;
       end_high = subst (λ a. c.take_row-self-inside.result ≤ i.slots * a) (sym asked)
           (row_after i.slots i.runner.asked n i.end c.take_row-self-inside.result c.self.invariant.end_high (omega arith));
+      emitted_in_order = search rules;
+      past_high = search rules;
       fresh_is = search rules;
     }

@@ -10,7 +10,7 @@ use Rattle.trib_source.proofs.Filled.{FramePut, own_frame, frame_kept, stands_fi
 use Rattle.trib_source.proofs.source.TribSource.fill.Goals as goal
 
 pub invariant_of-self : goal.invariant_of-self
-invariant_of-self c =
+invariant_of-self g c =
     let i = c.self.inside in
     let s : Source = record { slots = i.slots; said = i.said; number = i.runner.number; asked = i.runner.asked; left = i.ring.items; rest = i.rest; message = i.message; filled = i.filled } in
     let h : IsSource s i.ring.capacity (vec_len i.scratch) i.number = c.self.invariant in
@@ -24,34 +24,34 @@ invariant_of-self c =
     (is_filled s i.ring.capacity (vec_len i.scratch) i.number more c.put_rows.new.runner c.put_rows.new.ring.items h low refl c.put_rows.ensures.runner left)
 
 pub returns-clause-put : goal.returns-clause-put
-returns-clause-put c = λ own turns stands.
+returns-clause-put g c = λ own turns stands.
     let i = c.self.inside in
     let s : Source = record { slots = i.slots; said = i.said; number = i.runner.number; asked = i.runner.asked; left = i.ring.items; rest = i.rest; message = i.message; filled = i.filled } in
     let h : IsSource s i.ring.capacity (vec_len i.scratch) i.number = c.self.invariant in
     let message = c.put_own_message.ensures in
     let some : IsSome s.said = subst (λ (x : Source). IsSome x.said) (sym c.self.view_is) c.requires.begun in
-    let rows : RowsWerePut (slots_of i.slots.kind) i.slots.list (byte_laid (length i.slots.list) i.runner.number i.runner.asked i.ring.items) 4 c.args.frame.now c.put_rows.new.frame =
-    subst (λ k. RowsWerePut (slots_of i.slots.kind) i.slots.list (byte_laid (length i.slots.list) k i.runner.asked i.ring.items) 4 c.args.frame.now c.put_rows.new.frame) h.kept_is c.put_rows.ensures.rows in
-    let put : FramePut s c.args.n c.args.frame.now c.put_rows.new.frame c.put_own_message.new.frame =
+    let rows : RowsWerePut (slots_of i.slots.kind) i.slots.list (byte_laid (length i.slots.list) i.runner.number i.runner.asked i.ring.items) 4 (g.F.FillFrame.bytes c.args.frame.now) (g.F.FillFrame.bytes c.put_rows.new.frame) =
+    subst (λ k. RowsWerePut (slots_of i.slots.kind) i.slots.list (byte_laid (length i.slots.list) k i.runner.asked i.ring.items) 4 (g.F.FillFrame.bytes c.args.frame.now) (g.F.FillFrame.bytes c.put_rows.new.frame)) h.kept_is c.put_rows.ensures.rows in
+    let put : FramePut s c.args.n (g.F.FillFrame.bytes c.args.frame.now) (g.F.FillFrame.bytes c.put_rows.new.frame) (g.F.FillFrame.bytes c.put_own_message.new.frame) =
     record { list = h.list; rows = rows; own = message.greatest; other = message.other; kept = message.kept } in
-    own_frame own s i.ring.capacity (vec_len i.scratch) i.number turns c.args.n c.args.frame.now c.put_rows.new.frame c.put_own_message.new.frame h some put
+    own_frame own s i.ring.capacity (vec_len i.scratch) i.number turns c.args.n (g.F.FillFrame.bytes c.args.frame.now) (g.F.FillFrame.bytes c.put_rows.new.frame) (g.F.FillFrame.bytes c.put_own_message.new.frame) h some put
     (subst (λ (x : Source). StandsAfter own turns c.args.n x) (sym c.self.view_is) stands)
 
 pub returns-clause-kept : goal.returns-clause-kept
-returns-clause-kept c = λ port row column a b d f none.
+returns-clause-kept g c = λ port row column a b d f none.
     let i = c.self.inside in
     let s : Source = record { slots = i.slots; said = i.said; number = i.runner.number; asked = i.runner.asked; left = i.ring.items; rest = i.rest; message = i.message; filled = i.filled } in
     let h : IsSource s i.ring.capacity (vec_len i.scratch) i.number = c.self.invariant in
     let message = c.put_own_message.ensures in
-    let rows : RowsWerePut (slots_of i.slots.kind) i.slots.list (byte_laid (length i.slots.list) i.runner.number i.runner.asked i.ring.items) 4 c.args.frame.now c.put_rows.new.frame =
-    subst (λ k. RowsWerePut (slots_of i.slots.kind) i.slots.list (byte_laid (length i.slots.list) k i.runner.asked i.ring.items) 4 c.args.frame.now c.put_rows.new.frame) h.kept_is c.put_rows.ensures.rows in
-    let put : FramePut s c.args.n c.args.frame.now c.put_rows.new.frame c.put_own_message.new.frame =
+    let rows : RowsWerePut (slots_of i.slots.kind) i.slots.list (byte_laid (length i.slots.list) i.runner.number i.runner.asked i.ring.items) 4 (g.F.FillFrame.bytes c.args.frame.now) (g.F.FillFrame.bytes c.put_rows.new.frame) =
+    subst (λ k. RowsWerePut (slots_of i.slots.kind) i.slots.list (byte_laid (length i.slots.list) k i.runner.asked i.ring.items) 4 (g.F.FillFrame.bytes c.args.frame.now) (g.F.FillFrame.bytes c.put_rows.new.frame)) h.kept_is c.put_rows.ensures.rows in
+    let put : FramePut s c.args.n (g.F.FillFrame.bytes c.args.frame.now) (g.F.FillFrame.bytes c.put_rows.new.frame) (g.F.FillFrame.bytes c.put_own_message.new.frame) =
     record { list = h.list; rows = rows; own = message.greatest; other = message.other; kept = message.kept } in
-    frame_kept s port c.args.n c.args.frame.now c.put_rows.new.frame c.put_own_message.new.frame put row column a b d f
+    frame_kept s port c.args.n (g.F.FillFrame.bytes c.args.frame.now) (g.F.FillFrame.bytes c.put_rows.new.frame) (g.F.FillFrame.bytes c.put_own_message.new.frame) put row column a b d f
     (subst (λ (x : Source). IsSourcePlace (tributary_of x.slots port) c.args.n row column → ⊥) (sym c.self.view_is) none)
 
 pub returns-clause-stands : goal.returns-clause-stands
-returns-clause-stands c = λ own turns stands.
+returns-clause-stands g c = λ own turns stands.
     let i = c.self.inside in
     let s : Source = record { slots = i.slots; said = i.said; number = i.runner.number; asked = i.runner.asked; left = i.ring.items; rest = i.rest; message = i.message; filled = i.filled } in
     let h : IsSource s i.ring.capacity (vec_len i.scratch) i.number = c.self.invariant in

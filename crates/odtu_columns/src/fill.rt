@@ -1,0 +1,47 @@
+// A frame of a line into which sources put their own.
+ghost use Rattle.std.specs.Prelude.{◌≡◌, ◌*◌, ◌/◌, ◌≤◌, ℕ, List, length, slice_index};
+ghost use Rattle.frame_geometry.specs.Places.{place_of};
+ghost use Rattle.otn_base.specs.LineSlots.{slots_of};
+ghost use Rattle.otn_base.specs.declared.limits.TheConstants.{LINE_COLUMNS, PAYLOAD_COLUMNS};
+ghost use Rattle.odtu_columns.specs.Groups.{row_groups_of};
+ghost use Rattle.odtu_columns.specs.Message.{message_of};
+ghost use Rattle.odtu_columns.specs.Put.{RowWasPut};
+
+use crate::justification::put_message;
+use crate::put::put_row_groups;
+use frame_geometry::Frame;
+use otn_base::Slots;
+use otn_base::limits::LINE_COLUMNS;
+
+/// A frame of an OTU2 or an OTU3 that is being filled: sources put their groups and their messages into it, one after the
+/// other.
+pub trait FillFrame: Drop {
+    /// Its bytes, row by row.
+    ghost bytes: { Self → List ℕ };
+
+    /// Writes all groups of a row (1 to 4) for these slots, which stand one after the other, 476 on an OTU2,
+    /// 119 on an OTU3; every byte that is not of the slots stays.
+    fn fill_row_groups(&mut self, row: u32, slots: &Slots, groups: &[u8])
+        requires row_low { 1 ≤ row }
+        requires row_high { row ≤ 4 }
+        requires size { length groups.now ≡ length slots.now.list * (PAYLOAD_COLUMNS / slots_of slots.now.kind) }
+        ensures put { RowWasPut (slots_of slots.now.kind) slots.now.list row groups.now (bytes self.old) (bytes self.new) }
+        ensures groups { row_groups_of (slots_of slots.now.kind) slots.now.list row (bytes self.new) ≡ groups.now };
+
+    /// Writes JC1 to JC6, in this order; every other byte stays.
+    fn fill_message(&mut self, message: [u8; 6])
+        ensures message { message_of (bytes self.new) ≡ message }
+        ensures kept { (place : ℕ) → ((row column : ℕ) → 1 ≤ row → row ≤ 3 → 15 ≤ column → column ≤ 16 → place ≡ place_of LINE_COLUMNS row column → ⊥) → slice_index (bytes self.new) place ≡ slice_index (bytes self.old) place };
+}
+
+impl FillFrame for Frame<LINE_COLUMNS> {
+    ghost bytes = { λ frame. frame };
+
+    fn fill_row_groups(&mut self, row: u32, slots: &Slots, groups: &[u8]) {
+        put_row_groups(self, row, slots, groups);
+    }
+
+    fn fill_message(&mut self, message: [u8; 6]) {
+        put_message(self, message);
+    }
+}

@@ -1,0 +1,156 @@
+// A frame of an OTU2 whose payload is kept by tributary slots.
+ghost use Rattle.std.specs.Prelude.{◌≡◌, ◌≢◌, ℕ, ◌+◌, ◌-◌, ◌*◌, ◌/◌, ◌%◌, ◌<◌, ◌≤◌, IfOk, length, slice_index};
+ghost use Rattle.otn_base.specs.LineSlots.{slots_of};
+ghost use Rattle.otn_base.specs.SlotList.{IsSlotList};
+ghost use Rattle.otn_base.specs.declared.limits.TheConstants.{LINE_FRAME_BYTES, OTU2_SLOTS, PAYLOAD_COLUMNS};
+ghost use Rattle.odtu_columns.specs.BySlots.{joined_byte, RowJoined};
+
+use crate::fill::FillFrame;
+use crate::justification::put_message;
+use crate::put::put_groups;
+use frame_geometry::Frame;
+use lane_kernels::{SlotRows, join8, split8};
+use otn_base::limits::{LINE_COLUMNS, OTU2_SLOTS, PAYLOAD_COLUMNS};
+use otn_base::{LineKind, Memory, Slots};
+use std::alloc::Global;
+use std::marker::Model;
+
+/// A frame of an OTU2 that is best filled by sources of one slot each: the payload of a row is kept slot by slot, and a
+/// source's bytes stand together. Of the columns that are no payload it has a message's alone; all else there is 0. It is
+/// seen as the bytes of the frame that it stands for, row by row.
+#[derive(Drop)]
+pub struct SlotFrame {
+    message: [u8; 6],
+    row1: SlotRows<OTU2_SLOTS>,
+    row2: SlotRows<OTU2_SLOTS>,
+    row3: SlotRows<OTU2_SLOTS>,
+    row4: SlotRows<OTU2_SLOTS>,
+}
+
+impl Model for SlotFrame {
+    ghost use Rattle.std.specs.Prelude.{ℕ, List, [], ◌∷◌};
+    ghost use Rattle.odtu_columns.specs.BySlots.{frame_by_slots, message_frame};
+
+    ghost Value = { List ℕ };
+
+    ghost view = { λ f. frame_by_slots (message_frame f.message) (f.row1 ∷ f.row2 ∷ f.row3 ∷ f.row4 ∷ []) };
+}
+
+impl SlotFrame {
+    /// A frame of bytes that are all 0. Answers `Memory` where there is none for them.
+    pub fn new(alloc: Global) -> Result<SlotFrame, Memory>
+        ensures size { IfOk result (λ frame. length frame ≡ LINE_FRAME_BYTES) }
+        ensures zero { IfOk result (λ frame. (place : ℕ) → slice_index frame place ≡ 0) }
+    {
+        let row1 = SlotRows::<OTU2_SLOTS>::new(alloc)?;
+        let row2 = SlotRows::<OTU2_SLOTS>::new(alloc)?;
+        let row3 = SlotRows::<OTU2_SLOTS>::new(alloc)?;
+        let row4 = SlotRows::<OTU2_SLOTS>::new(alloc)?;
+        Ok(SlotFrame {
+            message: [0; 6],
+            row1,
+            row2,
+            row3,
+            row4,
+        })
+    }
+
+    /// Writes 0 into every byte.
+    pub fn clear(&mut self)
+        ensures size { length self.new ≡ LINE_FRAME_BYTES }
+        ensures zero { (place : ℕ) → slice_index self.new place ≡ 0 }
+    {
+        self.message = [0; 6];
+        clear_row(&mut self.row1);
+        clear_row(&mut self.row2);
+        clear_row(&mut self.row3);
+        clear_row(&mut self.row4);
+    }
+
+    /// Writes its bytes into a frame that is all 0.
+    pub fn join_into(&self, frame: &mut Frame<LINE_COLUMNS>)
+        requires blank { (place : ℕ) → slice_index frame.old place ≡ 0 }
+        ensures { frame.new ≡ self.now }
+    {
+        put_message(frame, self.message);
+        join_row(&self.row1, 1, frame);
+        join_row(&self.row2, 2, frame);
+        join_row(&self.row3, 3, frame);
+        join_row(&self.row4, 4, frame);
+    }
+}
+
+impl FillFrame for SlotFrame {
+    ghost bytes = { λ frame. frame };
+
+    fn fill_row_groups(&mut self, row: u32, slots: &Slots, groups: &[u8]) {
+        match row {
+            1 => put_in_row(&mut self.row1, slots, groups),
+            2 => put_in_row(&mut self.row2, slots, groups),
+            3 => put_in_row(&mut self.row3, slots, groups),
+            _ => put_in_row(&mut self.row4, slots, groups),
+        }
+    }
+
+    fn fill_message(&mut self, message: [u8; 6]) {
+        self.message = message;
+    }
+}
+
+// Writes 0 into the bytes of all slots.
+fn clear_row(rows: &mut SlotRows<OTU2_SLOTS>)
+    ensures { (x : ℕ) → x < PAYLOAD_COLUMNS → joined_byte rows.new x ≡ 0 }
+{
+    for k in 0..OTU2_SLOTS as u8 {
+        rows.slot_mut(k + 1).fill(0);
+    }
+}
+
+// Writes the payload of a row, and keeps every other byte.
+fn join_row(rows: &SlotRows<OTU2_SLOTS>, row: u32, frame: &mut Frame<LINE_COLUMNS>)
+    requires low { 1 ≤ row }
+    requires high { row ≤ 4 }
+    ensures { RowJoined rows.now row frame.old frame.new }
+{
+    join8(rows, frame.payload_row_mut(row));
+}
+
+// Puts all groups of a row for these slots: bytes of one slot of an OTU2 stand together.
+fn put_in_row(rows: &mut SlotRows<OTU2_SLOTS>, slots: &Slots, bytes: &[u8])
+    requires size { length bytes.now ≡ length slots.now.list * (PAYLOAD_COLUMNS / slots_of slots.now.kind) }
+    ensures list { IsSlotList (slots_of slots.now.kind) slots.now.list }
+    ensures put { (cycle i : ℕ) → cycle < PAYLOAD_COLUMNS / slots_of slots.now.kind → i < length slots.now.list → joined_byte rows.new (slots_of slots.now.kind * cycle + (slice_index slots.now.list i - 1)) ≡ slice_index bytes.now (length slots.now.list * cycle + i) }
+    ensures kept { (x : ℕ) → x < PAYLOAD_COLUMNS → ((i : ℕ) → i < length slots.now.list → x % slots_of slots.now.kind + 1 ≢ slice_index slots.now.list i) → joined_byte rows.new x ≡ joined_byte rows.old x }
+{
+    let kind = slots.kind();
+    let list = slots.as_slice();
+    if kind.slots() as usize == OTU2_SLOTS && list.len() == 1 {
+        put_slot(rows, list[0], bytes);
+        return;
+    }
+    put_joined(kind, rows, list, bytes);
+}
+
+// Puts the bytes of one slot.
+fn put_slot(rows: &mut SlotRows<OTU2_SLOTS>, slot: u8, bytes: &[u8])
+    requires low { 1 ≤ slot }
+    requires high { slot ≤ OTU2_SLOTS }
+    requires size { length bytes.now ≡ PAYLOAD_COLUMNS / OTU2_SLOTS }
+    ensures here { (x : ℕ) → x < PAYLOAD_COLUMNS → x % OTU2_SLOTS + 1 ≡ slot → joined_byte rows.new x ≡ slice_index bytes.now (x / OTU2_SLOTS) }
+    ensures others { (x : ℕ) → x < PAYLOAD_COLUMNS → x % OTU2_SLOTS + 1 ≢ slot → joined_byte rows.new x ≡ joined_byte rows.old x }
+{
+    rows.slot_mut(slot).copy_from_slice(bytes);
+}
+
+// Puts the groups of any slots into the payload of the row itself.
+fn put_joined(kind: LineKind, rows: &mut SlotRows<OTU2_SLOTS>, slots: &[u8], bytes: &[u8])
+    requires list { IsSlotList (slots_of kind) slots.now }
+    requires size { length bytes.now ≡ length slots.now * (PAYLOAD_COLUMNS / slots_of kind) }
+    ensures put { (cycle i : ℕ) → cycle < PAYLOAD_COLUMNS / slots_of kind → i < length slots.now → joined_byte rows.new (slots_of kind * cycle + (slice_index slots.now i - 1)) ≡ slice_index bytes.now (length slots.now * cycle + i) }
+    ensures kept { (x : ℕ) → x < PAYLOAD_COLUMNS → ((i : ℕ) → i < length slots.now → x % slots_of kind + 1 ≢ slice_index slots.now i) → joined_byte rows.new x ≡ joined_byte rows.old x }
+{
+    let mut payload = [0u8; PAYLOAD_COLUMNS];
+    join8(rows, &mut payload);
+    put_groups(kind, slots, bytes, &mut payload);
+    split8(&payload, rows);
+}
