@@ -2,9 +2,8 @@
 //! (G.709 clause 19.1). What a call says names no vector: byte x of a row, from 0, is byte `x / SLOTS` of
 //! slot `x % SLOTS + 1`.
 //!
-//! - `into_slots`, `from_slots`: a row into the bytes of all its slots, `SlotRows`, and out of them. `split` and
-//!   `join` are for whole rows of all slots; the device takes and puts single slots, by `one_slot`, `several` and
-//!   `spread`.
+//! - `into_slots`, `from_slots`: a row into the bytes of all its slots, `SlotRows`, and out of them. A frame that is
+//!   filled by many slots is joined so; where few slots of a row are wanted, `one_slot`, `several` and `spread` do.
 //! - `one_slot`: the bytes of one slot, taken and put.
 //! - `several`, `spread`: the bytes of several slots, cycle by cycle, taken and put.
 //! - `exclusive_or`: the parity of bytes, and masks.

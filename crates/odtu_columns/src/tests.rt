@@ -247,16 +247,15 @@ fn put_into_columns(rt: HostRuntime) -> Result<(), Fail> {
     Ok(())
 }
 
-// Puts the same byte into each group of a row, for some slots of an OTU2, and a message.
-fn fill_slots<F: FillFrame>(frame: &mut F, row: u32, list: &[u8], byte: u8) -> Result<(), Fail>
+// Puts all groups of a row for some slots of an OTU2, and a message that begins with the row's number.
+fn fill_slots<F: FillFrame>(frame: &mut F, row: u32, list: &[u8], groups: &[u8]) -> Result<(), Fail>
     requires row_low { 1 ≤ row }
     requires row_high { row ≤ 4 }
-    requires room { length list.now ≤ 8 }
+    requires size { length groups.now ≡ length list.now * 476 }
 {
     let slots = slots_on(LineKind::Otu2, list)?;
-    let groups = [byte; 3808];
-    frame.fill_row_groups(row, &slots, &groups[..476 * list.len()]);
-    frame.fill_message([byte, 2, 3, 4, 5, 6]);
+    frame.fill_row_groups(row, &slots, groups);
+    frame.fill_message([row as u8, 2, 3, 4, 5, 6]);
     Ok(())
 }
 
@@ -264,10 +263,10 @@ fn fill_slots<F: FillFrame>(frame: &mut F, row: u32, list: &[u8], byte: u8) -> R
 fn fill_one_by_one<F: FillFrame>(frame: &mut F) -> Result<(), Fail> {
     for row in 1..5u32 {
         for slot in [7u8, 1, 2, 3, 4, 6, 8] {
-            fill_slots(frame, row, &[slot], 16 * slot + row as u8)?;
+            fill_slots(frame, row, &[slot], &[16 * slot + row as u8; 476])?;
         }
     }
-    fill_slots(frame, 3, &[2, 5], 9)
+    fill_slots(frame, 3, &[2, 5], &[9; 952])
 }
 
 #[test]
