@@ -1,5 +1,6 @@
 // A frame: its bytes, row by row.
 ghost use Rattle.std.specs.Prelude.{◌≡◌, ℕ, ◌*◌, ◌≤◌, length, IfOk, slice_index, slice_set};
+ghost use Rattle.otn_base.specs.declared.limits.TheConstants.{OVERHEAD_COLUMNS};
 
 use otn_base::Memory;
 use otn_base::limits::ROWS;
@@ -52,6 +53,19 @@ impl<const COLS: usize> Frame<COLS> {
     {
         let bytes = &self.bytes;
         bytes[COLS * (row as usize - 1) + (col as usize - 1)]
+    }
+
+    /// The byte in a row (1 to 4) and an overhead column (1 to 16), which a frame of each width has.
+    pub fn overhead(&self, row: u32, col: u32) -> u8
+        requires row_low { 1 ≤ row }
+        requires row_high { row ≤ 4 }
+        requires col_low { 1 ≤ col }
+        requires col_high { col ≤ OVERHEAD_COLUMNS }
+        ensures { result ≡ slice_index self.now (place_of COLS row col) }
+    {
+        let bytes = &self.bytes;
+        let row_before = COLS * (row as usize - 1);
+        bytes[row_before + col as usize - 1]
     }
 
     /// Writes the byte in a row (1 to 4) and a column (1 to `COLS`); every other byte stays.

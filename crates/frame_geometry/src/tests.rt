@@ -21,6 +21,7 @@ fn line_frame_places(rt: HostRuntime) -> Result<(), Fail> {
     ] {
         frame.set(row, col, 165);
         assert_eq!(rt; frame.get(row, col), 165, "row {row}, column {col}");
+        assert_eq!(rt; frame.overhead(row, col.min(16)) == 165, col <= 16);
         assert_eq!(rt;
             byte_at(frame.as_bytes(), place),
             165,

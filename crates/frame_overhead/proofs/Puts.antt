@@ -1,7 +1,8 @@
 -- What a frame is after bytes were written into a row.
 use Rattle.std.proofs.Common.{◌≡◌, ◌≢◌, ◌⊎◌, ℕ, ◌+◌, ◌-◌, ◌*◌, ◌<◌, ◌≤◌, List, length, get_or, inl, inr, ap, ◌∙◌, arith}
 use Rattle.std.proofs.lemmas.Bool.Decides.{leb_tells}
-use Rattle.frame_geometry.specs.Places.{place_of}
+use Rattle.otn_base.specs.declared.limits.TheConstants.{OVERHEAD_COLUMNS}
+use Rattle.frame_geometry.specs.Places.{IsWidth, place_of}
 use Rattle.frame_overhead.specs.Runs.{IsPlace, IsPut}
 
 -- all places of a row are before those of a later one
@@ -39,3 +40,20 @@ put_is cols row col bytes old new low high from room size before run after =
       others = same;
       size = size;
     }
+
+-- The same of the first columns of a row, of which every width has 16.
+pub put_first : (cols row : ℕ) (bytes old new : List ℕ) → 1 ≤ row → row ≤ 4 → IsWidth cols → length bytes ≤ OVERHEAD_COLUMNS → length new ≡ length old
+    → ((k : ℕ) → k < cols * (row - 1) → get_or new k 0 ≡ get_or old k 0)
+    → ((k : ℕ) → k < length bytes → get_or new (cols * (row - 1) + k) 0 ≡ get_or bytes k 0)
+    → ((k : ℕ) → cols * (row - 1) + length bytes ≤ k → get_or new k 0 ≡ get_or old k 0)
+    → IsPut cols row 1 bytes old new
+put_first cols row bytes old new low high width few size before run after =
+    let start : place_of cols row 1 ≡ cols * (row - 1) = omega arith in
+    let room : 1 + length bytes ≤ cols + 1 = elim width [
+      | inl line ↦ omega (arith, line, few)
+      | inr client ↦ omega (arith, client, few)
+    ] in
+    put_is cols row 1 bytes old new low high (omega arith) room size
+        (λ k h. before k (omega (arith, start, h)))
+        (λ k h. ap (λ place. get_or new (place + k) 0) start ∙ run k h)
+        (λ k h. after k (omega (arith, start, h)))

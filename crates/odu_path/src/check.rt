@@ -50,9 +50,7 @@ impl PathCheck {
         requires { parity ≡ parity_of COLS frame.now }
         ensures { (frames : List (List ℕ)) → HasChecked COLS PM_ROW PM_BIP8_COLUMN frames self.old → HasChecked COLS PM_ROW PM_BIP8_COLUMN (frames ++ frame.now ∷ []) self.new }
     {
-        // opens the invariant: the frame's width
-        let _opened = frame.as_bytes();
-        self.pm.take(frame.get(PM_ROW, PM_BIP8_COLUMN), parity);
+        self.pm.take(frame.overhead(PM_ROW, PM_BIP8_COLUMN), parity);
     }
 
     /// How many frames had a wrong PM parity. The count stops at 2^64-1.
@@ -68,7 +66,5 @@ pub fn stat<const COLS: usize>(frame: &Frame<COLS>) -> u8
     ensures stat { result ≡ stat_of COLS frame.now }
     ensures bound { result < 8 }
 {
-    // opens the invariant: the frame's width
-    let _opened = frame.as_bytes();
-    frame.get(PM_ROW, STAT_COLUMN) % 8
+    frame.overhead(PM_ROW, STAT_COLUMN) % 8
 }

@@ -4,7 +4,7 @@ ghost use Rattle.frame_overhead.specs.Parity.{parity_of};
 
 use frame_geometry::Frame;
 use frame_geometry::overhead::{OPU_COLUMN, PM_BIP8_COLUMN, PM_ROW, PM_TTI_COLUMN, STAT_COLUMN};
-use frame_overhead::{ParityDelay, parity, put_run};
+use frame_overhead::{ParityDelay, parity, put_overhead};
 use otn_base::Trace;
 use std::marker::Model;
 
@@ -90,9 +90,7 @@ fn put_path<const COLS: usize>(frame: &mut Frame<COLS>, tti: u8, bip: u8)
     path[PM_TTI_COLUMN as usize - 1] = tti;
     path[PM_BIP8_COLUMN as usize - 1] = bip;
     path[STAT_COLUMN as usize - 1] = NORMAL;
-    // opens the invariant: the frame's width
-    let _opened = frame.as_bytes();
-    put_run(frame, 2, 1, &none);
-    put_run(frame, PM_ROW, 1, &path);
-    put_run(frame, 4, 1, &none);
+    put_overhead(frame, 2, &none);
+    put_overhead(frame, PM_ROW, &path);
+    put_overhead(frame, 4, &none);
 }
