@@ -54,6 +54,6 @@ put_first cols row bytes old new low high width few size before run after =
       | inr client ↦ omega (arith, client, few)
     ] in
     put_is cols row 1 bytes old new low high (omega arith) room size
-        (λ k h. before k (omega (arith, start, h)))
-        (λ k h. ap (λ place. get_or new (place + k) 0) start ∙ run k h)
-        (λ k h. after k (omega (arith, start, h)))
+    (λ k h. before k (omega (arith, start, h)))
+    (λ k h. ap (λ place. get_or new (place + k) 0) start ∙ run k h)
+    (λ k h. after k (omega (arith, start, h)))

@@ -33,11 +33,7 @@ pub fn put_overhead<const COLS: usize>(frame: &mut Frame<COLS>, row: u32, bytes:
     ensures size { length frame.old ≡ 4 * COLS }
     ensures width { IsWidth COLS }
 {
-    put_at(
-        frame.as_bytes_mut(),
-        COLS * (row as usize - 1),
-        bytes,
-    );
+    put_at(frame.as_bytes_mut(), COLS * (row as usize - 1), bytes);
 }
 
 // Writes bytes from a place on; the others stay.

@@ -12,7 +12,7 @@ use frame_geometry::Frame;
 use line_side::LineOut;
 use msi_table::SlotMap;
 use odtu_columns::{FillFrame, SlotFrame};
-use otn_base::limits::LINE_COLUMNS;
+use otn_base::limits::{LINE_COLUMNS, LINE_FRAME_BYTES};
 use otn_base::{LineKind, Slots};
 use otn_ports::{OutPlaceOf, Sink};
 
@@ -78,7 +78,7 @@ fn fill_line(
         return;
     }
     fill_links(b, past, links, frame);
-    let _size = frame.as_bytes();
+    prove_eq!(frame.as_bytes().len(), LINE_FRAME_BYTES);
 }
 
 // The same, by way of a frame that is kept by slots, whatever it holds.
@@ -97,7 +97,7 @@ fn fill_by_slots(
     slots.clear();
     fill_links(b, past, links, slots);
     slots.join_into(frame);
-    let _size = frame.as_bytes();
+    prove_eq!(frame.as_bytes().len(), LINE_FRAME_BYTES);
 }
 
 // Each active connection to line output `b` puts its own into a frame.

@@ -73,7 +73,7 @@ impl Pieces {
         ensures { IsCounted name self.old self.new }
     {
         let i = index_of(name);
-        let _wanted = self.wants[i];
+        prove!(self.done[i] < self.wants[i]);
         self.done[i] += 1;
     }
 

@@ -25,7 +25,8 @@ impl Node {
             → Settled plan first taken self.now last outcome → LinesAsked LINE_PORTS self.now.pieces self.now.lines_in was last
             → (takings : Takings) × RunLeft plan first last takings (numbers_of_run result) }
     {
-        let _turns = self.turns;
+        prove_eq!(self.lines_in.len(), LINES);
+        prove_eq!(self.lines_out.len(), LINES);
         let lines_in = self.lines_in_told();
         let lines_out = self.lines_out_told();
         let clients_in = self.clients_in_told();

@@ -202,6 +202,7 @@ impl Follower {
     // Ends a turn before which it was Up: as `next` says where the stretch goes on, else as its ending turn.
     fn from_up(&mut self, said: Said, next: Option<Said>)
         requires standing { self.old.standing ≡ Up said }
+        requires fits { FitsStanding self.old.extraction.slots self.old.extraction.pending self.old.standing }
         requires next { FitsNext self.old.extraction.slots next said.rest }
         ensures standing { self.new.standing ≡ (went_on next said self.old.extraction.pending self.old.extraction.fresh).standing }
         ensures at { (s : Machine) → IsAt s self.old → IsAt (went_on next said s.pending self.old.extraction.fresh) self.new }
@@ -209,8 +210,6 @@ impl Follower {
         ensures most { length self.new.extraction.emitted ≤ most_of self.old.extraction.slots }
         ensures between { IsBetween self.old self.new }
     {
-        // opens the invariant: what is pending fits the standing
-        let _opened = &self.payload;
         match next {
             Some(next) => match said.due {
                 Some(due) => self.go_on(due, next),
