@@ -1,5 +1,5 @@
 // Worked values: where the payload byte in column c is (c - 17) mod 256.
-ghost use Rattle.std.specs.Prelude.{◌≡◌, ◌≤◌, IfOk, length};
+ghost use Rattle.std.specs.Prelude.{◌≡◌, ◌*◌, ◌≤◌, IfOk, length};
 
 use super::{
     FillFrame, SlotFrame, group, message, put_group, put_message, put_row_groups, put_slot_row,
