@@ -1,7 +1,7 @@
 -- The groups of a frame, row by row.
-use Rattle.std.proofs.Common.{◌≡◌, ◌⊎◌, inl, inr, ℕ, ◌+◌, ◌*◌, ◌/◌, ◌%◌, ◌-◌, ◌<◌, ◌≤◌, Bool, true, false, cond, List, length, drop, refl, ap, ◌∙◌, sym, subst, arith, get_or}
+use Rattle.std.proofs.Common.{◌≡◌, ◌⊎◌, inl, inr, ℕ, ◌+◌, ◌*◌, ◌/◌, ◌%◌, ◌-◌, ◌<◌, ◌≤◌, Bool, true, false, cond, List, ◌++◌, length, take, drop, refl, ap, ◌∙◌, sym, subst, arith, get_or}
 use Rattle.std.proofs.lemmas.Bool.{ltb-true}
-use Rattle.std.proofs.lemmas.List.{length-drop, drop-drop, get_or-drop}
+use Rattle.std.proofs.lemmas.List.{get_or-drop, get_or-take, get_or_append_left}
 use Rattle.std.proofs.Math.Nat.{mul-le-mul_left}
 use Rattle.otn_base.specs.SlotList.{IsSlotList}
 use Rattle.gmp_rule.specs.DataRule.{IsData, is_data_at, data_count}
@@ -51,14 +51,7 @@ rows_more line slots bytes before mid now byte r list even rows row laid = recor
         ∙ laid cycle i l h
         ∙ ap (λ k. byte (3808 / line * k + cycle) i) (let e : r ≡ k - 1 = omega arith in e)
 
--- ---- the bytes of a row out of those that are left
-
-pub bytes_join : (m c a d x : ℕ) → data_bytes m c a d + data_bytes m c (a + d) x ≡ data_bytes m c a (d + x)
-bytes_join m c a d x =
-    let one = bytes_grow m c a d in
-    let two = bytes_grow m c (a + d) x in
-    let same : m * data_count c (a + (d + x)) ≡ m * data_count c (a + d + x) = ap (λ k. m * data_count c k) (let e : a + (d + x) ≡ a + d + x = omega arith in e) in
-    omega arith
+-- ---- the bytes that are laid out
 
 -- those of a data group are among them
 bytes_inside : (m c a x w i : ℕ) → x < w → i < m → IsData c (a + x + 1) → data_bytes m c a x + i < data_bytes m c a w
@@ -69,40 +62,33 @@ bytes_inside m c a x w i l h d =
     let low = bytes_grow m c a x in
     omega arith
 
--- a byte of a row
-pub row_byte : (m c a d w x i : ℕ) (items left fresh : List ℕ) → left ≡ drop (data_bytes m c a d) items → ((k : ℕ) → k < data_bytes m c (a + d) w → get_or fresh k 0 ≡ get_or left k 0) → x < w → i < m
-    → byte_laid m c (a + d) fresh x i ≡ byte_laid m c a items (d + x) i
-row_byte m c a d w x i items left fresh is front l h =
-    go (is_data_at c (a + d + x + 1)) refl ∙ ap (λ k. cond (is_data_at c k) (get_or items (data_bytes m c a (d + x) + i) 0) 0) (let e : a + d + x + 1 ≡ a + (d + x) + 1 = omega arith in e)
+-- bytes that begin as those that are left lay out the same
+pub front_byte : (m c a w x i : ℕ) (items fresh : List ℕ) → ((k : ℕ) → k < data_bytes m c a w → get_or fresh k 0 ≡ get_or items k 0) → x < w → i < m → byte_laid m c a fresh x i ≡ byte_laid m c a items x i
+front_byte m c a w x i items fresh front l h = go (is_data_at c (a + x + 1)) refl
   where
-    go : (t : Bool) → is_data_at c (a + d + x + 1) ≡ t → cond t (get_or fresh (data_bytes m c (a + d) x + i) 0) 0 ≡ cond t (get_or items (data_bytes m c a (d + x) + i) 0) 0
+    go : (t : Bool) → is_data_at c (a + x + 1) ≡ t → cond t (get_or fresh (data_bytes m c a x + i) 0) 0 ≡ cond t (get_or items (data_bytes m c a x + i) 0) 0
     go false e = refl
     go true e =
-        let d_here : IsData c (a + d + x + 1) = ltb-true (((a + d + x + 1) * c) % 15232) c e in
-        let place = data_bytes m c (a + d) x + i in
-        let join = bytes_join m c a d x in
-        front place (bytes_inside m c (a + d) x w i l h d_here)
-        ∙ ap (λ xs. get_or xs place 0) is
-        ∙ get_or-drop (data_bytes m c a d) items place 0
-        ∙ ap (λ k. get_or items k 0) (let f : data_bytes m c a d + place ≡ data_bytes m c a (d + x) + i = omega arith in f)
+        let is_data : IsData c (a + x + 1) = ltb-true (((a + x + 1) * c) % 15232) c e in
+        front (data_bytes m c a x + i) (bytes_inside m c a x w i l h is_data)
 
--- ---- what is left
-
--- enough of them
-pub enough_left : (m c a d : ℕ) (items left : List ℕ) → left ≡ drop (data_bytes m c a d) items → c ≤ 15232 → a + d ≤ 15232 → AreEnough m c a items → AreEnough m c (a + d) left
-enough_left m c a d items left is low high enough =
-    let grow = bytes_grow m c a d in
-    let most : m * data_count c (a + d) ≤ m * c = mul-le-mul_left m (count_low c (a + d) low high) in
-    let long : length left ≡ length items - data_bytes m c a d = ap length is ∙ length-drop (data_bytes m c a d) items in
+-- the byte of a group stands within its row
+pub group_byte : (m w x i : ℕ) → x < w → i < m → m * x + i < m * w
+group_byte m w x i l h =
+    let wide : m * (x + 1) ≤ m * w = mul-le-mul_left m (let e : x + 1 ≤ w = omega arith in e) in
     omega arith
 
-pub left_rows : (m c a d w : ℕ) (items left next : List ℕ) (count : ℕ) → left ≡ drop (data_bytes m c a d) items → count ≡ data_bytes m c (a + d) w → next ≡ drop count left → next ≡ drop (data_bytes m c a (d + w)) items
-left_rows m c a d w items left next count is many more =
-    more
-    ∙ ap (λ k. drop k left) many
-    ∙ ap (drop (data_bytes m c (a + d) w)) is
-    ∙ drop-drop (data_bytes m c (a + d) w) (data_bytes m c a d) items
-    ∙ ap (λ k. drop k items) (bytes_join m c a d w)
+-- a byte of row r, from 0, among those that are laid out for a frame, row by row
+pub row_part : (m w r x i from to : ℕ) (laid : List ℕ) → from ≡ m * w * r → to ≡ from + m * w → x < w → i < m
+    → get_or (take (to - from) (drop from laid)) (m * x + i) 0 ≡ get_or laid (m * (w * r + x) + i) 0
+row_part m w r x i from to laid from_is to_is l h =
+    let inside = group_byte m w x i l h in
+    get_or-take (to - from) (drop from laid) (m * x + i) 0 (let k : m * x + i < to - from = omega (arith, inside, to_is) in k)
+    ∙ get_or-drop from laid (m * x + i) 0
+    ∙ ap (λ k. get_or laid k 0) (from_is_row (ap (λ k. k + (m * x + i)) from_is))
+  where
+    from_is_row : from + (m * x + i) ≡ m * w * r + (m * x + i) → from + (m * x + i) ≡ m * (w * r + x) + i
+    from_is_row e = e ∙ omega arith
 
 -- ---- what is taken for a row
 
@@ -118,29 +104,22 @@ taken_enough m c a w more items is low high enough =
     let wide : m * data_count c (a + w) ≡ m * more + m * data_count c a = ap (λ k. m * k) (sym is) ∙ omega arith in
     omega arith
 
--- ---- a row more
+-- a byte of the front of a list
+pub front_is : (front back items : List ℕ) (count k : ℕ) → front ++ back ≡ items → count ≤ length front → k < count → get_or (take count front) k 0 ≡ get_or items k 0
+front_is front back items count k is within inside =
+    get_or-take count front k 0 inside ∙ sym (get_or_append_left front back 0 k (omega (arith, within, inside))) ∙ ap (λ xs. get_or xs k 0) is
 
--- what was known before a row of a frame, and what its steps did
-pub record RowLaid (line : ℕ) (slots : List ℕ) (c a r : ℕ) (items left next row before mid now : List ℕ) : Type 0 where
-  pub list : IsSlotList line slots
-  pub even : line * (3808 / line) ≡ 3808
-  pub left_is : left ≡ drop (data_bytes (length slots) c a (3808 / line * r)) items
-  pub rows : RowsWerePut line slots (byte_laid (length slots) c a items) r before mid
-  pub fresh : List ℕ
-  pub front : (k : ℕ) → k < data_bytes (length slots) c (a + 3808 / line * r) (3808 / line) → get_or fresh k 0 ≡ get_or left k 0
-  pub taken : next ≡ drop (data_bytes (length slots) c (a + 3808 / line * r) (3808 / line)) left
-  pub laid : (x i : ℕ) → x < 3808 / line → i < length slots → get_or row (length slots * x + i) 0 ≡ byte_laid (length slots) c (a + 3808 / line * r) fresh x i
-  pub put : RowWasPut line slots (r + 1) row mid now
+-- ---- all rows
 
-pub row_more : (line : ℕ) (slots : List ℕ) (c a r : ℕ) (items left next row before mid now : List ℕ) → RowLaid line slots c a r items left next row before mid now
-    → RowsWerePut line slots (byte_laid (length slots) c a items) (r + 1) before now
-row_more line slots c a r items left next row before mid now h =
-    rows_more line slots row before mid now (byte_laid (length slots) c a items) r h.list h.even h.rows h.put
-    (λ x i l k. h.laid x i l k ∙ row_byte (length slots) c a (3808 / line * r) (3808 / line) x i items left h.fresh h.left_is h.front l k)
-
-pub row_left : (line : ℕ) (slots : List ℕ) (c a r : ℕ) (items left next row before mid now : List ℕ) → RowLaid line slots c a r items left next row before mid now
-    → next ≡ drop (data_bytes (length slots) c a (3808 / line * (r + 1))) items
-row_left line slots c a r items left next row before mid now h =
-    let w = 3808 / line in
-    left_rows (length slots) c a (w * r) w items left next (data_bytes (length slots) c (a + w * r) w) h.left_is refl h.taken
-    ∙ ap (λ d. drop (data_bytes (length slots) c a d) items) (let e : w * r + w ≡ w * (r + 1) = omega arith in e)
+-- rows of the same bytes
+pub rows_same : (line : ℕ) (slots before now : List ℕ) (byte other : ℕ → ℕ → ℕ) (rows : ℕ) → ((x i : ℕ) → x < rows * (3808 / line) → i < length slots → byte x i ≡ other x i)
+    → RowsWerePut line slots byte rows before now → RowsWerePut line slots other rows before now
+rows_same line slots before now byte other rows same put = record {
+  put = λ row cycle i low high l h. put.put row cycle i low high l h ∙ same (3808 / line * (row - 1) + cycle) i (inside (3808 / line) row cycle low high l) h;
+  kept = put.kept;
+}
+  where
+    inside : (w row cycle : ℕ) → 1 ≤ row → row ≤ rows → cycle < w → w * (row - 1) + cycle < rows * w
+    inside w row cycle low high l =
+        let wide : w * (row - 1 + 1) ≤ w * rows = mul-le-mul_left w (let e : row - 1 + 1 ≤ rows = omega arith in e) in
+        omega arith

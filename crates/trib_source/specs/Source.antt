@@ -52,7 +52,7 @@ pub record IsSource (s : Source) (capacity scratch kept : ℕ) : Type 0 where
   pub rest_high : s.rest < slots_in s
   pub left_is : length s.left + slots_in s * data_count s.number s.asked ≡ slots_in s * s.number + (slots_in s * said_number s.said + s.rest)
   pub capacity_is : capacity ≡ slots_in s * (2 * GROUPS + 1)
-  pub scratch_is : scratch ≡ 2 * (slots_in s * groups_in_row (slots_of s.slots.kind))
+  pub scratch_is : scratch ≡ 2 * (slots_in s * (ROWS * groups_in_row (slots_of s.slots.kind)))
   pub kept_is : kept ≡ s.number
 
 -- The source is one of this tributary, whatever its port is. These are the bytes of its turns since it was new or restarted, and so many

@@ -24,7 +24,7 @@ const BY_RUNS: u32 = GROUPS as u32 * 3 / 4;
 
 /// Puts the groups of a frame, behind so many groups of a turn with so many data groups, into the columns
 /// of the slots, row by row: out of the ring what is data. The next group that the runner is asked about
-/// is the first of the frame.
+/// is the first of the frame. What the scratch bytes are is of no account, before and behind the call.
 pub(crate) fn put_rows<F: FillFrame>(
     runner: &mut Runner,
     number: u32,
@@ -38,27 +38,65 @@ pub(crate) fn put_rows<F: FillFrame>(
     requires most { number ≤ GROUPS }
     requires asked { asked ≡ runner.old.asked }
     requires high { asked + ROWS * groups_in_row (slots_of slots.now.kind) ≤ GROUPS }
-    requires scratch { length scratch.old ≡ 2 * (length slots.now.list * groups_in_row (slots_of slots.now.kind)) }
+    requires scratch { length scratch.old ≡ 2 * (length slots.now.list * (ROWS * groups_in_row (slots_of slots.now.kind))) }
     requires enough { AreEnough (length slots.now.list) number runner.old.asked ring.old.items }
     ensures rows { RowsWerePut (slots_of slots.now.kind) slots.now.list (byte_laid (length slots.now.list) number runner.old.asked ring.old.items) ROWS (F.bytes frame.old) (F.bytes frame.new) }
     ensures ring { ring.new ≡ record ring.old { items = drop (data_bytes (length slots.now.list) number runner.old.asked (ROWS * groups_in_row (slots_of slots.now.kind))) ring.old.items } }
     ensures runner { runner.new ≡ record runner.old { asked = runner.old.asked + ROWS * groups_in_row (slots_of slots.now.kind) } }
 {
     let m = slots.count() as usize;
-    let cycles = cycles_in_row(slots.kind());
-    let (fresh, row) = scratch.split_at_mut(m * cycles as usize);
-    for done in 0..ALL {
-        let count = take_fresh(ring, number, asked + cycles * done, cycles, m, fresh);
-        lay_groups(
-            runner,
-            &fresh[..count],
-            m,
-            cycles as usize,
-            goes_by_runs(number, m),
-            row,
-        );
-        frame.fill_row_groups(done + 1, slots, row);
+    let cycles = ALL * cycles_in_row(slots.kind());
+    let (fresh, laid) = scratch.split_at_mut(m * cycles as usize);
+    lay_front(runner, ring, number, asked, cycles, m, fresh, laid);
+    fill_rows(slots, laid, frame);
+}
+
+// Lays out the next `cycles` groups, behind `asked`, of `m` bytes each, and moves the bytes of the data groups among them out of
+// the ring: where they stand in two parts there, through `fresh`, which has room for them.
+fn lay_front(
+    runner: &mut Runner,
+    ring: &mut HeapCircularBuffer<u8>,
+    number: u32,
+    asked: u32,
+    cycles: u32,
+    m: usize,
+    fresh: &mut [u8],
+    laid: &mut [u8],
+)
+    requires some { 1 ≤ m }
+    requires number { number ≡ runner.old.number }
+    requires most { number ≤ GROUPS }
+    requires asked { asked ≡ runner.old.asked }
+    requires high { asked + cycles ≤ GROUPS }
+    requires fresh { length fresh.old ≡ m * cycles }
+    requires laid { length laid.old ≡ m * cycles }
+    requires enough { AreEnough m number asked ring.old.items }
+    ensures laid { (x i : ℕ) → x < cycles → i < m → slice_index laid.new (m * x + i) ≡ byte_laid m number asked ring.old.items x i }
+    ensures ring { ring.new ≡ record ring.old { items = drop (data_bytes m number asked cycles) ring.old.items } }
+    ensures runner { runner.new ≡ record runner.old { asked = runner.old.asked + cycles } }
+{
+    let count = m * data_between(number, asked, cycles) as usize;
+    let runs = goes_by_runs(number, m);
+    let (front, _) = ring.as_slices();
+    if count <= front.len() {
+        lay_groups(runner, &front[..count], m, cycles as usize, runs, laid);
+        drop_front(ring, count);
+        return;
     }
+    read_front(ring, fresh, count);
+    lay_groups(runner, &fresh[..count], m, cycles as usize, runs, laid);
+}
+
+// Fills the rows of a frame with the groups that are laid out for them.
+fn fill_rows<F: FillFrame>(slots: &Slots, laid: &[u8], frame: &mut F)
+    requires laid { length laid.now ≡ length slots.now.list * (ROWS * groups_in_row (slots_of slots.now.kind)) }
+    ensures { RowsWerePut (slots_of slots.now.kind) slots.now.list (λ x i. slice_index laid.now (length slots.now.list * x + i)) ROWS (F.bytes frame.old) (F.bytes frame.new) }
+{
+    let row = slots.count() as usize * cycles_in_row(slots.kind()) as usize;
+    frame.fill_row_groups(1, slots, &laid[..row]);
+    frame.fill_row_groups(2, slots, &laid[row..2 * row]);
+    frame.fill_row_groups(3, slots, &laid[2 * row..3 * row]);
+    frame.fill_row_groups(4, slots, &laid[3 * row..4 * row]);
 }
 
 // Whether it is best to lay out groups of `m` bytes by runs where so many are data. The frame is the same.
@@ -85,30 +123,6 @@ pub(crate) fn groups_before(kind: LineKind, n: u8) -> u32
     ALL * cycles_in_row(kind) * n as u32
 }
 
-// Moves the bytes of the data groups among the next `cycles` ones, behind `asked`, out of the ring. Answers
-// how many there are.
-fn take_fresh(
-    ring: &mut HeapCircularBuffer<u8>,
-    number: u32,
-    asked: u32,
-    cycles: u32,
-    m: usize,
-    into: &mut [u8],
-) -> usize
-    requires most { number ≤ GROUPS }
-    requires asked { asked + cycles ≤ GROUPS }
-    requires room { length into.old ≡ m * cycles }
-    requires enough { AreEnough m number asked ring.old.items }
-    ensures count { result ≡ data_bytes m number asked cycles }
-    ensures inside { result ≤ length into.old }
-    ensures bytes { (i : ℕ) → i < result → slice_index into.new i ≡ slice_index ring.old.items i }
-    ensures ring { ring.new ≡ record ring.old { items = drop result ring.old.items } }
-{
-    let count = m * data_between(number, asked, cycles) as usize;
-    read_front(ring, into, count);
-    count
-}
-
 // How many of the next `cycles` groups, behind `asked`, are data.
 fn data_between(number: u32, asked: u32, cycles: u32) -> u32
     requires most { number ≤ GROUPS }
@@ -127,4 +141,12 @@ fn read_front(ring: &mut HeapCircularBuffer<u8>, into: &mut [u8], count: usize)
     ensures ring { ring.new ≡ record ring.old { items = drop count ring.old.items } }
 {
     ring.read_into(&mut into[..count]);
+}
+
+// Drops the first `count` bytes of the ring.
+fn drop_front(ring: &mut HeapCircularBuffer<u8>, count: usize)
+    requires { count ≤ length ring.old.items }
+    ensures { ring.new ≡ record ring.old { items = drop count ring.old.items } }
+{
+    ring.truncate_front(ring.len() - count);
 }

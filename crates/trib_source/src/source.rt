@@ -11,7 +11,7 @@ use crate::rows::{cycles_in_row, groups_before, put_rows};
 use circular_buffer::HeapCircularBuffer;
 use gmp_rule::Runner;
 use odtu_columns::FillFrame;
-use otn_base::limits::GROUPS;
+use otn_base::limits::{GROUPS, ROWS};
 use otn_base::{Memory, Slots};
 use std::alloc::Global;
 use std::marker::Model;
@@ -53,7 +53,7 @@ impl TribSource {
         ensures slots { IfOk result (λ s. s.slots ≡ slots.now) }
     {
         let m = slots.count() as usize;
-        let cycles = cycles_in_row(slots.kind()) as usize;
+        let cycles = ROWS * cycles_in_row(slots.kind()) as usize;
         let ring = HeapCircularBuffer::with_capacity(alloc, m * (2 * GROUPS + 1))?;
         let scratch = vec![in alloc; 0u8; 2 * (m * cycles)]?;
         let slots = slots.clone()?;
