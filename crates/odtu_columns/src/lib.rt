@@ -6,6 +6,7 @@
 //! - `justification`: its justification bytes.
 //! - `fill`: `FillFrame`, a frame that sources fill.
 //! - `slot_frame`: `SlotFrame`, such a frame that is kept by slots.
+//! - `take`: `TakeFrame`, a frame of which sinks take.
 //! - `line`: the kernels below them, for a line of either kind.
 #![tactic(auto)]
 
@@ -16,6 +17,7 @@ mod line;
 mod put;
 mod slot;
 mod slot_frame;
+mod take;
 #[cfg(test)]
 mod tests;
 
@@ -25,3 +27,4 @@ pub use justification::{message, put_message};
 pub use put::{put_group, put_row_groups, put_slot_row};
 pub use slot::slot_row;
 pub use slot_frame::SlotFrame;
+pub use take::TakeFrame;
