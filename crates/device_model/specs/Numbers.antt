@@ -27,7 +27,7 @@ use Rattle.device_model.specs.declared.outcome.FromState.{FromState}
 
 -- ---- of a line
 
--- How a line that was read stands with its place in the end: the place died; or its end was seen, where the turns wanted a frame that is not
+-- How a line that was read stands with its place in the end: the place is dead; or its end was seen, where the turns wanted a frame that is not
 -- whole; or neither.
 abbrev pub ending_of : State → (whole wanted : ℕ) → Ending
 ending_of Dead whole wanted = Died

@@ -27,7 +27,7 @@ pub record HasDead (plan : Plan) (last : BaysView) : Type 0 where
   pub used : uses plan name ≡ true
   pub dead : place_state last name ≡ Dead
 
--- some line that the plan reads gave more than its turns want
+-- some line that the plan reads has more bytes, taken or not, than its turns want
 pub record HasMore (plan : Plan) (inputs : Inputs) : Type 0 where
   pub line : ℕ
   pub used : uses plan (port.LineIn line) ≡ true
@@ -45,7 +45,7 @@ pub record HasOpen (plan : Plan) (inputs : Inputs) : Type 0 where
   pub from : x.from ≡ from_end.Client n
   pub unspent : is_spent (inputs.client n) x.fcs (emitted_in_all x) ≡ false
 
--- Cut where a place that the plan uses is dead at the end; else Unfinished where a line gave more than its turns want, or a client is not
+-- Cut where a place that the plan uses is dead at the end; else Unfinished where a line has more than its turns want, or a client is not
 -- spent; else Done.
 pub record IsOutcome (plan : Plan) (inputs : Inputs) (last : BaysView) (outcome : Outcome) : Type 0 where
   pub cut : (outcome ≡ Cut) ↔ HasDead plan last

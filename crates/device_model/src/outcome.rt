@@ -18,9 +18,10 @@ pub enum FromState {
 /// How a run ends.
 #[derive(Clone, Copy, Debug, PartialEq, Eq)]
 pub enum Outcome {
-    /// Every input was read to its end.
+    /// No place that the plan uses is dead, no line that it uses has more than its turns want, and each client input that it uses is
+    /// spent.
     Done,
-    /// Bytes of a line were left, or a client was not spent.
+    /// No such place is dead, and a line has more than the turns want or a client is not spent.
     Unfinished,
     /// A place that the plan uses is dead.
     Cut,

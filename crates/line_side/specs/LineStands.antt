@@ -61,7 +61,7 @@ pub record LineStands (form : LineForm) (first now : InView) (taken : List ℕ) 
   pub is_form : form_of line ≡ form
   pub gave : Gave first taken now
   pub ending : EndedAs line.reader.ending now
-  -- once the bytes have ended, nothing is left of a live place
+  -- once the bytes have ended, a live place's port has answered its end, whether or not it tells its bytes, and has none left where it tells
   pub over : line.reader.ending ≢ Open → now.state ≡ Live → HasEnded now.left now.ended
   -- of all bytes that the line may turn out to have
   pub is_line : (given : List ℕ) → MayBe form.scrambled line.reader.ending taken given → IsLine (size_of form) given (length taken) t line

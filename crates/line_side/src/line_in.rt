@@ -17,10 +17,12 @@ use otn_ports::{InPlaceOf, Source};
 use std::alloc::Global;
 use std::marker::Model;
 
-/// An input line of a node, of either kind, plain or scrambled. Each of its turns is done in S pieces where the
+/// An input line of a node, of either kind, plain or scrambled: with `COUNTS` 1 it is what the crate calls `LineIn`, and checks the
+/// overhead of the frames that it uses; with 0 it is `UncountedLineIn`. Each of its turns is done in S pieces where the
 /// line has S slots, and has one multiframe of S frames, or none. A turn that hunts looks for one (G.709 clause 15.6) that begins
-/// within S frames: the frames before it are lead-in. Where none begins there these S are lead-in, and the turn has none. The line
-/// stays locked, by a rule of ours, while at most half of the MFAS bytes of each multiframe differ from the expected ones. It checks the overhead of the frames that it uses where `COUNTS` is 1.
+/// within S frames: the frames before it are lead-in. Where none begins there these S are lead-in, and the turn has none; with fewer
+/// than S left the line ends. The line stays locked, by a rule of ours, while at most half of the MFAS bytes of each multiframe differ
+/// from the expected ones.
 #[derive(Drop)]
 pub struct LineIn<const COUNTS: usize> {
     phase: Phase,
@@ -75,9 +77,9 @@ impl<const COUNTS: usize> LineIn<COUNTS> {
         })
     }
 
-    /// Does the next piece of the turn, of the same place as the last piece, which nothing else has read since, and says whether a frame of the multiframe on which the turn is locked is now in hand; that the
-    /// turn has this multiframe only `end_turn` says. The first
-    /// piece of a turn that hunts reads up to S + 1 frames. A line that has ended, or that found no multiframe in this
+    /// Does the next piece of the turn. The place is that of the last piece, and nothing else has read it since. The answer is whether a
+    /// frame of the multiframe on which the turn is locked is now in hand; whether the turn has that multiframe only `end_turn` says. The
+    /// first piece of a turn that hunts reads up to S + 1 frames, any other one at most. A line that has ended, or that found no multiframe in this
     /// turn, reads nothing.
     pub fn piece<P: Source>(&mut self, place: &mut InPlaceOf<P>) -> bool
         requires { self.old.pieces < slots_of self.old.kind }
@@ -88,7 +90,8 @@ impl<const COUNTS: usize> LineIn<COUNTS> {
         ensures frames_taken { frames_taken self.new ≡ frames_taken self.old + one_if result }
         ensures most { frames_taken self.new ≤ self.new.pieces }
 
-        // bytes are taken of a live place, or none, and any other place is as it was
+        // bytes are taken of a live place, or none; it dies only where its port's count of faults rose or stands at its end, and else
+        // the count is as it was; any other place is as it was
         ensures gave { (came : List ℕ) × Gave (in_view P.Source place.old) came (in_view P.Source place.new) }
 
         // once the end was seen, the place died or the line has ended, the place is asked nothing more (of a line that has ended `awaits` says it too)

@@ -23,7 +23,8 @@ device p k i o plan bays report = record { plan = source_view p plan; bays = bay
 abbrev pub line_zero : Device → InView
 line_zero d = line_in_at d.bays 0
 
--- What stays, whatever the command and its answer: the plan's source and the report are boxed and tell as before, and their counts did not fall.
+-- What stays, whatever the command and its answer: the plan's source and the report are boxed as before and tell where they told: the source what it told
+-- but for bytes taken from the front, the report what it had got and perhaps more behind it; their counts of faults did not fall.
 pub record Stays (old new : Device) : Type 0 where
   pub plan : SourceLater old.plan new.plan
   pub report : SinkLater old.report new.report

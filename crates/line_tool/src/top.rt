@@ -59,7 +59,8 @@ pub fn run<P: Source, K: Sink, C: Chooser, I: Source, O: Sink>(
     // After Words, PlanFault, Plan and Memory all places and the report are as they were. After the last three the plan may have been read by then.
     ensures refused { IsRefusal result → (bays.new ≡ bays.old) × (report.new ≡ report.old) }
 
-    // What stays.
+    // What stays of the plan's source and the report, whatever the command; and (`alone`) which of plan, places and chooser each command
+    // does not touch.
     ensures stays { Stays (device P.Source K.Sink I.Source O.Sink plan.old bays.old report.old)
         (device P.Source K.Sink I.Source O.Sink plan.new bays.new report.new) }
     ensures alone { (command : Command) → IsForm (texts words.now) command

@@ -178,8 +178,9 @@ wanted_from size ms i None k = i + size + one_if (looked_ahead size ms (i + size
 
 -- How many frames, counted from the first of the line, the rule of a turn looks at in its first k pieces; a number
 -- above that of the whole frames says that it looked for a frame that is not whole. A hunt looks at each frame up to
--- the one at which it locks and the one after it. Where it doesn't lock, it looks at all frames of a multiframe, and
--- at one beyond them only where a multiframe might begin at the last of them.
+-- the one at which it locks and the one after it, and from piece 3 on at one more a piece, as a locked turn does. Where it
+-- doesn't lock, it looks at all frames of a multiframe, and at one beyond them only where a multiframe might begin at the last
+-- of them.
 abbrev pub wanted_in : ℕ → List ℕ → LineState → ℕ → ℕ
 wanted_in size ms (Hunting i) zero = 0
 wanted_in size ms (Hunting i) (suc k) = wanted_from size ms i (least_start size ms i size) (suc k)
