@@ -6,24 +6,22 @@ ghost use Rattle.otn_base.specs.declared.limits.TheConstants.{MOST_SLOTS};
 ghost use Rattle.trib_sink.specs.Watching.{AreOfSlots};
 
 use arrayvec::ArrayVec;
-use frame_geometry::Frame;
-use frame_geometry::overhead::{PSI_COLUMN, PSI_ROW};
-use odtu_columns::message;
+use odtu_columns::TakeFrame;
 use otn_base::Slots;
-use otn_base::limits::{LINE_COLUMNS, MOST_SLOTS};
+use otn_base::limits::MOST_SLOTS;
 
 /// The message of a multiframe so far: that of frame `n` where it is the frame of the greatest slot.
-pub(crate) fn message_so_far(
+pub(crate) fn message_so_far<F: TakeFrame>(
     slots: &Slots,
     n: u8,
-    frame: &Frame<LINE_COLUMNS>,
+    frame: &F,
     former: [u8; 6],
 ) -> [u8; 6]
     requires { n < MOST_SLOTS }
-    ensures { result ≡ (if n + 1 == greatest slots.now.list then message_of frame.now else former) }
+    ensures { result ≡ (if n + 1 == greatest slots.now.list then message_of (F.bytes frame.now) else former) }
 {
     if n + 1 == greatest_slot(slots) {
-        message(frame)
+        frame.take_message()
     } else {
         former
     }
@@ -37,14 +35,14 @@ fn greatest_slot(slots: &Slots) -> u8
 }
 
 /// Notes the MSI byte of a frame, with its slot, where an own one has its MSI byte there.
-pub(crate) fn note_msi(
+pub(crate) fn note_msi<F: TakeFrame>(
     slots: &Slots,
-    frame: &Frame<LINE_COLUMNS>,
+    frame: &F,
     expected: u8,
     came: &mut ArrayVec<(u8, u8), MOST_SLOTS>,
 )
     requires room { length came.old.items < MOST_SLOTS }
-    ensures bytes { came.new.items ≡ came.old.items ++ msi_at slots.now.list expected frame.now }
+    ensures bytes { came.new.items ≡ came.old.items ++ msi_at slots.now.list expected (F.bytes frame.now) }
     ensures few { length came.new.items ≤ length came.old.items + 1 }
     ensures slots { AreOfSlots came.old.items → AreOfSlots came.new.items }
 {
@@ -52,6 +50,6 @@ pub(crate) fn note_msi(
         return;
     }
     if slots.has(expected - 1) {
-        came.push((expected - 1, frame.get(PSI_ROW, PSI_COLUMN)));
+        came.push((expected - 1, frame.psi()));
     }
 }

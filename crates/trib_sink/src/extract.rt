@@ -1,13 +1,14 @@
 // The bytes of the data groups of a row, out of its payload columns.
 ghost use Rattle.std.specs.Prelude.{◌≡◌, ◌+◌, ◌*◌, ◌<◌, ◌≤◌, ◌++◌, [], if◌then◌else◌, length, take};
+ghost use Rattle.frame_geometry.specs.Places.{payload_row_of};
 ghost use Rattle.gmp_rule.specs.DataRule.{is_data_at};
 ghost use Rattle.odtu_columns.specs.Payload.{payload_group, run_groups};
 ghost use Rattle.otn_base.specs.LineSlots.{slots_of};
-ghost use Rattle.otn_base.specs.declared.limits.TheConstants.{GROUPS, PAYLOAD_COLUMNS};
+ghost use Rattle.otn_base.specs.declared.limits.TheConstants.{GROUPS, LINE_COLUMNS, PAYLOAD_COLUMNS};
 ghost use Rattle.trib_sink.specs.Rows.{row_cycles, row_data};
 
 use gmp_rule::Runner;
-use odtu_columns::{cycle_group, cycle_groups};
+use odtu_columns::TakeFrame;
 use otn_base::limits::{OTU2_SLOTS, OTU3_SLOTS, PAYLOAD_COLUMNS};
 use otn_base::{LineKind, Slots};
 
@@ -28,111 +29,127 @@ pub(crate) fn groups_of_row(slots: &Slots) -> usize
 /// Writes the data groups of a row, one after the other, to `into` at `at`, and says where they end. What stands before
 /// them stays. The next group that the runner is asked about is the first of the row.
 #[tactic(auto, using(crate::proofs::Rows::row_steps))]
-pub(crate) fn take_row(
+pub(crate) fn take_row<F: TakeFrame>(
     runner: &mut Runner,
-    payload: &[u8],
+    frame: &F,
+    row: u32,
     slots: &Slots,
     into: &mut [u8],
     at: usize,
 ) -> usize
-    requires payload { length payload.now ≡ PAYLOAD_COLUMNS }
+    requires low { 1 ≤ row }
+    requires high { row ≤ 4 }
     requires room { at + length slots.now.list * row_cycles slots.now.kind ≤ length into.old }
     requires asked { runner.old.asked + row_cycles slots.now.kind ≤ GROUPS }
     ensures count { result ≤ at + length slots.now.list * row_cycles slots.now.kind }
-    ensures bytes { take result into.new ≡ take at into.old ++ row_data (slots_of slots.now.kind) runner.old.number runner.old.asked payload.now slots.now.list (row_cycles slots.now.kind) }
+    ensures bytes { take result into.new ≡ take at into.old ++ row_data (slots_of slots.now.kind) runner.old.number runner.old.asked (payload_row_of LINE_COLUMNS row (F.bytes frame.now)) slots.now.list (row_cycles slots.now.kind) }
     ensures runner { runner.new ≡ record runner.old { asked = runner.old.asked + row_cycles slots.now.kind } }
 {
     let groups = groups_of_row(slots);
     let mut end = at;
     let mut cycle = 0usize;
     while cycle < groups {
-        end = take_cycle(runner, payload, cycle, slots, into, end);
+        end = take_cycle(runner, frame, row, cycle, slots, into, end);
         let run = runner.data_run((groups - cycle - 1) as u32) as usize;
-        end = put_cycles(payload, cycle + 1, run, slots, into, end);
+        end = put_cycles(frame, row, cycle + 1, run, slots, into, end);
         cycle += run + 1;
     }
     end
 }
 
 // Writes the bytes of one cycle at `at`, where its group is data, and says where they end.
-fn take_cycle(
+fn take_cycle<F: TakeFrame>(
     runner: &mut Runner,
-    payload: &[u8],
+    frame: &F,
+    row: u32,
     cycle: usize,
     slots: &Slots,
     into: &mut [u8],
     at: usize,
 ) -> usize
-    requires payload { length payload.now ≡ PAYLOAD_COLUMNS }
+    requires low { 1 ≤ row }
+    requires high { row ≤ 4 }
     requires cycle { cycle < row_cycles slots.now.kind }
     requires room { at + length slots.now.list ≤ length into.old }
     requires asked { runner.old.asked < GROUPS }
     ensures end { result ≤ at + length slots.now.list }
-    ensures bytes { take result into.new ≡ take at into.old ++ (if is_data_at runner.old.number (runner.old.asked + 1) then payload_group (slots_of slots.now.kind) payload.now slots.now.list cycle else []) }
+    ensures bytes { take result into.new ≡ take at into.old ++ (if is_data_at runner.old.number (runner.old.asked + 1) then payload_group (slots_of slots.now.kind) (payload_row_of LINE_COLUMNS row (F.bytes frame.now)) slots.now.list cycle else []) }
     ensures runner { runner.new ≡ record runner.old { asked = runner.old.asked + 1 } }
 {
     if runner.next() {
-        put_cycle(payload, cycle, slots, into, at)
+        put_cycle(frame, row, cycle, slots, into, at)
     } else {
         at
     }
 }
 
 // Writes the bytes of the slots in one cycle at `at`, and says where they end.
-fn put_cycle(payload: &[u8], cycle: usize, slots: &Slots, into: &mut [u8], at: usize) -> usize
-    requires payload { length payload.now ≡ PAYLOAD_COLUMNS }
+fn put_cycle<F: TakeFrame>(
+    frame: &F,
+    row: u32,
+    cycle: usize,
+    slots: &Slots,
+    into: &mut [u8],
+    at: usize,
+) -> usize
+    requires low { 1 ≤ row }
+    requires high { row ≤ 4 }
     requires cycle { cycle < row_cycles slots.now.kind }
     requires room { at + length slots.now.list ≤ length into.old }
     ensures end { result ≡ at + length slots.now.list }
-    ensures bytes { take result into.new ≡ take at into.old ++ payload_group (slots_of slots.now.kind) payload.now slots.now.list cycle }
+    ensures bytes { take result into.new ≡ take at into.old ++ payload_group (slots_of slots.now.kind) (payload_row_of LINE_COLUMNS row (F.bytes frame.now)) slots.now.list cycle }
 {
     let end = at + slots.count() as usize;
-    cycle_group(payload, cycle, slots, &mut into[at..end]);
+    frame.take_group(row, cycle, slots, &mut into[at..end]);
     end
 }
 
-// Writes the bytes of the slots in `count` cycles from `first` on at `at`, and says where they end. What `cycle_groups`
+// Writes the bytes of the slots in `count` cycles from `first` on at `at`, and says where they end. What `take_groups`
 // does before its first cycle only pays for more than a few.
-fn put_cycles(
-    payload: &[u8],
+fn put_cycles<F: TakeFrame>(
+    frame: &F,
+    row: u32,
     first: usize,
     count: usize,
     slots: &Slots,
     into: &mut [u8],
     at: usize,
 ) -> usize
-    requires payload { length payload.now ≡ PAYLOAD_COLUMNS }
+    requires low { 1 ≤ row }
+    requires high { row ≤ 4 }
     requires cycles { first + count ≤ row_cycles slots.now.kind }
     requires room { at + length slots.now.list * count ≤ length into.old }
     ensures end { result ≡ at + length slots.now.list * count }
-    ensures bytes { take result into.new ≡ take at into.old ++ run_groups (slots_of slots.now.kind) payload.now slots.now.list first count }
+    ensures bytes { take result into.new ≡ take at into.old ++ run_groups (slots_of slots.now.kind) (payload_row_of LINE_COLUMNS row (F.bytes frame.now)) slots.now.list first count }
 {
     if count <= FEW_CYCLES {
-        return put_few(payload, first, count, slots, into, at);
+        return put_few(frame, row, first, count, slots, into, at);
     }
     let end = at + slots.count() as usize * count;
-    cycle_groups(payload, first, count, slots, &mut into[at..end]);
+    frame.take_groups(row, first, count, slots, &mut into[at..end]);
     end
 }
 
 // The same, cycle by cycle.
-fn put_few(
-    payload: &[u8],
+fn put_few<F: TakeFrame>(
+    frame: &F,
+    row: u32,
     first: usize,
     count: usize,
     slots: &Slots,
     into: &mut [u8],
     at: usize,
 ) -> usize
-    requires payload { length payload.now ≡ PAYLOAD_COLUMNS }
+    requires low { 1 ≤ row }
+    requires high { row ≤ 4 }
     requires cycles { first + count ≤ row_cycles slots.now.kind }
     requires room { at + length slots.now.list * count ≤ length into.old }
     ensures end { result ≡ at + length slots.now.list * count }
-    ensures bytes { take result into.new ≡ take at into.old ++ run_groups (slots_of slots.now.kind) payload.now slots.now.list first count }
+    ensures bytes { take result into.new ≡ take at into.old ++ run_groups (slots_of slots.now.kind) (payload_row_of LINE_COLUMNS row (F.bytes frame.now)) slots.now.list first count }
 {
     let mut end = at;
     for i in 0..count {
-        end = put_cycle(payload, first + i, slots, into, end);
+        end = put_cycle(frame, row, first + i, slots, into, end);
     }
     end
 }

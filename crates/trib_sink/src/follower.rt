@@ -13,10 +13,10 @@ ghost use Rattle.trib_sink.specs.Rows.{row_cycles, after_frame};
 use crate::hear::hear_message;
 use crate::payload::Payload;
 use crate::said::{begun, gone_on};
-use frame_geometry::Frame;
 use jc_codec::Listener;
 use maintenance_signals::{Signal, SignalBytes};
-use otn_base::limits::{LINE_COLUMNS, NOMINAL};
+use odtu_columns::TakeFrame;
+use otn_base::limits::NOMINAL;
 use otn_base::{Memory, Slots};
 use std::alloc::Global;
 use std::marker::Model;
@@ -84,10 +84,10 @@ impl Follower {
     }
 
     /// Extracts the data groups of a frame.
-    pub(crate) fn take_frame(&mut self, frame: &Frame<LINE_COLUMNS>, slots: &Slots)
+    pub(crate) fn take_frame<F: TakeFrame>(&mut self, frame: &F, slots: &Slots)
         requires count { length slots.now.list ≡ self.old.extraction.slots }
         requires asked { self.old.extraction.asked + 4 * row_cycles slots.now.kind ≤ GROUPS }
-        ensures { self.new ≡ record self.old { extraction = after_frame slots.now frame.now self.old.extraction } }
+        ensures { self.new ≡ record self.old { extraction = after_frame slots.now (F.bytes frame.now) self.old.extraction } }
     {
         self.payload.take_frame(frame, slots);
     }

@@ -1,17 +1,18 @@
 // The bytes that a sink extracted, in two buffers: a turn that ends emits them in one, the other keeps what is pending.
 ghost use Rattle.std.specs.Prelude.{◌≡◌, ◌+◌, ◌*◌, ◌≤◌, ℕ, [], ◌++◌, IfOk, length, take, drop, slice_range, vec_len};
+ghost use Rattle.frame_geometry.specs.Places.{payload_row_of};
 ghost use Rattle.maintenance_signals.specs.declared.signal.Signal.{Signal};
 ghost use Rattle.maintenance_signals.specs.Given.{HasGiven};
 ghost use Rattle.maintenance_signals.specs.Stream.{signal_bytes};
 ghost use Rattle.otn_base.specs.LineSlots.{slots_of};
-ghost use Rattle.otn_base.specs.declared.limits.TheConstants.{GROUPS, MOST_SLOTS, NOMINAL, PAYLOAD_COLUMNS};
+ghost use Rattle.otn_base.specs.declared.limits.TheConstants.{GROUPS, LINE_COLUMNS, MOST_SLOTS, NOMINAL};
 ghost use Rattle.trib_sink.specs.Rows.{row_cycles, row_data, with_rows, after_frame};
 
 use crate::extract;
-use frame_geometry::Frame;
 use gmp_rule::Runner;
 use maintenance_signals::SignalBytes;
-use otn_base::limits::{GROUPS, LINE_COLUMNS, NOMINAL, PAYLOAD_COLUMNS};
+use odtu_columns::TakeFrame;
+use otn_base::limits::{GROUPS, NOMINAL};
 use otn_base::{Memory, Slots};
 use std::alloc::{AllocError, Global};
 use std::marker::Model;
@@ -76,35 +77,43 @@ impl Payload {
     }
 
     /// Extracts the data groups of a frame, row by row.
-    pub(crate) fn take_frame(&mut self, frame: &Frame<LINE_COLUMNS>, slots: &Slots)
+    pub(crate) fn take_frame<F: TakeFrame>(&mut self, frame: &F, slots: &Slots)
         requires count { length slots.now.list ≡ self.old.slots }
         requires asked { self.old.asked + 4 * row_cycles slots.now.kind ≤ GROUPS }
-        ensures { self.new ≡ after_frame slots.now frame.now self.old }
+        ensures { self.new ≡ after_frame slots.now (F.bytes frame.now) self.old }
     {
         self.take_rows(frame, slots, 1);
         self.take_rows(frame, slots, 3);
     }
 
     // Extracts the data groups of a row and of the next one.
-    fn take_rows(&mut self, frame: &Frame<LINE_COLUMNS>, slots: &Slots, row: u32)
+    fn take_rows<F: TakeFrame>(&mut self, frame: &F, slots: &Slots, row: u32)
         requires low { 1 ≤ row }
         requires high { row ≤ 3 }
         requires count { length slots.now.list ≡ self.old.slots }
         requires asked { self.old.asked + 2 * row_cycles slots.now.kind ≤ GROUPS }
-        ensures { self.new ≡ record self.old { asked = self.old.asked + row_cycles slots.now.kind + row_cycles slots.now.kind; fresh = with_rows self.old.fresh self.old.number self.old.asked slots.now frame.now row; emitted = [] } }
+        ensures { self.new ≡ record self.old { asked = self.old.asked + row_cycles slots.now.kind + row_cycles slots.now.kind; fresh = with_rows self.old.fresh self.old.number self.old.asked slots.now (F.bytes frame.now) row; emitted = [] } }
     {
-        self.take_row(frame.payload_row(row), slots);
-        self.take_row(frame.payload_row(row + 1), slots);
+        self.take_row(frame, row, slots);
+        self.take_row(frame, row + 1, slots);
     }
 
     // Extracts the data groups of a row, over what was emitted.
-    fn take_row(&mut self, payload: &[u8], slots: &Slots)
-        requires payload { length payload.now ≡ PAYLOAD_COLUMNS }
+    fn take_row<F: TakeFrame>(&mut self, frame: &F, row: u32, slots: &Slots)
+        requires low { 1 ≤ row }
+        requires high { row ≤ 4 }
         requires count { length slots.now.list ≡ self.old.slots }
         requires asked { self.old.asked + row_cycles slots.now.kind ≤ GROUPS }
-        ensures { self.new ≡ record self.old { asked = self.old.asked + row_cycles slots.now.kind; fresh = self.old.fresh ++ row_data (slots_of slots.now.kind) self.old.number self.old.asked payload.now slots.now.list (row_cycles slots.now.kind); emitted = [] } }
+        ensures { self.new ≡ record self.old { asked = self.old.asked + row_cycles slots.now.kind; fresh = self.old.fresh ++ row_data (slots_of slots.now.kind) self.old.number self.old.asked (payload_row_of LINE_COLUMNS row (F.bytes frame.now)) slots.now.list (row_cycles slots.now.kind); emitted = [] } }
     {
-        self.end = extract::take_row(&mut self.runner, payload, slots, &mut self.fresh, self.end);
+        self.end = extract::take_row(
+            &mut self.runner,
+            frame,
+            row,
+            slots,
+            &mut self.fresh,
+            self.end,
+        );
         self.from = 0;
         self.past = 0;
     }

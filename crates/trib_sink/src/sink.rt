@@ -14,9 +14,9 @@ use crate::arrivals::{message_so_far, note_msi};
 use crate::follower::Follower;
 use crate::turn::hear_turn;
 use arrayvec::ArrayVec;
-use frame_geometry::Frame;
 use msi_table::MsiWatch;
-use otn_base::limits::{LINE_COLUMNS, MOST_SLOTS};
+use odtu_columns::TakeFrame;
+use otn_base::limits::MOST_SLOTS;
 use otn_base::{Memory, Slots};
 use std::alloc::Global;
 use std::marker::Model;
@@ -110,10 +110,10 @@ impl TribSink {
 
     /// Takes frame `n` (from 0; a multiframe has as many as the line has slots) of a turn, of which `n`
     /// frames are taken, with the MFAS number that is expected of it.
-    pub fn take_frame(&mut self, n: u8, frame: &Frame<LINE_COLUMNS>, expected: u8)
+    pub fn take_frame<F: TakeFrame>(&mut self, n: u8, frame: &F, expected: u8)
         requires number { n < slots_of self.old.slots.kind }
         requires taken { n ≡ self.old.taken }
-        ensures stands { AfterAnyTurns self.old (λ own past frames. StandsAfter own past (frames ++ record { frame = frame.now; expected = expected } ∷ []) self.new) }
+        ensures stands { AfterAnyTurns self.old (λ own past frames. StandsAfter own past (frames ++ record { frame = F.bytes frame.now; expected = expected } ∷ []) self.new) }
         ensures taken { self.new.taken ≡ self.old.taken + 1 }
         ensures slots { self.new.slots ≡ self.old.slots }
         ensures port { self.new.port ≡ self.old.port }

@@ -1,6 +1,7 @@
 use Rattle.std.proofs.Common.{◌≡◌, ◌+◌, ◌*◌, ◌≤◌, ◌++◌, [], cond, length, ap, arith, rules, subst, sym, take, append-nil, ◌∙◌}
 use Rattle.gmp_rule.specs.DataRule.{Progress, IsData, is_data_at}
 use Rattle.otn_base.specs.LineSlots.{slots_of}
+use Rattle.frame_geometry.specs.Places.{payload_row_of}
 use Rattle.odtu_columns.specs.Payload.{payload_group}
 use Rattle.trib_sink.proofs.LineRows.{room_behind}
 use Rattle.trib_sink.proofs.Rows.{row_data-none}
@@ -9,7 +10,7 @@ use Rattle.trib_sink.specs.Rows.{row_cycles}
 use Rattle.trib_sink.proofs.extract.take_row.Goals as goal
 
 pub loop-cycle-init : goal.loop-cycle-init
-loop-cycle-init c = record {
+loop-cycle-init g c = record {
   cycles = search rules;
   runner = search rules;
   few = search rules;
@@ -17,7 +18,7 @@ loop-cycle-init c = record {
 }
 
 pub put_cycles-end-requires-clause-room : goal.put_cycles-end-requires-clause-room
-put_cycles-end-requires-clause-room c =
+put_cycles-end-requires-clause-room g c =
     let m = length c.args.slots.now.list in
     let x = c.loop-cycle.cycle in
     let behind : c.take_cycle-end.result ≤ c.args.at + m * (x + 1) = (let end = c.take_cycle-end.ensures.end in let few = c.loop-cycle.invariant.few in let more : m * (x + 1) ≡ m * x + m = omega arith in omega arith) in
@@ -27,13 +28,13 @@ put_cycles-end-requires-clause-room c =
     omega arith
 
 pub loop-cycle-preserved : goal.loop-cycle-preserved
-loop-cycle-preserved c =
+loop-cycle-preserved g c =
     let number = c.args.runner.now.number in
     let before = c.args.runner.now.asked in
     let x = c.loop-cycle.cycle in
     let run = c.data_run-run.result in
     let front = take c.loop-cycle.end c.loop-cycle.into in
-    let here = payload_group (slots_of c.args.slots.now.kind) c.args.payload.now c.args.slots.now.list x in
+    let here = payload_group (slots_of c.args.slots.now.kind) (payload_row_of 4080 c.args.row (g.F.TakeFrame.bytes c.args.frame.now)) c.args.slots.now.list x in
     let asked : c.take_cycle-end.new.runner ≡ record { number = number; asked = before + x + 1 } =
     c.take_cycle-end.ensures.runner ∙ ap (λ (r : Progress). record r { asked = r.asked + 1 }) c.loop-cycle.invariant.runner in
     let one : take c.take_cycle-end.result c.take_cycle-end.new.into ≡ front ++ cond (is_data_at number (before + x + 1)) here [] =
@@ -43,7 +44,7 @@ loop-cycle-preserved c =
       runner = c.data_run-run.ensures.step ∙ ap (λ (r : Progress). record r { asked = r.asked + run }) asked
           ∙ ap (λ n. record { number = number; asked = n }) (let e : before + x + 1 + run ≡ before + (x + (run + 1)) = omega arith in e);
       few = grind arith;
-      bytes = row_more (slots_of c.args.slots.now.kind) number before c.args.payload.now c.args.slots.now.list (take c.args.at c.args.into.now) c.loop-cycle.into c.take_cycle-end.new.into c.put_cycles-end.new.into
+      bytes = row_more (slots_of c.args.slots.now.kind) number before (payload_row_of 4080 c.args.row (g.F.TakeFrame.bytes c.args.frame.now)) c.args.slots.now.list (take c.args.at c.args.into.now) c.loop-cycle.into c.take_cycle-end.new.into c.put_cycles-end.new.into
           c.loop-cycle.end c.take_cycle-end.result c.put_cycles-end.result x run c.loop-cycle.invariant.bytes one c.put_cycles-end.ensures.bytes
           (λ i below. subst (λ (r : Progress). IsData r.number (r.asked + i + 1)) asked (c.data_run-run.ensures.«data» i below));
     }

@@ -1,4 +1,4 @@
 use Rattle.trib_sink.proofs.follower.Follower.take_frame.Goals as goal
 
 pub returns : goal.returns
-returns c = rw (c.take_frame.ensures, ← c.self.view_is)
+returns g c = rw (c.take_frame.ensures, ← c.self.view_is)

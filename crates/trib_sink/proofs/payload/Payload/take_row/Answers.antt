@@ -7,7 +7,7 @@ use Rattle.trib_sink.proofs.LineRows.{row_room, row_after}
 use Rattle.trib_sink.proofs.payload.Payload.take_row.Goals as goal
 
 pub take_row-self-inside-requires-clause-room : goal.take_row-self-inside-requires-clause-room
-take_row-self-inside-requires-clause-room c =
+take_row-self-inside-requires-clause-room g c =
     let i = c.self.inside in
     let n = row_cycles c.args.slots.now.kind in
     let m : i.slots ≡ length c.args.slots.now.list = ap (λ (e : Extraction). e.slots) c.self.view_is ∙ sym c.requires.count in
@@ -19,7 +19,7 @@ take_row-self-inside-requires-clause-room c =
     omega arith
 
 pub invariant_of-self : goal.invariant_of-self
-invariant_of-self c =
+invariant_of-self g c =
     let i = c.self.inside in
     let n = row_cycles c.args.slots.now.kind in
     let m : i.slots ≡ length c.args.slots.now.list = ap (λ (e : Extraction). e.slots) c.self.view_is ∙ sym c.requires.count in
