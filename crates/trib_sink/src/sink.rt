@@ -126,7 +126,7 @@ impl TribSink {
 
     /// Ends a turn: `whole` says that it has a multiframe, all of whose frames were taken. `into` has at
     /// its front the bytes that the turn emits, and the answer is how many they are: at most 15,232 groups
-    /// and a part of one. In a turn without a multiframe no byte that was taken counts.
+    /// and a part of one. What stands behind them in `into` stays. In a turn without a multiframe no byte that was taken counts.
     pub fn end_turn(&mut self, whole: bool, into: &mut [u8]) -> usize
         requires whole { IsTrue whole → self.old.taken ≡ slots_of self.old.slots.kind }
         requires room { length self.old.slots.list * (GROUPS + 1) ≤ length into.old }
