@@ -23,7 +23,7 @@ row_joined rows frame new row low high size long joined = record {
     go place none (inl out) = kept_byte row place frame new low high size long out
     go place none (inr within) = absurd (none (place - place_of 4080 row 17) within.1 (let w = within.0 in omega arith))
 
-row_number : (row : ℕ) → 1 ≤ row → row ≤ 4 → (row ≡ 1) ⊎ ((row ≡ 2) ⊎ ((row ≡ 3) ⊎ (row ≡ 4)))
+pub row_number : (row : ℕ) → 1 ≤ row → row ≤ 4 → (row ≡ 1) ⊎ ((row ≡ 2) ⊎ ((row ≡ 3) ⊎ (row ≡ 4)))
 row_number row low high = grind arith
 
 pub frame_joined : (own r1 r2 r3 r4 f1 f2 f3 f4 : List ℕ) → length own ≡ 16320 → RowJoined r1 1 own f1 → RowJoined r2 2 f1 f2 → RowJoined r3 3 f2 f3 → RowJoined r4 4 f3 f4

@@ -10,5 +10,6 @@ pub mod PutBack
 pub mod PutGroup
 pub mod BySlots
 pub mod SlotBytes
+pub mod SlotRuns
 pub mod JoinRows
 pub mod MessageFrames

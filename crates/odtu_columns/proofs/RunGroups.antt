@@ -54,14 +54,21 @@ front_gathered line payload slots into first count (suc n) size few h =
     ∙ sym (run_groups-more line payload slots first n)
     ∙ ap (run_groups line payload slots first) (let e : n + 1 ≡ suc n = omega arith in e)
 
+-- the groups byte by byte
+pub run_is : (line : ℕ) (payload slots into : List ℕ) (first count : ℕ) → length into ≡ length slots * count
+    → ((j p : ℕ) → j < count → p < length slots → get_or into (length slots * j + p) 0 ≡ get_or payload (line * (first + j) + get_or slots p 0 - 1) 0)
+    → into ≡ run_groups line payload slots first count
+run_is line payload slots into first count size same =
+    sym (take_all (length slots * count) into (omega arith))
+    ∙ front_gathered line payload slots into first count count size (omega arith) same
+
 -- the groups out of the cycles alone
 pub gathered : (line : ℕ) (payload cycles slots into : List ℕ) (first count : ℕ) → IsSlotList line slots → length into ≡ length slots * count
     → cycles ≡ take (line * count) (drop (line * first) payload)
     → ((j p : ℕ) → j < count → p < length slots → get_or into (length slots * j + p) 0 ≡ get_or cycles (line * j + (get_or slots p 0 - 1)) 0)
     → into ≡ run_groups line payload slots first count
 gathered line payload cycles slots into first count list size same h =
-    sym (take_all (length slots * count) into (omega arith))
-    ∙ front_gathered line payload slots into first count count size (omega arith) (λ j p lj lp.
+    run_is line payload slots into first count size (λ j p lj lp.
     let low = list.low p lp in
     let high = list.high p lp in
     let room = steps line j count lj in

@@ -41,3 +41,7 @@ pub record RowJoined (rows : List ℕ) (row : ℕ) (before now : List ℕ) : Typ
   pub size : length now ≡ LINE_FRAME_BYTES
   pub here : (x : ℕ) → x < PAYLOAD_COLUMNS → slice_index now (place_of LINE_COLUMNS row (17 + x)) ≡ joined_byte rows x
   pub kept : (place : ℕ) → ((x : ℕ) → x < PAYLOAD_COLUMNS → place ≡ place_of LINE_COLUMNS row (17 + x) → ⊥) → slice_index now place ≡ slice_index before place
+
+-- G.709 clause 12.1: a frame has the payload of another one.
+pub record HasPayloadOf (frame now : List ℕ) : Type 0 where
+  pub bytes : (row x : ℕ) → 1 ≤ row → row ≤ 4 → x < PAYLOAD_COLUMNS → slice_index now (place_of LINE_COLUMNS row (17 + x)) ≡ slice_index frame (place_of LINE_COLUMNS row (17 + x))

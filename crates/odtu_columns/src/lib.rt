@@ -7,6 +7,7 @@
 //! - `fill`: `FillFrame`, a frame that sources fill.
 //! - `slot_frame`: `SlotFrame`, such a frame that is kept by slots.
 //! - `take`: `TakeFrame`, a frame of which sinks take.
+//! - `split_frame`: `SplitFrame`, such a frame beside its payload by slots.
 //! - `line`: the kernels below them, for a line of either kind.
 #![tactic(auto)]
 
@@ -17,6 +18,7 @@ mod line;
 mod put;
 mod slot;
 mod slot_frame;
+mod split_frame;
 mod take;
 #[cfg(test)]
 mod tests;
@@ -27,4 +29,5 @@ pub use justification::{message, put_message};
 pub use put::{put_group, put_row_groups, put_slot_row};
 pub use slot::slot_row;
 pub use slot_frame::SlotFrame;
+pub use split_frame::SplitFrame;
 pub use take::TakeFrame;

@@ -1,9 +1,10 @@
 // A frame of an OTU2 whose payload is kept by tributary slots.
 ghost use Rattle.std.specs.Prelude.{◌≡◌, ◌≢◌, ℕ, ◌+◌, ◌-◌, ◌*◌, ◌/◌, ◌%◌, ◌<◌, ◌≤◌, IfOk, length, slice_index};
+ghost use Rattle.frame_geometry.specs.Places.{place_of};
 ghost use Rattle.otn_base.specs.LineSlots.{slots_of};
 ghost use Rattle.otn_base.specs.SlotList.{IsSlotList};
-ghost use Rattle.otn_base.specs.declared.limits.TheConstants.{LINE_FRAME_BYTES, OTU2_SLOTS, PAYLOAD_COLUMNS};
-ghost use Rattle.odtu_columns.specs.BySlots.{joined_byte, RowJoined};
+ghost use Rattle.otn_base.specs.declared.limits.TheConstants.{LINE_COLUMNS, LINE_FRAME_BYTES, OTU2_SLOTS, PAYLOAD_COLUMNS};
+ghost use Rattle.odtu_columns.specs.BySlots.{joined_byte, HasPayloadOf, RowJoined};
 
 use crate::fill::FillFrame;
 use crate::justification::put_message;
@@ -67,6 +68,33 @@ impl SlotFrame {
         clear_row(&mut self.row4);
     }
 
+    /// Takes over the payload of a frame of an OTU2, by slots.
+    pub fn split(&mut self, frame: &Frame<LINE_COLUMNS>)
+        ensures { HasPayloadOf frame.now self.new }
+    {
+        split_row(frame, 1, &mut self.row1);
+        split_row(frame, 2, &mut self.row2);
+        split_row(frame, 3, &mut self.row3);
+        split_row(frame, 4, &mut self.row4);
+    }
+
+    /// The bytes of slot `k` (1 to 8) in a row (1 to 4), 476 of them, in the order of their columns.
+    pub fn slot(&self, row: u32, k: u8) -> &[u8]
+        requires row_low { 1 ≤ row }
+        requires row_high { row ≤ 4 }
+        requires slot_low { 1 ≤ k }
+        requires slot_high { k ≤ OTU2_SLOTS }
+        ensures size { length result.now ≡ PAYLOAD_COLUMNS / OTU2_SLOTS }
+        ensures bytes { (j : ℕ) → j < PAYLOAD_COLUMNS / OTU2_SLOTS → slice_index result.now j ≡ slice_index self.now (place_of LINE_COLUMNS row (17 + (OTU2_SLOTS * j + (k - 1)))) }
+    {
+        match row {
+            1 => self.row1.slot(k),
+            2 => self.row2.slot(k),
+            3 => self.row3.slot(k),
+            _ => self.row4.slot(k),
+        }
+    }
+
     /// Writes its bytes into a frame that is all 0.
     pub fn join_into(&self, frame: &mut Frame<LINE_COLUMNS>)
         requires blank { (place : ℕ) → slice_index frame.old place ≡ 0 }
@@ -104,6 +132,15 @@ fn clear_row(rows: &mut SlotRows<OTU2_SLOTS>)
     for k in 0..OTU2_SLOTS as u8 {
         rows.slot_mut(k + 1).fill(0);
     }
+}
+
+// Takes over the payload of a row of a frame.
+fn split_row(frame: &Frame<LINE_COLUMNS>, row: u32, rows: &mut SlotRows<OTU2_SLOTS>)
+    requires low { 1 ≤ row }
+    requires high { row ≤ 4 }
+    ensures { (x : ℕ) → x < PAYLOAD_COLUMNS → joined_byte rows.new x ≡ slice_index frame.now (place_of LINE_COLUMNS row (17 + x)) }
+{
+    split8(frame.payload_row(row), rows);
 }
 
 // Writes the payload of a row, and keeps every other byte.

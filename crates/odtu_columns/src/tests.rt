@@ -1,9 +1,9 @@
 // Worked values: where the payload byte in column c is (c - 17) mod 256.
-ghost use Rattle.std.specs.Prelude.{◌≡◌, ◌*◌, ◌≤◌, IfOk, length};
+ghost use Rattle.std.specs.Prelude.{◌≡◌, ◌*◌, ◌+◌, ◌<◌, ◌≤◌, IfOk, length};
 
 use super::{
-    FillFrame, SlotFrame, group, message, put_group, put_message, put_row_groups, put_slot_row,
-    row_groups, slot_row,
+    FillFrame, SlotFrame, SplitFrame, TakeFrame, group, message, put_group, put_message,
+    put_row_groups, put_slot_row, row_groups, slot_row,
 };
 use frame_geometry::Frame;
 use otn_base::{LineKind, Slots};
@@ -291,5 +291,60 @@ fn slots_one_after_another(rt: HostRuntime) -> Result<(), Fail> {
     joined.clear();
     by_slots.join_into(&mut joined);
     assert_eq!(rt; joined.as_bytes().iter().all(|byte| *byte == 0), true);
+    Ok(())
+}
+
+// Whether two frames of an OTU2 say the same of the groups of a list of slots, in a run of cycles of a row and in its first.
+fn give_the_same<A: TakeFrame, B: TakeFrame>(
+    one: &A,
+    other: &B,
+    row: u32,
+    list: &[u8],
+    first: usize,
+) -> Result<bool, Fail>
+    requires row_low { 1 ≤ row }
+    requires row_high { row ≤ 4 }
+    requires list { length list.now ≤ 2 }
+    requires first { first + 9 ≤ 476 }
+{
+    let slots = slots_on(LineKind::Otu2, list)?;
+    let mut groups = [255u8; 18];
+    let mut same = [254u8; 18];
+    let many = 9 * list.len();
+    one.take_groups(row, first, 9, &slots, &mut groups[..many]);
+    other.take_groups(row, first, 9, &slots, &mut same[..many]);
+    let runs = groups[..many] == same[..many];
+    one.take_group(row, first, &slots, &mut groups[..list.len()]);
+    other.take_group(row, first, &slots, &mut same[..list.len()]);
+    Ok(runs && groups[..list.len()] == same[..list.len()])
+}
+
+#[test]
+fn groups_by_slots(rt: HostRuntime) -> Result<(), Fail> {
+    let mut frame = Frame::<4080>::new(rt.alloc())?;
+    let mut by_slots = SlotFrame::new(rt.alloc())?;
+    number_columns(&mut frame, 1);
+    number_columns(&mut frame, 3);
+    frame.set(3, 24, 0xEE);
+    frame.set(3, 16, 0x11);
+    frame.set(4, 15, 0x1F);
+    by_slots.split(&frame);
+    let split = SplitFrame::new(&frame, &by_slots);
+    for row in 1..5u32 {
+        for slot in [1u8, 5, 8] {
+            let same = give_the_same(&split, &frame, row, &[slot], 467)?;
+            assert_eq!(rt; same, true, "row {row}, slot {slot}");
+        }
+        let same = give_the_same(&split, &frame, row, &[2, 5], 100)?;
+        assert_eq!(rt; same, true, "row {row}");
+    }
+    let mut bytes = [255u8; 3];
+    let eight = slots_on(LineKind::Otu2, &[8])?;
+    split.take_groups(3, 0, 3, &eight, &mut bytes);
+    assert_eq!(rt; bytes, [0xEE, 15, 23]);
+    split.take_groups(2, 0, 3, &eight, &mut bytes);
+    assert_eq!(rt; bytes, [0; 3]);
+    assert_eq!(rt; split.take_message(), [0, 0, 0x11, 0, 0, 0]);
+    assert_eq!(rt; split.psi(), 0x1F);
     Ok(())
 }
