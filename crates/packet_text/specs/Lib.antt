@@ -1,6 +1,7 @@
 pub mod TextLines
 pub mod PacketText
 pub mod PairAnswers
+pub mod ByteAnswers
 pub mod Carrying
 pub mod Blocks
 pub mod Cutting

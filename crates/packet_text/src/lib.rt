@@ -1,6 +1,7 @@
 //! Packets as text: lines of hex digits, read from a place and written to one.
 #![tactic(auto)]
 
+mod byte_digits;
 mod cutter;
 mod digits;
 mod found;
@@ -13,7 +14,8 @@ mod pairs;
 mod tests;
 mod writing;
 
+pub use byte_digits::ByteDigits;
 pub use laws::{given_is_among, written_reads_back};
 pub use line::Line;
 pub use packet_lines::PacketLines;
-pub use writing::{put_line, write_packet};
+pub use writing::write_packet;

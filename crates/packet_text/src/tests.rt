@@ -1,7 +1,9 @@
 // Whole texts, line by line.
+ghost use Rattle.std.specs.Prelude.{◌≤◌, length};
+
 use crate::pairs::DigitPairs;
-use crate::{Line, PacketLines, write_packet};
-use hex::decode_to_slice;
+use crate::{ByteDigits, Line, PacketLines, write_packet};
+use hex::{decode_to_slice, encode};
 use otn_ports::{InPlaceOf, ListedSink, ListedSource, MemSource, OutPlaceOf, Source, Written};
 use std::alloc::{AllocError, Global};
 use std::test::Fail;
@@ -199,5 +201,54 @@ fn a_line_is_one_write(rt: HostRuntime) -> Result<(), Fail> {
     }
     assert_eq!(rt; place.kept(), Some(b"0aff\n0010\n".as_slice()));
     assert!(rt; matches!(place, OutPlaceOf::Dead(_, 10)));
+    Ok(())
+}
+
+// A packet's line by the kept digits, and how long it is said to be, in a slice with a byte more.
+fn kept_line(alloc: Global, packet: &[u8]) -> Result<(Vec<u8>, usize), AllocError>
+    requires { length packet.now ≤ 256 }
+{
+    let mut text = vec![in alloc; b'?'; 2 * packet.len() + 2]?;
+    let n = ByteDigits::new().put_line(packet, &mut text);
+    Ok((text, n))
+}
+
+// The line that the library's digits and LF make, with a byte more.
+fn said_line(alloc: Global, packet: &[u8]) -> Result<Vec<u8>, AllocError> {
+    let mut text = Vec::from_slice(alloc, encode(alloc, packet)?.as_bytes())?;
+    text.push(b'\n')?;
+    text.push(b'?')?;
+    Ok(text)
+}
+
+// The bytes in order.
+fn all_bytes() -> [u8; 256] {
+    let mut bytes = [0_u8; 256];
+    for i in 0..256_usize {
+        bytes[i] = i as u8;
+    }
+    bytes
+}
+
+#[test]
+fn kept_lines_are_what_the_library_makes(rt: HostRuntime) -> Result<(), Fail> {
+    let alloc = rt.alloc();
+    let all = all_bytes();
+    for (from, to) in [
+        (0_usize, 1_usize),
+        (255, 256),
+        (0x9A, 0xAB),
+        (7, 7),
+        (0, 256),
+    ] {
+        let (text, n) = kept_line(alloc, &all[from..to])?;
+        assert_eq!(rt;
+            text.as_slice(),
+            said_line(alloc, &all[from..to])?.as_slice()
+        );
+        assert_eq!(rt; n, 2 * (to - from) + 1);
+    }
+    let (text, _) = kept_line(alloc, b"\x01\x23\x45\x67\x89\xAB\xCD\xEF\xFE")?;
+    assert_eq!(rt; text.as_slice(), b"0123456789abcdeffe\n?".as_slice());
     Ok(())
 }

@@ -1,5 +1,5 @@
 // A packet's line.
-ghost use Rattle.std.specs.Prelude.{◌≡◌, ◌≢◌, ◌+◌, ◌*◌, ◌≤◌, ◌∷◌, ◌++◌, [], length, take, drop};
+ghost use Rattle.std.specs.Prelude.{◌≡◌, ◌≢◌, ◌+◌, ◌*◌, ◌<◌, ◌≤◌, ◌∷◌, ◌++◌, [], length, take, drop};
 ghost use Rattle.hex.specs.Hex.{encode_lower};
 ghost use Rattle.otn_ports.specs.OutPlace.{out_view};
 ghost use Rattle.otn_ports.specs.Views.{Live};
@@ -27,30 +27,20 @@ pub fn write_packet<K: Sink>(place: &mut OutPlaceOf<K>, packet: &[u8], text: &mu
     place.write_all(&text[..n])
 }
 
-/// Puts a packet's line at the front of the slice: its hex digits, in lower case, and LF. Says how many bytes the line has.
-pub fn put_line(packet: &[u8], text: &mut [u8]) -> usize
+// Puts a packet's line at the front of the slice, and says how many bytes it has.
+fn put_line(packet: &[u8], text: &mut [u8]) -> usize
     requires fits { length packet.now ≤ 65531 }
     requires room { 2 * length packet.now + 1 ≤ length text.old }
     ensures size { result ≡ 2 * length packet.now + 1 }
     ensures line { text.new ≡ packet_line packet.now ++ drop result text.old }
 {
-    let n = 2 * packet.len() + 1;
-    fill_line(packet, &mut text[..n]);
-    n
-}
-
-// Fills the slice with a packet's line.
-fn fill_line(packet: &[u8], line: &mut [u8])
-    requires fits { length packet.now ≤ 65531 }
-    requires room { length line.old ≡ 2 * length packet.now + 1 }
-    ensures { line.new ≡ packet_line packet.now }
-{
     let n = 2 * packet.len();
-    put_digits(packet, &mut line[..n]);
-    line[n] = LF;
+    put_digits(packet, &mut text[..n]);
+    end_line(n, text)
 }
 
-fn put_digits(packet: &[u8], digits: &mut [u8])
+/// Fills the slice with a packet's digits.
+pub(crate) fn put_digits(packet: &[u8], digits: &mut [u8])
     requires { length digits.old ≡ 2 * length packet.now }
     ensures { digits.new ≡ encode_lower packet.now }
 {
@@ -58,4 +48,14 @@ fn put_digits(packet: &[u8], digits: &mut [u8])
         Ok(()) => {}
         Err(_) => unreachable!(),
     }
+}
+
+/// Puts LF behind a line's digits, and says how many bytes the line has.
+pub(crate) fn end_line(digits: usize, text: &mut [u8]) -> usize
+    requires { digits < length text.old }
+    ensures size { result ≡ digits + 1 }
+    ensures line { text.new ≡ take digits text.old ++ 10 ∷ drop result text.old }
+{
+    text[digits] = LF;
+    digits + 1
 }
