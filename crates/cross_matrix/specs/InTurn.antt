@@ -1,6 +1,7 @@
 -- What a pipe has yet to do in a turn.
-use Rattle.std.specs.Prelude.{ℕ, ◌==◌, Bool, true, false, ◌&&◌, if◌then◌else◌, Option, None, Some, nat_lt, is_some}
+use Rattle.std.specs.Prelude.{ℕ, ◌==◌, Bool, true, false, length, ◌&&◌, if◌then◌else◌, Option, None, Some, nat_lt, is_some}
 use Rattle.otn_base.specs.LineSlots.{slots_of}
+use Rattle.otn_base.specs.declared.limits.TheConstants.{OTU2_SLOTS}
 use Rattle.cross_matrix.specs.declared.taking.TakingPart.{TakingPart}
 use Rattle.cross_matrix.specs.declared.taking.TakingPart.TheVariants as taking
 use Rattle.cross_matrix.specs.declared.giving.GivingPart.{GivingPart}
@@ -16,6 +17,12 @@ abbrev pub next_taken : TakingPart → Option ℕ
 next_taken (taking.Line sink) = some_if (nat_lt sink.taken (slots_of sink.slots.kind)) sink.taken
 next_taken (taking.Client client) = None
 next_taken (taking.Signal stream) = None
+
+-- G.709 clause 19.1: the part takes of an OTU2, one slot alone
+abbrev pub takes_one_slot : TakingPart → Bool
+takes_one_slot (taking.Line sink) = slots_of sink.slots.kind == OTU2_SLOTS && length sink.slots.list == 1
+takes_one_slot (taking.Client client) = false
+takes_one_slot (taking.Signal stream) = false
 
 -- the part takes of a line, whose turn may end so: with a multiframe only where all of its frames were taken
 abbrev pub may_end : (whole : Bool) → TakingPart → Bool

@@ -12,7 +12,7 @@ ghost use Rattle.cross_matrix.specs.Receiving.{is_dead};
 use otn_base::Memory;
 use otn_base::limits::MOST_DELIVERED;
 use otn_ports::{OutPlaceOf, Sink, Written};
-use packet_text::put_line;
+use packet_text::ByteDigits;
 use std::alloc::Global;
 use std::marker::Model;
 
@@ -28,6 +28,7 @@ const ROOM: usize = 65_536 + MOST_LINE;
 /// whole or, on an empty place, given up for writing.
 #[derive(Drop)]
 pub(crate) struct HeldLines {
+    digits: ByteDigits,
     text: Vec<u8>,
     len: usize,
     count: u64,
@@ -54,6 +55,7 @@ impl HeldLines {
         ensures { IfOk result IsNew }
     {
         Ok(HeldLines {
+            digits: ByteDigits::new(),
             text: vec![in alloc; 0u8; ROOM]?,
             len: 0,
             count: 0,
@@ -79,7 +81,6 @@ impl HeldLines {
 
     /// The line of a packet is due to the place. Those before it leave where it has no room behind them.
     pub(crate) fn take<K: Sink>(&mut self, packet: &[u8], place: &mut OutPlaceOf<K>)
-        requires some { 1 ≤ length packet.now }
         requires fits { length packet.now ≤ MOST_DELIVERED }
         ensures { (first : OutView) (packets : List (List ℕ)) → LinesHeld first (out_view K.Sink place.old) packets self.old
             → LinesHeld first (out_view K.Sink place.new) (packets ++ packet.now ∷ []) self.new }
@@ -134,7 +135,7 @@ impl HeldLines {
         ensures count { self.new.count ≡ self.old.count + 1 }
         ensures packets { self.new.packets ≡ self.old.packets }
     {
-        self.len += put_line(packet, &mut self.text[self.len..]);
+        self.len += self.digits.put_line(packet, &mut self.text[self.len..]);
         self.count += 1;
     }
 }

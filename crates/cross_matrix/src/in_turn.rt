@@ -3,7 +3,7 @@
 ghost use Rattle.std.specs.Prelude.{◌≡◌, ◌<◌, ◌≤◌, ◌+◌, ℕ, suc, Bool, true, false, ◌&&◌, ◌==◌, if◌then◌else◌, List, [], ◌∷◌, ◌++◌, Option, length, nat_le, nat_lt, is_some, option_map};
 ghost use Rattle.odu_client.specs.ClientInput.{ClientInput, packets_begun, is_spent, bad_line, emitted_before};
 ghost use Rattle.otn_base.specs.LineSlots.{LineSlots, slots_of};
-ghost use Rattle.otn_base.specs.declared.limits.TheConstants.{LINE_COLUMNS as COLUMNS, ROWS};
+ghost use Rattle.otn_base.specs.declared.limits.TheConstants.{LINE_COLUMNS as COLUMNS, OTU2_SLOTS, ROWS};
 ghost use Rattle.otn_ports.specs.InPlace.{in_view};
 ghost use Rattle.otn_ports.specs.OutPlace.{out_view};
 ghost use Rattle.otn_ports.specs.Views.{InView, OutView};
@@ -16,32 +16,38 @@ ghost use Rattle.tributary_model.specs.Places.{Taken, View, tributary_of, byte_a
 ghost use Rattle.tributary_model.specs.Puts.{WasPut, IsSourcePlace};
 ghost use Rattle.device_model.specs.Entries.{first_turn};
 ghost use Rattle.device_model.specs.Through.{OwnInput, of_line, of_client, got_by};
-ghost use Rattle.cross_matrix.specs.InTurn.{some_if, next_taken, may_end, next_filled, is_of_client, is_to_client};
+ghost use Rattle.cross_matrix.specs.InTurn.{some_if, next_taken, may_end, next_filled, takes_one_slot, is_of_client, is_to_client};
 ghost use Rattle.cross_matrix.specs.Parts.{IsOfClient, IsToClient, ClientInStands, ClientOutStands, MayShow, IsOver, IsReceived};
 ghost use Rattle.cross_matrix.specs.Pipes.{IsPipeOf, PipeStands, ClientTook};
 
 use crate::Pipe;
 use crate::giving::GivingPart;
 use crate::taking::TakingPart;
-use frame_geometry::Frame;
-use odtu_columns::FillFrame;
-use otn_base::limits::LINE_COLUMNS;
+use odtu_columns::{FillFrame, TakeFrame};
+use otn_base::limits::OTU2_SLOTS;
 use otn_ports::{InPlaceOf, OutPlaceOf, Sink, Source};
 use trib_sink::TribSink;
 use trib_source::TribSource;
 
 impl Pipe {
     /// Takes the next frame of the turn's multiframe of the connection's line, with the MFAS that is expected of it.
-    pub fn take_next(&mut self, frame: &Frame<LINE_COLUMNS>, expected: u8)
+    pub fn take_next<F: TakeFrame>(&mut self, frame: &F, expected: u8)
         ensures stands { (x : Connection) (a port : ℕ) (slots : LineSlots) (input : OwnInput) (j filled : ℕ) (frames : List Taken) → x.from ≡ from_end.Line a port slots
             → length frames < slots_of slots.kind → PipeStands x input j frames false filled self.old
-            → PipeStands x input j (frames ++ record { frame = frame.now; expected = expected } ∷ []) false filled self.new }
+            → PipeStands x input j (frames ++ record { frame = F.bytes frame.now; expected = expected } ∷ []) false filled self.new }
         ensures entry { (x : Connection) → IsPipeOf x self.old → IsPipeOf x self.new }
         ensures giving { self.new.giving ≡ self.old.giving }
     {
         if let Some(n) = self.next_taken() {
             self.take_frame(n, frame, expected);
         }
+    }
+
+    /// Whether it takes of an OTU2, one slot alone.
+    pub fn takes_one_slot(&self) -> bool
+        ensures { result ≡ takes_one_slot self.now.taking }
+    {
+        part_takes_one_slot(&self.taking)
     }
 
     /// Ends the turn of the connection's line: `whole` says that it has a multiframe.
@@ -205,6 +211,23 @@ fn next_of_sink(sink: &TribSink) -> Option<u8>
     } else {
         None
     }
+}
+
+fn part_takes_one_slot(part: &TakingPart) -> bool
+    ensures { result ≡ takes_one_slot part.now }
+{
+    match part {
+        TakingPart::Line(sink) => sink_takes_one_slot(sink),
+        TakingPart::Client(_) => false,
+        TakingPart::Signal(_) => false,
+    }
+}
+
+fn sink_takes_one_slot(sink: &TribSink) -> bool
+    ensures { result ≡ (slots_of sink.now.slots.kind == OTU2_SLOTS && length sink.now.slots.list == 1) }
+{
+    let slots = sink.slots();
+    slots.kind().slots() as usize == OTU2_SLOTS && slots.count() == 1
 }
 
 fn part_may_end(part: &TakingPart, whole: bool) -> bool

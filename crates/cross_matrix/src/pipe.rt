@@ -28,9 +28,7 @@ use crate::taking::{
     TakingPart, emit_signal, end_line, pace_at, restart_taking, state_of, take_line, take_text,
     text_numbers,
 };
-use frame_geometry::Frame;
-use odtu_columns::FillFrame;
-use otn_base::limits::LINE_COLUMNS;
+use odtu_columns::{FillFrame, TakeFrame};
 use otn_ports::{InPlaceOf, OutPlaceOf, Sink, Source};
 use std::marker::Model;
 use std::mem;
@@ -77,10 +75,10 @@ impl Pipe {
     }
 
     /// Takes frame `n`, from 0, of the turn's multiframe of the connection's line, with the MFAS that is expected of it.
-    pub fn take_frame(&mut self, n: u8, frame: &Frame<LINE_COLUMNS>, expected: u8)
+    pub fn take_frame<F: TakeFrame>(&mut self, n: u8, frame: &F, expected: u8)
         requires line { OnSink self.old.taking (λ sink. (n < slots_of sink.slots.kind) × (n ≡ sink.taken)) }
         ensures stands { (x : Connection) (input : OwnInput) (j filled : ℕ) (frames : List Taken) → PipeStands x input j frames false filled self.old
-            → PipeStands x input j (frames ++ record { frame = frame.now; expected = expected } ∷ []) false filled self.new }
+            → PipeStands x input j (frames ++ record { frame = F.bytes frame.now; expected = expected } ∷ []) false filled self.new }
         ensures entry { (x : Connection) → IsPipeOf x self.old → IsPipeOf x self.new }
         ensures taken { frames_taken self.new.taking ≡ frames_taken self.old.taking + 1 }
         ensures giving { self.new.giving ≡ self.old.giving }

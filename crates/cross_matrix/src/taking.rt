@@ -17,11 +17,10 @@ ghost use Rattle.cross_matrix.specs.Parts.{OnSink, IsOfClient, IsTextOver, Takes
 
 use crate::FromState;
 use crate::burst::Burst;
-use frame_geometry::Frame;
 use maintenance_signals::SignalBytes;
+use odtu_columns::TakeFrame;
 use odu_client::ClientFramer;
 use otn_base::Trace;
-use otn_base::limits::LINE_COLUMNS;
 use otn_ports::{InPlaceOf, Source};
 use packet_text::PacketLines;
 use trib_sink::TribSink;
@@ -69,10 +68,10 @@ fn restart_text(client: &mut ClientText)
 }
 
 /// Takes a frame of the connection's line.
-pub(crate) fn take_line(part: &mut TakingPart, n: u8, frame: &Frame<LINE_COLUMNS>, expected: u8)
+pub(crate) fn take_line<F: TakeFrame>(part: &mut TakingPart, n: u8, frame: &F, expected: u8)
     requires line { OnSink part.old (λ sink. (n < slots_of sink.slots.kind) × (n ≡ sink.taken)) }
     ensures stands { (from : FromEnd) (x : Connection) (input : OwnInput) (j : ℕ) (frames : List Taken) → TakingStands from x input j frames false part.old
-        → TakingStands from x input j (frames ++ record { frame = frame.now; expected = expected } ∷ []) false part.new }
+        → TakingStands from x input j (frames ++ record { frame = F.bytes frame.now; expected = expected } ∷ []) false part.new }
     ensures entry { (from : FromEnd) (x : Connection) → TakesFrom from x part.old → TakesFrom from x part.new }
     ensures taken { frames_taken part.new ≡ frames_taken part.old + 1 }
     ensures slots { (m : ℕ) → HasSlots m part.old → HasSlots m part.new }

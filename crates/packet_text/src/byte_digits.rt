@@ -45,8 +45,10 @@ impl ByteDigits {
     {
         for i in 0..packet.len() {
             let at = 2 * usize::from(packet[i]);
-            // Copies of two bytes are one load and one store.
-            digits[2 * i..2 * i + 2].copy_from_slice(&self.answers[at..at + 2]);
+            // By way of the copy it is one load and one store.
+            let mut pair = [0; 2];
+            pair.copy_from_slice(&self.answers[at..at + 2]);
+            digits[2 * i..2 * i + 2].copy_from_slice(&pair);
         }
     }
 }

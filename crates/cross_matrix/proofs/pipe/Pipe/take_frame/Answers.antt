@@ -1,7 +1,7 @@
 use Rattle.cross_matrix.proofs.pipe.Pipe.take_frame.Goals as goal
 
 pub invariant_of-self : goal.invariant_of-self
-invariant_of-self c = record {
+invariant_of-self g c = record {
   sink = c.take_line.ensures.slots c.self.inside.slots c.self.invariant.sink;
   fit = c.self.invariant.fit;
   came = c.self.invariant.came;
