@@ -16,10 +16,8 @@ ghost use Rattle.node_core.specs.NodeMoves.{Starts, whole_for, ends_here};
 
 use cross_matrix::Pipe;
 use device_model::{FromState, accepted_plans};
-use frame_geometry::Frame;
-use odtu_columns::FillFrame;
-use otn_base::limits::LINE_COLUMNS;
-use otn_base::{Memory, Slots};
+use odtu_columns::{FillFrame, TakeFrame};
+use otn_base::{LineKind, Memory, Slots};
 use otn_ports::{InPlaceOf, OutPlaceOf, Sink, Source};
 use plan_file::{FromEnd, Plan, ToEnd};
 use std::alloc::Global;
@@ -47,6 +45,7 @@ pub(crate) struct Link {
     pub(crate) start: u32,
     pub(crate) stop: u32,
     pub(crate) retire: bool,
+    pub(crate) takes_one_slot: bool,
     pub(crate) pipe: Pipe,
 }
 
@@ -67,6 +66,7 @@ impl Link {
             start: x.start,
             stop: x.stop,
             retire: x.retire,
+            takes_one_slot: has_one_slot(&x.from),
             pipe,
         })
     }
@@ -122,8 +122,8 @@ impl Link {
     }
 
     /// Takes a frame of line input `a` with the MFAS that is expected of it, if it takes from the line in turn past + 1.
-    pub(crate) fn take_frame(&mut self, a: u8, past: u32, frame: &Frame<LINE_COLUMNS>, expected: u8)
-        ensures { TookFrame (takes_line past a self.old) (record { frame = frame.now; expected = expected }) self.old self.new }
+    pub(crate) fn take_frame<F: TakeFrame>(&mut self, a: u8, past: u32, frame: &F, expected: u8)
+        ensures { TookFrame (takes_line past a self.old) (record { frame = F.bytes frame.now; expected = expected }) self.old self.new }
     {
         if self.takes_line(a, past) {
             self.pipe.take_next(frame, expected);
@@ -206,6 +206,15 @@ impl Link {
         ensures { result ≡ ends_here past self.now }
     {
         self.retire && (past < self.stop && self.stop - past == 1)
+    }
+}
+
+// Whether an end of an entry comes from a line of an OTU2 by one slot.
+fn has_one_slot(from: &FromEnd) -> bool {
+    match from {
+        FromEnd::Line(_, _, slots) => slots.kind() == LineKind::Otu2 && slots.count() == 1,
+        FromEnd::Client(_) => false,
+        FromEnd::Signal(_) => false,
     }
 }
 

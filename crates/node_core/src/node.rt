@@ -152,6 +152,7 @@ impl Node {
             a,
             self.past,
             &mut self.links,
+            &mut self.slots,
             place,
         );
     }

@@ -4,7 +4,7 @@ use Rattle.node_core.proofs.LinkLaws.{both}
 use Rattle.node_core.proofs.link.Link.take_frame.Goals as goal
 
 pub returns-then-takes_line : goal.returns-then-takes_line
-returns-then-takes_line c = record {
+returns-then-takes_line g c = record {
   same = record { from = refl; to = refl; start = refl; stop = refl; retire = refl; pipe = λ x h. c.take_next.ensures.entry x h };
   other = λ e. both (takes_line c.args.past c.args.a c.args.self.now) (sym c.takes_line.ensures ∙ c.if-takes_line.true) e;
   giving = c.take_next.ensures.giving;
