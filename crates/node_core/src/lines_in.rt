@@ -1,5 +1,5 @@
 // A piece of an input line.
-ghost use Rattle.std.specs.Prelude.{◌≡◌, ◌<◌, ℕ, List};
+ghost use Rattle.std.specs.Prelude.{◌≡◌, ◌<◌};
 ghost use Rattle.otn_base.specs.LineSlots.{slots_of};
 ghost use Rattle.otn_ports.specs.InPlace.{in_view};
 ghost use Rattle.node_core.specs.Moves.{EachLink, TookFrame, ReadsLine, takes_line};
@@ -41,21 +41,21 @@ fn hand_out(
 )
     ensures { EachLink (λ link then. TookFrame (takes_line past a link) (record { frame = frame.now; expected = expected }) link then) links.old.items links.new.items }
 {
-    if !is_by_slots(a, past, links) {
-        hand_each(a, past, frame, expected, links);
+    if is_by_slots(a, past, links) {
+        slots.split(frame);
+        hand_each(a, past, &SplitFrame::new(frame, slots), expected, links);
         return;
     }
-    slots.split(frame);
-    hand_each(a, past, &SplitFrame::new(frame, slots), expected, links);
+    hand_each(a, past, frame, expected, links);
 }
 
-// Whether a frame of line input `a` is best split by slots once for all that take of it in turn past + 1: several connections do,
-// and each has one slot of an OTU2. What they take is the same.
+// Whether a frame of line input `a` is best split by slots before it is taken in turn past + 1: several connections take of it, and each
+// one slot of an OTU2. What they take is the same.
 fn is_by_slots(a: u8, past: u32, links: &[Link]) -> bool {
     let mut count = 0u32;
     for link in links {
         if link.takes_line(a, past) {
-            if !link.takes_one_slot {
+            if !link.pipe.takes_one_slot() {
                 return false;
             }
             count = count.saturating_add(1);

@@ -17,7 +17,7 @@ ghost use Rattle.node_core.specs.NodeMoves.{Starts, whole_for, ends_here};
 use cross_matrix::Pipe;
 use device_model::{FromState, accepted_plans};
 use odtu_columns::{FillFrame, TakeFrame};
-use otn_base::{LineKind, Memory, Slots};
+use otn_base::{Memory, Slots};
 use otn_ports::{InPlaceOf, OutPlaceOf, Sink, Source};
 use plan_file::{FromEnd, Plan, ToEnd};
 use std::alloc::Global;
@@ -45,7 +45,6 @@ pub(crate) struct Link {
     pub(crate) start: u32,
     pub(crate) stop: u32,
     pub(crate) retire: bool,
-    pub(crate) takes_one_slot: bool,
     pub(crate) pipe: Pipe,
 }
 
@@ -66,7 +65,6 @@ impl Link {
             start: x.start,
             stop: x.stop,
             retire: x.retire,
-            takes_one_slot: has_one_slot(&x.from),
             pipe,
         })
     }
@@ -206,15 +204,6 @@ impl Link {
         ensures { result ≡ ends_here past self.now }
     {
         self.retire && (past < self.stop && self.stop - past == 1)
-    }
-}
-
-// Whether an end of an entry comes from a line of an OTU2 by one slot.
-fn has_one_slot(from: &FromEnd) -> bool {
-    match from {
-        FromEnd::Line(_, _, slots) => slots.kind() == LineKind::Otu2 && slots.count() == 1,
-        FromEnd::Client(_) => false,
-        FromEnd::Signal(_) => false,
     }
 }
 

@@ -40,7 +40,7 @@ pub struct Node {
     pub(crate) lines_in: Vec<LineIn>,
     pub(crate) lines_out: Vec<LineOut>,
     pub(crate) links: Vec<Link>,
-    // In hand only within a step of an output line.
+    // In hand only within a step of a line.
     pub(crate) slots: SlotFrame,
 }
 
