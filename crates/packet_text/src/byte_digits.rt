@@ -1,5 +1,6 @@
 // The hex digits of each byte, and a packet's line by them.
-ghost use Rattle.std.specs.Prelude.{◌≡◌, ◌+◌, ◌*◌, ◌≤◌, ◌++◌, length, drop};
+ghost use Rattle.std.specs.Prelude.{◌≡◌, ◌+◌, ◌*◌, ◌≤◌, ◌∷◌, ◌++◌, [], length, drop};
+ghost use Rattle.std.specs.Int.{to_le_bytes, w16};
 ghost use Rattle.hex.specs.Hex.{encode_lower};
 ghost use Rattle.packet_text.specs.PacketText.{packet_line};
 ghost use Rattle.packet_text.specs.ByteAnswers.{DigitsAll};
@@ -12,15 +13,15 @@ const BYTES: usize = 256;
 /// The two digits, in lower case, that the library `hex` writes for each byte, asked once and kept.
 #[derive(Drop)]
 pub struct ByteDigits {
-    // Those of a byte stand at twice its value.
-    answers: [u8; 2 * BYTES],
+    // Those of a byte stand at its value, the first as the low byte.
+    answers: [u16; BYTES],
     ghost right: { DigitsAll answers },
 }
 
 impl ByteDigits {
     /// Asks for all bytes.
     pub fn new() -> ByteDigits {
-        let mut answers = [0u8; 2 * BYTES];
+        let mut answers = [0u16; BYTES];
         ask_all(&mut answers);
         ByteDigits { answers }
     }
@@ -44,22 +45,29 @@ impl ByteDigits {
         ensures { digits.new ≡ encode_lower packet.now }
     {
         for i in 0..packet.len() {
-            let at = 2 * usize::from(packet[i]);
-            // By way of the copy it is one load and one store.
-            let mut pair = [0; 2];
-            pair.copy_from_slice(&self.answers[at..at + 2]);
-            digits[2 * i..2 * i + 2].copy_from_slice(&pair);
+            // Both stores become one.
+            let pair = self.answers[usize::from(packet[i])].to_le_bytes();
+            digits[2 * i] = pair[0];
+            digits[2 * i + 1] = pair[1];
         }
     }
 }
 
 // Asks for all bytes, one by one.
-#[tactic(auto, using(crate::proofs::KeptDigits::byte_kept))]
-fn ask_all(answers: &mut [u8])
-    requires { length answers.old ≡ 512 }
+fn ask_all(answers: &mut [u16])
+    requires { length answers.old ≡ 256 }
     ensures { DigitsAll answers.new }
 {
     for byte in 0..BYTES {
-        put_digits(&[byte as u8], &mut answers[2 * byte..2 * byte + 2]);
+        answers[byte] = ask(byte as u8);
     }
+}
+
+// Asks for a byte.
+fn ask(byte: u8) -> u16
+    ensures { to_le_bytes w16 result ≡ encode_lower (byte ∷ []) }
+{
+    let mut digits = [0; 2];
+    put_digits(&[byte], &mut digits);
+    u16::from_le_bytes(digits)
 }
