@@ -35,9 +35,9 @@ idles_join zero m = ap idle_bytes (let e : m ≡ 0 + m = omega arith in e)
 idles_join (suc n) m =
     append_assoc (core_header 0) (idle_bytes n) (idle_bytes m) ∙ ap (λ y. core_header 0 ++ y) (idles_join n m) ∙ ap idle_bytes (let e : suc (n + m) ≡ suc n + m = omega arith in e)
 
-pub four_idles : idle_bytes 4 ≡ 0xB6 ∷ 0xAB ∷ 0x31 ∷ 0xE0 ∷ 0xB6 ∷ 0xAB ∷ 0x31 ∷ 0xE0 ∷ 0xB6 ∷ 0xAB ∷ 0x31 ∷ 0xE0 ∷ 0xB6 ∷ 0xAB ∷ 0x31 ∷ 0xE0 ∷ []
+pub sixteen_idles : idle_bytes 16 ≡ 0xB6 ∷ 0xAB ∷ 0x31 ∷ 0xE0 ∷ 0xB6 ∷ 0xAB ∷ 0x31 ∷ 0xE0 ∷ 0xB6 ∷ 0xAB ∷ 0x31 ∷ 0xE0 ∷ 0xB6 ∷ 0xAB ∷ 0x31 ∷ 0xE0 ∷ 0xB6 ∷ 0xAB ∷ 0x31 ∷ 0xE0 ∷ 0xB6 ∷ 0xAB ∷ 0x31 ∷ 0xE0 ∷ 0xB6 ∷ 0xAB ∷ 0x31 ∷ 0xE0 ∷ 0xB6 ∷ 0xAB ∷ 0x31 ∷ 0xE0 ∷ 0xB6 ∷ 0xAB ∷ 0x31 ∷ 0xE0 ∷ 0xB6 ∷ 0xAB ∷ 0x31 ∷ 0xE0 ∷ 0xB6 ∷ 0xAB ∷ 0x31 ∷ 0xE0 ∷ 0xB6 ∷ 0xAB ∷ 0x31 ∷ 0xE0 ∷ 0xB6 ∷ 0xAB ∷ 0x31 ∷ 0xE0 ∷ 0xB6 ∷ 0xAB ∷ 0x31 ∷ 0xE0 ∷ 0xB6 ∷ 0xAB ∷ 0x31 ∷ 0xE0 ∷ 0xB6 ∷ 0xAB ∷ 0x31 ∷ 0xE0 ∷ []
 unfolding core_header crc16_of check_of remainder_from bits_of low_bits
-four_idles = refl
+sixteen_idles = refl
 
 -- ---- a maker
 
@@ -92,18 +92,18 @@ idle_put s at k four h size is whole before =
           ∙ idle_more at (at + 4) whole refl,
     )
 
--- four of them
-pub idles_put : (s : List ℕ) (at k : ℕ) (four : List ℕ) → at + 16 ≤ length s → k ≡ 16 → four ≡ idle_bytes 4
-    → at % 4 ≡ 0 → take at s ≡ idle_bytes (at / 4) → (at + 16 ≤ length (put_mid at k s four)) × (take (at + 16) (put_mid at k s four) ≡ idle_bytes ((at + 16) / 4))
-idles_put s at k four h size is whole before =
-    let few : length four ≡ 16 = ap length is ∙ idle_size 4 in
+-- sixteen of them
+pub idles_put : (s : List ℕ) (at k : ℕ) (sixteen : List ℕ) → at + 64 ≤ length s → k ≡ 64 → sixteen ≡ idle_bytes 16
+    → at % 4 ≡ 0 → take at s ≡ idle_bytes (at / 4) → (at + 64 ≤ length (put_mid at k s sixteen)) × (take (at + 64) (put_mid at k s sixteen) ≡ idle_bytes ((at + 64) / 4))
+idles_put s at k sixteen h size is whole before =
+    let few : length sixteen ≡ 64 = ap length is ∙ idle_size 16 in
     let front : length (take at s) ≡ at = length-take-le at s (omega arith) in
-    let long = length-append (take at s) (four ++ drop k (drop at s)) in
-    let long_too = length-append four (drop k (drop at s)) in (
+    let long = length-append (take at s) (sixteen ++ drop k (drop at s)) in
+    let long_too = length-append sixteen (drop k (drop at s)) in (
       omega arith,
-      take-put_mid at k s four (at + 16) (omega arith) (omega arith)
-          ∙ ap (λ y. y ++ four) before ∙ ap (λ y. idle_bytes (at / 4) ++ y) is
-          ∙ idles_join (at / 4) 4 ∙ ap idle_bytes (let e : at / 4 + 4 ≡ (at + 16) / 4 = omega arith in e),
+      take-put_mid at k s sixteen (at + 64) (omega arith) (omega arith)
+          ∙ ap (λ y. y ++ sixteen) before ∙ ap (λ y. idle_bytes (at / 4) ++ y) is
+          ∙ idles_join (at / 4) 16 ∙ ap idle_bytes (let e : at / 4 + 16 ≡ (at + 64) / 4 = omega arith in e),
     )
 
 -- the front of what is left of a frame, and the rest of it

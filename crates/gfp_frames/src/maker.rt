@@ -191,12 +191,16 @@ fn copy_front(into: &mut [u8], bytes: &[u8])
     into[..bytes.len()].copy_from_slice(bytes);
 }
 
-// Four idle frames, which are put at once.
-fn four_idles() -> [u8; 16]
-    ensures { result ≡ idle_bytes 4 }
+// Sixteen idle frames, which are put at once.
+fn sixteen_idles() -> [u8; 64]
+    ensures { result ≡ idle_bytes 16 }
 {
     let [a, b, c, d] = IDLE_FRAME;
-    [a, b, c, d, a, b, c, d, a, b, c, d, a, b, c, d]
+    [
+        a, b, c, d, a, b, c, d, a, b, c, d, a, b, c, d, a, b, c, d, a, b, c, d, a, b, c, d, a, b,
+        c, d, a, b, c, d, a, b, c, d, a, b, c, d, a, b, c, d, a, b, c, d, a, b, c, d, a, b, c, d,
+        a, b, c, d,
+    ]
 }
 
 // Whole idle frames.
@@ -204,11 +208,11 @@ fn put_idles(into: &mut [u8])
     requires { length into.old % 4 ≡ 0 }
     ensures { into.new ≡ idle_bytes (length into.old / 4) }
 {
-    let four = four_idles();
+    let sixteen = sixteen_idles();
     let mut at = 0;
-    while into.len() - at >= 16 {
-        into[at..at + 16].copy_from_slice(&four);
-        at += 16;
+    while into.len() - at >= 64 {
+        into[at..at + 64].copy_from_slice(&sixteen);
+        at += 64;
     }
     while at < into.len() {
         into[at..at + HEADER].copy_from_slice(&IDLE_FRAME);

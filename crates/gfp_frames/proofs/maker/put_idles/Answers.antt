@@ -5,9 +5,9 @@ use Rattle.gfp_frames.proofs.maker.put_idles.Goals as goal
 pub loop-into-preserved : goal.loop-into-preserved
 loop-into-preserved c =
     let at = c.loop-into.at in
-    let sixteen : at + 16 - at ≡ 16 = omega arith in
+    let size : at + 64 - at ≡ 64 = omega arith in
     let put =
-    idles_put c.loop-into.into at (at + 16 - at) c.copy_from_slice.new.self (omega arith) sixteen (c.copy_from_slice.ensures.after ∙ c.four_idles-four.ensures) c.loop-into.invariant.frames c.loop-into.invariant.idle in
+    idles_put c.loop-into.into at (at + 64 - at) c.copy_from_slice.new.self (omega arith) size (c.copy_from_slice.ensures.after ∙ c.sixteen_idles-sixteen.ensures) c.loop-into.invariant.frames c.loop-into.invariant.idle in
     record { within = put.0; frames = omega arith; idle = put.1 }
 
 pub loop-at-preserved : goal.loop-at-preserved
