@@ -1,8 +1,8 @@
 -- The bytes of a client's frame, row by row.
-use Rattle.std.proofs.Common.{◌≡◌, ◌≢◌, ◌<◌, ◌≤◌, ◌+◌, ◌-◌, ◌*◌, ◌/◌, ◌%◌, ◌⊎◌, inl, inr, ℕ, Bool, true, false, ◌==◌, nat_le, ◌&&◌, if◌then◌else◌, List, [], ◌∷◌, length, take, drop, slice_index, get_or, arith, refl, sym, ap, subst, ◌∙◌}
+use Rattle.std.proofs.Common.{◌≡◌, ◌≢◌, ◌<◌, ◌≤◌, ◌+◌, ◌-◌, ◌*◌, ◌/◌, ◌%◌, ◌⊎◌, inl, inr, ℕ, Bool, true, false, ◌==◌, nat_le, ◌&&◌, if◌then◌else◌, List, [], ◌∷◌, length, slice_index, get_or, arith, refl, sym, ap, subst, ◌∙◌}
 use Rattle.std.specs.Prelude.{map}
 use Rattle.std.specs.List.{range_with_len}
-use Rattle.std.proofs.lemmas.List.{get_or-drop, get_or-take, ext_get_or}
+use Rattle.std.proofs.lemmas.List.{get_or-take, ext_get_or}
 use Rattle.std.proofs.lemmas.List.FromFn.{get_or-map-range_with_len, length-map-range_with_len}
 use Rattle.std.proofs.lemmas.Bool.Decides.{nat_tests}
 use Rattle.std.proofs.lemmas.Bool.{cases_lt}
@@ -11,7 +11,9 @@ use Rattle.frame_geometry.specs.Places.{place_of}
 use Rattle.frame_overhead.specs.Runs.{IsPlace, byte_of, IsPut}
 use Rattle.odu_path.specs.Path.{path_row, path_byte, HasPath}
 use Rattle.odu_client.specs.ClientFrames.{alignment_row, client_psi, opu_byte, odu_byte, client_byte, client_frame}
-use Rattle.odu_client.specs.FramePuts.{row_byte, RowWasPut, FrameWasPut}
+use Rattle.odu_client.specs.AlignedRuns.{payload_of}
+use Rattle.odu_client.specs.FramePuts.{FrameWasPut}
+use Rattle.odu_client.proofs.PayloadRows.{small_row, payload_byte}
 
 yes_le : (a b : ℕ) → a ≤ b → nat_le a b ≡ true
 yes_le a b h = grind (arith, nat_tests)
@@ -25,55 +27,31 @@ no_eq a b h = grind (arith, nat_tests)
 yes_eq : (a b : ℕ) → a ≡ b → (a == b) ≡ true
 yes_eq a b h = grind (arith, nat_tests)
 
--- a row of which the overhead and the payload were put
-pub row_put : (row : ℕ) (overhead payload old mid new : List ℕ) → length overhead ≡ 16 → length payload ≡ 3808 → 1 ≤ row → row ≤ 4
-    → IsPut 3824 row 1 overhead old mid → IsPut 3824 row 17 payload mid new → RowWasPut row overhead payload old new
-row_put row overhead payload old mid new o p low high a b = record {
-  put = λ col least most. elim (cases_lt col 17) [
-    | inl front ↦
-        let place : IsPlace 3824 row col = record { row_low = low; row_high = high; col_low = least; col_high = most } in
-        let k : 1 + (col - 1) ≡ col = omega arith in
-        let run : byte_of 3824 row (1 + (col - 1)) mid ≡ slice_index overhead (col - 1) = a.run (col - 1) (omega arith) in
-        b.others row col place (inr (inl front)) ∙ sym (ap (λ c. byte_of 3824 row c mid) k) ∙ run
-        ∙ sym (ap (λ (t : Bool). if t then slice_index payload (col - 17) else slice_index overhead (col - 1)) (no_le 17 col front))
-    | inr back ↦
-        let k : 17 + (col - 17) ≡ col = omega arith in
-        let run : byte_of 3824 row (17 + (col - 17)) new ≡ slice_index payload (col - 17) = b.run (col - 17) (omega arith) in
-        sym (ap (λ c. byte_of 3824 row c new) k) ∙ run
-        ∙ sym (ap (λ (t : Bool). if t then slice_index payload (col - 17) else slice_index overhead (col - 1)) (yes_le 17 col back))
-  ];
-  others = λ r c place other. b.others r c place (inl other) ∙ a.others r c place (inl other);
-  size = b.size ∙ a.size;
+-- the payload of a frame
+record PayloadIs (payload frame : List ℕ) : Type 0 where
+  at : (row col : ℕ) → IsPlace 3824 row col → 17 ≤ col → byte_of 3824 row col frame ≡ slice_index payload (3808 * (row - 1) + (col - 17))
+
+payload_is : (frame : List ℕ) → length frame ≡ 15296 → PayloadIs (payload_of frame) frame
+payload_is frame size = record { at = λ row col place back. payload_byte frame row col place size back }
+
+payload_stays : (row : ℕ) (overhead payload old new : List ℕ) → length overhead ≡ 16 → IsPut 3824 row 1 overhead old new → PayloadIs payload old → PayloadIs payload new
+payload_stays row overhead payload old new size h is = record {
+  at = λ r col place back. h.others r col place (inr (inr (omega arith))) ∙ is.at r col place back;
 }
 
--- a row of this overhead and this payload
-record RowIs (row : ℕ) (overhead payload frame : List ℕ) : Type 0 where
-  bytes : (col : ℕ) → 1 ≤ col → col ≤ 3824 → byte_of 3824 row col frame ≡ row_byte overhead payload col
+-- the overhead of a row of a frame
+record FrontIs (row : ℕ) (overhead frame : List ℕ) : Type 0 where
+  at : (col : ℕ) → 1 ≤ col → col ≤ 16 → byte_of 3824 row col frame ≡ slice_index overhead (col - 1)
 
-row_is : (row : ℕ) (overhead payload old new : List ℕ) → RowWasPut row overhead payload old new → RowIs row overhead payload new
-row_is row overhead payload old new h = record { bytes = h.put }
-
-row_stays : (row other : ℕ) (overhead payload o p old new : List ℕ) → 1 ≤ row → row ≤ 4 → row ≢ other → RowWasPut other o p old new → RowIs row overhead payload old → RowIs row overhead payload new
-row_stays row other overhead payload o p old new low high differs h is = record {
-  bytes = λ col least most. h.others row col (record { row_low = low; row_high = high; col_low = least; col_high = most }) differs ∙ is.bytes col least most;
+front_put : (row : ℕ) (overhead old new : List ℕ) → length overhead ≡ 16 → IsPut 3824 row 1 overhead old new → FrontIs row overhead new
+front_put row overhead old new size h = record {
+  at = λ col low high. (let k : 1 + (col - 1) ≡ col = omega arith in
+      sym (ap (λ c. byte_of 3824 row c new) k) ∙ h.run (col - 1) (omega arith));
 }
 
--- a piece of the payload
-piece_at : (payload : List ℕ) (at k : ℕ) → k < 3808 → slice_index (take 3808 (drop at payload)) k ≡ slice_index payload (at + k)
-piece_at payload at k less = get_or-take 3808 (drop at payload) k 0 less ∙ get_or-drop at payload k 0
-
--- what is known of a row of a frame whose payload is in its four rows
-record RowOf (row mfas : ℕ) (overhead payload frame : List ℕ) : Type 0 where
-  payload_at : (col : ℕ) → 17 ≤ col → col ≤ 3824 → byte_of 3824 row col frame ≡ slice_index payload (3808 * (row - 1) + (col - 17))
-  front_at : (col : ℕ) → 1 ≤ col → col ≤ 16 → byte_of 3824 row col frame ≡ slice_index overhead (col - 1)
-
-row_of : (row mfas : ℕ) (overhead payload part frame : List ℕ) → part ≡ take 3808 (drop (3808 * (row - 1)) payload) → RowIs row overhead part frame → RowOf row mfas overhead payload frame
-row_of row mfas overhead payload part frame e is = record {
-  payload_at = λ col back most. is.bytes col (omega arith) most
-      ∙ ap (λ (t : Bool). if t then slice_index part (col - 17) else slice_index overhead (col - 1)) (yes_le 17 col back)
-      ∙ ap (λ p. slice_index p (col - 17)) e ∙ piece_at payload (3808 * (row - 1)) (col - 17) (omega arith);
-  front_at = λ col least front. is.bytes col least (omega arith)
-      ∙ ap (λ (t : Bool). if t then slice_index part (col - 17) else slice_index overhead (col - 1)) (no_le 17 col (omega arith));
+front_stays : (row other : ℕ) (overhead bytes old new : List ℕ) → 1 ≤ row → row ≤ 4 → row ≢ other → IsPut 3824 other 1 bytes old new → FrontIs row overhead old → FrontIs row overhead new
+front_stays row other overhead bytes old new low high differs h is = record {
+  at = λ col least most. h.others row col (record { row_low = low; row_high = high; col_low = least; col_high = omega arith }) (inl differs) ∙ is.at col least most;
 }
 
 unfoldable pub none16 : List ℕ
@@ -85,18 +63,6 @@ first16 mfas = 0xF6 ∷ 0xF6 ∷ 0xF6 ∷ 0x28 ∷ 0x28 ∷ 0x28 ∷ mfas ∷ 0 
 unfoldable pub last16 : ℕ → List ℕ
 last16 psi = 0 ∷ 0 ∷ 0 ∷ 0 ∷ 0 ∷ 0 ∷ 0 ∷ 0 ∷ 0 ∷ 0 ∷ 0 ∷ 0 ∷ 0 ∷ 0 ∷ psi ∷ 0 ∷ []
 
-small_row : (row : ℕ) → 1 ≤ row → row ≤ 4 → (row ≡ 1) ⊎ ((row ≡ 2) ⊎ ((row ≡ 3) ⊎ (row ≡ 4)))
-small_row row low high = elim (cases_lt row 2) [
-  | inl a ↦ inl (omega arith)
-  | inr a ↦ inr (elim (cases_lt row 3) [
-    | inl b ↦ inl (omega arith)
-    | inr b ↦ inr (elim (cases_lt row 4) [
-      | inl c ↦ inl (omega arith)
-      | inr c ↦ inr (omega arith)
-    ])
-  ])
-]
-
 two_columns : (col : ℕ) → 15 ≤ col → col ≤ 16 → (col ≡ 15) ⊎ (col ≡ 16)
 two_columns col low high = elim (cases_lt col 16) [
   | inl a ↦ inl (omega arith)
@@ -104,20 +70,20 @@ two_columns col low high = elim (cases_lt col 16) [
 ]
 
 -- columns 15 and 16 of a row whose overhead is 0 there
-opu_none : (row mfas : ℕ) (overhead payload frame : List ℕ) → (row == 4) ≡ false → slice_index overhead 14 ≡ 0 → slice_index overhead 15 ≡ 0 → RowOf row mfas overhead payload frame
+opu_none : (row mfas : ℕ) (overhead frame : List ℕ) → (row == 4) ≡ false → slice_index overhead 14 ≡ 0 → slice_index overhead 15 ≡ 0 → FrontIs row overhead frame
     → (col : ℕ) → 15 ≤ col → col ≤ 16 → byte_of 3824 row col frame ≡ opu_byte mfas row col
-opu_none row mfas overhead payload frame other a b h col low high =
+opu_none row mfas overhead frame other a b h col low high =
     let none : opu_byte mfas row col ≡ 0 = ap (λ (t : Bool). if t && (col == 15) then client_psi mfas else 0) other in
-    h.front_at col (omega arith) high ∙ elim (two_columns col low high) [
+    h.at col (omega arith) high ∙ elim (two_columns col low high) [
       | inl e ↦ ap (λ c. slice_index overhead (c - 1)) e ∙ a
       | inr e ↦ ap (λ c. slice_index overhead (c - 1)) e ∙ b
     ] ∙ sym none
 
-opu_last : (mfas psi : ℕ) (payload frame : List ℕ) → psi ≡ client_psi mfas → RowOf 4 mfas (last16 psi) payload frame
+opu_last : (mfas psi : ℕ) (frame : List ℕ) → psi ≡ client_psi mfas → FrontIs 4 (last16 psi) frame
     → (col : ℕ) → 15 ≤ col → col ≤ 16 → byte_of 3824 4 col frame ≡ opu_byte mfas 4 col
 unfolding last16
-opu_last mfas psi payload frame is h col low high =
-    h.front_at col (omega arith) high ∙ elim (two_columns col low high) [
+opu_last mfas psi frame is h col low high =
+    h.at col (omega arith) high ∙ elim (two_columns col low high) [
       | inl e ↦ ap (λ c. slice_index (last16 psi) (c - 1)) e ∙ is ∙ sym (ap (opu_byte mfas 4) e)
       | inr e ↦ ap (λ c. slice_index (last16 psi) (c - 1)) e ∙ sym (ap (opu_byte mfas 4) e)
     ]
@@ -126,45 +92,40 @@ alignment_front : (mfas col : ℕ) → 1 ≤ col → col ≤ 14 → slice_index 
 unfolding first16
 alignment_front mfas col low high = sym (get_or-take 14 (first16 mfas) (col - 1) 0 (omega arith))
 
--- all four rows
-pub frame_put : (mfas psi : ℕ) (payload p1 p2 p3 p4 old a b c new : List ℕ) → length old ≡ 15296 → psi ≡ client_psi mfas
-    → p1 ≡ take 3808 payload → p2 ≡ take 3808 (drop 3808 payload) → p3 ≡ take 3808 (drop 7616 payload) → p4 ≡ take 3808 (drop 11424 payload)
-    → RowWasPut 1 (first16 mfas) p1 old a → RowWasPut 2 none16 p2 a b → RowWasPut 3 none16 p3 b c → RowWasPut 4 (last16 psi) p4 c new → FrameWasPut mfas payload new
-unfolding none16 first16
-frame_put mfas psi payload p1 p2 p3 p4 old a b c new size is e1 e2 e3 e4 h1 h2 h3 h4 = record {
+-- the overhead of all four rows was put
+pub frame_put : (mfas psi : ℕ) (old a b c new : List ℕ) → length old ≡ 15296 → psi ≡ client_psi mfas
+    → IsPut 3824 1 1 (first16 mfas) old a → IsPut 3824 2 1 none16 a b → IsPut 3824 3 1 none16 b c → IsPut 3824 4 1 (last16 psi) c new → FrameWasPut mfas (payload_of old) new
+unfolding none16 first16 last16
+frame_put mfas psi old a b c new size is h1 h2 h3 h4 = record {
   size = h4.size ∙ h3.size ∙ h2.size ∙ h1.size ∙ size;
-  payload_at = λ row col place back. elim (small_row row place.row_low place.row_high) [
-    | inl e ↦ at_row row 1 e col (r1.payload_at col back place.col_high)
-    | inr (inl e) ↦ at_row row 2 e col (r2.payload_at col back place.col_high)
-    | inr (inr (inl e)) ↦ at_row row 3 e col (r3.payload_at col back place.col_high)
-    | inr (inr (inr e)) ↦ at_row row 4 e col (r4.payload_at col back place.col_high)
-  ];
+  payload_at = payload.at;
   opu_at = λ row col place low high. elim (small_row row place.row_low place.row_high) [
-    | inl e ↦ opu_row row 1 e col (opu_none 1 mfas (first16 mfas) payload new refl refl refl r1 col low high)
-    | inr (inl e) ↦ opu_row row 2 e col (opu_none 2 mfas none16 payload new refl refl refl r2 col low high)
-    | inr (inr (inl e)) ↦ opu_row row 3 e col (opu_none 3 mfas none16 payload new refl refl refl r3 col low high)
-    | inr (inr (inr e)) ↦ opu_row row 4 e col (opu_last mfas psi payload new is r4 col low high)
+    | inl e ↦ opu_row row 1 e col (opu_none 1 mfas (first16 mfas) new refl refl refl r1 col low high)
+    | inr (inl e) ↦ opu_row row 2 e col (opu_none 2 mfas none16 new refl refl refl r2 col low high)
+    | inr (inr (inl e)) ↦ opu_row row 3 e col (opu_none 3 mfas none16 new refl refl refl r3 col low high)
+    | inr (inr (inr e)) ↦ opu_row row 4 e col (opu_last mfas psi new is r4 col low high)
   ];
-  alignment_at = λ col low high. r1.front_at col low (omega arith) ∙ alignment_front mfas col low high;
+  alignment_at = λ col low high. r1.at col low (omega arith) ∙ alignment_front mfas col low high;
 }
   where
-    r1 : RowOf 1 mfas (first16 mfas) payload new
-    r1 = row_of 1 mfas (first16 mfas) payload p1 new e1 (row_stays 1 4 (first16 mfas) p1 (last16 psi) p4 c new (omega arith) (omega arith) (λ x. omega arith) h4
-        (row_stays 1 3 (first16 mfas) p1 none16 p3 b c (omega arith) (omega arith) (λ x. omega arith) h3
-        (row_stays 1 2 (first16 mfas) p1 none16 p2 a b (omega arith) (omega arith) (λ x. omega arith) h2 (row_is 1 (first16 mfas) p1 old a h1))))
+    payload : PayloadIs (payload_of old) new
+    payload = payload_stays 4 (last16 psi) (payload_of old) c new refl h4 (payload_stays 3 none16 (payload_of old) b c refl h3
+        (payload_stays 2 none16 (payload_of old) a b refl h2 (payload_stays 1 (first16 mfas) (payload_of old) old a refl h1 (payload_is old size))))
 
-    r2 : RowOf 2 mfas none16 payload new
-    r2 = row_of 2 mfas none16 payload p2 new e2 (row_stays 2 4 none16 p2 (last16 psi) p4 c new (omega arith) (omega arith) (λ x. omega arith) h4
-        (row_stays 2 3 none16 p2 none16 p3 b c (omega arith) (omega arith) (λ x. omega arith) h3 (row_is 2 none16 p2 a b h2)))
+    r1 : FrontIs 1 (first16 mfas) new
+    r1 = front_stays 1 4 (first16 mfas) (last16 psi) c new (omega arith) (omega arith) (λ x. omega arith) h4
+        (front_stays 1 3 (first16 mfas) none16 b c (omega arith) (omega arith) (λ x. omega arith) h3
+        (front_stays 1 2 (first16 mfas) none16 a b (omega arith) (omega arith) (λ x. omega arith) h2 (front_put 1 (first16 mfas) old a refl h1)))
 
-    r3 : RowOf 3 mfas none16 payload new
-    r3 = row_of 3 mfas none16 payload p3 new e3 (row_stays 3 4 none16 p3 (last16 psi) p4 c new (omega arith) (omega arith) (λ x. omega arith) h4 (row_is 3 none16 p3 b c h3))
+    r2 : FrontIs 2 none16 new
+    r2 = front_stays 2 4 none16 (last16 psi) c new (omega arith) (omega arith) (λ x. omega arith) h4
+        (front_stays 2 3 none16 none16 b c (omega arith) (omega arith) (λ x. omega arith) h3 (front_put 2 none16 a b refl h2))
 
-    r4 : RowOf 4 mfas (last16 psi) payload new
-    r4 = row_of 4 mfas (last16 psi) payload p4 new e4 (row_is 4 (last16 psi) p4 c new h4)
+    r3 : FrontIs 3 none16 new
+    r3 = front_stays 3 4 none16 (last16 psi) c new (omega arith) (omega arith) (λ x. omega arith) h4 (front_put 3 none16 b c refl h3)
 
-    at_row : (row r : ℕ) → row ≡ r → (col : ℕ) → byte_of 3824 r col new ≡ slice_index payload (3808 * (r - 1) + (col - 17)) → byte_of 3824 row col new ≡ slice_index payload (3808 * (row - 1) + (col - 17))
-    at_row row r e col h = let P : ℕ → Type 0 = λ x. byte_of 3824 x col new ≡ slice_index payload (3808 * (x - 1) + (col - 17)) in subst P (sym e) h
+    r4 : FrontIs 4 (last16 psi) new
+    r4 = front_put 4 (last16 psi) c new refl h4
 
     opu_row : (row r : ℕ) → row ≡ r → (col : ℕ) → byte_of 3824 r col new ≡ opu_byte mfas r col → byte_of 3824 row col new ≡ opu_byte mfas row col
     opu_row row r e col h = let P : ℕ → Type 0 = λ x. byte_of 3824 x col new ≡ opu_byte mfas x col in subst P (sym e) h

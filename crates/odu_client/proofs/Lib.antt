@@ -11,4 +11,5 @@ pub mod Slices
 pub mod Growing
 pub mod ArrivingText
 pub mod WholeFrames
+pub mod PayloadRows
 pub mod PuttingOut

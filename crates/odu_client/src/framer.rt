@@ -1,5 +1,5 @@
 // The frames of a client out of its text.
-ghost use Rattle.std.specs.Prelude.{◌≡◌, ◌≢◌, ◌<◌, ◌≤◌, ◌+◌, ◌⊎◌, ℕ, Bool, List, [], ◌∷◌, ◌++◌, true, false, length, take, drop, vec_len, IfOk, Option, option_map};
+ghost use Rattle.std.specs.Prelude.{◌≡◌, ◌≢◌, ◌<◌, ◌≤◌, ◌+◌, ◌⊎◌, ℕ, Bool, List, [], ◌∷◌, ◌++◌, true, false, length, take, drop, IfOk, Option, option_map};
 ghost use Rattle.otn_ports.specs.InPlace.{in_view};
 ghost use Rattle.otn_ports.specs.Views.{InView};
 ghost use Rattle.packet_text.specs.LinesStand.{LinesView, lines_view, fresh_lines, LinesStand, MayBe};
@@ -8,13 +8,13 @@ ghost use Rattle.packet_text.specs.PacketText.{packets_of};
 ghost use Rattle.odu_client.specs.ClientInput.{input_of, is_spent, bad_line, packets_begun};
 ghost use Rattle.odu_client.specs.Framing.{FramerState, ClientStands, Fills, MayDie, TextStands};
 ghost use Rattle.odu_client.specs.FramerSteps.{fresh_framer, FramedSome, Makes, Gives};
-ghost use Rattle.otn_base.specs.declared.limits.TheConstants.{CLIENT_FRAME_BYTES, CLIENT_PAYLOAD_BYTES};
+ghost use Rattle.otn_base.specs.declared.limits.TheConstants.{CLIENT_FRAME_BYTES};
 
-use crate::client_frame::put_frame;
+use crate::client_frame::put_beside;
 use crate::packet_stream::PacketStream;
 use frame_geometry::Frame;
 use odu_path::PathWriter;
-use otn_base::limits::{CLIENT_COLUMNS, CLIENT_FRAME_BYTES, CLIENT_PAYLOAD_BYTES};
+use otn_base::limits::{CLIENT_COLUMNS, CLIENT_FRAME_BYTES};
 use otn_base::{Memory, Trace};
 use otn_ports::{InPlaceOf, Source};
 use packet_text::{Line, PacketLines};
@@ -30,7 +30,6 @@ pub struct ClientFramer {
     stream: PacketStream,
     path: PathWriter,
     mfas: u8,
-    payload: Vec<u8>,
     frame: Frame<CLIENT_COLUMNS>,
     // How many bytes of the frame in hand are gone: all where there is none.
     at: usize,
@@ -39,15 +38,15 @@ pub struct ClientFramer {
 }
 
 impl Model for ClientFramer {
-    ghost use Rattle.std.specs.Prelude.{◌≡◌, ◌≤◌, drop, length, vec_len};
+    ghost use Rattle.std.specs.Prelude.{◌≡◌, ◌≤◌, drop, length};
     ghost use Rattle.odu_client.specs.Framing.{FramerState};
-    ghost use Rattle.otn_base.specs.declared.limits.TheConstants.{CLIENT_FRAME_BYTES, CLIENT_PAYLOAD_BYTES};
+    ghost use Rattle.otn_base.specs.declared.limits.TheConstants.{CLIENT_FRAME_BYTES};
 
     ghost Value = { FramerState };
 
     ghost view = { λ f. record { sapi = f.trace; stream = f.stream; path = f.path; mfas = f.mfas; left = drop f.at f.frame; fresh = f.fresh } };
 
-    ghost invariant = { λ f. (vec_len f.payload ≡ CLIENT_PAYLOAD_BYTES) × (f.at ≤ CLIENT_FRAME_BYTES) × (length f.frame ≡ CLIENT_FRAME_BYTES) };
+    ghost invariant = { λ f. (f.at ≤ CLIENT_FRAME_BYTES) × (length f.frame ≡ CLIENT_FRAME_BYTES) };
 }
 
 impl ClientFramer {
@@ -61,7 +60,6 @@ impl ClientFramer {
             stream: PacketStream::new(alloc)?,
             path: PathWriter::new(),
             mfas: 0,
-            payload: zeros(alloc, CLIENT_PAYLOAD_BYTES)?,
             frame: Frame::new(alloc)?,
             at: CLIENT_FRAME_BYTES,
             fresh: true,
@@ -170,8 +168,8 @@ impl ClientFramer {
         ensures over { self.old.stream.answer ≢ Line.Packet → (place.new ≡ place.old) × (lines.new ≡ lines.old) × (self.new.stream.answer ≡ self.old.stream.answer) }
     {
         self.fresh = self.stream.answer() == Line::Packet;
-        self.stream.fill(lines, place, &mut self.payload);
-        put_frame(&mut self.frame, self.mfas, &self.payload);
+        self.stream.fill_payload(lines, place, &mut self.frame);
+        put_beside(&mut self.frame, self.mfas);
         self.path.write(&mut self.frame, self.mfas, &self.trace);
         self.mfas = self.mfas.wrapping_add(1);
         self.at = 0;
@@ -219,10 +217,4 @@ fn same_trace(trace: &Trace) -> Trace
         Some(trace) => trace,
         None => unreachable!(),
     }
-}
-
-fn zeros(alloc: Global, n: usize) -> Result<Vec<u8>, Memory>
-    ensures { IfOk result (λ v. vec_len v ≡ n) }
-{
-    Ok(vec![in alloc; 0u8; n]?)
 }

@@ -1,13 +1,18 @@
 // The payload of a client's frames: the packets of a text as a stream of GFP frames.
 ghost use Rattle.std.specs.Prelude.{◌≡◌, ◌≢◌, ◌≤◌, ℕ, List, [], ◌∷◌, ◌++◌, true, length, take, IfOk};
+ghost use Rattle.frame_geometry.specs.Places.{payload_row_of};
+ghost use Rattle.otn_base.specs.declared.limits.TheConstants.{CLIENT_COLUMNS, CLIENT_PAYLOAD_BYTES, PAYLOAD_COLUMNS};
 ghost use Rattle.otn_ports.specs.InPlace.{in_view};
 ghost use Rattle.otn_ports.specs.Views.{InView};
 ghost use Rattle.packet_text.specs.LinesStand.{LinesView, lines_view};
+ghost use Rattle.odu_client.specs.AlignedRuns.{payload_of};
 ghost use Rattle.odu_client.specs.Framing.{StreamState, StreamMade, StreamReady, TextStands, GetsReady, StreamGoes};
 ghost use Rattle.odu_client.specs.PacketStream.{fresh_stream, Asked};
 
+use frame_geometry::Frame;
 use gfp_frames::GfpMaker;
 use otn_base::Memory;
+use otn_base::limits::CLIENT_COLUMNS;
 use otn_ports::{InPlaceOf, Source};
 use packet_text::{Line, PacketLines};
 use std::alloc::Global;
@@ -69,8 +74,47 @@ impl PacketStream {
         self.answer
     }
 
-    /// The next bytes of the stream.
-    pub(crate) fn fill<P: Source>(
+    /// The next bytes of the stream, as the payload of a frame, row by row.
+    pub(crate) fn fill_payload<P: Source>(
+        &mut self,
+        lines: &mut PacketLines,
+        place: &mut InPlaceOf<P>,
+        frame: &mut Frame<CLIENT_COLUMNS>,
+    )
+        ensures size { length (payload_of frame.new) ≡ CLIENT_PAYLOAD_BYTES }
+        ensures goes { (first : InView) (taken given : List ℕ) (packets : List (List ℕ)) → TextStands first (in_view P.Source place.old) taken packets (lines_view lines.old) self.old
+            → StreamMade packets given self.old
+            → StreamGoes first (in_view P.Source place.new) taken (given ++ payload_of frame.new) packets (lines_view lines.old) (lines_view lines.new) self.old.fcs self.new }
+        ensures over { self.old.answer ≢ Line.Packet → (place.new ≡ place.old) × (lines.new ≡ lines.old) × (self.new.answer ≡ self.old.answer) }
+    {
+        self.fill_row(lines, place, frame, 1);
+        self.fill_row(lines, place, frame, 2);
+        self.fill_row(lines, place, frame, 3);
+        self.fill_row(lines, place, frame, 4);
+    }
+
+    // The next bytes of the stream, as the payload of a row (1 to 4) of a frame. The payload of every other row stays.
+    fn fill_row<P: Source>(
+        &mut self,
+        lines: &mut PacketLines,
+        place: &mut InPlaceOf<P>,
+        frame: &mut Frame<CLIENT_COLUMNS>,
+        row: u32,
+    )
+        requires row_low { 1 ≤ row }
+        requires row_high { row ≤ 4 }
+        ensures size { length (payload_row_of CLIENT_COLUMNS row frame.new) ≡ PAYLOAD_COLUMNS }
+        ensures others { (r : ℕ) → 1 ≤ r → r ≤ 4 → r ≢ row → payload_row_of CLIENT_COLUMNS r frame.new ≡ payload_row_of CLIENT_COLUMNS r frame.old }
+        ensures goes { (first : InView) (taken given : List ℕ) (packets : List (List ℕ)) → TextStands first (in_view P.Source place.old) taken packets (lines_view lines.old) self.old
+            → StreamMade packets given self.old
+            → StreamGoes first (in_view P.Source place.new) taken (given ++ payload_row_of CLIENT_COLUMNS row frame.new) packets (lines_view lines.old) (lines_view lines.new) self.old.fcs self.new }
+        ensures over { self.old.answer ≢ Line.Packet → (place.new ≡ place.old) × (lines.new ≡ lines.old) × (self.new.answer ≡ self.old.answer) }
+    {
+        self.fill(lines, place, frame.payload_row_mut(row));
+    }
+
+    // The next bytes of the stream.
+    fn fill<P: Source>(
         &mut self,
         lines: &mut PacketLines,
         place: &mut InPlaceOf<P>,

@@ -6,7 +6,7 @@ pub returns-then-self-lt-CLIENT_FRAME_BYTES-clause-some :
     goal.returns-then-self-lt-CLIENT_FRAME_BYTES-clause-some
 returns-then-self-lt-CLIENT_FRAME_BYTES-clause-some g c =
     some_drop c.args.self.now.left c.self.inside.frame c.self.inside.at (sym (ap (λ f. f.left) c.self.view_is))
-    (let size = c.self.invariant.2 in omega arith)
+    (let size = c.self.invariant.1 in omega arith)
 
 pub returns-then-self-lt-CLIENT_FRAME_BYTES-clause-makes :
     goal.returns-then-self-lt-CLIENT_FRAME_BYTES-clause-makes

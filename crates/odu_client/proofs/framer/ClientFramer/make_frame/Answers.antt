@@ -1,8 +1,7 @@
-use Rattle.std.proofs.Common.{rules, ◌≡◌, ◌+◌, ◌%◌, [], refl, ap, subst, ◌∙◌, arith, length, drop}
-use Rattle.std.proofs.lemmas.List.{take_at}
+use Rattle.std.proofs.Common.{rules, ◌≡◌, ◌+◌, ◌%◌, [], refl, sym, ap, subst, ◌∙◌, arith, drop}
 use Rattle.otn_ports.specs.InPlace.{in_view}
 use Rattle.packet_text.specs.LinesStand.{lines_view}
-use Rattle.odu_client.specs.FramePuts.{FrameWasPut}
+use Rattle.odu_client.specs.AlignedRuns.{payload_of}
 use Rattle.odu_client.specs.Framing.{FramerState}
 use Rattle.odu_client.specs.FramerSteps.{FramedSome, Makes}
 use Rattle.odu_client.proofs.Framing.{makes_frame, some_left}
@@ -15,13 +14,19 @@ returns-clause-some g c = some_left _ (let size = c.write.ensures.size in omega 
 pub returns-clause-makes : goal.returns-clause-makes
 returns-clause-makes g c = λ first taken gone h.
     let old : FramerState = record { sapi = c.self.inside.trace; stream = c.self.inside.stream; path = c.self.inside.path; mfas = c.self.inside.mfas; left = drop c.self.inside.at c.self.inside.frame; fresh = c.self.inside.fresh } in
-    let new : FramerState = record { sapi = c.self.inside.trace; stream = c.fill.new.self; path = c.write.new.self; mfas = (c.self.inside.mfas + 1) % 256; left = c.write.new.frame; fresh = c.eq-self-inside.result } in
+    let new : FramerState = record { sapi = c.self.inside.trace; stream = c.fill_payload.new.self; path = c.write.new.self; mfas = (c.self.inside.mfas + 1) % 256; left = c.write.new.frame; fresh = c.eq-self-inside.result } in
     let P : FramerState → Type 0 = λ f. FramedSome first (in_view g.P.Source c.args.place.now) taken gone (lines_view c.args.lines.now) f
-    → Makes first (in_view g.P.Source c.fill.new.place) taken gone (lines_view c.args.lines.now) (lines_view c.fill.new.lines) f new in
+    → Makes first (in_view g.P.Source c.fill_payload.new.place) taken gone (lines_view c.args.lines.now) (lines_view c.fill_payload.new.lines) f new in
     let none : old.left ≡ [] = ap (λ f. f.left) c.self.view_is ∙ c.requires in
-    let put : FrameWasPut c.self.inside.mfas c.fill.new.into c.put_frame.new.frame = (let size : length c.fill.new.into ≡ c.self.inside.payload.len = search rules in let e = c.deref.ensures.value ∙ take_at c.fill.new.into (drop (length c.fill.new.into) c.self.inside.payload.items) c.self.inside.payload.len size in subst (λ p. FrameWasPut c.self.inside.mfas p c.put_frame.new.frame) e c.put_frame.ensures) in
+    let payload = payload_of c.fill_payload.new.frame in
     subst P c.self.view_is
-    (makes_frame first (in_view g.P.Source c.args.place.now) (in_view g.P.Source c.fill.new.place) taken gone c.fill.new.into (lines_view c.args.lines.now) (lines_view c.fill.new.lines) old new none (search rules)
-    (λ tk gn ps t s. c.fill.ensures.goes first tk gn ps t s)
-    (λ fs sent. (is_client_frame c.self.inside.trace c.self.inside.mfas _ c.fill.new.into c.put_frame.new.frame c.write.new.frame put (c.write.ensures.frame fs sent), c.write.ensures.sent fs sent))
-    refl refl (search rules) (search rules)) h
+    (makes_frame first (in_view g.P.Source c.args.place.now) (in_view g.P.Source c.fill_payload.new.place) taken gone payload (lines_view c.args.lines.now) (lines_view c.fill_payload.new.lines) old new none c.fill_payload.ensures.size
+    (λ tk gn ps t s. c.fill_payload.ensures.goes first tk gn ps t s)
+    (λ fs sent. (is_client_frame c.self.inside.trace c.self.inside.mfas _ payload c.put_beside.new.frame c.write.new.frame c.put_beside.ensures (c.write.ensures.frame fs sent), c.write.ensures.sent fs sent))
+    refl refl (search (rules, c.eq-self-inside.ensures, c.answer.ensures)) (search (rules, c.eq-self-inside.ensures, c.answer.ensures))) h
+
+pub returns-clause-over : goal.returns-clause-over
+returns-clause-over g c = λ other.
+    let same : c.self.inside.stream.answer ≡ c.args.self.now.stream.answer = ap (λ f. f.stream.answer) c.self.view_is in
+    let over = c.fill_payload.ensures.over (λ e. other (sym same ∙ e)) in
+    (over.0, over.1, over.2 ∙ same)
