@@ -273,16 +273,16 @@ more_goes first now taken given done more all packets lines next fcs s e h =
     let P : List ℕ → Type 0 = λ g. StreamGoes first now taken g packets lines next fcs s in subst P (append_assoc given done more ∙ ap (λ y. given ++ y) (sym e)) h
 
 -- what a call that gives these bytes does, whatever came before it
-abbrev pub Gave : (was now : InView) (bytes : List ℕ) (a b : LinesView) (s t : StreamState) → Type 0
-Gave was now bytes a b s t =
+abbrev pub StreamsBy : (was now : InView) (bytes : List ℕ) (a b : LinesView) (s t : StreamState) → Type 0
+StreamsBy was now bytes a b s t =
     (first : InView) (taken given : List ℕ) (packets : List (List ℕ)) → TextStands first was taken packets a s → StreamMade packets given s → StreamGoes first now taken (given ++ bytes) packets a b s.fcs t
 
 -- two calls, one after another
-pub gave_both : (was mid now : InView) (x y : List ℕ) (a b c : LinesView) (s t u : StreamState) → Gave was mid x a b s t → Gave mid now y b c t u → Gave was now (x ++ y) a c s u
-gave_both was mid now x y a b c s t u one two = λ first taken given packets text made.
+pub streams_both : (was mid now : InView) (x y : List ℕ) (a b c : LinesView) (s t u : StreamState) → StreamsBy was mid x a b s t → StreamsBy mid now y b c t u → StreamsBy was now (x ++ y) a c s u
+streams_both was mid now x y a b c s t u one two = λ first taken given packets text made.
     more_goes first now taken given x y (x ++ y) packets a c s.fcs u refl
     (streams_then first mid now taken (given ++ x) y packets a b c s.fcs t u (one first taken given packets text made) (λ tk g ps v w. two first tk g ps v w))
 
 -- the same bytes, by another name
-pub gave_same : (was now : InView) (x y : List ℕ) (a b : LinesView) (s t : StreamState) → x ≡ y → Gave was now x a b s t → Gave was now y a b s t
-gave_same was now x y a b s t e one = let P : List ℕ → Type 0 = λ z. Gave was now z a b s t in subst P e one
+pub streams_same : (was now : InView) (x y : List ℕ) (a b : LinesView) (s t : StreamState) → x ≡ y → StreamsBy was now x a b s t → StreamsBy was now y a b s t
+streams_same was now x y a b s t e one = let P : List ℕ → Type 0 = λ z. StreamsBy was now z a b s t in subst P e one

@@ -1,6 +1,6 @@
 use Rattle.std.proofs.Common.{sym, ap, ◌∙◌, length}
 use Rattle.odu_client.proofs.PayloadRows.{rows_done, rows_size}
-use Rattle.odu_client.proofs.Streaming.{gave_both, gave_same}
+use Rattle.odu_client.proofs.Streaming.{streams_both, streams_same}
 use Rattle.odu_client.proofs.packet_stream.PacketStream.fill_payload.Goals as goal
 
 pub returns-clause-size : goal.returns-clause-size
@@ -18,8 +18,8 @@ returns-clause-goes g c =
     let two = c.fill_row-2.ensures in
     let three = c.fill_row-3.ensures in
     let four = c.fill_row-4.ensures in
-    gave_same _ _ _ _ _ _ _ _ (rows_done c.fill_row.new.frame c.fill_row-2.new.frame c.fill_row-3.new.frame c.fill_row-4.new.frame two.others three.others four.others)
-    (gave_both _ _ _ _ _ _ _ _ _ _ _ (gave_both _ _ _ _ _ _ _ _ _ _ _ (gave_both _ _ _ _ _ _ _ _ _ _ _ one.goes two.goes) three.goes) four.goes)
+    streams_same _ _ _ _ _ _ _ _ (rows_done c.fill_row.new.frame c.fill_row-2.new.frame c.fill_row-3.new.frame c.fill_row-4.new.frame two.others three.others four.others)
+    (streams_both _ _ _ _ _ _ _ _ _ _ _ (streams_both _ _ _ _ _ _ _ _ _ _ _ (streams_both _ _ _ _ _ _ _ _ _ _ _ one.goes two.goes) three.goes) four.goes)
 
 pub returns-clause-over : goal.returns-clause-over
 returns-clause-over g c = λ other.

@@ -1,6 +1,6 @@
 use Rattle.std.proofs.Common.{sym, ap, ◌∙◌, length}
 use Rattle.odu_client.proofs.PayloadRows.{loan_back, loan_stays}
-use Rattle.odu_client.proofs.Streaming.{gave_same}
+use Rattle.odu_client.proofs.Streaming.{streams_same}
 use Rattle.odu_client.proofs.packet_stream.PacketStream.fill_row.Goals as goal
 
 pub returns-clause-size : goal.returns-clause-size
@@ -18,4 +18,4 @@ pub returns-clause-goes : goal.returns-clause-goes
 returns-clause-goes g c =
     let row = c.payload_row_mut.ensures in
     let back = loan_back c.args.row c.args.frame.now c.fill.new.into c.requires.row_low c.requires.row_high row.frame (c.fill.ensures.size ∙ row.size) in
-    gave_same _ _ _ _ _ _ _ _ (sym back) (λ first taken given packets t h. c.fill.ensures.goes first taken given packets t h)
+    streams_same _ _ _ _ _ _ _ _ (sym back) (λ first taken given packets t h. c.fill.ensures.goes first taken given packets t h)
