@@ -1,5 +1,6 @@
 -- The rows of a frame, joined out of their slots.
 use Rattle.std.proofs.Common.{◌≡◌, ◌⊎◌, inl, inr, ℕ, ◌+◌, ◌-◌, ◌*◌, ◌<◌, ◌≤◌, List, [], ◌∷◌, length, get_or, ap, sym, subst, ◌∙◌, arith}
+use Rattle.std.proofs.Math.ListN.{get_or-eq_default}
 use Rattle.frame_geometry.specs.Places.{place_of, with_payload_row}
 use Rattle.frame_geometry.specs.Loans.{length-with_payload_row}
 use Rattle.odtu_columns.specs.BySlots.{joined_byte, frame_by_slots, IsOutside, RowJoined}
@@ -26,9 +27,9 @@ row_joined rows frame new row low high size long joined = record {
 pub row_number : (row : ℕ) → 1 ≤ row → row ≤ 4 → (row ≡ 1) ⊎ ((row ≡ 2) ⊎ ((row ≡ 3) ⊎ (row ≡ 4)))
 row_number row low high = grind arith
 
-pub frame_joined : (own r1 r2 r3 r4 f1 f2 f3 f4 : List ℕ) → length own ≡ 16320 → RowJoined r1 1 own f1 → RowJoined r2 2 f1 f2 → RowJoined r3 3 f2 f3 → RowJoined r4 4 f3 f4
+pub frame_joined : (own r1 r2 r3 r4 f0 f1 f2 f3 f4 : List ℕ) → length own ≡ 16320 → ((place : ℕ) → IsOutside place → get_or f0 place 0 ≡ get_or own place 0) → RowJoined r1 1 f0 f1 → RowJoined r2 2 f1 f2 → RowJoined r3 3 f2 f3 → RowJoined r4 4 f3 f4
     → f4 ≡ frame_by_slots own (r1 ∷ r2 ∷ r3 ∷ r4 ∷ [])
-frame_joined own r1 r2 r3 r4 f1 f2 f3 f4 size h1 h2 h3 h4 = is_frame own f4 (r1 ∷ r2 ∷ r3 ∷ r4 ∷ []) size h4.size (λ row x low high h. joined row x h (row_number row low high)) kept
+frame_joined own r1 r2 r3 r4 f0 f1 f2 f3 f4 size rest h1 h2 h3 h4 = is_frame own f4 (r1 ∷ r2 ∷ r3 ∷ r4 ∷ []) size h4.size (λ row x low high h. joined row x h (row_number row low high)) kept
   where
     kept : (place : ℕ) → IsOutside place → get_or f4 place 0 ≡ get_or own place 0
     kept place out =
@@ -36,6 +37,7 @@ frame_joined own r1 r2 r3 r4 f1 f2 f3 f4 size h1 h2 h3 h4 = is_frame own f4 (r1 
         ∙ h3.kept place (λ x h e. out 3 x (omega arith) (omega arith) h e)
         ∙ h2.kept place (λ x h e. out 2 x (omega arith) (omega arith) h e)
         ∙ h1.kept place (λ x h e. out 1 x (omega arith) (omega arith) h e)
+        ∙ rest place out
 
     joined : (row x : ℕ) → x < 3808 → (row ≡ 1) ⊎ ((row ≡ 2) ⊎ ((row ≡ 3) ⊎ (row ≡ 4))) → get_or f4 (place_of 4080 row (17 + x)) 0 ≡ joined_byte (get_or (r1 ∷ r2 ∷ r3 ∷ r4 ∷ []) (row - 1) []) x
     joined row x h (inl one) =
@@ -56,3 +58,57 @@ frame_joined own r1 r2 r3 r4 f1 f2 f3 f4 size h1 h2 h3 h4 = is_frame own f4 (r1 
     joined row x h (inr (inr (inr four))) =
         subst (λ k. get_or f4 (place_of 4080 k (17 + x)) 0 ≡ joined_byte (get_or (r1 ∷ r2 ∷ r3 ∷ r4 ∷ []) (k - 1) []) x) (sym four)
         (h4.here x h)
+
+-- ---- the bytes that are in no payload column
+
+order : (place n : ℕ) → (place < n) ⊎ (n ≤ place)
+order place n = grind arith
+
+-- five runs of bytes were cleared: before the payload of the first row, between that of two rows, and behind that of the last
+pub all_beside : (b0 b1 b2 b3 b4 b5 : List ℕ) → length b5 ≡ 16320
+    → ((place : ℕ) → 0 ≤ place → place < 16 → get_or b1 place 0 ≡ 0) → ((place : ℕ) → (place < 0) ⊎ (16 ≤ place) → get_or b1 place 0 ≡ get_or b0 place 0)
+    → ((place : ℕ) → 3824 ≤ place → place < 4096 → get_or b2 place 0 ≡ 0) → ((place : ℕ) → (place < 3824) ⊎ (4096 ≤ place) → get_or b2 place 0 ≡ get_or b1 place 0)
+    → ((place : ℕ) → 7904 ≤ place → place < 8176 → get_or b3 place 0 ≡ 0) → ((place : ℕ) → (place < 7904) ⊎ (8176 ≤ place) → get_or b3 place 0 ≡ get_or b2 place 0)
+    → ((place : ℕ) → 11984 ≤ place → place < 12256 → get_or b4 place 0 ≡ 0) → ((place : ℕ) → (place < 11984) ⊎ (12256 ≤ place) → get_or b4 place 0 ≡ get_or b3 place 0)
+    → ((place : ℕ) → 16064 ≤ place → place < 16320 → get_or b5 place 0 ≡ 0) → ((place : ℕ) → (place < 16064) ⊎ (16320 ≤ place) → get_or b5 place 0 ≡ get_or b4 place 0)
+    → (place : ℕ) → IsOutside place → get_or b5 place 0 ≡ 0
+all_beside b0 b1 b2 b3 b4 b5 size z1 k1 z2 k2 z3 k3 z4 k4 z5 k5 place out = go (order place 16)
+  where
+    past : 16320 ≤ place → get_or b5 place 0 ≡ 0
+    past h = get_or-eq_default b5 0 (subst (λ n. n ≤ place) (sym size) h)
+
+    behind : 16064 ≤ place → (place < 16320) ⊎ (16320 ≤ place) → get_or b5 place 0 ≡ 0
+    behind h (inl l) = z5 place h l
+    behind h (inr l) = past l
+
+    fourth_row : 12256 ≤ place → (place < 16064) ⊎ (16064 ≤ place) → get_or b5 place 0 ≡ 0
+    fourth_row h (inl l) = absurd (out 4 (place - 12256) (omega arith) (omega arith) (omega arith) (omega arith))
+    fourth_row h (inr l) = behind l (order place 16320)
+
+    fourth : 11984 ≤ place → (place < 12256) ⊎ (12256 ≤ place) → get_or b5 place 0 ≡ 0
+    fourth h (inl l) = k5 place (inl (omega arith)) ∙ z4 place h l
+    fourth h (inr l) = fourth_row l (order place 16064)
+
+    third_row : 8176 ≤ place → (place < 11984) ⊎ (11984 ≤ place) → get_or b5 place 0 ≡ 0
+    third_row h (inl l) = absurd (out 3 (place - 8176) (omega arith) (omega arith) (omega arith) (omega arith))
+    third_row h (inr l) = fourth l (order place 12256)
+
+    third : 7904 ≤ place → (place < 8176) ⊎ (8176 ≤ place) → get_or b5 place 0 ≡ 0
+    third h (inl l) = k5 place (inl (omega arith)) ∙ k4 place (inl (omega arith)) ∙ z3 place h l
+    third h (inr l) = third_row l (order place 11984)
+
+    second_row : 4096 ≤ place → (place < 7904) ⊎ (7904 ≤ place) → get_or b5 place 0 ≡ 0
+    second_row h (inl l) = absurd (out 2 (place - 4096) (omega arith) (omega arith) (omega arith) (omega arith))
+    second_row h (inr l) = third l (order place 8176)
+
+    second : 3824 ≤ place → (place < 4096) ⊎ (4096 ≤ place) → get_or b5 place 0 ≡ 0
+    second h (inl l) = k5 place (inl (omega arith)) ∙ k4 place (inl (omega arith)) ∙ k3 place (inl (omega arith)) ∙ z2 place h l
+    second h (inr l) = second_row l (order place 7904)
+
+    first_row : 16 ≤ place → (place < 3824) ⊎ (3824 ≤ place) → get_or b5 place 0 ≡ 0
+    first_row h (inl l) = absurd (out 1 (place - 16) (omega arith) (omega arith) (omega arith) (omega arith))
+    first_row h (inr l) = second l (order place 4096)
+
+    go : (place < 16) ⊎ (16 ≤ place) → get_or b5 place 0 ≡ 0
+    go (inl l) = k5 place (inl (omega arith)) ∙ k4 place (inl (omega arith)) ∙ k3 place (inl (omega arith)) ∙ k2 place (inl (omega arith)) ∙ z1 place (omega arith) l
+    go (inr l) = first_row l (order place 3824)

@@ -4,10 +4,9 @@ use Rattle.std.specs.Prelude.{◌&&◌, ◌==◌, nat_lt}
 use Rattle.std.proofs.Math.ListN.{get_or-eq_default}
 use Rattle.std.proofs.lemmas.Bool.{cond-true, cond-false}
 use Rattle.std.proofs.lemmas.Bool.Decides.{nat_tests}
-use Rattle.std.proofs.lemmas.List.{ext_get_or}
 use Rattle.std.proofs.lemmas.List.FromFn.{length-map-range_with_len, get_or-map-range_with_len}
 use Rattle.frame_geometry.specs.Places.{place_of}
-use Rattle.odtu_columns.specs.BySlots.{message_byte, message_frame}
+use Rattle.odtu_columns.specs.BySlots.{message_byte, message_frame, IsOutside}
 use Rattle.odtu_columns.specs.Message.{message_of}
 use Rattle.odtu_columns.proofs.PutMessage.{six}
 
@@ -82,40 +81,41 @@ is_other place a b c d e f row column low high left right at = go (rows row low 
     go (inr (inr r)) (inl k) = f (omega arith)
     go (inr (inr r)) (inr k) = c (omega arith)
 
--- frames of one message, that are alike elsewhere
-pub same_frames : (f g : List ℕ) → length f ≡ length g → message_of f ≡ message_of g → ((place : ℕ) → IsOther place → get_or f place 0 ≡ get_or g place 0) → f ≡ g
-same_frames f g size message others = ext_get_or 0 f g size (λ place h. one place (same_or place 15))
+-- a byte of two frames of one message
+same_byte : (f g : List ℕ) → message_of f ≡ message_of g → (place : ℕ) → (IsOther place → get_or f place 0 ≡ get_or g place 0) → get_or f place 0 ≡ get_or g place 0
+same_byte f g message place other = one (same_or place 15)
   where
-    six_of : (place : ℕ) → place ≢ 15 → place ≢ 4095 → place ≢ 8175 → place ≢ 14 → place ≢ 4094 → (place ≡ 8174) ⊎ (place ≢ 8174) → get_or f place 0 ≡ get_or g place 0
-    six_of place a b c d e (inl is) = subst (λ k. get_or f k 0 ≡ get_or g k 0) (sym is) (ap (λ xs. get_or xs 5 0) message)
-    six_of place a b c d e (inr not) = others place (is_other place a b c d e not)
+    six_of : place ≢ 15 → place ≢ 4095 → place ≢ 8175 → place ≢ 14 → place ≢ 4094 → (place ≡ 8174) ⊎ (place ≢ 8174) → get_or f place 0 ≡ get_or g place 0
+    six_of a b c d e (inl is) = subst (λ k. get_or f k 0 ≡ get_or g k 0) (sym is) (ap (λ xs. get_or xs 5 0) message)
+    six_of a b c d e (inr not) = other (is_other place a b c d e not)
 
-    five_of : (place : ℕ) → place ≢ 15 → place ≢ 4095 → place ≢ 8175 → place ≢ 14 → (place ≡ 4094) ⊎ (place ≢ 4094) → get_or f place 0 ≡ get_or g place 0
-    five_of place a b c d (inl is) = subst (λ k. get_or f k 0 ≡ get_or g k 0) (sym is) (ap (λ xs. get_or xs 4 0) message)
-    five_of place a b c d (inr not) = six_of place a b c d not (same_or place 8174)
+    five_of : place ≢ 15 → place ≢ 4095 → place ≢ 8175 → place ≢ 14 → (place ≡ 4094) ⊎ (place ≢ 4094) → get_or f place 0 ≡ get_or g place 0
+    five_of a b c d (inl is) = subst (λ k. get_or f k 0 ≡ get_or g k 0) (sym is) (ap (λ xs. get_or xs 4 0) message)
+    five_of a b c d (inr not) = six_of a b c d not (same_or place 8174)
 
-    four_of : (place : ℕ) → place ≢ 15 → place ≢ 4095 → place ≢ 8175 → (place ≡ 14) ⊎ (place ≢ 14) → get_or f place 0 ≡ get_or g place 0
-    four_of place a b c (inl is) = subst (λ k. get_or f k 0 ≡ get_or g k 0) (sym is) (ap (λ xs. get_or xs 3 0) message)
-    four_of place a b c (inr not) = five_of place a b c not (same_or place 4094)
+    four_of : place ≢ 15 → place ≢ 4095 → place ≢ 8175 → (place ≡ 14) ⊎ (place ≢ 14) → get_or f place 0 ≡ get_or g place 0
+    four_of a b c (inl is) = subst (λ k. get_or f k 0 ≡ get_or g k 0) (sym is) (ap (λ xs. get_or xs 3 0) message)
+    four_of a b c (inr not) = five_of a b c not (same_or place 4094)
 
-    three_of : (place : ℕ) → place ≢ 15 → place ≢ 4095 → (place ≡ 8175) ⊎ (place ≢ 8175) → get_or f place 0 ≡ get_or g place 0
-    three_of place a b (inl is) = subst (λ k. get_or f k 0 ≡ get_or g k 0) (sym is) (ap (λ xs. get_or xs 2 0) message)
-    three_of place a b (inr not) = four_of place a b not (same_or place 14)
+    three_of : place ≢ 15 → place ≢ 4095 → (place ≡ 8175) ⊎ (place ≢ 8175) → get_or f place 0 ≡ get_or g place 0
+    three_of a b (inl is) = subst (λ k. get_or f k 0 ≡ get_or g k 0) (sym is) (ap (λ xs. get_or xs 2 0) message)
+    three_of a b (inr not) = four_of a b not (same_or place 14)
 
-    two_of : (place : ℕ) → place ≢ 15 → (place ≡ 4095) ⊎ (place ≢ 4095) → get_or f place 0 ≡ get_or g place 0
-    two_of place a (inl is) = subst (λ k. get_or f k 0 ≡ get_or g k 0) (sym is) (ap (λ xs. get_or xs 1 0) message)
-    two_of place a (inr not) = three_of place a not (same_or place 8175)
+    two_of : place ≢ 15 → (place ≡ 4095) ⊎ (place ≢ 4095) → get_or f place 0 ≡ get_or g place 0
+    two_of a (inl is) = subst (λ k. get_or f k 0 ≡ get_or g k 0) (sym is) (ap (λ xs. get_or xs 1 0) message)
+    two_of a (inr not) = three_of a not (same_or place 8175)
 
-    one : (place : ℕ) → (place ≡ 15) ⊎ (place ≢ 15) → get_or f place 0 ≡ get_or g place 0
-    one place (inl is) = subst (λ k. get_or f k 0 ≡ get_or g k 0) (sym is) (ap (λ xs. get_or xs 0 0) message)
-    one place (inr not) = two_of place not (same_or place 4095)
+    one : (place ≡ 15) ⊎ (place ≢ 15) → get_or f place 0 ≡ get_or g place 0
+    one (inl is) = subst (λ k. get_or f k 0 ≡ get_or g k 0) (sym is) (ap (λ xs. get_or xs 0 0) message)
+    one (inr not) = two_of not (same_or place 4095)
 
--- a message put where all is 0
-pub put_alone : (frame now message : List ℕ) → length now ≡ 16320 → length message ≡ 6 → ((place : ℕ) → get_or frame place 0 ≡ 0) → message_of now ≡ message
-    → ((place : ℕ) → IsOther place → get_or now place 0 ≡ get_or frame place 0) → now ≡ message_frame message
-put_alone frame now message size many blank is kept =
-    same_frames now (message_frame message) (size ∙ sym (length-message_frame message)) (is ∙ sym (message_of-message_frame message many))
-    (λ place none. kept place none ∙ blank place ∙ sym (other_zero message place none))
+-- a message put where all that is in no payload column is 0
+pub put_alone : (before now message : List ℕ) → length message ≡ 6 → ((place : ℕ) → IsOutside place → get_or before place 0 ≡ 0) → message_of now ≡ message
+    → ((place : ℕ) → IsOther place → get_or now place 0 ≡ get_or before place 0)
+    → (place : ℕ) → IsOutside place → get_or now place 0 ≡ get_or (message_frame message) place 0
+put_alone before now message many blank is kept place out =
+    same_byte now (message_frame message) (is ∙ sym (message_of-message_frame message many)) place
+    (λ none. kept place none ∙ blank place out ∙ sym (other_zero message place none))
 
 -- a message of bytes 0
 abbrev zeros : List ℕ

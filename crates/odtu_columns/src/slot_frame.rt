@@ -1,17 +1,20 @@
 // A frame of an OTU2 whose payload is kept by tributary slots.
-ghost use Rattle.std.specs.Prelude.{◌≡◌, ◌≢◌, ℕ, ◌+◌, ◌-◌, ◌*◌, ◌/◌, ◌%◌, ◌<◌, ◌≤◌, IfOk, length, slice_index};
+ghost use Rattle.std.specs.Prelude.{◌≡◌, ◌≢◌, ℕ, ◌+◌, ◌-◌, ◌*◌, ◌/◌, ◌%◌, ◌<◌, ◌≤◌, ◌⊎◌, IfOk, length, slice_index};
 ghost use Rattle.frame_geometry.specs.Places.{place_of};
 ghost use Rattle.otn_base.specs.LineSlots.{slots_of};
 ghost use Rattle.otn_base.specs.SlotList.{IsSlotList};
 ghost use Rattle.otn_base.specs.declared.limits.TheConstants.{LINE_COLUMNS, LINE_FRAME_BYTES, OTU2_SLOTS, PAYLOAD_COLUMNS};
-ghost use Rattle.odtu_columns.specs.BySlots.{joined_byte, HasPayloadOf, RowJoined};
+ghost use Rattle.odtu_columns.specs.BySlots.{joined_byte, HasPayloadOf, IsOutside, RowJoined};
 
 use crate::fill::FillFrame;
 use crate::justification::put_message;
 use crate::put::put_groups;
 use frame_geometry::Frame;
 use lane_kernels::{SlotRows, join8, split8};
-use otn_base::limits::{LINE_COLUMNS, OTU2_SLOTS, PAYLOAD_COLUMNS};
+use otn_base::limits::{
+    LAST_PAYLOAD_COLUMN, LINE_COLUMNS, LINE_FRAME_BYTES, OTU2_SLOTS, OVERHEAD_COLUMNS,
+    PAYLOAD_COLUMNS,
+};
 use otn_base::{LineKind, Memory, Slots};
 use std::alloc::Global;
 use std::marker::Model;
@@ -95,11 +98,11 @@ impl SlotFrame {
         }
     }
 
-    /// Writes its bytes into a frame that is all 0.
+    /// Writes its bytes into a frame, whatever that holds.
     pub fn join_into(&self, frame: &mut Frame<LINE_COLUMNS>)
-        requires blank { (place : ℕ) → slice_index frame.old place ≡ 0 }
         ensures { frame.new ≡ self.now }
     {
+        clear_beside_payload(frame);
         put_message(frame, self.message);
         join_row(&self.row1, 1, frame);
         join_row(&self.row2, 2, frame);
@@ -141,6 +144,48 @@ fn split_row(frame: &Frame<LINE_COLUMNS>, row: u32, rows: &mut SlotRows<OTU2_SLO
     ensures { (x : ℕ) → x < PAYLOAD_COLUMNS → joined_byte rows.new x ≡ slice_index frame.now (place_of LINE_COLUMNS row (17 + x)) }
 {
     split8(frame.payload_row(row), rows);
+}
+
+// Writes 0 into every byte that is in no payload column.
+fn clear_beside_payload(frame: &mut Frame<LINE_COLUMNS>)
+    ensures { (place : ℕ) → IsOutside place → slice_index frame.new place ≡ 0 }
+{
+    clear_between_rows(frame.as_bytes_mut());
+}
+
+// The same, in the bytes of a frame: between the payload of two rows stand the FEC columns of the one and the overhead columns of
+// the other.
+fn clear_between_rows(bytes: &mut [u8])
+    requires { length bytes.old ≡ LINE_FRAME_BYTES }
+    ensures { (place : ℕ) → IsOutside place → slice_index bytes.new place ≡ 0 }
+{
+    clear_run(bytes, 0, OVERHEAD_COLUMNS);
+    clear_run(bytes, LAST_PAYLOAD_COLUMN, LINE_COLUMNS + OVERHEAD_COLUMNS);
+    clear_run(
+        bytes,
+        LINE_COLUMNS + LAST_PAYLOAD_COLUMN,
+        2 * LINE_COLUMNS + OVERHEAD_COLUMNS,
+    );
+    clear_run(
+        bytes,
+        2 * LINE_COLUMNS + LAST_PAYLOAD_COLUMN,
+        3 * LINE_COLUMNS + OVERHEAD_COLUMNS,
+    );
+    clear_run(
+        bytes,
+        3 * LINE_COLUMNS + LAST_PAYLOAD_COLUMN,
+        LINE_FRAME_BYTES,
+    );
+}
+
+// Writes 0 from a place on to before another; every other byte stays.
+fn clear_run(bytes: &mut [u8], from: usize, to: usize)
+    requires order { from ≤ to }
+    requires room { to ≤ length bytes.old }
+    ensures zero { (place : ℕ) → from ≤ place → place < to → slice_index bytes.new place ≡ 0 }
+    ensures kept { (place : ℕ) → (place < from) ⊎ (to ≤ place) → slice_index bytes.new place ≡ slice_index bytes.old place }
+{
+    bytes[from..to].fill(0);
 }
 
 // Writes the payload of a row, and keeps every other byte.
