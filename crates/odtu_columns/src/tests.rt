@@ -288,9 +288,49 @@ fn slots_one_after_another(rt: HostRuntime) -> Result<(), Fail> {
         assert_eq!(rt; joined.get(row, col), byte, "row {row}, column {col}");
     }
     by_slots.clear();
-    joined.clear();
     by_slots.join_into(&mut joined);
     assert_eq!(rt; joined.as_bytes().iter().all(|byte| *byte == 0), true);
+    Ok(())
+}
+
+// Fills two slots of two rows alone: one after the other, and at once.
+fn fill_two<F: FillFrame>(frame: &mut F) -> Result<(), Fail> {
+    fill_slots(frame, 2, &[3], &[0xAA; 476])?;
+    fill_slots(frame, 2, &[8], &[0xBB; 476])?;
+    fill_slots(frame, 3, &[2, 5], &[9; 952])
+}
+
+#[test]
+fn two_slots_after_eight(rt: HostRuntime) -> Result<(), Fail> {
+    let mut by_slots = SlotFrame::new(rt.alloc())?;
+    let mut frame = Frame::<4080>::new(rt.alloc())?;
+    let mut joined = Frame::<4080>::new(rt.alloc())?;
+    fill_one_by_one(&mut by_slots)?;
+    by_slots.clear();
+    fill_two(&mut by_slots)?;
+    fill_two(&mut frame)?;
+    joined.as_bytes_mut().fill(0xFF);
+    by_slots.join_into(&mut joined);
+    assert_eq!(rt; joined.as_bytes() == frame.as_bytes(), true);
+    for (row, col, byte) in [
+        (2u32, 19u32, 0xAAu8),
+        (2, 3824, 0xBB),
+        (2, 18, 0),
+        (3, 18, 9),
+        (3, 19, 0),
+        (1, 19, 0),
+        (4, 24, 0),
+        (1, 1, 0),
+        (1, 16, 3),
+        (4, 16, 0),
+        (2, 3825, 0),
+        (4, 4080, 0),
+    ] {
+        let there = joined.get(row.clamp(1, 4), col.clamp(1, 4080));
+        assert_eq!(rt; there, byte, "row {row}, column {col}");
+    }
+    by_slots.join_into(&mut joined);
+    assert_eq!(rt; joined.as_bytes() == frame.as_bytes(), true);
     Ok(())
 }
 
