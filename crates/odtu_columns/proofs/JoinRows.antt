@@ -1,5 +1,5 @@
 -- The rows of a frame, joined out of their slots.
-use Rattle.std.proofs.Common.{◌≡◌, ◌⊎◌, inl, inr, ℕ, ◌+◌, ◌-◌, ◌*◌, ◌<◌, ◌≤◌, List, [], ◌∷◌, length, get_or, ap, sym, subst, ◌∙◌, arith}
+use Rattle.std.proofs.Common.{◌≡◌, ◌⊎◌, inl, inr, ℕ, ◌+◌, ◌-◌, ◌<◌, ◌≤◌, List, [], ◌∷◌, length, get_or, ap, sym, subst, ◌∙◌, arith}
 use Rattle.std.proofs.Math.ListN.{get_or-eq_default}
 use Rattle.frame_geometry.specs.Places.{place_of, with_payload_row}
 use Rattle.frame_geometry.specs.Loans.{length-with_payload_row}
@@ -58,6 +58,10 @@ frame_joined own r1 r2 r3 r4 f0 f1 f2 f3 f4 size rest h1 h2 h3 h4 = is_frame own
     joined row x h (inr (inr (inr four))) =
         subst (λ k. get_or f4 (place_of 4080 k (17 + x)) 0 ≡ joined_byte (get_or (r1 ∷ r2 ∷ r3 ∷ r4 ∷ []) (k - 1) []) x) (sym four)
         (h4.here x h)
+
+-- rows that are as they were
+pub rows_kept : (own r1 r2 r3 r4 s1 s2 s3 s4 : List ℕ) → s1 ≡ r1 → s2 ≡ r2 → s3 ≡ r3 → s4 ≡ r4 → frame_by_slots own (s1 ∷ s2 ∷ s3 ∷ s4 ∷ []) ≡ frame_by_slots own (r1 ∷ r2 ∷ r3 ∷ r4 ∷ [])
+rows_kept own r1 r2 r3 r4 s1 s2 s3 s4 one two three four = cc
 
 -- ---- the bytes that are in no payload column
 

@@ -10,6 +10,7 @@ pub mod PutBack
 pub mod PutGroup
 pub mod BySlots
 pub mod SlotBytes
+pub mod FilledRows
 pub mod SlotRuns
 pub mod JoinRows
 pub mod MessageFrames

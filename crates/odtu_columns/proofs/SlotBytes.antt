@@ -1,5 +1,5 @@
 -- The bytes of the slots of a row, one slot after the other.
-use Rattle.std.proofs.Common.{◌≡◌, ◌≢◌, ◌⊎◌, inl, inr, ℕ, zero, suc, ◌+◌, ◌-◌, ◌*◌, ◌/◌, ◌%◌, ◌<◌, ◌≤◌, List, [], ◌∷◌, ◌++◌, length, get_or, take, drop, ap, sym, ◌∙◌, subst, refl, arith}
+use Rattle.std.proofs.Common.{◌≡◌, ◌≢◌, ◌⊎◌, inl, inr, ℕ, zero, suc, ◌+◌, ◌-◌, ◌*◌, ◌/◌, ◌%◌, ◌<◌, ◌≤◌, List, [], ◌∷◌, ◌++◌, length, get_or, take, drop, ap, sym, ◌∙◌, refl, arith}
 use Rattle.std.proofs.lemmas.List.{length-take-le, get_or-take, get_or-drop, get_or_append_left, get_or-append_right}
 use Rattle.lane_kernels.specs.Loans.{written_at, after_slot_loan, after_slot_loan-whole}
 use Rattle.odtu_columns.specs.BySlots.{joined_byte}
@@ -9,9 +9,6 @@ joined_at rows x h =
     get_or-take 476 (drop (476 * (x % 8 + 1 - 1)) rows) (x / 8) 0 (omega arith)
     ∙ get_or-drop (476 * (x % 8 + 1 - 1)) rows (x / 8) 0
     ∙ ap (λ k. get_or rows k 0) (let e : 476 * (x % 8 + 1 - 1) + x / 8 ≡ 476 * (x % 8) + x / 8 = omega arith in e)
-
-pub joined_zero : (rows : List ℕ) → ((i : ℕ) → i < 3808 → get_or rows i 0 ≡ 0) → (x : ℕ) → x < 3808 → joined_byte rows x ≡ 0
-joined_zero rows zero_at x h = joined_at rows x h ∙ zero_at (476 * (x % 8) + x / 8) (omega arith)
 
 -- ---- bytes written over others
 
@@ -62,25 +59,6 @@ slot_other slot x old bytes low high size long h other =
     side : (x % 8 + 1 < slot) ⊎ (slot < x % 8 + 1) → (476 * (x % 8) + x / 8 < 476 * (slot - 1)) ⊎ (476 * (slot - 1) + length bytes ≤ 476 * (x % 8) + x / 8)
     side (inl l) = inl (omega arith)
     side (inr l) = inr (omega arith)
-
--- ---- a slot more is cleared
-
-pub slot_cleared : (k : ℕ) (old bytes : List ℕ) → k < 8 → length old ≡ 3808 → length bytes ≡ 476 → ((i : ℕ) → i < 476 → get_or bytes i 0 ≡ 0) → ((i : ℕ) → i < 476 * k → get_or old i 0 ≡ 0)
-    → (i : ℕ) → i < 476 * (k + 1) → get_or (after_slot_loan 8 (k + 1) old bytes) i 0 ≡ 0
-slot_cleared k old bytes few size long blank before i h =
-    let room : 476 * (k + 1 - 1) + length bytes ≤ 3808 = omega arith in
-    ap (λ xs. get_or xs i 0) (after_slot_loan-whole 8 (k + 1) old bytes size room) ∙ go (order i (476 * (k + 1 - 1)))
-  where
-    order : (i n : ℕ) → (i < n) ⊎ (n ≤ i)
-    order i n = grind arith
-
-    go : (i < 476 * (k + 1 - 1)) ⊎ (476 * (k + 1 - 1) ≤ i) → get_or (written_at (476 * (k + 1 - 1)) old bytes) i 0 ≡ 0
-    go (inl l) = written_off (476 * (k + 1 - 1)) i old bytes (omega arith) (inl l) ∙ before i (omega arith)
-    go (inr l) =
-        let place = 476 * (k + 1 - 1) in
-        ap (λ n. get_or (written_at place old bytes) n 0) (let e : i ≡ place + (i - place) = omega arith in e)
-        ∙ written_here place (i - place) old bytes (omega arith) (omega arith)
-        ∙ blank (i - place) (omega arith)
 
 -- ---- four rows
 

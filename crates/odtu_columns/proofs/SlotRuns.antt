@@ -1,12 +1,12 @@
 -- The groups of one slot, out of the bytes of the slots.
-use Rattle.std.proofs.Common.{◌≡◌, ◌⊎◌, inl, inr, ℕ, zero, suc, ◌+◌, ◌-◌, ◌*◌, ◌/◌, ◌%◌, ◌<◌, ◌≤◌, List, [], ◌∷◌, Some, length, get_or, take, drop, map, ap, sym, subst, ◌∙◌, refl, arith}
+use Rattle.std.proofs.Common.{◌≡◌, ◌⊎◌, inl, inr, ℕ, ◌+◌, ◌-◌, ◌*◌, ◌/◌, ◌%◌, ◌<◌, ◌≤◌, List, [], ◌∷◌, Some, length, get_or, take, drop, ap, sym, subst, ◌∙◌, refl, arith}
 use Rattle.std.specs.Prelude.{slice_get, slice_set}
-use Rattle.std.proofs.lemmas.List.{length-take-le, length-drop, get_or-take, get_or-drop}
+use Rattle.std.proofs.lemmas.List.{get_or-take, get_or-drop}
 use Rattle.frame_geometry.specs.Places.{place_of, payload_row_of}
 use Rattle.lane_kernels.specs.SlotPlaces.{slot_bytes}
 use Rattle.otn_base.specs.SlotList.{IsSlotList}
 use Rattle.odtu_columns.specs.BySlots.{joined_byte, frame_by_slots, HasPayloadOf}
-use Rattle.odtu_columns.specs.Payload.{payload_group, run_groups}
+use Rattle.odtu_columns.specs.Payload.{run_groups}
 use Rattle.odtu_columns.proofs.BySlots.{payload_at}
 use Rattle.odtu_columns.proofs.JoinRows.{row_number}
 use Rattle.odtu_columns.proofs.Rows.{payload_byte}

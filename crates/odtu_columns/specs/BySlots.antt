@@ -1,5 +1,5 @@
 -- A line's frame whose payload is kept by the tributary slots of an OTU2, each row for itself.
-use Rattle.std.specs.Prelude.{◌≡◌, ℕ, ◌+◌, ◌-◌, ◌/◌, ◌%◌, ◌<◌, ◌≤◌, Bool, ◌&&◌, nat_le, nat_lt, if◌then◌else◌, ◌==◌, List, [], get_or, length, map, slice_index}
+use Rattle.std.specs.Prelude.{◌≡◌, ℕ, ◌+◌, ◌-◌, ◌/◌, ◌%◌, ◌<◌, ◌≤◌, Bool, false, ◌&&◌, nat_le, nat_lt, if◌then◌else◌, ◌==◌, List, [], get_or, length, map, slice_index}
 use Rattle.std.specs.List.{range_with_len}
 use Rattle.frame_geometry.specs.Places.{place_of}
 use Rattle.lane_kernels.specs.SlotPlaces.{slot_bytes}
@@ -12,6 +12,13 @@ is_payload place = nat_le OVERHEAD_COLUMNS (place % LINE_COLUMNS) && nat_lt (pla
 -- G.709 clause 19.1: byte x, from 0, of the payload of a row, out of the bytes of its slots
 abbrev pub joined_byte : (rows : List ℕ) → (x : ℕ) → ℕ
 joined_byte rows x = slice_index (slot_bytes OTU2_SLOTS (x % OTU2_SLOTS + 1) rows) (x / OTU2_SLOTS)
+
+-- Byte i, from 0, of those of the slots of a row, one slot after the other: 0 where its slot is not filled.
+abbrev pub filled_byte : (filled : List Bool) → (rows : List ℕ) → (i : ℕ) → ℕ
+filled_byte filled rows i = if get_or filled (i / (PAYLOAD_COLUMNS / OTU2_SLOTS)) false then slice_index rows i else 0
+
+unfoldable pub filled_row : (filled : List Bool) → (rows : List ℕ) → List ℕ
+filled_row filled rows = map (filled_byte filled rows) (range_with_len 0 PAYLOAD_COLUMNS)
 
 -- The byte at a place: in a payload column that of its slot, and else that of the frame.
 unfoldable pub byte_by_slots : (frame : List ℕ) → (rows : List (List ℕ)) → (place : ℕ) → ℕ

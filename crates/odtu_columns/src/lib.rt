@@ -6,12 +6,14 @@
 //! - `justification`: its justification bytes.
 //! - `fill`: `FillFrame`, a frame that sources fill.
 //! - `slot_frame`: `SlotFrame`, such a frame that is kept by slots.
+//! - `filled_row`: a row of it, of which some slots are filled.
 //! - `take`: `TakeFrame`, a frame of which sinks take.
 //! - `split_frame`: `SplitFrame`, such a frame beside its payload by slots.
 //! - `line`: the kernels below them, for a line of either kind.
 #![tactic(auto)]
 
 mod fill;
+mod filled_row;
 mod groups;
 mod justification;
 mod line;

@@ -7,10 +7,10 @@ ghost use Rattle.otn_base.specs.declared.limits.TheConstants.{LINE_COLUMNS, LINE
 ghost use Rattle.odtu_columns.specs.BySlots.{joined_byte, HasPayloadOf, IsOutside, RowJoined};
 
 use crate::fill::FillFrame;
+use crate::filled_row::FilledRow;
 use crate::justification::put_message;
 use crate::put::put_groups;
 use frame_geometry::Frame;
-use lane_kernels::{SlotRows, join8, split8};
 use otn_base::limits::{
     LAST_PAYLOAD_COLUMN, LINE_COLUMNS, LINE_FRAME_BYTES, OTU2_SLOTS, OVERHEAD_COLUMNS,
     PAYLOAD_COLUMNS,
@@ -25,10 +25,10 @@ use std::marker::Model;
 #[derive(Drop)]
 pub struct SlotFrame {
     message: [u8; 6],
-    row1: SlotRows<OTU2_SLOTS>,
-    row2: SlotRows<OTU2_SLOTS>,
-    row3: SlotRows<OTU2_SLOTS>,
-    row4: SlotRows<OTU2_SLOTS>,
+    row1: FilledRow,
+    row2: FilledRow,
+    row3: FilledRow,
+    row4: FilledRow,
 }
 
 impl Model for SlotFrame {
@@ -46,10 +46,10 @@ impl SlotFrame {
         ensures size { IfOk result (λ frame. length frame ≡ LINE_FRAME_BYTES) }
         ensures zero { IfOk result (λ frame. (place : ℕ) → slice_index frame place ≡ 0) }
     {
-        let row1 = SlotRows::<OTU2_SLOTS>::new(alloc)?;
-        let row2 = SlotRows::<OTU2_SLOTS>::new(alloc)?;
-        let row3 = SlotRows::<OTU2_SLOTS>::new(alloc)?;
-        let row4 = SlotRows::<OTU2_SLOTS>::new(alloc)?;
+        let row1 = FilledRow::new(alloc)?;
+        let row2 = FilledRow::new(alloc)?;
+        let row3 = FilledRow::new(alloc)?;
+        let row4 = FilledRow::new(alloc)?;
         Ok(SlotFrame {
             message: [0; 6],
             row1,
@@ -59,16 +59,16 @@ impl SlotFrame {
         })
     }
 
-    /// Writes 0 into every byte.
+    /// Makes every byte 0: no slot is filled, and none is written for that.
     pub fn clear(&mut self)
         ensures size { length self.new ≡ LINE_FRAME_BYTES }
         ensures zero { (place : ℕ) → slice_index self.new place ≡ 0 }
     {
         self.message = [0; 6];
-        clear_row(&mut self.row1);
-        clear_row(&mut self.row2);
-        clear_row(&mut self.row3);
-        clear_row(&mut self.row4);
+        self.row1.clear();
+        self.row2.clear();
+        self.row3.clear();
+        self.row4.clear();
     }
 
     /// Takes over the payload of a frame of an OTU2, by slots.
@@ -99,15 +99,16 @@ impl SlotFrame {
     }
 
     /// Writes its bytes into a frame, whatever that holds.
-    pub fn join_into(&self, frame: &mut Frame<LINE_COLUMNS>)
-        ensures { frame.new ≡ self.now }
+    pub fn join_into(&mut self, frame: &mut Frame<LINE_COLUMNS>)
+        ensures joined { frame.new ≡ self.old }
+        ensures kept { self.new ≡ self.old }
     {
         clear_beside_payload(frame);
         put_message(frame, self.message);
-        join_row(&self.row1, 1, frame);
-        join_row(&self.row2, 2, frame);
-        join_row(&self.row3, 3, frame);
-        join_row(&self.row4, 4, frame);
+        join_row(&mut self.row1, 1, frame);
+        join_row(&mut self.row2, 2, frame);
+        join_row(&mut self.row3, 3, frame);
+        join_row(&mut self.row4, 4, frame);
     }
 }
 
@@ -128,22 +129,13 @@ impl FillFrame for SlotFrame {
     }
 }
 
-// Writes 0 into the bytes of all slots.
-fn clear_row(rows: &mut SlotRows<OTU2_SLOTS>)
-    ensures { (x : ℕ) → x < PAYLOAD_COLUMNS → joined_byte rows.new x ≡ 0 }
-{
-    for k in 0..OTU2_SLOTS as u8 {
-        rows.slot_mut(k + 1).fill(0);
-    }
-}
-
 // Takes over the payload of a row of a frame.
-fn split_row(frame: &Frame<LINE_COLUMNS>, row: u32, rows: &mut SlotRows<OTU2_SLOTS>)
+fn split_row(frame: &Frame<LINE_COLUMNS>, row: u32, rows: &mut FilledRow)
     requires low { 1 ≤ row }
     requires high { row ≤ 4 }
     ensures { (x : ℕ) → x < PAYLOAD_COLUMNS → joined_byte rows.new x ≡ slice_index frame.now (place_of LINE_COLUMNS row (17 + x)) }
 {
-    split8(frame.payload_row(row), rows);
+    rows.split(frame.payload_row(row));
 }
 
 // Writes 0 into every byte that is in no payload column.
@@ -189,16 +181,17 @@ fn clear_run(bytes: &mut [u8], from: usize, to: usize)
 }
 
 // Writes the payload of a row, and keeps every other byte.
-fn join_row(rows: &SlotRows<OTU2_SLOTS>, row: u32, frame: &mut Frame<LINE_COLUMNS>)
+fn join_row(rows: &mut FilledRow, row: u32, frame: &mut Frame<LINE_COLUMNS>)
     requires low { 1 ≤ row }
     requires high { row ≤ 4 }
-    ensures { RowJoined rows.now row frame.old frame.new }
+    ensures joined { RowJoined rows.old row frame.old frame.new }
+    ensures kept { rows.new ≡ rows.old }
 {
-    join8(rows, frame.payload_row_mut(row));
+    rows.join(frame.payload_row_mut(row));
 }
 
 // Puts all groups of a row for these slots: bytes of one slot of an OTU2 stand together.
-fn put_in_row(rows: &mut SlotRows<OTU2_SLOTS>, slots: &Slots, bytes: &[u8])
+fn put_in_row(rows: &mut FilledRow, slots: &Slots, bytes: &[u8])
     requires size { length bytes.now ≡ length slots.now.list * (PAYLOAD_COLUMNS / slots_of slots.now.kind) }
     ensures list { IsSlotList (slots_of slots.now.kind) slots.now.list }
     ensures put { (cycle i : ℕ) → cycle < PAYLOAD_COLUMNS / slots_of slots.now.kind → i < length slots.now.list → joined_byte rows.new (slots_of slots.now.kind * cycle + (slice_index slots.now.list i - 1)) ≡ slice_index bytes.now (length slots.now.list * cycle + i) }
@@ -207,32 +200,21 @@ fn put_in_row(rows: &mut SlotRows<OTU2_SLOTS>, slots: &Slots, bytes: &[u8])
     let kind = slots.kind();
     let list = slots.as_slice();
     if kind.slots() as usize == OTU2_SLOTS && list.len() == 1 {
-        put_slot(rows, list[0], bytes);
+        rows.put_slot(list[0], bytes);
         return;
     }
     put_joined(kind, rows, list, bytes);
 }
 
-// Puts the bytes of one slot.
-fn put_slot(rows: &mut SlotRows<OTU2_SLOTS>, slot: u8, bytes: &[u8])
-    requires low { 1 ≤ slot }
-    requires high { slot ≤ OTU2_SLOTS }
-    requires size { length bytes.now ≡ PAYLOAD_COLUMNS / OTU2_SLOTS }
-    ensures here { (x : ℕ) → x < PAYLOAD_COLUMNS → x % OTU2_SLOTS + 1 ≡ slot → joined_byte rows.new x ≡ slice_index bytes.now (x / OTU2_SLOTS) }
-    ensures others { (x : ℕ) → x < PAYLOAD_COLUMNS → x % OTU2_SLOTS + 1 ≢ slot → joined_byte rows.new x ≡ joined_byte rows.old x }
-{
-    rows.slot_mut(slot).copy_from_slice(bytes);
-}
-
 // Puts the groups of any slots into the payload of the row itself.
-fn put_joined(kind: LineKind, rows: &mut SlotRows<OTU2_SLOTS>, slots: &[u8], bytes: &[u8])
+fn put_joined(kind: LineKind, rows: &mut FilledRow, slots: &[u8], bytes: &[u8])
     requires list { IsSlotList (slots_of kind) slots.now }
     requires size { length bytes.now ≡ length slots.now * (PAYLOAD_COLUMNS / slots_of kind) }
     ensures put { (cycle i : ℕ) → cycle < PAYLOAD_COLUMNS / slots_of kind → i < length slots.now → joined_byte rows.new (slots_of kind * cycle + (slice_index slots.now i - 1)) ≡ slice_index bytes.now (length slots.now * cycle + i) }
     ensures kept { (x : ℕ) → x < PAYLOAD_COLUMNS → ((i : ℕ) → i < length slots.now → x % slots_of kind + 1 ≢ slice_index slots.now i) → joined_byte rows.new x ≡ joined_byte rows.old x }
 {
     let mut payload = [0u8; PAYLOAD_COLUMNS];
-    join8(rows, &mut payload);
+    rows.join(&mut payload);
     put_groups(kind, slots, bytes, &mut payload);
-    split8(&payload, rows);
+    rows.split(&payload);
 }

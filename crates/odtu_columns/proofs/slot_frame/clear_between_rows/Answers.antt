@@ -1,4 +1,4 @@
-use Rattle.std.proofs.Common.{◌∙◌, length}
+use Rattle.std.proofs.Common.{◌∙◌}
 use Rattle.odtu_columns.proofs.JoinRows.{all_beside}
 use Rattle.odtu_columns.proofs.slot_frame.clear_between_rows.Goals as goal
 

@@ -3,10 +3,10 @@ use Rattle.frame_geometry.specs.Loans.{after_row_loan-whole}
 use Rattle.odtu_columns.proofs.JoinRows.{row_joined}
 use Rattle.odtu_columns.proofs.slot_frame.join_row.Goals as goal
 
-pub returns : goal.returns
-returns c =
+pub returns-clause-joined : goal.returns-clause-joined
+returns-clause-joined c =
     let row = c.payload_row_mut.ensures in
-    let new = c.join8.new.into in
-    let long : length new ≡ 3808 = c.join8.auto.into ∙ row.size in
+    let new = c.join.new.into in
+    let long : length new ≡ 3808 = c.join.auto.into ∙ row.size in
     rw (after_row_loan-whole 4080 c.args.row c.args.frame.now new long row.frame (omega arith) c.requires.low c.requires.high)
-    (row_joined c.args.rows.now c.args.frame.now new c.args.row c.requires.low c.requires.high row.frame long c.join8.ensures)
+    (row_joined c.args.rows.now c.args.frame.now new c.args.row c.requires.low c.requires.high row.frame long c.join.ensures.joined)

@@ -1,4 +1,4 @@
-use Rattle.std.proofs.Common.{ℕ, List, [], ◌∷◌}
+use Rattle.std.proofs.Common.{[], ◌∷◌}
 use Rattle.odtu_columns.proofs.BySlots.{length-frame_by_slots, blank_frame}
 use Rattle.odtu_columns.proofs.SlotBytes.{four_blank}
 use Rattle.odtu_columns.proofs.MessageFrames.{length-message_frame, all_zero}
@@ -9,9 +9,9 @@ returns-clause-size c = length-frame_by_slots _ _
 
 pub returns-clause-zero : goal.returns-clause-zero
 returns-clause-zero c =
-    let r1 = c.clear_row.new.rows in
-    let r2 = c.clear_row-2.new.rows in
-    let r3 = c.clear_row-3.new.rows in
-    let r4 = c.clear_row-4.new.rows in
+    let r1 = c.clear.new.self in
+    let r2 = c.clear-2.new.self in
+    let r3 = c.clear-3.new.self in
+    let r4 = c.clear-4.new.self in
     blank_frame _ (r1 ∷ r2 ∷ r3 ∷ r4 ∷ []) (length-message_frame _) all_zero
-    (four_blank r1 r2 r3 r4 c.clear_row.ensures c.clear_row-2.ensures c.clear_row-3.ensures c.clear_row-4.ensures)
+    (four_blank r1 r2 r3 r4 c.clear.ensures c.clear-2.ensures c.clear-3.ensures c.clear-4.ensures)

@@ -1,6 +1,6 @@
-use Rattle.std.proofs.Common.{ℕ, List, [], ◌∷◌}
+use Rattle.std.proofs.Common.{[], ◌∷◌}
 use Rattle.odtu_columns.proofs.BySlots.{length-frame_by_slots, blank_frame}
-use Rattle.odtu_columns.proofs.SlotBytes.{joined_zero, four_blank}
+use Rattle.odtu_columns.proofs.SlotBytes.{four_blank}
 use Rattle.odtu_columns.proofs.MessageFrames.{length-message_frame, all_zero}
 use Rattle.odtu_columns.proofs.slot_frame.SlotFrame.new.Goals as goal
 
@@ -14,4 +14,4 @@ returns-clause-zero c =
     let r3 = c.in_ok-row3.row3 in
     let r4 = c.in_ok-row4.row4 in
     blank_frame _ (r1 ∷ r2 ∷ r3 ∷ r4 ∷ []) (length-message_frame _) all_zero
-    (four_blank r1 r2 r3 r4 (joined_zero r1 (λ i h. c.in_ok-row1.ensures.zero i)) (joined_zero r2 (λ i h. c.in_ok-row2.ensures.zero i)) (joined_zero r3 (λ i h. c.in_ok-row3.ensures.zero i)) (joined_zero r4 (λ i h. c.in_ok-row4.ensures.zero i)))
+    (four_blank r1 r2 r3 r4 c.in_ok-row1.ensures c.in_ok-row2.ensures c.in_ok-row3.ensures c.in_ok-row4.ensures)

@@ -1,4 +1,4 @@
-use Rattle.std.proofs.Common.{◌≡◌, List, ℕ, [], ◌∷◌, ◌∙◌, ap, sym, get_or, rules}
+use Rattle.std.proofs.Common.{[], ◌∷◌, ◌∙◌, ap, sym, get_or, rules}
 use Rattle.odtu_columns.specs.BySlots.{message_frame}
 use Rattle.odtu_columns.proofs.BySlots.{message_at, rest_kept}
 use Rattle.odtu_columns.proofs.MessageFrames.{length-message_frame, message_of-message_frame, other_zero}

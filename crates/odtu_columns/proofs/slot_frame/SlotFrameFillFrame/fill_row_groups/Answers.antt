@@ -1,4 +1,4 @@
-use Rattle.std.proofs.Common.{◌≡◌, List, ℕ, [], ◌∷◌, refl, sym, subst, arith}
+use Rattle.std.proofs.Common.{◌≡◌, [], ◌∷◌, refl, sym, subst, arith}
 use Rattle.otn_base.specs.LineSlots.{slots_of}
 use Rattle.odtu_columns.specs.BySlots.{frame_by_slots, message_frame}
 use Rattle.odtu_columns.specs.Put.{RowWasPut}

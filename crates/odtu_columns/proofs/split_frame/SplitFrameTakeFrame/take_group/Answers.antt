@@ -1,5 +1,5 @@
-use Rattle.std.proofs.Common.{◌≡◌, ◌<◌, ◌/◌, ◌∙◌, ◌∷◌, [], refl, ap, sym, subst, length, get_or, arith}
-use Rattle.std.specs.Prelude.{slice_index_or, slice_set}
+use Rattle.std.proofs.Common.{◌≡◌, ◌<◌, ◌/◌, ◌∙◌, ◌∷◌, [], refl, ap, sym, subst, length}
+use Rattle.std.specs.Prelude.{slice_index_or}
 use Rattle.frame_geometry.specs.Places.{payload_row_of}
 use Rattle.otn_base.specs.LineSlots.{slots_of}
 use Rattle.odtu_columns.specs.Payload.{payload_group}
