@@ -10,17 +10,15 @@ use Rattle.trib_source.proofs.Counts.{data_run, counts_grow}
 pub bytes_grow : (m c a x : ℕ) → m * data_count c a ≤ m * data_count c (a + x)
 bytes_grow m c a x = mul-le-mul_left m (counts_grow c a x)
 
--- So many groups were laid out, with the data in front of a byte of it, and behind them all is 0.
+-- So many groups were laid out, with the data in front of a byte of it.
 pub record LaidTo (m c a : ℕ) (fresh : List ℕ) (x from : ℕ) (into : List ℕ) : Type 0 where
   pub from_is : from ≡ data_bytes m c a x
   pub bytes : (y i : ℕ) → y < x → i < m → get_or into (m * y + i) 0 ≡ byte_laid m c a fresh y i
-  pub clear : (n : ℕ) → m * x ≤ n → get_or into n 0 ≡ 0
 
-pub laid_none : (m c a : ℕ) (fresh into : List ℕ) → ((n : ℕ) → get_or into n 0 ≡ 0) → LaidTo m c a fresh 0 0 into
-laid_none m c a fresh into clear = record {
+pub laid_none : (m c a : ℕ) (fresh into : List ℕ) → LaidTo m c a fresh 0 0 into
+laid_none m c a fresh into = record {
   from_is = (let e : a + 0 ≡ a = omega arith in let f : m * data_count c (a + 0) ≡ m * data_count c a = ap (λ k. m * data_count c k) e in omega arith);
   bytes = λ y i l h. absurd (let bad : ⊥ = omega arith in bad);
-  clear = λ n h. clear n;
 }
 
 inside : (m y x i : ℕ) → y < x → i < m → m * y + i < m * x
@@ -39,7 +37,7 @@ run_room m x run cycles l = let wide : m * (x + run) ≤ m * cycles = mul-le-mul
 -- what laying out one group does
 pub record LaidNext (m c a : ℕ) (fresh : List ℕ) (from at next : ℕ) (old new : List ℕ) : Type 0 where
   pub from_is : next + m * data_count c a ≡ from + m * data_count c (a + 1)
-  pub bytes : (i : ℕ) → i < m → get_or new (at + i) 0 ≡ cond (is_data_at c (a + 1)) (get_or fresh (from + i) 0) (get_or old (at + i) 0)
+  pub bytes : (i : ℕ) → i < m → get_or new (at + i) 0 ≡ cond (is_data_at c (a + 1)) (get_or fresh (from + i) 0) 0
   pub front : (n : ℕ) → n < at → get_or new n 0 ≡ get_or old n 0
   pub behind : (n : ℕ) → at + m ≤ n → get_or new n 0 ≡ get_or old n 0
 
@@ -64,7 +62,6 @@ laid_next m c a x from next fresh old new to more = record {
       let same : m * data_count c (a + (x + 1)) ≡ m * data_count c (a + x + 1) = ap (λ k. m * data_count c k) (let e : a + (x + 1) ≡ a + x + 1 = omega arith in e) in
       omega arith);
   bytes = λ y i l h. go y i h (below_or y x l);
-  clear = λ n h. more.behind n (omega arith) ∙ to.clear n (omega arith);
 }
   where
     go : (y i : ℕ) → i < m → (y < x) ⊎ (y ≡ x) → get_or new (m * y + i) 0 ≡ byte_laid m c a fresh y i
@@ -72,7 +69,6 @@ laid_next m c a x from next fresh old new to more = record {
     go y i h (inr e) =
         ap (λ k. get_or new (m * k + i) 0) e
         ∙ more.bytes i h
-        ∙ ap (λ k. cond (is_data_at c (a + x + 1)) (get_or fresh (from + i) 0) k) (to.clear (m * x + i) (omega arith))
         ∙ ap (λ k. cond (is_data_at c (a + x + 1)) (get_or fresh (k + i) 0) 0) to.from_is
         ∙ ap (λ k. byte_laid m c a fresh k i) (sym e)
 
@@ -108,7 +104,6 @@ pub laid_run : (m c a x run from : ℕ) (fresh old new : List ℕ) → LaidTo m 
 laid_run m c a x run from fresh old new to more = record {
   from_is = (let is = to.from_is in let here = run_bytes m c a x run more.each in omega arith);
   bytes = λ y i l h. go y i h (run_or y x run l);
-  clear = λ n h. more.behind n (omega arith) ∙ to.clear n (omega arith);
 }
   where
     go : (y i : ℕ) → i < m → (y < x) ⊎ ((x ≤ y) × (y - x < run)) → get_or new (m * y + i) 0 ≡ byte_laid m c a fresh y i

@@ -27,7 +27,6 @@ pub(crate) fn lay_groups(
     ensures bytes { (x i : ℕ) → x < cycles → i < m → slice_index into.new (m * x + i) ≡ byte_laid m runner.old.number runner.old.asked fresh.now x i }
     ensures runner { runner.new ≡ record runner.old { asked = runner.old.asked + cycles } }
 {
-    into.fill(0);
     if runs {
         lay_runs(runner, fresh, m, cycles, into);
         return;
@@ -46,8 +45,7 @@ pub(crate) fn lay_groups(
     }
 }
 
-// Lays them out one by one, where all is 0 so far. The runner is taken out of its place for that, so that the loop keeps it in
-// registers.
+// Lays them out one by one. The runner is taken out of its place for that, so that the loop keeps it in registers.
 #[inline(always)]
 fn lay_each(runner: &mut Runner, fresh: &[u8], m: usize, cycles: usize, into: &mut [u8])
     requires some { 1 ≤ m }
@@ -55,7 +53,6 @@ fn lay_each(runner: &mut Runner, fresh: &[u8], m: usize, cycles: usize, into: &m
     requires asked { runner.old.asked + cycles ≤ GROUPS }
     requires fresh { length fresh.now ≡ data_bytes m runner.old.number runner.old.asked cycles }
     requires size { length into.old ≡ m * cycles }
-    requires clear { (n : ℕ) → slice_index into.old n ≡ 0 }
     ensures bytes { (x i : ℕ) → x < cycles → i < m → slice_index into.new (m * x + i) ≡ byte_laid m runner.old.number runner.old.asked fresh.now x i }
     ensures runner { runner.new ≡ record runner.old { asked = runner.old.asked + cycles } }
 {
@@ -67,14 +64,13 @@ fn lay_each(runner: &mut Runner, fresh: &[u8], m: usize, cycles: usize, into: &m
     *runner = own;
 }
 
-// Lays them out by runs of data groups, where all is 0 so far.
+// Lays them out by runs of data groups.
 fn lay_runs(runner: &mut Runner, fresh: &[u8], m: usize, cycles: usize, into: &mut [u8])
     requires some { 1 ≤ m }
     requires number { runner.old.number ≤ GROUPS }
     requires asked { runner.old.asked + cycles ≤ GROUPS }
     requires fresh { length fresh.now ≡ data_bytes m runner.old.number runner.old.asked cycles }
     requires size { length into.old ≡ m * cycles }
-    requires clear { (n : ℕ) → slice_index into.old n ≡ 0 }
     ensures bytes { (x i : ℕ) → x < cycles → i < m → slice_index into.new (m * x + i) ≡ byte_laid m runner.old.number runner.old.asked fresh.now x i }
     ensures runner { runner.new ≡ record runner.old { asked = runner.old.asked + cycles } }
 {
@@ -89,8 +85,8 @@ fn lay_runs(runner: &mut Runner, fresh: &[u8], m: usize, cycles: usize, into: &m
     }
 }
 
-// Lays out the next group at `at`: where it is data, `m` bytes from byte `from` on. Answers where the next
-// one's bytes begin.
+// Lays out the next group at `at`: where it is data, `m` bytes from byte `from` on, and else bytes 0. Answers where the
+// next one's bytes begin.
 #[inline(always)]
 fn lay_next(
     runner: &mut Runner,
@@ -104,15 +100,27 @@ fn lay_next(
     requires room { at + m ≤ length into.old }
     requires enough { from + m * data_count runner.old.number (runner.old.asked + 1) ≤ length fresh.now + m * data_count runner.old.number runner.old.asked }
     ensures from { result + m * data_count runner.old.number runner.old.asked ≡ from + m * data_count runner.old.number (runner.old.asked + 1) }
-    ensures bytes { (i : ℕ) → i < m → slice_index into.new (at + i) ≡ (if is_data_at runner.old.number (runner.old.asked + 1) then slice_index fresh.now (from + i) else slice_index into.old (at + i)) }
+    ensures bytes { (i : ℕ) → i < m → slice_index into.new (at + i) ≡ (if is_data_at runner.old.number (runner.old.asked + 1) then slice_index fresh.now (from + i) else 0) }
     ensures front { (n : ℕ) → n < at → slice_index into.new n ≡ slice_index into.old n }
     ensures behind { (n : ℕ) → at + m ≤ n → slice_index into.new n ≡ slice_index into.old n }
     ensures runner { runner.new ≡ record runner.old { asked = runner.old.asked + 1 } }
 {
     if !runner.next() {
+        clear_at(into, at, m);
         return from;
     }
     copy_at(fresh, from, into, at, m)
+}
+
+// Sets `count` bytes at `at` to 0.
+#[inline(always)]
+fn clear_at(into: &mut [u8], at: usize, count: usize)
+    requires room { at + count ≤ length into.old }
+    ensures bytes { (i : ℕ) → i < count → slice_index into.new (at + i) ≡ 0 }
+    ensures front { (n : ℕ) → n < at → slice_index into.new n ≡ slice_index into.old n }
+    ensures behind { (n : ℕ) → at + count ≤ n → slice_index into.new n ≡ slice_index into.old n }
+{
+    into[at..at + count].fill(0);
 }
 
 // Copies `count` bytes from byte `from` on to `at`. Answers where the next ones begin.
