@@ -1,14 +1,14 @@
 -- A source with one turn more.
-use Rattle.std.proofs.Common.{◌≡◌, ℕ, zero, suc, ◌+◌, ◌*◌, ◌/◌, ◌%◌, ◌-◌, ◌<◌, ◌≤◌, List, [], ◌∷◌, ◌++◌, length, take, drop, Option, Some, None, refl, ap, ◌∙◌, sym, subst, arith, append-nil, length-append}
-use Rattle.std.specs.Prelude.{min, sum}
+use Rattle.std.proofs.Common.{◌≡◌, ℕ, zero, suc, ◌+◌, ◌*◌, ◌/◌, ◌%◌, ◌-◌, ◌<◌, ◌≤◌, List, [], ◌∷◌, ◌++◌, length, drop, Option, Some, None, refl, ap, ◌∙◌, sym, subst, arith, append-nil, length-append}
+use Rattle.std.specs.Prelude.{sum}
 use Rattle.std.specs.Option.{ForSome}
 use Rattle.std.specs.List.{concat}
 use Rattle.std.proofs.lemmas.List.{length-drop, drop-drop, drop-append-le, take_all, take-append-le, map-append, length-map}
 use Rattle.std.proofs.lemmas.List.Folds.{concat-append}
 use Rattle.std.proofs.lemmas.List.Sums.{sum_by_push}
-use Rattle.std.proofs.Math.Nat.{div-add-mod, mod-lt, mul-add-div, mul-add-mod_self_left, mul-le-mul_left, lt-mul-div-succ, mul_comm}
+use Rattle.std.proofs.Math.Nat.{div-add-mod, mod-lt, mul-add-div, mul-add-mod_self_left, mul-le-mul_left, mul_comm}
 use Rattle.circular_buffer.specs.Buffer.{keep_last}
-use Rattle.gmp_rule.specs.DataRule.{Progress, data_count}
+use Rattle.gmp_rule.specs.DataRule.{data_count}
 use Rattle.jc_codec.specs.Message.{says}
 use Rattle.cnd_codec.specs.Remainder.{says_rest}
 use Rattle.tributary_model.specs.Places.{Tributary}
@@ -18,10 +18,11 @@ use Rattle.tributary_model.proofs.Totals.{groups_next}
 use Rattle.tributary_model.proofs.PutCarries.{sent_inside}
 use Rattle.otn_base.specs.LineSlots.{slots_of}
 use Rattle.tributary_model.proofs.OnLine.{evenly}
+use Rattle.trib_source.specs.Backlog.{BacklogView}
 use Rattle.trib_source.specs.Source.{Source, IsSource, AreLeft, StandsAfter, said_number}
 use Rattle.trib_source.proofs.Counts.{count_low}
 
--- ---- the ring
+-- ---- the bytes that are kept
 
 -- so many frames have no more groups than a multiframe
 pub frames_low : (line w n : ℕ) → line * w ≡ 3808 → n ≤ line → 4 * w * n ≤ 15232
@@ -32,17 +33,17 @@ frames_low line w n even low =
     omega arith
 
 -- the turn's groups that were not put are at most all of them
-put_low : (s : Source) (capacity scratch stored : ℕ) → IsSource s capacity scratch stored → length s.slots.list * data_count s.number s.asked ≤ length s.slots.list * s.number
-put_low s capacity scratch stored h =
+put_low : (s : Source) (backlog : BacklogView) (scratch stored : ℕ) → IsSource s backlog scratch stored → length s.slots.list * data_count s.number s.asked ≤ length s.slots.list * s.number
+put_low s backlog scratch stored h =
     let most = frames_low (slots_of s.slots.kind) (3808 / slots_of s.slots.kind) s.filled (evenly s.slots.kind) h.filled_high in
     let asked = h.asked_is in
     mul-le-mul_left (length s.slots.list) (count_low s.number s.asked h.number_high (omega arith))
 
 -- so behind them are the bytes of the last turn's groups and those over
-kept_long : (s : Source) (capacity scratch stored : ℕ) → IsSource s capacity scratch stored
+kept_long : (s : Source) (backlog : BacklogView) (scratch stored : ℕ) → IsSource s backlog scratch stored
     → length (keep_last (length s.slots.list * said_number s.said + s.rest) s.left) ≡ length s.slots.list * said_number s.said + s.rest
-kept_long s capacity scratch stored h =
-    let low = put_low s capacity scratch stored h in
+kept_long s backlog scratch stored h =
+    let low = put_low s backlog scratch stored h in
     let is = h.left_is in
     let long = length-drop (length s.left - (length s.slots.list * said_number s.said + s.rest)) s.left in
     omega arith
@@ -51,65 +52,45 @@ said_low : (said : Option ℕ) → ForSome said (λ n. n ≤ 15232) → said_num
 said_low None h = omega arith
 said_low (Some n) h = h n refl
 
--- all bytes of the turn fit behind them
-room : (m said rest n : ℕ) → 0 < m → said ≤ 15232 → (rest + n) / m ≤ 15232 → m * said + rest + n ≤ m * 30465
-room m said rest n some low fits =
-    let past : rest + n < m * ((rest + n) / m + 1) = lt-mul-div-succ (rest + n) some in
-    let most : m * ((rest + n) / m + 1) ≤ m * 15233 = mul-le-mul_left m (omega arith) in
-    let before : m * said ≤ m * 15232 = mul-le-mul_left m low in
-    omega arith
-
-all_taken : (bytes : List ℕ) (capacity k r : ℕ) → r ≡ min (length bytes) (capacity - k) → k + length bytes ≤ capacity → take r bytes ≡ bytes
-all_taken bytes capacity k r e h = take_all r bytes (omega arith)
-
-pub ring_begun : (s : Source) (capacity scratch stored m number r : ℕ) (bytes kept items : List ℕ) → IsSource s capacity scratch stored → m ≡ length s.slots.list → number ≡ said_number s.said
-    → (s.rest + length bytes) / length s.slots.list ≤ 15232 → kept ≡ keep_last (m * number + s.rest) s.left → r ≡ min (length bytes) (capacity - length kept) → items ≡ kept ++ take r bytes
-    → items ≡ keep_last (length s.slots.list * said_number s.said + s.rest) s.left ++ bytes
-ring_begun s capacity scratch stored m number r bytes kept items h many said fits is count put =
-    let some : 0 < length s.slots.list = (let low = h.rest_high in omega arith) in
-    let same : kept ≡ keep_last (length s.slots.list * said_number s.said + s.rest) s.left = is ∙ ap (λ k. keep_last (k * number + s.rest) s.left) many ∙ ap (λ k. keep_last (length s.slots.list * k + s.rest) s.left) said in
-    let long : length kept ≡ length s.slots.list * said_number s.said + s.rest = ap length same ∙ kept_long s capacity scratch stored h in
-    let wide = room (length s.slots.list) (said_number s.said) s.rest (length bytes) some (said_low s.said h.said_high) fits in
-    let size = h.capacity_is in
-    put ∙ ap (λ y. kept ++ y) (all_taken bytes capacity (length kept) r count (omega arith)) ∙ ap (λ y. y ++ bytes) same
-
 -- ---- what holds of it
 
-abbrev pub begun : (s : Source) (m : ℕ) (r : Progress) (bytes items message : List ℕ) → Source
-begun s m r bytes items message = record {
+-- the source with a turn of these bytes more, for m slots
+abbrev pub begun : (s : Source) (m : ℕ) (bytes : List ℕ) → Source
+begun s m bytes = record {
   slots = s.slots;
   said = Some ((s.rest + length bytes) / m);
-  number = r.number;
-  asked = r.asked;
-  left = items;
+  number = said_number s.said;
+  asked = 0;
+  left = keep_last (m * said_number s.said + s.rest) s.left ++ bytes;
   rest = (s.rest + length bytes) % m;
-  message = message;
+  message = says s.said ((s.rest + length bytes) / m) ++ says_rest ((s.rest + length bytes) % m);
   filled = 0;
 }
 
-pub is_begun : (s : Source) (capacity scratch stored m number : ℕ) (r : Progress) (bytes items message : List ℕ) → IsSource s capacity scratch stored → m ≡ length s.slots.list → number ≡ said_number s.said
-    → (s.rest + length bytes) / length s.slots.list ≤ 15232 → items ≡ keep_last (length s.slots.list * said_number s.said + s.rest) s.left ++ bytes → r.number ≡ number → r.asked ≡ 0
-    → IsSource (begun s m r bytes items message) capacity scratch number
-is_begun s capacity scratch stored m number r bytes items message h many said fits is by none =
+pub is_begun : (s : Source) (backlog now : BacklogView) (scratch stored m : ℕ) (bytes : List ℕ) → IsSource s backlog scratch stored → m ≡ length s.slots.list
+    → (s.rest + length bytes) / length s.slots.list ≤ 15232 → now.newest ≡ length bytes → now.slots ≡ backlog.slots → IsSource (begun s m bytes) now scratch (said_number s.said)
+is_begun s backlog now scratch stored m bytes h many fits newest slots =
     let some : 0 < length s.slots.list = (let low = h.rest_high in omega arith) in
+    let over = h.rest_high in
     let low = said_low s.said h.said_high in
-    let kept = kept_long s capacity scratch stored h in
-    let long : length items ≡ length s.slots.list * said_number s.said + s.rest + length bytes = ap length is ∙ length-append (keep_last (length s.slots.list * said_number s.said + s.rest) s.left) bytes ∙ omega arith in
+    let kept = kept_long s backlog scratch stored h in
+    let long : length (keep_last (length s.slots.list * said_number s.said + s.rest) s.left ++ bytes) ≡ length s.slots.list * said_number s.said + s.rest + length bytes =
+    length-append (keep_last (length s.slots.list * said_number s.said + s.rest) s.left) bytes ∙ ap (λ k. k + length bytes) kept in
     let split : length s.slots.list * ((s.rest + length bytes) / length s.slots.list) + (s.rest + length bytes) % length s.slots.list ≡ s.rest + length bytes = div-add-mod (s.rest + length bytes) (length s.slots.list) in
-    let nothing : data_count r.number r.asked ≡ 0 = ap (data_count r.number) none in
-    let nothing_out : length s.slots.list * data_count r.number r.asked ≡ 0 = ap (λ k. length s.slots.list * k) nothing ∙ omega arith in
-    let groups : length s.slots.list * r.number ≡ length s.slots.list * said_number s.said = ap (λ k. length s.slots.list * k) (by ∙ said) in
-    subst (λ k. IsSource (begun s k r bytes items message) capacity scratch number) (sym many) (record {
+    let nothing_out : length s.slots.list * data_count (said_number s.said) 0 ≡ 0 = omega arith in
+    subst (λ k. IsSource (begun s k bytes) now scratch (said_number s.said)) (sym many) (record {
       list = h.list;
       said_high = λ x e. (let same : (s.rest + length bytes) / length s.slots.list ≡ x = ap said_number e in omega arith);
-      number_high = omega arith;
+      number_high = low;
       filled_high = omega arith;
       asked_is = omega arith;
       rest_high = mod-lt (s.rest + length bytes) some;
       left_is = omega arith;
-      capacity_is = h.capacity_is;
+      slots_are = slots ∙ h.slots_are;
+      newest_low = omega arith;
+      newest_high = omega arith;
       scratch_is = h.scratch_is;
-      kept_is = sym by;
+      kept_is = refl;
     })
 
 -- ---- the totals with one turn more
@@ -160,17 +141,17 @@ groups_at m p (suc t) h l =
 
 -- ---- the bytes that are left
 
-left_begun : (s : Source) (capacity scratch stored : ℕ) (p bytes all : List ℕ) (t : ℕ) → IsSource s capacity scratch stored → t ≤ length p → s.number ≡ number_before (length s.slots.list) p t
+left_begun : (s : Source) (backlog : BacklogView) (scratch stored : ℕ) (p bytes all : List ℕ) (t : ℕ) → IsSource s backlog scratch stored → t ≤ length p → s.number ≡ number_before (length s.slots.list) p t
     → AreLeft (length s.slots.list) s.number (sent p (t - 1) / length s.slots.list) all s.asked s.left → sent p t ≤ length all
     → keep_last (length s.slots.list * said_number s.said + s.rest) s.left ++ bytes ≡ drop (length s.slots.list * (sent p t / length s.slots.list)) (all ++ bytes)
-left_begun s capacity scratch stored p bytes all t h short number left enough =
+left_begun s backlog scratch stored p bytes all t h short number left enough =
     let m = length s.slots.list in
     let some : 0 < m = (let low = h.rest_high in omega arith) in
     let k = m * said_number s.said + s.rest in
     let q = sent p (t - 1) / m in
     let d = data_count s.number s.asked in
     let is = h.left_is in
-    let low = put_low s capacity scratch stored h in
+    let low = put_low s backlog scratch stored h in
     let groups : q + s.number ≡ sent p t / m = ap (λ k. q + k) number ∙ groups_at m p t some short in
     let wide : m * (q + s.number) ≡ m * (sent p t / m) = ap (λ k. m * k) groups in
     let place : m * (q + d) + (length s.left - k) ≡ m * (sent p t / m) = omega arith in
@@ -181,13 +162,10 @@ left_begun s capacity scratch stored p bytes all t h short number left enough =
 
 -- ---- how it stands
 
-stands_of : (own : Tributary) (turns : List (List ℕ)) (filled : ℕ) (s : Source) (capacity scratch stored m number : ℕ) (r : Progress) (bytes items message : List ℕ)
-    → IsSource s capacity scratch stored → m ≡ length own.slots → number ≡ said_number s.said
-    → items ≡ keep_last (length s.slots.list * said_number s.said + s.rest) s.left ++ bytes → r.number ≡ number → r.asked ≡ 0
-    → message ≡ says s.said ((s.rest + length bytes) / m) ++ says_rest ((s.rest + length bytes) % m)
-    → StandsAfter own turns filled s → StandsAfter own (turns ++ bytes ∷ []) 0 (begun s (length own.slots) r bytes items message)
+stands_of : (own : Tributary) (turns : List (List ℕ)) (filled : ℕ) (s : Source) (backlog : BacklogView) (scratch stored : ℕ) (bytes : List ℕ)
+    → IsSource s backlog scratch stored → StandsAfter own turns filled s → StandsAfter own (turns ++ bytes ∷ []) 0 (begun s (length own.slots) bytes)
 unfolding message_put
-stands_of own turns filled s capacity scratch stored m number r bytes items message h many said is by none told stands =
+stands_of own turns filled s backlog scratch stored bytes h stands =
     let M = length own.slots in
     let p = lengths_of turns in
     let n = length turns in
@@ -210,35 +188,29 @@ stands_of own turns filled s capacity scratch stored m number r bytes items mess
       slots = stands.slots;
       filled_is = refl;
       said = ap (λ k. Some k) next ∙ ap (λ q. Some (number_in M q n)) (sym lengths) ∙ ap (former_of M (lengths_of new)) (sym turn);
-      number = by ∙ said ∙ ap said_number former ∙ before_is M (p ++ b ∷ []) n ∙ ap (λ q. number_before M q n) (sym lengths) ∙ ap (number_before M (lengths_of new)) (sym last);
+      number = ap said_number former ∙ before_is M (p ++ b ∷ []) n ∙ ap (λ q. number_before M q n) (sym lengths) ∙ ap (number_before M (lengths_of new)) (sym last);
       rest = rest ∙ ap (λ k. sent (p ++ b ∷ []) k % M) (let e : n + 1 ≡ length new = omega arith in e) ∙ ap (λ q. sent q (length new) % M) (sym lengths);
       left =
-          is
-          ∙ left_begun s capacity scratch stored p bytes (concat turns) (n - 1) h (omega arith)
+          ap (λ k. keep_last (k * said_number s.said + s.rest) s.left ++ bytes) (sym slots)
+          ∙ left_begun s backlog scratch stored p bytes (concat turns) (n - 1) h (omega arith)
           (stands.number ∙ ap (λ k. number_before k p (n - 1)) (sym slots))
           (subst (λ k. AreLeft k s.number (sent p (n - 1 - 1) / k) (concat turns) s.asked s.left) (sym slots) stands.left) (sent_inside turns (n - 1))
           ∙ ap (λ k. drop (k * (sent p (n - 1) / k)) (concat turns ++ bytes)) slots
           ∙ ap (λ x. drop (M * (x / M)) (concat turns ++ bytes)) (sym (sent_same p b (n - 1) (omega arith)))
           ∙ ap (λ q. drop (M * (sent q (n - 1) / M)) (concat turns ++ bytes)) (sym lengths)
           ∙ ap (λ k. drop (M * (sent (lengths_of new) (k - 1) / M)) (concat turns ++ bytes)) (sym last)
-          ∙ ap (λ k. drop (M * k) (concat turns ++ bytes)) (let zero_put : data_count r.number r.asked ≡ 0 = ap (data_count r.number) none in let e : sent (lengths_of new) (length new - 1 - 1) / M ≡ sent (lengths_of new) (length new - 1 - 1) / M + data_count r.number r.asked = omega arith in e)
-          ∙ ap (drop (M * (sent (lengths_of new) (length new - 1 - 1) / M + data_count r.number r.asked))) (ap (λ y. concat turns ++ y) (sym (append-nil bytes)) ∙ sym (concat-append turns (bytes ∷ [])));
+          ∙ ap (λ k. drop (M * k) (concat turns ++ bytes)) (let e : sent (lengths_of new) (length new - 1 - 1) / M ≡ sent (lengths_of new) (length new - 1 - 1) / M + data_count (said_number s.said) 0 = omega arith in e)
+          ∙ ap (drop (M * (sent (lengths_of new) (length new - 1 - 1) / M + data_count (said_number s.said) 0))) (ap (λ y. concat turns ++ y) (sym (append-nil bytes)) ∙ sym (concat-append turns (bytes ∷ [])));
       message = λ more.
-          told
-          ∙ ap (λ k. says s.said ((s.rest + b) / k) ++ says_rest ((s.rest + b) % k)) many
-          ∙ ap (λ o. says o ((s.rest + b) / M) ++ says_rest ((s.rest + b) % M)) former
+          ap (λ o. says o ((s.rest + b) / M) ++ says_rest ((s.rest + b) % M)) former
           ∙ ap (λ k. says (former_of M (p ++ b ∷ []) n) k ++ says_rest ((s.rest + b) % M)) next
           ∙ ap (λ k. says (former_of M (p ++ b ∷ []) n) (number_in M (p ++ b ∷ []) n) ++ says_rest k) rest
           ∙ ap (λ q. says (former_of M q n) (number_in M q n) ++ says_rest (rest_in M q n)) (sym lengths)
           ∙ ap (message_put M new) (sym last);
     }
 
-pub stands_begun : (own : Tributary) (turns : List (List ℕ)) (filled : ℕ) (s : Source) (capacity scratch stored m number : ℕ) (r : Progress) (bytes items message : List ℕ)
-    → IsSource s capacity scratch stored → m ≡ length s.slots.list → number ≡ said_number s.said
-    → items ≡ keep_last (length s.slots.list * said_number s.said + s.rest) s.left ++ bytes → r.number ≡ number → r.asked ≡ 0
-    → message ≡ says s.said ((s.rest + length bytes) / m) ++ says_rest ((s.rest + length bytes) % m)
-    → StandsAfter own turns filled s → StandsAfter own (turns ++ bytes ∷ []) 0 (begun s m r bytes items message)
-stands_begun own turns filled s capacity scratch stored m number r bytes items message h many said is by none told stands =
-    let same : m ≡ length own.slots = many ∙ ap (λ (o : Tributary). length o.slots) (sym stands.own_is) in
-    subst (λ k. StandsAfter own (turns ++ bytes ∷ []) 0 (begun s k r bytes items message)) (sym same)
-    (stands_of own turns filled s capacity scratch stored m number r bytes items message h same said is by none told stands)
+pub stands_begun : (own : Tributary) (turns : List (List ℕ)) (filled : ℕ) (s : Source) (backlog : BacklogView) (scratch stored m : ℕ) (bytes : List ℕ)
+    → IsSource s backlog scratch stored → m ≡ length s.slots.list → StandsAfter own turns filled s → StandsAfter own (turns ++ bytes ∷ []) 0 (begun s m bytes)
+stands_begun own turns filled s backlog scratch stored m bytes h many stands =
+    subst (λ k. StandsAfter own (turns ++ bytes ∷ []) 0 (begun s k bytes)) (sym (many ∙ ap (λ (o : Tributary). length o.slots) (sym stands.own_is)))
+    (stands_of own turns filled s backlog scratch stored bytes h stands)

@@ -19,6 +19,7 @@ use Rattle.tributary_model.specs.Puts.{lengths_of, group_from, group_put, place_
 use Rattle.tributary_model.proofs.OnLine.{evenly}
 use Rattle.tributary_model.proofs.Views.{own_column}
 use Rattle.tributary_model.proofs.PutPlaces.{place_of_slot}
+use Rattle.trib_source.specs.Backlog.{BacklogView}
 use Rattle.trib_source.specs.Rows.{groups_in_row, data_bytes, byte_laid, RowsWerePut}
 use Rattle.trib_source.specs.Source.{Source, IsSource, AreLeft, StandsAfter, said_number}
 use Rattle.trib_source.proofs.Counts.{count_low}
@@ -143,11 +144,11 @@ some_turn m [] said some e = absurd (none (subst (λ o. IsSome o) e some))
     none h = search rules
 some_turn m (x ∷ turns) said some e = omega arith
 
-payload_byte : (s : Source) (capacity scratch stored port : ℕ) (turns : List (List ℕ)) (n : ℕ) (before rows now : List ℕ) (row column : ℕ)
-    → IsSource s capacity scratch stored → FramePut s n before rows now → StandsAfter (tributary_of s.slots port) turns n s → IsOwnPayload (tributary_of s.slots port) row column
+payload_byte : (s : Source) (backlog : BacklogView) (scratch stored port : ℕ) (turns : List (List ℕ)) (n : ℕ) (before rows now : List ℕ) (row column : ℕ)
+    → IsSource s backlog scratch stored → FramePut s n before rows now → StandsAfter (tributary_of s.slots port) turns n s → IsOwnPayload (tributary_of s.slots port) row column
     → byte_at now row column ≡ payload_put (tributary_of s.slots port) turns (length turns - 1) n row column
 unfolding group_put
-payload_byte s capacity scratch stored port turns n before rows now row column h put stands own =
+payload_byte s backlog scratch stored port turns n before rows now row column h put stands own =
     let line = slots_of s.slots.kind in
     let slots = s.slots.list in
     let w = 3808 / line in
@@ -175,14 +176,14 @@ payload_byte s capacity scratch stored port turns n before rows now row column h
     ∙ ap (λ c. get_or (group_from m c q bytes (w * (4 * n + (row - 1)) + cycle + 1)) i 0) stands.number
     ∙ ap (λ k. get_or (group_from m (number_before m p t) q bytes (w * (4 * n + (row - 1)) + cycle + 1)) k 0) (sym among)
 
-pub frame_put : (s : Source) (capacity scratch stored port : ℕ) (turns : List (List ℕ)) (n : ℕ) (before rows now : List ℕ)
-    → IsSource s capacity scratch stored → IsSome s.said → FramePut s n before rows now → StandsAfter (tributary_of s.slots port) turns n s
+pub frame_put : (s : Source) (backlog : BacklogView) (scratch stored port : ℕ) (turns : List (List ℕ)) (n : ℕ) (before rows now : List ℕ)
+    → IsSource s backlog scratch stored → IsSome s.said → FramePut s n before rows now → StandsAfter (tributary_of s.slots port) turns n s
     → WasPut (tributary_of s.slots port) turns (length turns - 1) n before now
-frame_put s capacity scratch stored port turns n before rows now h some put stands =
+frame_put s backlog scratch stored port turns n before rows now h some put stands =
     let message = stands.message (some_turn (length s.slots.list) turns s.said some stands.said) in
     record {
       put = record {
-        payload = λ row column o. payload_byte s capacity scratch stored port turns n before rows now row column h put stands o;
+        payload = λ row column o. payload_byte s backlog scratch stored port turns n before rows now row column h put stands o;
         message = λ row column o.
             message_byte now row column o.rows.0 o.rows.1 o.columns.0 o.columns.1
             ∙ ap (λ xs. get_or xs (3 * (16 - column) + (row - 1)) 0) (put.own o.frame ∙ message);
@@ -195,11 +196,11 @@ frame_put s capacity scratch stored port turns n before rows now h some put stan
     }
 
 -- for any tributary of these slots
-pub own_frame : (own : Tributary) (s : Source) (capacity scratch stored : ℕ) (turns : List (List ℕ)) (n : ℕ) (before mid now : List ℕ)
-    → IsSource s capacity scratch stored → IsSome s.said → FramePut s n before mid now → StandsAfter own turns n s → WasPut own turns (length turns - 1) n before now
-own_frame own s capacity scratch stored turns n before mid now h some put stands =
+pub own_frame : (own : Tributary) (s : Source) (backlog : BacklogView) (scratch stored : ℕ) (turns : List (List ℕ)) (n : ℕ) (before mid now : List ℕ)
+    → IsSource s backlog scratch stored → IsSome s.said → FramePut s n before mid now → StandsAfter own turns n s → WasPut own turns (length turns - 1) n before now
+own_frame own s backlog scratch stored turns n before mid now h some put stands =
     subst (λ o. WasPut o turns (length turns - 1) n before now) (sym stands.own_is)
-    (frame_put s capacity scratch stored own.port turns n before mid now h some put (subst (λ o. StandsAfter o turns n s) stands.own_is stands))
+    (frame_put s backlog scratch stored own.port turns n before mid now h some put (subst (λ o. StandsAfter o turns n s) stands.own_is stands))
 
 -- ---- and how it stands then
 
@@ -235,11 +236,11 @@ stands_filled own turns n more s r left e is stands =
     }
 
 -- and what holds of every source
-pub is_filled : (s : Source) (capacity scratch stored more : ℕ) (r : Progress) (left : List ℕ) → IsSource s capacity scratch stored
+pub is_filled : (s : Source) (backlog now : BacklogView) (scratch stored more : ℕ) (r : Progress) → IsSource s backlog scratch stored
     → s.filled < slots_of s.slots.kind → more ≡ 4 * groups_in_row (slots_of s.slots.kind) → r ≡ record { number = s.number; asked = s.asked + more }
-    → left ≡ drop (data_bytes (length s.slots.list) s.number s.asked more) s.left
-    → IsSource (filled_to s r left) capacity scratch stored
-is_filled s capacity scratch stored more r left h low rows e is =
+    → now.items ≡ drop (data_bytes (length s.slots.list) s.number s.asked more) s.left → now.newest ≡ backlog.newest → now.slots ≡ backlog.slots
+    → IsSource (filled_to s r now.items) now scratch stored
+is_filled s backlog now scratch stored more r h low rows e is newest slots =
     let line = slots_of s.slots.kind in
     let w = 3808 / line in
     let m = length s.slots.list in
@@ -249,9 +250,9 @@ is_filled s capacity scratch stored more r left h low rows e is =
     let all = frames_low line w (s.filled + 1) (evenly s.slots.kind) (omega arith) in
     let most : m * data_count s.number (s.asked + more) ≤ m * s.number = mul-le-mul_left m (count_low s.number (s.asked + more) h.number_high (omega arith)) in
     let grow = bytes_grow m s.number s.asked more in
-    let long : length left ≡ length s.left - data_bytes m s.number s.asked more = ap length is ∙ length-drop (data_bytes m s.number s.asked more) s.left in
+    let long : length now.items ≡ length s.left - data_bytes m s.number s.asked more = ap length is ∙ length-drop (data_bytes m s.number s.asked more) s.left in
     let before = h.left_is in
-    let after : length left + m * data_count s.number (s.asked + more) ≡ m * s.number + (m * said_number s.said + s.rest) = omega arith in
+    let after : length now.items + m * data_count s.number (s.asked + more) ≡ m * s.number + (m * said_number s.said + s.rest) = omega arith in
     record {
       list = h.list;
       said_high = h.said_high;
@@ -259,8 +260,10 @@ is_filled s capacity scratch stored more r left h low rows e is =
       filled_high = omega arith;
       asked_is = omega arith;
       rest_high = h.rest_high;
-      left_is = subst (λ (p : Progress). length left + m * data_count p.number p.asked ≡ m * p.number + (m * said_number s.said + s.rest)) (sym e) after;
-      capacity_is = h.capacity_is;
+      left_is = subst (λ (p : Progress). length now.items + m * data_count p.number p.asked ≡ m * p.number + (m * said_number s.said + s.rest)) (sym e) after;
+      slots_are = slots ∙ h.slots_are;
+      newest_low = subst (λ k. k ≤ m * said_number s.said + s.rest) (sym newest) h.newest_low;
+      newest_high = subst (λ k. m * said_number s.said + s.rest < k + m) (sym newest) h.newest_high;
       scratch_is = h.scratch_is;
       kept_is = h.kept_is ∙ sym number;
     }

@@ -3,3 +3,4 @@ pub mod Laid
 pub mod RowsPut
 pub mod Begun
 pub mod Filled
+pub mod Unput

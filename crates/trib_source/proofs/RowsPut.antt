@@ -1,11 +1,12 @@
 -- The groups of a frame, row by row.
-use Rattle.std.proofs.Common.{◌≡◌, ◌⊎◌, inl, inr, ℕ, ◌+◌, ◌*◌, ◌/◌, ◌%◌, ◌-◌, ◌<◌, ◌≤◌, Bool, true, false, cond, List, ◌++◌, length, take, drop, refl, ap, ◌∙◌, sym, subst, arith, get_or}
+use Rattle.std.proofs.Common.{◌≡◌, ◌⊎◌, inl, inr, ℕ, ◌+◌, ◌*◌, ◌/◌, ◌%◌, ◌-◌, ◌<◌, ◌≤◌, Bool, true, false, cond, List, length, take, drop, refl, ap, ◌∙◌, sym, subst, arith, get_or}
 use Rattle.std.proofs.lemmas.Bool.{ltb-true}
-use Rattle.std.proofs.lemmas.List.{get_or-drop, get_or-take, get_or_append_left}
+use Rattle.std.proofs.lemmas.List.{get_or-drop, get_or-take}
 use Rattle.std.proofs.Math.Nat.{mul-le-mul_left}
 use Rattle.otn_base.specs.SlotList.{IsSlotList}
 use Rattle.gmp_rule.specs.DataRule.{IsData, is_data_at, data_count}
 use Rattle.odtu_columns.specs.Put.{slot_place, RowWasPut}
+use Rattle.trib_source.specs.Backlog.{BacklogView}
 use Rattle.trib_source.specs.Rows.{data_bytes, byte_laid, AreEnough, RowsWerePut}
 use Rattle.trib_source.proofs.Counts.{count_low, data_next}
 use Rattle.trib_source.proofs.Laid.{bytes_grow}
@@ -98,16 +99,15 @@ taken_is m c a w more is =
     omega arith
 
 -- the data groups that were not put have so many bytes, so they are there
-pub taken_enough : (m c a w more : ℕ) (items : List ℕ) → more + data_count c a ≡ data_count c (a + w) → c ≤ 15232 → a + w ≤ 15232 → AreEnough m c a items → m * more ≤ length items
-taken_enough m c a w more items is low high enough =
+pub taken_enough : (m c a w more : ℕ) (backlog : BacklogView) → more + data_count c a ≡ data_count c (a + w) → c ≤ 15232 → a + w ≤ 15232 → AreEnough m c a backlog → m * more + backlog.newest ≤ length backlog.items
+taken_enough m c a w more backlog is low high enough =
     let most : m * data_count c (a + w) ≤ m * c = mul-le-mul_left m (count_low c (a + w) low high) in
     let wide : m * data_count c (a + w) ≡ m * more + m * data_count c a = ap (λ k. m * k) (sym is) ∙ omega arith in
     omega arith
 
--- a byte of the front of a list
-pub front_is : (front back items : List ℕ) (count k : ℕ) → front ++ back ≡ items → count ≤ length front → k < count → get_or (take count front) k 0 ≡ get_or items k 0
-front_is front back items count k is within inside =
-    get_or-take count front k 0 inside ∙ sym (get_or_append_left front back 0 k (omega (arith, within, inside))) ∙ ap (λ xs. get_or xs k 0) is
+-- a byte of the front of bytes that begin as the list does
+pub front_is : (front items : List ℕ) (count k : ℕ) → ((i : ℕ) → i < length front → get_or front i 0 ≡ get_or items i 0) → count ≤ length front → k < count → get_or (take count front) k 0 ≡ get_or items k 0
+front_is front items count k each within inside = get_or-take count front k 0 inside ∙ each k (omega (arith, within, inside))
 
 -- ---- all rows
 

@@ -3,6 +3,7 @@ use Rattle.std.specs.Prelude.{◌≡◌, ℕ, ◌+◌, ◌-◌, ◌*◌, ◌/◌
 use Rattle.otn_base.specs.declared.limits.TheConstants.{PAYLOAD_COLUMNS}
 use Rattle.gmp_rule.specs.DataRule.{is_data_at, data_count}
 use Rattle.odtu_columns.specs.Put.{slot_place}
+use Rattle.trib_source.specs.Backlog.{BacklogView}
 
 -- G.709 clause 19.1: how many groups a row has on a line of so many slots
 abbrev pub groups_in_row : (line_slots : ℕ) → ℕ
@@ -18,9 +19,9 @@ data_bytes m c asked more = m * data_count c (asked + more) - m * data_count c a
 abbrev pub byte_laid : (m c asked : ℕ) → (left : List ℕ) → (x i : ℕ) → ℕ
 byte_laid m c asked left x i = if is_data_at c (asked + x + 1) then slice_index left (data_bytes m c asked x + i) else 0
 
--- the turn's data groups that were not put are there
-abbrev pub AreEnough : (m c asked : ℕ) → (left : List ℕ) → Type 0
-AreEnough m c asked left = m * c ≤ length left + m * data_count c asked
+-- the turn's data groups that were not put are there, before the newest turn's bytes
+abbrev pub AreEnough : (m c asked : ℕ) → BacklogView → Type 0
+AreEnough m c asked backlog = m * c + backlog.newest ≤ length backlog.items + m * data_count c asked
 
 -- The first rows of a frame have these bytes, by group, from 0, and slot, in the columns of the slots, and every other byte is as before
 -- (G.709 clause 19.1).

@@ -9,6 +9,7 @@ use Rattle.gmp_rule.specs.DataRule.{data_count}
 use Rattle.tributary_model.specs.Places.{Tributary, tributary_of}
 use Rattle.tributary_model.specs.Carries.{sent, number_before, former_of}
 use Rattle.tributary_model.specs.Puts.{lengths_of, message_put}
+use Rattle.trib_source.specs.Backlog.{BacklogView}
 use Rattle.trib_source.specs.Rows.{groups_in_row}
 
 -- what is seen of a source: its slots; the number that the message of the last turn says, where there was a turn; by which number the
@@ -42,8 +43,9 @@ AreLeft m c q bytes asked left = left ≡ drop (m * (q + data_count c asked)) by
 abbrev pub groups_in_frames : (line_slots frames : ℕ) → ℕ
 groups_in_frames line_slots frames = ROWS * groups_in_row line_slots * frames
 
--- what holds of every source: its slots rise, with a ring for so many bytes, room for so many in which rows are laid out, and the number of its groups kept
-pub record IsSource (s : Source) (capacity scratch kept : ℕ) : Type 0 where
+-- what holds of every source: its slots rise; its bytes are kept for as many slots, and behind those of the newest turn fewer than a group's are over; there
+-- is room for so many in which rows are laid out; and the number of its groups is kept
+pub record IsSource (s : Source) (backlog : BacklogView) (scratch kept : ℕ) : Type 0 where
   pub list : IsSlotList (slots_of s.slots.kind) s.slots.list
   pub said_high : ForSome s.said (λ n. n ≤ GROUPS)
   pub number_high : s.number ≤ GROUPS
@@ -51,7 +53,9 @@ pub record IsSource (s : Source) (capacity scratch kept : ℕ) : Type 0 where
   pub asked_is : s.asked ≡ groups_in_frames (slots_of s.slots.kind) s.filled
   pub rest_high : s.rest < slots_in s
   pub left_is : length s.left + slots_in s * data_count s.number s.asked ≡ slots_in s * s.number + (slots_in s * said_number s.said + s.rest)
-  pub capacity_is : capacity ≡ slots_in s * (2 * GROUPS + 1)
+  pub slots_are : backlog.slots ≡ slots_in s
+  pub newest_low : backlog.newest ≤ slots_in s * said_number s.said + s.rest
+  pub newest_high : slots_in s * said_number s.said + s.rest < backlog.newest + slots_in s
   pub scratch_is : scratch ≡ 2 * (slots_in s * (ROWS * groups_in_row (slots_of s.slots.kind)))
   pub kept_is : kept ≡ s.number
 

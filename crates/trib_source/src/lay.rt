@@ -123,9 +123,9 @@ fn clear_at(into: &mut [u8], at: usize, count: usize)
     into[at..at + count].fill(0);
 }
 
-// Copies `count` bytes from byte `from` on to `at`. Answers where the next ones begin.
+/// Copies `count` bytes from byte `from` on to `at`. Answers where the next ones begin.
 #[inline(always)]
-fn copy_at(fresh: &[u8], from: usize, into: &mut [u8], at: usize, count: usize) -> usize
+pub(crate) fn copy_at(fresh: &[u8], from: usize, into: &mut [u8], at: usize, count: usize) -> usize
     requires fresh { from + count ≤ length fresh.now }
     requires room { at + count ≤ length into.old }
     ensures next { result ≡ from + count }

@@ -6,8 +6,8 @@ ghost use Rattle.gmp_rule.specs.DataRule.{data_count};
 ghost use Rattle.trib_source.specs.Rows.{groups_in_row, data_bytes, byte_laid, AreEnough, RowsWerePut};
 ghost use Rattle.trib_source.specs.Source.{groups_in_frames};
 
+use crate::backlog::Backlog;
 use crate::lay::lay_groups;
-use circular_buffer::HeapCircularBuffer;
 use gmp_rule::{Runner, data_groups};
 use odtu_columns::FillFrame;
 use otn_base::limits::{GROUPS, OTU2_SLOTS, OTU3_SLOTS, PAYLOAD_COLUMNS, ROWS};
@@ -23,13 +23,13 @@ const BY_RUNS_OF_BYTES: u32 = GROUPS as u32 * 9 / 10;
 const BY_RUNS: u32 = GROUPS as u32 * 3 / 4;
 
 /// Puts the groups of a frame, behind so many groups of a turn with so many data groups, into the columns
-/// of the slots, row by row: out of the ring what is data. The next group that the runner is asked about
+/// of the slots, row by row: out of the backlog what is data. The next group that the runner is asked about
 /// is the first of the frame. What the scratch bytes are is of no account, before and behind the call.
 pub(crate) fn put_rows<F: FillFrame>(
     runner: &mut Runner,
     number: u32,
     asked: u32,
-    ring: &mut HeapCircularBuffer<u8>,
+    backlog: &mut Backlog,
     slots: &Slots,
     scratch: &mut [u8],
     frame: &mut F,
@@ -39,23 +39,23 @@ pub(crate) fn put_rows<F: FillFrame>(
     requires asked { asked ≡ runner.old.asked }
     requires high { asked + ROWS * groups_in_row (slots_of slots.now.kind) ≤ GROUPS }
     requires scratch { length scratch.old ≡ 2 * (length slots.now.list * (ROWS * groups_in_row (slots_of slots.now.kind))) }
-    requires enough { AreEnough (length slots.now.list) number runner.old.asked ring.old.items }
-    ensures rows { RowsWerePut (slots_of slots.now.kind) slots.now.list (byte_laid (length slots.now.list) number runner.old.asked ring.old.items) ROWS (F.bytes frame.old) (F.bytes frame.new) }
-    ensures ring { ring.new ≡ record ring.old { items = drop (data_bytes (length slots.now.list) number runner.old.asked (ROWS * groups_in_row (slots_of slots.now.kind))) ring.old.items } }
+    requires enough { AreEnough (length slots.now.list) number runner.old.asked backlog.old }
+    ensures rows { RowsWerePut (slots_of slots.now.kind) slots.now.list (byte_laid (length slots.now.list) number runner.old.asked backlog.old.items) ROWS (F.bytes frame.old) (F.bytes frame.new) }
+    ensures backlog { backlog.new ≡ record backlog.old { items = drop (data_bytes (length slots.now.list) number runner.old.asked (ROWS * groups_in_row (slots_of slots.now.kind))) backlog.old.items } }
     ensures runner { runner.new ≡ record runner.old { asked = runner.old.asked + ROWS * groups_in_row (slots_of slots.now.kind) } }
 {
     let m = slots.count() as usize;
     let cycles = ALL * cycles_in_row(slots.kind());
     let (fresh, laid) = scratch.split_at_mut(m * cycles as usize);
-    lay_front(runner, ring, number, asked, cycles, m, fresh, laid);
+    lay_front(runner, backlog, number, asked, cycles, m, fresh, laid);
     fill_rows(slots, laid, frame);
 }
 
 // Lays out the next `cycles` groups, behind `asked`, of `m` bytes each, and moves the bytes of the data groups among them out of
-// the ring: where they stand in two parts there, through `fresh`, which has room for them.
+// the backlog: where they do not stand together there, through `fresh`, which has room for them.
 fn lay_front(
     runner: &mut Runner,
-    ring: &mut HeapCircularBuffer<u8>,
+    backlog: &mut Backlog,
     number: u32,
     asked: u32,
     cycles: u32,
@@ -70,20 +70,20 @@ fn lay_front(
     requires high { asked + cycles ≤ GROUPS }
     requires fresh { length fresh.old ≡ m * cycles }
     requires laid { length laid.old ≡ m * cycles }
-    requires enough { AreEnough m number asked ring.old.items }
-    ensures laid { (x i : ℕ) → x < cycles → i < m → slice_index laid.new (m * x + i) ≡ byte_laid m number asked ring.old.items x i }
-    ensures ring { ring.new ≡ record ring.old { items = drop (data_bytes m number asked cycles) ring.old.items } }
+    requires enough { AreEnough m number asked backlog.old }
+    ensures laid { (x i : ℕ) → x < cycles → i < m → slice_index laid.new (m * x + i) ≡ byte_laid m number asked backlog.old.items x i }
+    ensures backlog { backlog.new ≡ record backlog.old { items = drop (data_bytes m number asked cycles) backlog.old.items } }
     ensures runner { runner.new ≡ record runner.old { asked = runner.old.asked + cycles } }
 {
     let count = m * data_between(number, asked, cycles) as usize;
     let runs = goes_by_runs(number, m);
-    let (front, _) = ring.as_slices();
+    let front = backlog.front();
     if count <= front.len() {
         lay_groups(runner, &front[..count], m, cycles as usize, runs, laid);
-        drop_front(ring, count);
+        backlog.drop_front(count);
         return;
     }
-    read_front(ring, fresh, count);
+    backlog.read_front(fresh, count);
     lay_groups(runner, &fresh[..count], m, cycles as usize, runs, laid);
 }
 
@@ -131,22 +131,4 @@ fn data_between(number: u32, asked: u32, cycles: u32) -> u32
     ensures few { result ≤ cycles }
 {
     data_groups(asked + cycles, number) - data_groups(asked, number)
-}
-
-// Moves the first `count` bytes of the ring to the front of these.
-fn read_front(ring: &mut HeapCircularBuffer<u8>, into: &mut [u8], count: usize)
-    requires room { count ≤ length into.old }
-    requires enough { count ≤ length ring.old.items }
-    ensures bytes { (i : ℕ) → i < count → slice_index into.new i ≡ slice_index ring.old.items i }
-    ensures ring { ring.new ≡ record ring.old { items = drop count ring.old.items } }
-{
-    ring.read_into(&mut into[..count]);
-}
-
-// Drops the first `count` bytes of the ring.
-fn drop_front(ring: &mut HeapCircularBuffer<u8>, count: usize)
-    requires { count ≤ length ring.old.items }
-    ensures { ring.new ≡ record ring.old { items = drop count ring.old.items } }
-{
-    ring.truncate_front(ring.len() - count);
 }

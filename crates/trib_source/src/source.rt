@@ -1,20 +1,24 @@
 // The source of a tributary.
-ghost use Rattle.std.specs.Prelude.{◌≡◌, ℕ, ◌+◌, ◌-◌, ◌*◌, ◌/◌, ◌%◌, ◌<◌, ◌≤◌, List, [], ◌∷◌, ◌++◌, IfOk, IsSome, is_some, length};
-ghost use Rattle.otn_base.specs.declared.limits.TheConstants.{GROUPS, LINE_COLUMNS, ROWS};
+ghost use Rattle.std.specs.Prelude.{◌≡◌, ℕ, ◌+◌, ◌-◌, ◌*◌, ◌/◌, ◌%◌, ◌<◌, ◌≤◌, List, [], ◌∷◌, ◌++◌, IfOk, IsSome, Some, is_some, length, slice_range, vec_len};
+ghost use Rattle.std.specs.Option.{ForSome};
+ghost use Rattle.otn_base.specs.declared.limits.TheConstants.{GROUPS, LINE_COLUMNS, MOST_SLOTS, ROWS};
 ghost use Rattle.otn_base.specs.LineSlots.{slots_of};
+ghost use Rattle.cnd_codec.specs.Remainder.{says_rest};
+ghost use Rattle.jc_codec.specs.Message.{says};
 ghost use Rattle.tributary_model.specs.Places.{Tributary, tributary_of, byte_at};
 ghost use Rattle.tributary_model.specs.Puts.{IsSourcePlace, WasPut};
 ghost use Rattle.trib_source.specs.Source.{said_number};
 
+use crate::backlog::Backlog;
 use crate::message::{put_own_message, say_turn};
 use crate::rows::{cycles_in_row, groups_before, put_rows};
-use circular_buffer::HeapCircularBuffer;
 use gmp_rule::Runner;
 use odtu_columns::FillFrame;
 use otn_base::limits::{GROUPS, ROWS};
 use otn_base::{Memory, Slots};
 use std::alloc::Global;
 use std::marker::Model;
+use std::ops::Range;
 
 /// The source of one tributary of a line. Contracts say after which turns it stands: which bytes each of
 /// them took, since it was new or restarted, and how many frames of the last one were filled.
@@ -24,7 +28,7 @@ pub struct TribSource {
     said: Option<u16>,
     number: u16,
     runner: Runner,
-    ring: HeapCircularBuffer<u8>,
+    backlog: Backlog,
     scratch: Vec<u8>,
     rest: u16,
     message: [u8; 6],
@@ -37,9 +41,9 @@ impl Model for TribSource {
 
     ghost Value = { Source };
 
-    ghost view = { λ s. record { slots = s.slots; said = s.said; number = s.runner.number; asked = s.runner.asked; left = s.ring.items; rest = s.rest; message = s.message; filled = s.filled } };
+    ghost view = { λ s. record { slots = s.slots; said = s.said; number = s.runner.number; asked = s.runner.asked; left = s.backlog.items; rest = s.rest; message = s.message; filled = s.filled } };
 
-    ghost invariant = { λ s. IsSource (record { slots = s.slots; said = s.said; number = s.runner.number; asked = s.runner.asked; left = s.ring.items; rest = s.rest; message = s.message; filled = s.filled }) s.ring.capacity (vec_len s.scratch) s.number };
+    ghost invariant = { λ s. IsSource (record { slots = s.slots; said = s.said; number = s.runner.number; asked = s.runner.asked; left = s.backlog.items; rest = s.rest; message = s.message; filled = s.filled }) s.backlog (vec_len s.scratch) s.number };
 }
 
 impl TribSource {
@@ -54,7 +58,7 @@ impl TribSource {
     {
         let m = slots.count() as usize;
         let cycles = ROWS * cycles_in_row(slots.kind()) as usize;
-        let ring = HeapCircularBuffer::with_capacity(alloc, m * (2 * GROUPS + 1))?;
+        let backlog = Backlog::new(alloc, m)?;
         let scratch = vec![in alloc; 0u8; 2 * (m * cycles)]?;
         let slots = slots.clone()?;
         Ok(TribSource {
@@ -62,7 +66,7 @@ impl TribSource {
             said: None,
             number: 0,
             runner: Runner::start(0),
-            ring,
+            backlog,
             scratch,
             rest: 0,
             message: [0; 6],
@@ -100,7 +104,7 @@ impl TribSource {
         self.said = None;
         self.number = 0;
         self.runner = Runner::start(0);
-        self.ring.clear();
+        self.backlog.clear();
         self.rest = 0;
         self.filled = 0;
     }
@@ -117,18 +121,47 @@ impl TribSource {
         ensures slots { self.new.slots ≡ self.old.slots }
     {
         let m = self.slots.count() as usize;
-        let number = number_of(self.said);
-        self.ring
-            .truncate_front(m * number as usize + self.rest as usize);
-        let _all = self.ring.fill_from_slice(bytes);
-        let total = self.rest as usize + bytes.len();
-        let next = (total / m) as u16;
-        let rest = (total % m) as u16;
-        self.message = say_turn(self.said, next, rest);
-        self.runner = Runner::start(number as u32);
-        self.number = number;
-        self.said = Some(next);
-        self.rest = rest;
+        self.backlog.pass(to_keep(m, self.said, self.rest));
+        self.backlog.push(bytes);
+        let message = begin_groups(
+            m,
+            bytes.len(),
+            &mut self.said,
+            &mut self.rest,
+            &mut self.number,
+            &mut self.runner,
+        );
+        self.message = message;
+        self.filled = 0;
+    }
+
+    /// Begins a turn as `begin_turn` does, without a copy: it takes the bytes of the buffer in this range. The source keeps the buffer, of
+    /// exactly 15,233 bytes a slot, as its own are, and gives one of those in exchange, whose bytes are of no account.
+    pub fn take_over(&mut self, buffer: &mut Vec<u8>, bytes: Range<usize>)
+        requires in_order { bytes.start ≤ bytes.end }
+        requires within { bytes.end ≤ vec_len buffer.old }
+        requires room { vec_len buffer.old ≡ length self.old.slots.list * (GROUPS + 1) }
+        requires fits { (self.old.rest + length (slice_range buffer.old.items bytes.start bytes.end)) / length self.old.slots.list ≤ GROUPS }
+        ensures stands { (own : Tributary) (turns : List (List ℕ)) (filled : ℕ) → StandsAfter own turns filled self.old → StandsAfter own (turns ++ slice_range buffer.old.items bytes.start bytes.end ∷ []) 0 self.new }
+        ensures begun { IsSome self.new.said }
+        ensures rest { self.new.rest ≡ (self.old.rest + length (slice_range buffer.old.items bytes.start bytes.end)) % length self.old.slots.list }
+        ensures filled { self.new.filled ≡ 0 }
+        ensures slots { self.new.slots ≡ self.old.slots }
+        ensures room_stays { vec_len buffer.new ≡ vec_len buffer.old }
+    {
+        let m = self.slots.count() as usize;
+        let count = bytes.end - bytes.start;
+        self.backlog.pass(to_keep(m, self.said, self.rest));
+        self.backlog.take_over(buffer, bytes);
+        let message = begin_groups(
+            m,
+            count,
+            &mut self.said,
+            &mut self.rest,
+            &mut self.number,
+            &mut self.runner,
+        );
+        self.message = message;
         self.filled = 0;
     }
 
@@ -163,7 +196,7 @@ impl TribSource {
             &mut self.runner,
             self.number as u32,
             asked,
-            &mut self.ring,
+            &mut self.backlog,
             &self.slots,
             &mut self.scratch,
             frame,
@@ -171,6 +204,45 @@ impl TribSource {
         put_own_message(&self.slots, n, self.message, frame);
         self.filled += 1;
     }
+}
+
+// How many of the bytes that are left a new turn keeps: those that complete the groups that were said, and those over.
+fn to_keep(m: usize, said: Option<u16>, rest: u16) -> usize
+    requires few { m ≤ MOST_SLOTS }
+    ensures { result ≡ m * said_number said + rest }
+{
+    m * number_of(said) as usize + rest as usize
+}
+
+// Begins the groups of a turn that brings so many bytes, for `m` slots: the groups that were said are put, and those that its bytes
+// complete, with the bytes over, are said. Answers the message that says them.
+fn begin_groups(
+    m: usize,
+    count: usize,
+    said: &mut Option<u16>,
+    rest: &mut u16,
+    number: &mut u16,
+    runner: &mut Runner,
+) -> [u8; 6]
+    requires some { 1 ≤ m }
+    requires few { m ≤ MOST_SLOTS }
+    requires former { ForSome said.old (λ n. n ≤ GROUPS) }
+    requires fits { (rest.old + count) / m ≤ GROUPS }
+    ensures said { said.new ≡ Some ((rest.old + count) / m) }
+    ensures rest { rest.new ≡ (rest.old + count) % m }
+    ensures number { number.new ≡ said_number said.old }
+    ensures runner { runner.new ≡ record { number = said_number said.old; asked = 0 } }
+    ensures message { result ≡ says said.old ((rest.old + count) / m) ++ says_rest ((rest.old + count) % m) }
+{
+    let former = *said;
+    let total = *rest as usize + count;
+    let groups = (total / m) as u16;
+    let over = (total % m) as u16;
+    *number = number_of(former);
+    *runner = Runner::start(number_of(former) as u32);
+    *said = Some(groups);
+    *rest = over;
+    say_turn(former, groups, over)
 }
 
 // The number that was said, and 0 before any.

@@ -1,9 +1,9 @@
 use Rattle.std.specs.Prelude.{vec_len, IsSome}
-use Rattle.std.proofs.Common.{◌≡◌, ◌<◌, ◌+◌, ◌*◌, ◌∙◌, ap, sym, subst, refl, length, drop}
-use Rattle.circular_buffer.specs.Buffer.{Buffer}
+use Rattle.std.proofs.Common.{◌≡◌, ◌<◌, ◌*◌, ◌∙◌, ap, sym, subst, refl, length, drop}
 use Rattle.otn_base.specs.LineSlots.{slots_of}
 use Rattle.tributary_model.specs.Places.{tributary_of}
 use Rattle.tributary_model.specs.Puts.{IsSourcePlace}
+use Rattle.trib_source.specs.Backlog.{BacklogView}
 use Rattle.trib_source.specs.Rows.{groups_in_row, data_bytes, byte_laid, RowsWerePut}
 use Rattle.trib_source.specs.Source.{Source, IsSource, StandsAfter}
 use Rattle.trib_source.proofs.Filled.{FramePut, own_frame, frame_kept, stands_filled, is_filled}
@@ -12,39 +12,38 @@ use Rattle.trib_source.proofs.source.TribSource.fill.Goals as goal
 pub invariant_of-self : goal.invariant_of-self
 invariant_of-self g c =
     let i = c.self.inside in
-    let s : Source = record { slots = i.slots; said = i.said; number = i.runner.number; asked = i.runner.asked; left = i.ring.items; rest = i.rest; message = i.message; filled = i.filled } in
-    let h : IsSource s i.ring.capacity (vec_len i.scratch) i.number = c.self.invariant in
+    let s : Source = record { slots = i.slots; said = i.said; number = i.runner.number; asked = i.runner.asked; left = i.backlog.items; rest = i.rest; message = i.message; filled = i.filled } in
+    let h : IsSource s i.backlog (vec_len i.scratch) i.number = c.self.invariant in
     let more = 4 * groups_in_row (slots_of i.slots.kind) in
     let low : i.filled < slots_of i.slots.kind =
     subst (λ (x : Source). x.filled < slots_of x.slots.kind) (sym c.self.view_is) (subst (λ k. k < slots_of c.args.self.now.slots.kind) c.requires.filled c.requires.number) in
-    let left : c.put_rows.new.ring.items ≡ drop (data_bytes (length i.slots.list) i.runner.number i.runner.asked more) i.ring.items =
-    ap (λ (b : Buffer _). b.items) c.put_rows.ensures.ring ∙ ap (λ k. drop (data_bytes (length i.slots.list) k i.runner.asked more) i.ring.items) h.kept_is in
-    subst (λ k. IsSource (record s { number = c.put_rows.new.runner.number; asked = c.put_rows.new.runner.asked; left = c.put_rows.new.ring.items; filled = i.filled + 1 }) k (vec_len i.scratch) i.number)
-    (sym (ap (λ (b : Buffer _). b.capacity) c.put_rows.ensures.ring))
-    (is_filled s i.ring.capacity (vec_len i.scratch) i.number more c.put_rows.new.runner c.put_rows.new.ring.items h low refl c.put_rows.ensures.runner left)
+    let left : c.put_rows.new.backlog.items ≡ drop (data_bytes (length i.slots.list) i.runner.number i.runner.asked more) i.backlog.items =
+    ap (λ (b : BacklogView). b.items) c.put_rows.ensures.backlog ∙ ap (λ k. drop (data_bytes (length i.slots.list) k i.runner.asked more) i.backlog.items) h.kept_is in
+    is_filled s i.backlog c.put_rows.new.backlog (vec_len i.scratch) i.number more c.put_rows.new.runner h low refl c.put_rows.ensures.runner left
+    (ap (λ (b : BacklogView). b.newest) c.put_rows.ensures.backlog) (ap (λ (b : BacklogView). b.slots) c.put_rows.ensures.backlog)
 
 pub returns-clause-put : goal.returns-clause-put
 returns-clause-put g c = λ own turns stands.
     let i = c.self.inside in
-    let s : Source = record { slots = i.slots; said = i.said; number = i.runner.number; asked = i.runner.asked; left = i.ring.items; rest = i.rest; message = i.message; filled = i.filled } in
-    let h : IsSource s i.ring.capacity (vec_len i.scratch) i.number = c.self.invariant in
+    let s : Source = record { slots = i.slots; said = i.said; number = i.runner.number; asked = i.runner.asked; left = i.backlog.items; rest = i.rest; message = i.message; filled = i.filled } in
+    let h : IsSource s i.backlog (vec_len i.scratch) i.number = c.self.invariant in
     let message = c.put_own_message.ensures in
     let some : IsSome s.said = subst (λ (x : Source). IsSome x.said) (sym c.self.view_is) c.requires.begun in
-    let rows : RowsWerePut (slots_of i.slots.kind) i.slots.list (byte_laid (length i.slots.list) i.runner.number i.runner.asked i.ring.items) 4 (g.F.FillFrame.bytes c.args.frame.now) (g.F.FillFrame.bytes c.put_rows.new.frame) =
-    subst (λ k. RowsWerePut (slots_of i.slots.kind) i.slots.list (byte_laid (length i.slots.list) k i.runner.asked i.ring.items) 4 (g.F.FillFrame.bytes c.args.frame.now) (g.F.FillFrame.bytes c.put_rows.new.frame)) h.kept_is c.put_rows.ensures.rows in
+    let rows : RowsWerePut (slots_of i.slots.kind) i.slots.list (byte_laid (length i.slots.list) i.runner.number i.runner.asked i.backlog.items) 4 (g.F.FillFrame.bytes c.args.frame.now) (g.F.FillFrame.bytes c.put_rows.new.frame) =
+    subst (λ k. RowsWerePut (slots_of i.slots.kind) i.slots.list (byte_laid (length i.slots.list) k i.runner.asked i.backlog.items) 4 (g.F.FillFrame.bytes c.args.frame.now) (g.F.FillFrame.bytes c.put_rows.new.frame)) h.kept_is c.put_rows.ensures.rows in
     let put : FramePut s c.args.n (g.F.FillFrame.bytes c.args.frame.now) (g.F.FillFrame.bytes c.put_rows.new.frame) (g.F.FillFrame.bytes c.put_own_message.new.frame) =
     record { list = h.list; rows = rows; own = message.greatest; other = message.other; kept = message.kept } in
-    own_frame own s i.ring.capacity (vec_len i.scratch) i.number turns c.args.n (g.F.FillFrame.bytes c.args.frame.now) (g.F.FillFrame.bytes c.put_rows.new.frame) (g.F.FillFrame.bytes c.put_own_message.new.frame) h some put
+    own_frame own s i.backlog (vec_len i.scratch) i.number turns c.args.n (g.F.FillFrame.bytes c.args.frame.now) (g.F.FillFrame.bytes c.put_rows.new.frame) (g.F.FillFrame.bytes c.put_own_message.new.frame) h some put
     (subst (λ (x : Source). StandsAfter own turns c.args.n x) (sym c.self.view_is) stands)
 
 pub returns-clause-kept : goal.returns-clause-kept
 returns-clause-kept g c = λ port row column a b d f none.
     let i = c.self.inside in
-    let s : Source = record { slots = i.slots; said = i.said; number = i.runner.number; asked = i.runner.asked; left = i.ring.items; rest = i.rest; message = i.message; filled = i.filled } in
-    let h : IsSource s i.ring.capacity (vec_len i.scratch) i.number = c.self.invariant in
+    let s : Source = record { slots = i.slots; said = i.said; number = i.runner.number; asked = i.runner.asked; left = i.backlog.items; rest = i.rest; message = i.message; filled = i.filled } in
+    let h : IsSource s i.backlog (vec_len i.scratch) i.number = c.self.invariant in
     let message = c.put_own_message.ensures in
-    let rows : RowsWerePut (slots_of i.slots.kind) i.slots.list (byte_laid (length i.slots.list) i.runner.number i.runner.asked i.ring.items) 4 (g.F.FillFrame.bytes c.args.frame.now) (g.F.FillFrame.bytes c.put_rows.new.frame) =
-    subst (λ k. RowsWerePut (slots_of i.slots.kind) i.slots.list (byte_laid (length i.slots.list) k i.runner.asked i.ring.items) 4 (g.F.FillFrame.bytes c.args.frame.now) (g.F.FillFrame.bytes c.put_rows.new.frame)) h.kept_is c.put_rows.ensures.rows in
+    let rows : RowsWerePut (slots_of i.slots.kind) i.slots.list (byte_laid (length i.slots.list) i.runner.number i.runner.asked i.backlog.items) 4 (g.F.FillFrame.bytes c.args.frame.now) (g.F.FillFrame.bytes c.put_rows.new.frame) =
+    subst (λ k. RowsWerePut (slots_of i.slots.kind) i.slots.list (byte_laid (length i.slots.list) k i.runner.asked i.backlog.items) 4 (g.F.FillFrame.bytes c.args.frame.now) (g.F.FillFrame.bytes c.put_rows.new.frame)) h.kept_is c.put_rows.ensures.rows in
     let put : FramePut s c.args.n (g.F.FillFrame.bytes c.args.frame.now) (g.F.FillFrame.bytes c.put_rows.new.frame) (g.F.FillFrame.bytes c.put_own_message.new.frame) =
     record { list = h.list; rows = rows; own = message.greatest; other = message.other; kept = message.kept } in
     frame_kept s port c.args.n (g.F.FillFrame.bytes c.args.frame.now) (g.F.FillFrame.bytes c.put_rows.new.frame) (g.F.FillFrame.bytes c.put_own_message.new.frame) put row column a b d f
@@ -53,10 +52,10 @@ returns-clause-kept g c = λ port row column a b d f none.
 pub returns-clause-stands : goal.returns-clause-stands
 returns-clause-stands g c = λ own turns stands.
     let i = c.self.inside in
-    let s : Source = record { slots = i.slots; said = i.said; number = i.runner.number; asked = i.runner.asked; left = i.ring.items; rest = i.rest; message = i.message; filled = i.filled } in
-    let h : IsSource s i.ring.capacity (vec_len i.scratch) i.number = c.self.invariant in
+    let s : Source = record { slots = i.slots; said = i.said; number = i.runner.number; asked = i.runner.asked; left = i.backlog.items; rest = i.rest; message = i.message; filled = i.filled } in
+    let h : IsSource s i.backlog (vec_len i.scratch) i.number = c.self.invariant in
     let more = 4 * groups_in_row (slots_of i.slots.kind) in
-    let left : c.put_rows.new.ring.items ≡ drop (data_bytes (length i.slots.list) i.runner.number i.runner.asked more) i.ring.items =
-    ap (λ (b : Buffer _). b.items) c.put_rows.ensures.ring ∙ ap (λ k. drop (data_bytes (length i.slots.list) k i.runner.asked more) i.ring.items) h.kept_is in
-    stands_filled own turns c.args.n more s c.put_rows.new.runner c.put_rows.new.ring.items c.put_rows.ensures.runner left
+    let left : c.put_rows.new.backlog.items ≡ drop (data_bytes (length i.slots.list) i.runner.number i.runner.asked more) i.backlog.items =
+    ap (λ (b : BacklogView). b.items) c.put_rows.ensures.backlog ∙ ap (λ k. drop (data_bytes (length i.slots.list) k i.runner.asked more) i.backlog.items) h.kept_is in
+    stands_filled own turns c.args.n more s c.put_rows.new.runner c.put_rows.new.backlog.items c.put_rows.ensures.runner left
     (subst (λ (x : Source). StandsAfter own turns c.args.n x) (sym c.self.view_is) stands)
