@@ -235,12 +235,18 @@ stands_filled own turns n more s r left e is stands =
       message = stands.message;
     }
 
+-- what is left where the bytes of so many groups are dropped by the number that is kept
+pub left_put : (s : Source) (backlog now : BacklogView) (scratch stored more : ℕ) → IsSource s backlog scratch stored
+    → now ≡ record backlog { items = drop (data_bytes (length s.slots.list) stored s.asked more) s.left } → now.items ≡ drop (data_bytes (length s.slots.list) s.number s.asked more) s.left
+left_put s backlog now scratch stored more h is =
+    ap (λ (b : BacklogView). b.items) is ∙ ap (λ k. drop (data_bytes (length s.slots.list) k s.asked more) s.left) h.kept_is
+
 -- and what holds of every source
 pub is_filled : (s : Source) (backlog now : BacklogView) (scratch stored more : ℕ) (r : Progress) → IsSource s backlog scratch stored
     → s.filled < slots_of s.slots.kind → more ≡ 4 * groups_in_row (slots_of s.slots.kind) → r ≡ record { number = s.number; asked = s.asked + more }
-    → now.items ≡ drop (data_bytes (length s.slots.list) s.number s.asked more) s.left → now.newest ≡ backlog.newest → now.slots ≡ backlog.slots
+    → now ≡ record backlog { items = drop (data_bytes (length s.slots.list) stored s.asked more) s.left }
     → IsSource (filled_to s r now.items) now scratch stored
-is_filled s backlog now scratch stored more r h low rows e is newest slots =
+is_filled s backlog now scratch stored more r h low rows e is =
     let line = slots_of s.slots.kind in
     let w = 3808 / line in
     let m = length s.slots.list in
@@ -250,7 +256,8 @@ is_filled s backlog now scratch stored more r h low rows e is newest slots =
     let all = frames_low line w (s.filled + 1) (evenly s.slots.kind) (omega arith) in
     let most : m * data_count s.number (s.asked + more) ≤ m * s.number = mul-le-mul_left m (count_low s.number (s.asked + more) h.number_high (omega arith)) in
     let grow = bytes_grow m s.number s.asked more in
-    let long : length now.items ≡ length s.left - data_bytes m s.number s.asked more = ap length is ∙ length-drop (data_bytes m s.number s.asked more) s.left in
+    let long : length now.items ≡ length s.left - data_bytes m s.number s.asked more = ap length (left_put s backlog now scratch stored more h is) ∙ length-drop (data_bytes m s.number s.asked more) s.left in
+    let newest : now.newest ≡ backlog.newest = ap (λ (b : BacklogView). b.newest) is in
     let before = h.left_is in
     let after : length now.items + m * data_count s.number (s.asked + more) ≡ m * s.number + (m * said_number s.said + s.rest) = omega arith in
     record {
@@ -261,7 +268,7 @@ is_filled s backlog now scratch stored more r h low rows e is newest slots =
       asked_is = omega arith;
       rest_high = h.rest_high;
       left_is = subst (λ (p : Progress). length now.items + m * data_count p.number p.asked ≡ m * p.number + (m * said_number s.said + s.rest)) (sym e) after;
-      slots_are = slots ∙ h.slots_are;
+      slots_are = ap (λ (b : BacklogView). b.slots) is ∙ h.slots_are;
       newest_low = subst (λ k. k ≤ m * said_number s.said + s.rest) (sym newest) h.newest_low;
       newest_high = subst (λ k. m * said_number s.said + s.rest < k + m) (sym newest) h.newest_high;
       scratch_is = h.scratch_is;

@@ -1,5 +1,5 @@
 // Sources on turns whose pairs and messages are known by hand.
-ghost use Rattle.std.specs.Prelude.{◌≡◌, ◌*◌, ◌<◌, ◌≤◌, IfOk, IsSome, length, vec_len};
+ghost use Rattle.std.specs.Prelude.{◌≡◌, ◌+◌, ◌-◌, ◌*◌, ◌<◌, ◌≤◌, IfOk, IsSome, length, vec_len};
 ghost use Rattle.otn_base.specs.declared.limits.TheConstants.{GROUPS};
 ghost use Rattle.otn_base.specs.LineSlots.{slots_of};
 
@@ -9,6 +9,7 @@ use odtu_columns::message;
 use otn_base::limits::GROUPS;
 use otn_base::{LineKind, Memory, Slots};
 use std::alloc::Global;
+use std::ops::Range;
 use std::test::Fail;
 
 // What a turn brings, and the message that it says.
@@ -322,5 +323,122 @@ fn groups(rt: HostRuntime) -> Result<(), Fail> {
         wrong_place(alloc, &[17], LineKind::Otu3, 7_616, 16, &SLOT_17_FRAME_16)?,
         0
     );
+    Ok(())
+}
+
+// Begins a turn that takes these bytes, and hands over the buffer in which they stand.
+fn hand(source: &mut TribSource, buffer: &mut Vec<u8>, bytes: Range<usize>)
+    requires rest { source.old.rest < length source.old.slots.list }
+    requires in_order { bytes.start ≤ bytes.end }
+    requires within { bytes.end ≤ vec_len buffer.old }
+    requires size { bytes.end - bytes.start ≤ length source.old.slots.list * GROUPS }
+    requires room { vec_len buffer.old ≡ length source.old.slots.list * (GROUPS + 1) }
+    ensures slots { source.new.slots ≡ source.old.slots }
+    ensures rest { source.new.rest < length source.old.slots.list }
+    ensures begun { IsSome source.new.said }
+    ensures filled { source.new.filled ≡ 0 }
+    ensures room_stays { vec_len buffer.new ≡ vec_len buffer.old }
+{
+    source.take_over(buffer, bytes);
+}
+
+// Whether two sources put the same frames in their turns.
+fn put_alike(
+    one: &mut TribSource,
+    other: &mut TribSource,
+    frame: &mut Frame<4080>,
+    beside: &mut Frame<4080>,
+) -> bool
+    requires kind { one.old.slots.kind ≡ LineKind.Otu2 }
+    requires other_kind { other.old.slots.kind ≡ LineKind.Otu2 }
+    requires begun { IsSome one.old.said }
+    requires other_begun { IsSome other.old.said }
+    requires filled { one.old.filled ≡ 0 }
+    requires other_filled { other.old.filled ≡ 0 }
+    ensures slots { one.new.slots ≡ one.old.slots }
+    ensures other_slots { other.new.slots ≡ other.old.slots }
+    ensures rest { one.new.rest ≡ one.old.rest }
+    ensures other_rest { other.new.rest ≡ other.old.rest }
+{
+    let mut alike = true;
+    for n in 0..8u8 {
+        frame.clear();
+        beside.clear();
+        one.fill(n, frame);
+        other.fill(n, beside);
+        alike &= frame.as_bytes() == beside.as_bytes();
+    }
+    alike
+}
+
+// The turn, counted from 1, in which a source that is handed the buffers of its turns puts another frame than one that is given
+// their bytes, or 0 where there is none. The bytes of a turn stand in the buffer from its number on.
+fn first_unlike(
+    given: &mut TribSource,
+    handed: &mut TribSource,
+    bytes: &[u8],
+    turns: &[Turn],
+    buffer: &mut Vec<u8>,
+    frame: &mut Frame<4080>,
+    beside: &mut Frame<4080>,
+) -> u8
+    requires kind { given.old.slots.kind ≡ LineKind.Otu2 }
+    requires handed_slots { handed.old.slots ≡ given.old.slots }
+    requires rest { given.old.rest < length given.old.slots.list }
+    requires handed_rest { handed.old.rest < length given.old.slots.list }
+    requires size { length bytes.now ≡ length given.old.slots.list * GROUPS }
+    requires room { vec_len buffer.old ≡ length given.old.slots.list * (GROUPS + 1) }
+{
+    let mut t = 0u8;
+    for turn in turns {
+        t = t.saturating_add(1);
+        let from = (t as usize).min(bytes.len());
+        let to = from.saturating_add(turn.0).min(bytes.len());
+        copy_front(bytes, buffer);
+        begin(given, &bytes[from..to]);
+        hand(handed, buffer, from..to);
+        if !put_alike(given, handed, frame, beside) {
+            return t;
+        }
+    }
+    0
+}
+
+// Copies these bytes to the front of a buffer.
+fn copy_front(bytes: &[u8], buffer: &mut Vec<u8>)
+    requires { length bytes.now ≤ vec_len buffer.old }
+    ensures { vec_len buffer.new ≡ vec_len buffer.old }
+{
+    buffer[..bytes.len()].copy_from_slice(bytes);
+}
+
+// The same of new sources of these slots of an OTU2.
+fn unlike_turn(alloc: Global, list: &[u8], turns: &[Turn]) -> Result<u8, Memory> {
+    let Some(slots) = Slots::new(list, LineKind::Otu2) else {
+        return Ok(255);
+    };
+    let bytes = numbered(alloc, slots.count() as usize * GROUPS)?;
+    let mut buffer = numbered(alloc, slots.count() as usize * (GROUPS + 1))?;
+    let mut frame = Frame::<4080>::new(alloc)?;
+    let mut beside = Frame::<4080>::new(alloc)?;
+    let mut given = TribSource::new(alloc, &slots)?;
+    let mut handed = TribSource::new(alloc, &slots)?;
+    Ok(first_unlike(
+        &mut given,
+        &mut handed,
+        &bytes,
+        turns,
+        &mut buffer,
+        &mut frame,
+        &mut beside,
+    ))
+}
+
+#[test]
+fn handed_over_as_given(rt: HostRuntime) -> Result<(), Fail> {
+    let alloc = rt.alloc();
+    assert_eq!(rt; unlike_turn(alloc, &[1, 2, 8], &THREE)?, 0);
+    assert_eq!(rt; unlike_turn(alloc, &[4], &ONE_OF_OTU3)?, 0);
+    assert_eq!(rt; unlike_turn(alloc, &OTU2_SLOTS, &EIGHT_SLOW)?, 0);
     Ok(())
 }

@@ -1,12 +1,11 @@
 use Rattle.std.specs.Prelude.{vec_len, IsSome}
-use Rattle.std.proofs.Common.{◌≡◌, ◌<◌, ◌*◌, ◌∙◌, ap, sym, subst, refl, length, drop}
+use Rattle.std.proofs.Common.{◌<◌, ◌*◌, sym, subst, refl, length}
 use Rattle.otn_base.specs.LineSlots.{slots_of}
 use Rattle.tributary_model.specs.Places.{tributary_of}
 use Rattle.tributary_model.specs.Puts.{IsSourcePlace}
-use Rattle.trib_source.specs.Backlog.{BacklogView}
-use Rattle.trib_source.specs.Rows.{groups_in_row, data_bytes, byte_laid, RowsWerePut}
+use Rattle.trib_source.specs.Rows.{groups_in_row, byte_laid, RowsWerePut}
 use Rattle.trib_source.specs.Source.{Source, IsSource, StandsAfter}
-use Rattle.trib_source.proofs.Filled.{FramePut, own_frame, frame_kept, stands_filled, is_filled}
+use Rattle.trib_source.proofs.Filled.{FramePut, own_frame, frame_kept, stands_filled, is_filled, left_put}
 use Rattle.trib_source.proofs.source.TribSource.fill.Goals as goal
 
 pub invariant_of-self : goal.invariant_of-self
@@ -17,10 +16,7 @@ invariant_of-self g c =
     let more = 4 * groups_in_row (slots_of i.slots.kind) in
     let low : i.filled < slots_of i.slots.kind =
     subst (λ (x : Source). x.filled < slots_of x.slots.kind) (sym c.self.view_is) (subst (λ k. k < slots_of c.args.self.now.slots.kind) c.requires.filled c.requires.number) in
-    let left : c.put_rows.new.backlog.items ≡ drop (data_bytes (length i.slots.list) i.runner.number i.runner.asked more) i.backlog.items =
-    ap (λ (b : BacklogView). b.items) c.put_rows.ensures.backlog ∙ ap (λ k. drop (data_bytes (length i.slots.list) k i.runner.asked more) i.backlog.items) h.kept_is in
-    is_filled s i.backlog c.put_rows.new.backlog (vec_len i.scratch) i.number more c.put_rows.new.runner h low refl c.put_rows.ensures.runner left
-    (ap (λ (b : BacklogView). b.newest) c.put_rows.ensures.backlog) (ap (λ (b : BacklogView). b.slots) c.put_rows.ensures.backlog)
+    is_filled s i.backlog c.put_rows.new.backlog (vec_len i.scratch) i.number more c.put_rows.new.runner h low refl c.put_rows.ensures.runner c.put_rows.ensures.backlog
 
 pub returns-clause-put : goal.returns-clause-put
 returns-clause-put g c = λ own turns stands.
@@ -55,7 +51,6 @@ returns-clause-stands g c = λ own turns stands.
     let s : Source = record { slots = i.slots; said = i.said; number = i.runner.number; asked = i.runner.asked; left = i.backlog.items; rest = i.rest; message = i.message; filled = i.filled } in
     let h : IsSource s i.backlog (vec_len i.scratch) i.number = c.self.invariant in
     let more = 4 * groups_in_row (slots_of i.slots.kind) in
-    let left : c.put_rows.new.backlog.items ≡ drop (data_bytes (length i.slots.list) i.runner.number i.runner.asked more) i.backlog.items =
-    ap (λ (b : BacklogView). b.items) c.put_rows.ensures.backlog ∙ ap (λ k. drop (data_bytes (length i.slots.list) k i.runner.asked more) i.backlog.items) h.kept_is in
-    stands_filled own turns c.args.n more s c.put_rows.new.runner c.put_rows.new.backlog.items c.put_rows.ensures.runner left
+    stands_filled own turns c.args.n more s c.put_rows.new.runner c.put_rows.new.backlog.items c.put_rows.ensures.runner
+    (left_put s i.backlog c.put_rows.new.backlog (vec_len i.scratch) i.number more h c.put_rows.ensures.backlog)
     (subst (λ (x : Source). StandsAfter own turns c.args.n x) (sym c.self.view_is) stands)
