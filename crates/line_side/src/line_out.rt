@@ -12,15 +12,15 @@ use frame_geometry::overhead::{PSI_COLUMN, PSI_ROW};
 use frame_overhead::parity;
 use msi_table::{SlotMap, psi_byte};
 use odu_path::PathWriter;
-use otn_base::limits::LINE_COLUMNS;
+use otn_base::limits::{LINE_COLUMNS, LINE_FRAME_BYTES};
 use otn_base::{LineKind, Memory, Trace};
 use otn_ports::{OutPlaceOf, Sink, Written};
 use otu_overhead::OtuWriter;
 use std::alloc::Global;
 use std::marker::Model;
 
-/// An output line of a node, of either kind, plain or scrambled. Each of its frames is put into the frame that `begin` gives,
-/// and written by `finish`.
+/// An output line of a node, of either kind, plain or scrambled. Each of its frames is put into the frame that `begin` or
+/// `begin_whole` gives, and written by `finish`.
 #[derive(Drop)]
 pub struct LineOut {
     kind: LineKind,
@@ -78,6 +78,15 @@ impl LineOut {
         ensures size { length result.now ≡ FRAME_BYTES }
     {
         self.frame.clear();
+        &mut self.frame
+    }
+
+    /// The next frame, to be written whole: what it holds is of no account.
+    pub fn begin_whole(&mut self) -> &mut Frame<LINE_COLUMNS>
+        ensures* writes_back { sem 𝓛 (Lends the_row line_frame self.entry result (λ w. record self.entry.now { frame = w })) }
+        ensures size { length result.now ≡ FRAME_BYTES }
+    {
+        prove_eq!(self.frame.as_bytes().len(), LINE_FRAME_BYTES);
         &mut self.frame
     }
 

@@ -246,7 +246,13 @@ fn written(
         0,
     );
     for mfas in 0..frames {
-        out.begin().set(4, 3825, 9);
+        if mfas % 2 == 0 {
+            out.begin().set(4, 3825, 9);
+        } else {
+            let frame = out.begin_whole();
+            frame.clear();
+            frame.set(4, 3825, 9);
+        }
         out.finish(mfas, map, &mut place);
     }
     let mut bytes = Vec::new(alloc);
