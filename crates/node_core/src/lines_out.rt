@@ -33,7 +33,7 @@ pub(crate) fn write_line<K: Sink>(
     let kind = line.kind();
     let map = slot_map(kind, b, past, links);
     let by_slots = is_by_slots(kind, b, past, links);
-    fill_line(by_slots, b, past, links, slots, line.begin());
+    fill_line(by_slots, b, past, links, slots, line);
     line.finish(mfas_of(kind, past, n), &map, place);
 }
 
@@ -59,29 +59,39 @@ fn has_one_slot(to: &Target) -> bool {
     }
 }
 
-// Each active connection to line output `b` puts its own into a frame that is all 0.
+// Each active connection to line output `b` puts its own into the next frame, where all else is 0.
 fn fill_line(
     by_slots: bool,
     b: u8,
     past: u32,
     links: &mut Vec<Link>,
     slots: &mut SlotFrame,
-    frame: &mut Frame<LINE_COLUMNS>,
+    line: &mut LineOut,
 )
+    ensures gave { (n : ℕ) → EachLink (λ link then. GaveFrame (gives_line past b link) n link then) links.old.items links.new.items }
+    ensures puts { FromBlank (λ link before now. PutsOwn (gives_line past b link) link before now) links.old.items line.new.frame }
+    ensures size { length line.new.frame ≡ FRAME_BYTES }
+    ensures line { line.new ≡ record line.old { frame = line.new.frame } }
+{
+    if by_slots {
+        fill_by_slots(b, past, links, slots, line.begin_whole());
+        return;
+    }
+    fill_blank(b, past, links, line.begin());
+}
+
+// The same of a frame that is all 0.
+fn fill_blank(b: u8, past: u32, links: &mut Vec<Link>, frame: &mut Frame<LINE_COLUMNS>)
     requires blank { (place : ℕ) → slice_index frame.old place ≡ 0 }
     ensures gave { (n : ℕ) → EachLink (λ link then. GaveFrame (gives_line past b link) n link then) links.old.items links.new.items }
     ensures puts { FromBlank (λ link before now. PutsOwn (gives_line past b link) link before now) links.old.items frame.new }
     ensures size { length frame.new ≡ FRAME_BYTES }
 {
-    if by_slots {
-        fill_by_slots(b, past, links, slots, frame);
-        return;
-    }
     fill_links(b, past, links, frame);
     prove_eq!(frame.as_bytes().len(), LINE_FRAME_BYTES);
 }
 
-// The same, by way of a frame that is kept by slots, whatever it holds.
+// The same by way of a frame that is kept by slots. What either frame holds is of no account.
 fn fill_by_slots(
     b: u8,
     past: u32,
@@ -89,7 +99,6 @@ fn fill_by_slots(
     slots: &mut SlotFrame,
     frame: &mut Frame<LINE_COLUMNS>,
 )
-    requires blank { (place : ℕ) → slice_index frame.old place ≡ 0 }
     ensures gave { (n : ℕ) → EachLink (λ link then. GaveFrame (gives_line past b link) n link then) links.old.items links.new.items }
     ensures puts { FromBlank (λ link before now. PutsOwn (gives_line past b link) link before now) links.old.items frame.new }
     ensures size { length frame.new ≡ FRAME_BYTES }

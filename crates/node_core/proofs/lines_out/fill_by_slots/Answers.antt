@@ -7,5 +7,5 @@ pub returns-clause-puts : goal.returns-clause-puts
 returns-clause-puts c = record {
   first = c.clear.new.self;
   blank = record { zero = c.clear.ensures.zero };
-  steps = subst (LinkByLink (λ link before now. PutsOwn (gives_line c.args.past c.args.b link) link before now) c.args.links.now.items c.clear.new.self) (sym c.join_into.ensures) c.fill_links.ensures.puts;
+  steps = subst (LinkByLink (λ link before now. PutsOwn (gives_line c.args.past c.args.b link) link before now) c.args.links.now.items c.clear.new.self) (sym c.join_into.ensures.joined) c.fill_links.ensures.puts;
 }
