@@ -132,27 +132,34 @@ pub client_gave : (x : Connection) (input : OwnInput) (first was now : OutView) 
 client_gave x input first was now j old new bytes e step h =
     subst (λ (arrived : List ℕ). OnReceiver new (ReceiverStands first now arrived)) (ap (λ bs. arrived_by x input j ++ bs) e ∙ sym (arrived_next x input j)) (step (arrived_by x input j) h)
 
+-- two parts of one end: one gives to a client where the other does
+pub client_too : (to : ToEnd) (old new : GivingPart) → GivesTo to old → GivesTo to new → IsToClient new → IsToClient old
+client_too (to_end.Line b port slots) old (giving.Line source) h h' client = absurd client
+client_too (to_end.Line b port slots) old (giving.Client receiver) h h' client = absurd h'
+client_too (to_end.Client n) (giving.Line source) new h h' client = absurd h
+client_too (to_end.Client n) (giving.Client receiver) new h h' client = tt
+
 -- ---- the end of a turn
 
-pub fenced : (x : Connection) (input : OwnInput) (j filled : ℕ) (ended : Bool) (old : PipeView) (part : TakingPart) (to : GivingPart) (came bytes : List ℕ)
+pub fenced : (x : Connection) (input : OwnInput) (j filled : ℕ) (ended : Bool) (old : PipeView) (part : TakingPart) (to : GivingPart) (came gives bytes : List ℕ)
     → (TakingStands x.from x input j [] ended old.taking → TakingStands x.from x input (suc j) [] false part)
     → (TakingStands x.from x input j [] ended old.taking → (ended ≡ true → old.came ≡ emits_by x.from x input j) → bytes ≡ emits_by x.from x input j)
-    → (TakesFrom x.from x old.taking → TakesFrom x.from x part) → (GivesTo x.to old.giving → GivesTo x.to to)
+    → (TakesFrom x.from x old.taking → TakesFrom x.from x part) → (GivesTo x.to old.giving → GivesTo x.to to) → (IsToClient to → gives ≡ bytes)
     → ((own : Tributary) (turns : List (List ℕ)) (filled : ℕ) → OnSource old.giving (SourceStands own turns filled)
     → (in_all turns + length bytes) / length own.slots ≤ in_all turns / length own.slots + 15232 → OnSource to (SourceStands own (turns ++ bytes ∷ []) 0))
     → PipeStands x input j [] ended filled old
-    → PipeStands x input (suc j) [] false 0 (record { taking = part; giving = to; paces = old.paces; start = old.start; slots = old.slots; came = came; gives = bytes })
-fenced x input j filled ended old part to came bytes stands emitted takes gives step h =
+    → PipeStands x input (suc j) [] false 0 (record { taking = part; giving = to; paces = old.paces; start = old.start; slots = old.slots; came = came; gives = gives })
+fenced x input j filled ended old part to came gives bytes stands emitted takes entry kept step h =
     let now : TakingStands x.from x input (suc j) [] false part = stands h.taking in
     let is : bytes ≡ emits x input j = emitted h.taking (λ e. h.came e ∙ emits_is x input j) ∙ sym (emits_is x input j) in
     record {
-      entry = parts_of x old part to came bytes h.entry (takes h.entry.taking) (gives h.entry.giving);
+      entry = parts_of x old part to came gives h.entry (takes h.entry.taking) (entry h.entry.giving);
       taking = now;
       came = λ e. cc;
-      gives = is;
+      gives = λ client. kept client ∙ is;
       giving = begun_on x.to x input j filled old.giving to bytes is step
           (λ b port slots e. turn_fits x input j (length slots.list) part (h.entry.given b port slots e) h.entry.fit now)
-          (gives h.entry.giving) h.giving;
+          (entry h.entry.giving) h.giving;
     }
 
 -- ---- the start

@@ -171,6 +171,11 @@ HasSlots m (taking.Line sink) = length sink.slots.list ≡ m
 HasSlots m (taking.Client client) = ⊤
 HasSlots m (taking.Signal stream) = ⊤
 
+-- a line's source has as many slots as the pipe
+abbrev pub GivesSlots : (m : ℕ) → GivingPart → Type 0
+GivesSlots m (giving.Line source) = length source.slots.list ≡ m
+GivesSlots m (giving.Client receiver) = ⊤
+
 -- a line's source has begun a turn
 abbrev pub IsBegun : GivingPart → Type 0
 IsBegun (giving.Line source) = IsSome source.said

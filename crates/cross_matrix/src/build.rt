@@ -5,7 +5,7 @@ ghost use Rattle.plan_file.specs.Answer.{fault_in};
 ghost use Rattle.plan_file.specs.declared.connection.Connection.{Connection};
 ghost use Rattle.plan_file.specs.declared.connection.FromEnd.TheVariants as from_end;
 ghost use Rattle.device_model.specs.Entries.{slot_count, slots_between};
-ghost use Rattle.cross_matrix.specs.Parts.{TakesFrom, GivesTo, HasSlots};
+ghost use Rattle.cross_matrix.specs.Parts.{TakesFrom, GivesTo, HasSlots, GivesSlots};
 ghost use Rattle.cross_matrix.specs.Pipes.{IsPipeOf, IsFit};
 
 use crate::Pipe;
@@ -45,7 +45,7 @@ fn pipe_of(alloc: Global, x: &Connection) -> Result<Pipe, Memory>
     let room = slots as usize * (GROUPS + 1);
     Ok(Pipe {
         taking: taking_part(alloc, x)?,
-        giving: giving_part(alloc, &x.to)?,
+        giving: giving_part(alloc, x)?,
         paces: Vec::from_slice(alloc, x.pace.as_slice())?,
         start: x.start,
         slots,
@@ -100,10 +100,12 @@ fn client_text(alloc: Global, trace: &Trace, fcs: bool) -> Result<ClientText, Me
     })
 }
 
-fn giving_part(alloc: Global, to: &ToEnd) -> Result<GivingPart, Memory>
-    ensures { IfOk result (GivesTo to.now) }
+fn giving_part(alloc: Global, x: &Connection) -> Result<GivingPart, Memory>
+    requires fit { IsFit x.now }
+    ensures part { IfOk result (GivesTo x.now.to) }
+    ensures slots { IfOk result (GivesSlots (slot_count x.now)) }
 {
-    match to {
+    match &x.to {
         ToEnd::Line(_, _, slots) => Ok(GivingPart::Line(TribSource::new(alloc, slots)?)),
         ToEnd::Client(_) => Ok(GivingPart::Client(Receiver::new(alloc)?)),
     }

@@ -1,5 +1,5 @@
 // The bytes of one turn.
-ghost use Rattle.std.specs.Prelude.{◌≡◌, ◌≢◌, ◌≤◌, ◌+◌, ◌*◌, ℕ, List, [], ◌∷◌, Option, IfOk, IsTrue, length, take};
+ghost use Rattle.std.specs.Prelude.{◌≡◌, ◌≢◌, ◌≤◌, ◌+◌, ◌*◌, ◌/◌, ℕ, List, [], ◌∷◌, ◌++◌, Option, IfOk, IsSome, IsTrue, length, take};
 ghost use Rattle.maintenance_signals.specs.Given.{HasGiven};
 ghost use Rattle.maintenance_signals.specs.Stream.{signal_byte, signal_bytes};
 ghost use Rattle.maintenance_signals.specs.declared.signal.Signal.{Signal};
@@ -11,8 +11,11 @@ ghost use Rattle.otn_ports.specs.InPlace.{in_view};
 ghost use Rattle.otn_ports.specs.Views.{InView};
 ghost use Rattle.packet_text.specs.LinesStand.{lines_view};
 ghost use Rattle.trib_sink.specs.Sink.{StandsAfter, ended_view};
+ghost use Rattle.trib_source.specs.Source.{StandsAfter as SourceStands};
+ghost use Rattle.tributary_model.specs.Carries.{sent};
 ghost use Rattle.tributary_model.specs.Emission.{emission};
 ghost use Rattle.tributary_model.specs.Places.{Tributary, Taken, View};
+ghost use Rattle.tributary_model.specs.Puts.{lengths_of};
 
 use maintenance_signals::SignalBytes;
 use odu_client::ClientFramer;
@@ -22,6 +25,7 @@ use packet_text::{Line, PacketLines};
 use std::alloc::Global;
 use std::marker::Model;
 use trib_sink::TribSink;
+use trib_source::TribSource;
 
 /// Bytes that a turn brought, in a buffer with room for those of any turn, from `first` to `last`. It is seen as
 /// the list of them, beside the room.
@@ -87,6 +91,23 @@ impl Burst {
         let emitted = sink.hand_over(whole, &mut self.buffer);
         self.first = emitted.start;
         self.last = emitted.end;
+    }
+
+    /// Begins a turn of a source, which takes the bytes, and the buffer, in exchange for one of its own: no bytes are left. Of
+    /// more than complete the groups of a multiframe it takes the first.
+    pub(crate) fn give_turn(&mut self, source: &mut TribSource)
+        requires room { self.old.room ≡ length source.old.slots.list * (GROUPS + 1) }
+        ensures stands { (own : Tributary) (turns : List (List ℕ)) (filled : ℕ) → SourceStands own turns filled source.old
+            → (sent (lengths_of turns) (length turns) + length self.old.bytes) / length own.slots ≤ sent (lengths_of turns) (length turns) / length own.slots + GROUPS
+            → SourceStands own (turns ++ self.old.bytes ∷ []) 0 source.new }
+        ensures begun { IsSome source.new.said }
+        ensures filled { source.new.filled ≡ 0 }
+        ensures slots { source.new.slots ≡ source.old.slots }
+        ensures given { self.new ≡ record self.old { bytes = [] } }
+    {
+        let count = (self.last - self.first).min(source.room());
+        source.take_over(&mut self.buffer, self.first..self.first + count);
+        self.clear();
     }
 
     /// The next bytes, so many, of a client's stream.

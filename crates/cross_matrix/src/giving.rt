@@ -1,5 +1,5 @@
 // The part of a pipe that gives to the connection's output.
-ghost use Rattle.std.specs.Prelude.{◌≡◌, ◌<◌, ◌≤◌, ◌+◌, ◌-◌, ◌/◌, ℕ, List, [], ◌∷◌, ◌++◌, IsSome, length};
+ghost use Rattle.std.specs.Prelude.{◌≡◌, ◌<◌, ◌≤◌, ◌+◌, ◌-◌, ◌*◌, ◌/◌, ℕ, List, [], ◌∷◌, ◌++◌, IsSome, length};
 ghost use Rattle.otn_base.specs.LineSlots.{slots_of};
 ghost use Rattle.otn_base.specs.declared.limits.TheConstants.{GROUPS, LINE_COLUMNS as COLUMNS, ROWS};
 ghost use Rattle.otn_ports.specs.OutPlace.{out_view};
@@ -12,8 +12,9 @@ ghost use Rattle.tributary_model.specs.Places.{Tributary, tributary_of, byte_at}
 ghost use Rattle.tributary_model.specs.Puts.{WasPut, IsSourcePlace, lengths_of};
 ghost use Rattle.device_model.specs.Through.{OwnInput};
 ghost use Rattle.cross_matrix.specs.Receiving.{ReceiverStands};
-ghost use Rattle.cross_matrix.specs.Parts.{OnSource, OnReceiver, IsToClient, GivesTo, GivingStands, frames_filled, IsBegun, IsReceived};
+ghost use Rattle.cross_matrix.specs.Parts.{OnSource, OnReceiver, IsToClient, GivesTo, GivesSlots, GivingStands, frames_filled, IsBegun, IsReceived};
 
+use crate::burst::Burst;
 use crate::receiver::Receiver;
 use odtu_columns::FillFrame;
 use otn_ports::{OutPlaceOf, Sink};
@@ -33,6 +34,7 @@ pub(crate) fn restart_giving(part: &mut GivingPart)
     ensures entry { (to : ToEnd) → GivesTo to part.old → GivesTo to part.new }
     ensures filled { frames_filled part.new ≡ 0 }
     ensures begun { IsBegun part.new }
+    ensures slots { (m : ℕ) → GivesSlots m part.old → GivesSlots m part.new }
 {
     match part {
         GivingPart::Line(source) => restart_line(source),
@@ -51,34 +53,25 @@ fn restart_line(source: &mut TribSource)
     source.begin_turn(&[]);
 }
 
-/// Begins a turn of the output line, which gives these bytes. They complete no more groups than a multiframe has: no
-/// sink's emission does, and no pace.
-pub(crate) fn begin_turn(part: &mut GivingPart, bytes: &[u8])
+/// Begins a turn of the output line, which takes the bytes. They complete no more groups than a multiframe has: no
+/// sink's emission does, and no pace. For a client they are kept.
+pub(crate) fn begin_turn(part: &mut GivingPart, gives: &mut Burst)
+    requires room { (m : ℕ) × GivesSlots m part.old × (gives.old.room ≡ m * (GROUPS + 1)) }
     ensures stands { (own : Tributary) (turns : List (List ℕ)) (filled : ℕ) → OnSource part.old (StandsAfter own turns filled)
-        → (sent (lengths_of turns) (length turns) + length bytes.now) / length own.slots ≤ sent (lengths_of turns) (length turns) / length own.slots + GROUPS
-        → OnSource part.new (StandsAfter own (turns ++ bytes.now ∷ []) 0) }
+        → (sent (lengths_of turns) (length turns) + length gives.old.bytes) / length own.slots ≤ sent (lengths_of turns) (length turns) / length own.slots + GROUPS
+        → OnSource part.new (StandsAfter own (turns ++ gives.old.bytes ∷ []) 0) }
     ensures receiver { IsToClient part.old → part.new ≡ part.old }
+    ensures kept { IsToClient part.new → gives.new ≡ gives.old }
     ensures entry { (to : ToEnd) → GivesTo to part.old → GivesTo to part.new }
     ensures filled { frames_filled part.new ≡ 0 }
     ensures begun { IsBegun part.new }
+    ensures slots { (m : ℕ) → GivesSlots m part.old → GivesSlots m part.new }
+    ensures room_stays { gives.new.room ≡ gives.old.room }
 {
     match part {
-        GivingPart::Line(source) => begin_line(source, bytes),
+        GivingPart::Line(source) => gives.give_turn(source),
         GivingPart::Client(_) => {}
     }
-}
-
-// Of more bytes than complete the groups of a multiframe it takes the first.
-fn begin_line(source: &mut TribSource, bytes: &[u8])
-    ensures stands { (own : Tributary) (turns : List (List ℕ)) (filled : ℕ) → StandsAfter own turns filled source.old
-        → (sent (lengths_of turns) (length turns) + length bytes.now) / length own.slots ≤ sent (lengths_of turns) (length turns) / length own.slots + GROUPS
-        → StandsAfter own (turns ++ bytes.now ∷ []) 0 source.new }
-    ensures begun { IsSome source.new.said }
-    ensures filled { source.new.filled ≡ 0 }
-    ensures slots { source.new.slots ≡ source.old.slots }
-{
-    let count = bytes.len().min(source.room());
-    source.begin_turn(&bytes[..count]);
 }
 
 /// Fills frame `n` of the turn of the output line.
@@ -91,6 +84,7 @@ pub(crate) fn fill_line<F: FillFrame>(part: &mut GivingPart, n: u8, frame: &mut 
     ensures entry { (to : ToEnd) → GivesTo to part.old → GivesTo to part.new }
     ensures filled { frames_filled part.new ≡ frames_filled part.old + 1 }
     ensures begun { IsBegun part.new }
+    ensures slots { (m : ℕ) → GivesSlots m part.old → GivesSlots m part.new }
 {
     match part {
         GivingPart::Line(source) => source.fill(n, frame),
@@ -104,6 +98,7 @@ pub(crate) fn give_text<K: Sink>(part: &mut GivingPart, bytes: &[u8], place: &mu
     ensures gave { (first : OutView) (arrived : List ℕ) → OnReceiver part.old (ReceiverStands first (out_view K.Sink place.old) arrived)
         → OnReceiver part.new (ReceiverStands first (out_view K.Sink place.new) (arrived ++ bytes.now)) }
     ensures client { IsToClient part.new }
+    ensures slots { (m : ℕ) → GivesSlots m part.new }
 {
     match part {
         GivingPart::Client(receiver) => receiver.take(bytes, place),

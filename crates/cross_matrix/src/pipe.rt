@@ -1,5 +1,6 @@
 // The pipe of a connection. What its input brings in a turn is kept beside what it brought in the turn before, which goes
-// to the output: so the two parts may be used in any order within a turn, and `fence` turns the sides.
+// to the output: so the two parts may be used in any order within a turn, and `fence` turns the sides. There a line's source
+// takes over what it is to give, without a copy; for a client it stays in the pipe.
 ghost use Rattle.std.specs.Prelude.{◌≡◌, ◌<◌, ◌≤◌, ◌+◌, ℕ, suc, Bool, true, false, List, [], ◌∷◌, ◌++◌, Option, IsSome, IsTrue, option_map};
 ghost use Rattle.otn_base.specs.LineSlots.{LineSlots, slots_of};
 ghost use Rattle.otn_base.specs.declared.limits.TheConstants.{LINE_COLUMNS as COLUMNS, ROWS};
@@ -54,7 +55,7 @@ impl Model for Pipe {
 
     ghost view = { λ p. record { taking = p.taking; giving = p.giving; paces = p.paces.items; start = p.start; slots = p.slots; came = p.came.bytes; gives = p.gives.bytes } };
 
-    ghost invariant = { λ p. IsPipe p.taking p.paces.items p.slots p.came.room p.gives.room };
+    ghost invariant = { λ p. IsPipe p.taking p.giving p.paces.items p.slots p.came.room p.gives.room };
 }
 
 impl Pipe {
@@ -162,7 +163,7 @@ impl Pipe {
         emit_signal(&mut self.taking, count, &mut self.came);
         mem::swap(&mut self.came, &mut self.gives);
         self.came.clear();
-        begin_turn(&mut self.giving, self.gives.bytes());
+        begin_turn(&mut self.giving, &mut self.gives);
     }
 
     /// What the connection comes from is, after the turns that it took.

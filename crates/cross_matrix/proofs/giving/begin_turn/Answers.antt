@@ -4,4 +4,4 @@ use Rattle.cross_matrix.specs.Parts.{OnSource}
 use Rattle.cross_matrix.proofs.giving.begin_turn.Goals as goal
 
 pub returns-in-Line-clause-stands : goal.returns-in-Line-clause-stands
-returns-in-Line-clause-stands c = λ own turns filled h few. c.begin_line.ensures.stands own turns filled (subst (λ part. OnSource part (StandsAfter own turns filled)) c.in-Line.is h) few
+returns-in-Line-clause-stands c = λ own turns filled h few. c.give_turn.ensures.stands own turns filled (subst (λ part. OnSource part (StandsAfter own turns filled)) c.in-Line.is h) few

@@ -7,6 +7,7 @@ use Rattle.cross_matrix.proofs.pipe.Pipe.end_frames.Goals as goal
 pub invariant_of-self : goal.invariant_of-self
 invariant_of-self c = record {
   sink = c.end_line.ensures.slots c.self.inside.slots c.self.invariant.sink;
+  source = c.self.invariant.source;
   fit = c.self.invariant.fit;
   came = c.end_line.ensures.room_stays ∙ c.self.invariant.came;
   gives = c.self.invariant.gives;

@@ -1,19 +1,22 @@
-use Rattle.std.proofs.Common.{◌≡◌, ◌≤◌, ◌+◌, ◌-◌, ◌/◌, ◌∙◌, ℕ, List, [], ◌∷◌, ◌++◌, length, ap, sym, subst}
+use Rattle.std.proofs.Common.{◌≡◌, ◌-◌, ◌∙◌, [], ap, sym, subst}
 use Rattle.odu_client.specs.ClientInput.{pace_of}
-use Rattle.trib_source.specs.Source.{StandsAfter}
 use Rattle.cross_matrix.specs.Bursts.{BurstView}
-use Rattle.cross_matrix.specs.Parts.{OnSource}
 use Rattle.cross_matrix.specs.Pipes.{PipeView, PipeStands}
-use Rattle.cross_matrix.proofs.TurnTotals.{in_all}
 use Rattle.cross_matrix.proofs.PipeMoves.{own_pace, fenced}
 use Rattle.cross_matrix.proofs.pipe.Pipe.fence.Goals as goal
 
 pub invariant_of-self : goal.invariant_of-self
 invariant_of-self c = record {
   sink = c.emit_signal.ensures.slots c.self.inside.slots c.self.invariant.sink;
+  source = c.begin_turn.ensures.slots c.self.inside.slots c.self.invariant.source;
   fit = c.self.invariant.fit;
   came = ap (λ (b : BurstView). b.room) (c.clear.ensures) ∙ ap (λ (b : BurstView). b.room) c.swap.ensures.x_after ∙ c.self.invariant.gives;
-  gives = ap (λ (b : BurstView). b.room) c.swap.ensures.y_after ∙ c.emit_signal.ensures.room_stays ∙ c.self.invariant.came;
+  gives = c.begin_turn.ensures.room_stays ∙ ap (λ (b : BurstView). b.room) c.swap.ensures.y_after ∙ c.emit_signal.ensures.room_stays ∙ c.self.invariant.came;
+}
+
+pub begin_turn-requires : goal.begin_turn-requires
+begin_turn-requires c = record {
+  room = (c.self.inside.slots, c.self.invariant.source, ap (λ (b : BurstView). b.room) c.swap.ensures.y_after ∙ c.emit_signal.ensures.room_stays ∙ c.self.invariant.came);
 }
 
 pub returns-clause-stands : goal.returns-clause-stands
@@ -24,8 +27,6 @@ returns-clause-stands c = λ x input j filled ended at over h.
     let pace : c.pace_at-count.result ≡ pace_of x.pace j = own_pace x old c.args.turn j c.pace_at-count.result now.entry at (c.pace_at-count.ensures ∙ ap (λ paces. pace_of paces (c.args.turn - i.start)) c.deref.ensures.value) in
     let e = c.emit_signal.ensures in
     let handed : c.swap.new.y.bytes ≡ c.emit_signal.new.came.bytes = ap (λ (b : BurstView). b.bytes) c.swap.ensures.y_after in
-    fenced x input j filled ended old c.emit_signal.new.part c.begin_turn.new.part c.clear.new.self.bytes c.swap.new.y.bytes
+    fenced x input j filled ended old c.emit_signal.new.part c.begin_turn.new.part c.clear.new.self.bytes c.begin_turn.new.gives.bytes c.swap.new.y.bytes
     (e.stands x.from x input j ended pace over) (λ s was. handed ∙ e.bytes x.from x input j ended pace over s was) (e.entry x.from x) (c.begin_turn.ensures.entry x.to)
-    (λ own turns filled. subst (λ (bytes : List ℕ). OnSource i.giving (StandsAfter own turns filled)
-    → (in_all turns + length bytes) / length own.slots ≤ in_all turns / length own.slots + 15232 → OnSource c.begin_turn.new.part (StandsAfter own (turns ++ bytes ∷ []) 0))
-    c.bytes.ensures (c.begin_turn.ensures.stands own turns filled)) now
+    (λ client. ap (λ (b : BurstView). b.bytes) (c.begin_turn.ensures.kept client)) c.begin_turn.ensures.stands now

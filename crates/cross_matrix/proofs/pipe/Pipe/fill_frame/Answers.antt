@@ -3,8 +3,17 @@ use Rattle.tributary_model.specs.Places.{tributary_of}
 use Rattle.tributary_model.specs.Puts.{IsSourcePlace}
 use Rattle.cross_matrix.specs.Parts.{OnSource}
 use Rattle.cross_matrix.specs.Pipes.{PipeView, PipeStands}
-use Rattle.cross_matrix.proofs.PipeMoves.{was_put, filled_on, parts_of}
+use Rattle.cross_matrix.proofs.PipeMoves.{was_put, filled_on, parts_of, client_too}
 use Rattle.cross_matrix.proofs.pipe.Pipe.fill_frame.Goals as goal
+
+pub invariant_of-self : goal.invariant_of-self
+invariant_of-self g c = record {
+  sink = c.self.invariant.sink;
+  source = c.fill_line.ensures.slots c.self.inside.slots c.self.invariant.source;
+  fit = c.self.invariant.fit;
+  came = c.self.invariant.came;
+  gives = c.self.invariant.gives;
+}
 
 pub returns-clause-put : goal.returns-clause-put
 returns-clause-put g c = λ x b port slots input j frames ended e h.
@@ -23,7 +32,7 @@ returns-clause-stands g c = λ x input j frames ended h.
       entry = parts_of x old i.taking c.fill_line.new.part i.came.bytes i.gives.bytes now.entry now.entry.taking to;
       taking = now.taking;
       came = now.came;
-      gives = now.gives;
+      gives = λ client. now.gives (client_too x.to i.giving c.fill_line.new.part now.entry.giving to client);
       giving = filled_on x.to x input j c.args.n (c.args.n + 1) i.giving c.fill_line.new.part c.fill_line.ensures.stands to now.giving;
     }
 

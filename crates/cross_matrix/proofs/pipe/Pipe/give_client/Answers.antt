@@ -1,6 +1,6 @@
 use Rattle.std.proofs.Common.{◌∙◌, sym, subst}
 use Rattle.otn_ports.specs.OutPlace.{out_view}
-use Rattle.cross_matrix.specs.Parts.{ClientOutStands}
+use Rattle.cross_matrix.specs.Parts.{IsToClient, ClientOutStands}
 use Rattle.cross_matrix.specs.Pipes.{PipeView, PipeStands}
 use Rattle.cross_matrix.proofs.PipeMoves.{client_gave}
 use Rattle.cross_matrix.proofs.pipe.Pipe.give_client.Goals as goal
@@ -10,6 +10,7 @@ returns-clause-gave g c = λ x input first j filled frames ended h out.
     let i = c.self.inside in
     let old : PipeView = record { taking = i.taking; giving = i.giving; paces = i.paces.items; start = i.start; slots = i.slots; came = i.came.bytes; gives = i.gives.bytes } in
     let now : PipeStands x input j frames ended filled old = subst (PipeStands x input j frames ended filled) (sym c.self.view_is) h in
+    let client : IsToClient i.giving = subst (λ (p : PipeView). IsToClient p.giving) (sym c.self.view_is) c.requires.client in
     let was = out_view g.K.Sink c.args.place.now in
-    client_gave x input first was (out_view g.K.Sink c.give_text.new.place) j i.giving c.give_text.new.part c.bytes.result.now (c.bytes.ensures ∙ now.gives)
+    client_gave x input first was (out_view g.K.Sink c.give_text.new.place) j i.giving c.give_text.new.part c.bytes.result.now (c.bytes.ensures ∙ now.gives client)
     (λ arrived. c.give_text.ensures.gave first arrived) (subst (λ (p : PipeView). ClientOutStands x input first was j p.giving) (sym c.self.view_is) out)

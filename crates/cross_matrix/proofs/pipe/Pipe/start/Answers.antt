@@ -8,6 +8,7 @@ use Rattle.cross_matrix.proofs.pipe.Pipe.start.Goals as goal
 pub invariant_of-self : goal.invariant_of-self
 invariant_of-self c = record {
   sink = c.restart_taking.ensures.slots c.self.inside.slots c.self.invariant.sink;
+  source = c.restart_giving.ensures.slots c.self.inside.slots c.self.invariant.source;
   fit = c.self.invariant.fit;
   came = ap (λ (b : BurstView). b.room) c.clear.ensures ∙ c.self.invariant.came;
   gives = ap (λ (b : BurstView). b.room) c.clear-2.ensures ∙ c.self.invariant.gives;

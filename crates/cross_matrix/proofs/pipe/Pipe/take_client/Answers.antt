@@ -9,6 +9,7 @@ use Rattle.cross_matrix.proofs.pipe.Pipe.take_client.Goals as goal
 pub invariant_of-self : goal.invariant_of-self
 invariant_of-self g c = record {
   sink = c.take_text.ensures.slots c.self.inside.slots c.self.invariant.sink;
+  source = c.self.invariant.source;
   fit = c.self.invariant.fit;
   came = c.take_text.ensures.room_stays ∙ c.self.invariant.came;
   gives = c.self.invariant.gives;
