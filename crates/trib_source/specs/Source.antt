@@ -43,8 +43,8 @@ AreLeft m c q bytes asked left = left ≡ drop (m * (q + data_count c asked)) by
 abbrev pub groups_in_frames : (line_slots frames : ℕ) → ℕ
 groups_in_frames line_slots frames = ROWS * groups_in_row line_slots * frames
 
--- what holds of every source: its slots rise; its bytes are kept for as many slots, and behind those of the newest turn fewer than a group's are over; there
--- is room for so many in which rows are laid out; and the number of its groups is kept
+-- What holds of every source: its slots rise; there is room for the bytes of as many, and of those that the next turn keeps fewer than a
+-- group's stand before the newest turn's; there is room for so many bytes in which rows are laid out; and the number of its groups is kept.
 pub record IsSource (s : Source) (backlog : BacklogView) (scratch kept : ℕ) : Type 0 where
   pub list : IsSlotList (slots_of s.slots.kind) s.slots.list
   pub said_high : ForSome s.said (λ n. n ≤ GROUPS)

@@ -1,5 +1,5 @@
 // The bytes that a source took and has not put.
-ghost use Rattle.std.specs.Prelude.{◌≡◌, ◌+◌, ◌*◌, ◌<◌, ◌≤◌, ℕ, [], ◌++◌, IfOk, length, min, take, drop, slice_index, slice_range, vec_len};
+ghost use Rattle.std.specs.Prelude.{◌≡◌, ◌+◌, ◌*◌, ◌<◌, ◌≤◌, ℕ, [], ◌++◌, IfOk, length, min, drop, slice_index, slice_range, vec_len};
 ghost use Rattle.circular_buffer.specs.Buffer.{keep_last};
 ghost use Rattle.otn_base.specs.declared.limits.TheConstants.{GROUPS, MOST_SLOTS};
 
