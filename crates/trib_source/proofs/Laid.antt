@@ -41,6 +41,17 @@ pub record LaidNext (m c a : ℕ) (fresh : List ℕ) (from at next : ℕ) (old n
   pub front : (n : ℕ) → n < at → get_or new n 0 ≡ get_or old n 0
   pub behind : (n : ℕ) → at + m ≤ n → get_or new n 0 ≡ get_or old n 0
 
+-- and so it does where the bytes were cleared before
+pub laid_over : (m c a : ℕ) (fresh : List ℕ) (from at next : ℕ) (old mid new : List ℕ) → next + m * data_count c a ≡ from + m * data_count c (a + 1)
+    → ((i : ℕ) → i < m → get_or new (at + i) 0 ≡ cond (is_data_at c (a + 1)) (get_or fresh (from + i) 0) (get_or mid (at + i) 0)) → ((i : ℕ) → i < m → get_or mid (at + i) 0 ≡ 0)
+    → ((n : ℕ) → n < at → get_or new n 0 ≡ get_or old n 0) → ((n : ℕ) → at + m ≤ n → get_or new n 0 ≡ get_or old n 0) → LaidNext m c a fresh from at next old new
+laid_over m c a fresh from at next old mid new is bytes clear front behind = record {
+  from_is = is;
+  bytes = λ i h. bytes i h ∙ ap (λ k. cond (is_data_at c (a + 1)) (get_or fresh (from + i) 0) k) (clear i h);
+  front = front;
+  behind = behind;
+}
+
 below_or : (y x : ℕ) → y < x + 1 → (y < x) ⊎ (y ≡ x)
 below_or y x h = grind arith
 

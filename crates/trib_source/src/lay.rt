@@ -31,6 +31,7 @@ pub(crate) fn lay_groups(
         lay_runs(runner, fresh, m, cycles, into);
         return;
     }
+    into.fill(0);
     // Bodies of their own, in which so many bytes are copied at once.
     match m {
         1 => lay_each(runner, fresh, 1, cycles, into),
@@ -45,7 +46,8 @@ pub(crate) fn lay_groups(
     }
 }
 
-// Lays them out one by one. The runner is taken out of its place for that, so that the loop keeps it in registers.
+// Lays them out one by one, where all is 0 so far. The runner is taken out of its place for that, so that the loop keeps it in
+// registers.
 #[inline(always)]
 fn lay_each(runner: &mut Runner, fresh: &[u8], m: usize, cycles: usize, into: &mut [u8])
     requires some { 1 ≤ m }
@@ -53,6 +55,7 @@ fn lay_each(runner: &mut Runner, fresh: &[u8], m: usize, cycles: usize, into: &m
     requires asked { runner.old.asked + cycles ≤ GROUPS }
     requires fresh { length fresh.now ≡ data_bytes m runner.old.number runner.old.asked cycles }
     requires size { length into.old ≡ m * cycles }
+    requires clear { (n : ℕ) → slice_index into.old n ≡ 0 }
     ensures bytes { (x i : ℕ) → x < cycles → i < m → slice_index into.new (m * x + i) ≡ byte_laid m runner.old.number runner.old.asked fresh.now x i }
     ensures runner { runner.new ≡ record runner.old { asked = runner.old.asked + cycles } }
 {
@@ -64,7 +67,7 @@ fn lay_each(runner: &mut Runner, fresh: &[u8], m: usize, cycles: usize, into: &m
     *runner = own;
 }
 
-// Lays them out by runs of data groups.
+// Lays them out by runs of data groups. Before a run stands a stuff group, but for the first.
 fn lay_runs(runner: &mut Runner, fresh: &[u8], m: usize, cycles: usize, into: &mut [u8])
     requires some { 1 ≤ m }
     requires number { runner.old.number ≤ GROUPS }
@@ -77,6 +80,7 @@ fn lay_runs(runner: &mut Runner, fresh: &[u8], m: usize, cycles: usize, into: &m
     let mut from = 0usize;
     let mut cycle = 0usize;
     while cycle < cycles {
+        clear_at(into, m * cycle, m);
         let behind = lay_next(runner, fresh, from, m, into, m * cycle);
         let next = cycle + 1;
         let run = runner.data_run((cycles - next) as u32) as usize;
@@ -85,8 +89,8 @@ fn lay_runs(runner: &mut Runner, fresh: &[u8], m: usize, cycles: usize, into: &m
     }
 }
 
-// Lays out the next group at `at`: where it is data, `m` bytes from byte `from` on, and else bytes 0. Answers where the
-// next one's bytes begin.
+// Lays out the next group at `at`: where it is data, `m` bytes from byte `from` on. Answers where the next
+// one's bytes begin.
 #[inline(always)]
 fn lay_next(
     runner: &mut Runner,
@@ -100,13 +104,12 @@ fn lay_next(
     requires room { at + m ≤ length into.old }
     requires enough { from + m * data_count runner.old.number (runner.old.asked + 1) ≤ length fresh.now + m * data_count runner.old.number runner.old.asked }
     ensures from { result + m * data_count runner.old.number runner.old.asked ≡ from + m * data_count runner.old.number (runner.old.asked + 1) }
-    ensures bytes { (i : ℕ) → i < m → slice_index into.new (at + i) ≡ (if is_data_at runner.old.number (runner.old.asked + 1) then slice_index fresh.now (from + i) else 0) }
+    ensures bytes { (i : ℕ) → i < m → slice_index into.new (at + i) ≡ (if is_data_at runner.old.number (runner.old.asked + 1) then slice_index fresh.now (from + i) else slice_index into.old (at + i)) }
     ensures front { (n : ℕ) → n < at → slice_index into.new n ≡ slice_index into.old n }
     ensures behind { (n : ℕ) → at + m ≤ n → slice_index into.new n ≡ slice_index into.old n }
     ensures runner { runner.new ≡ record runner.old { asked = runner.old.asked + 1 } }
 {
     if !runner.next() {
-        clear_at(into, at, m);
         return from;
     }
     copy_at(fresh, from, into, at, m)

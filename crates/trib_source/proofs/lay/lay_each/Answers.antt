@@ -1,6 +1,6 @@
 use Rattle.std.proofs.Common.{◌≡◌, ◌≤◌, ◌+◌, ◌*◌, ◌∙◌, length, ap, sym, subst, arith}
 use Rattle.gmp_rule.specs.DataRule.{Progress, data_count}
-use Rattle.trib_source.proofs.Laid.{LaidNext, next_enough, laid_next}
+use Rattle.trib_source.proofs.Laid.{LaidNext, laid_over, next_enough, laid_next}
 use Rattle.trib_source.proofs.lay.lay_each.Goals as goal
 
 pub lay_next-from-requires-clause-enough : goal.lay_next-from-requires-clause-enough
@@ -24,9 +24,10 @@ loop-cycle-preserved c =
     let next = c.lay_next-from.result in
     let more : LaidNext m r.number (r.asked + x) c.args.fresh.now c.loop-cycle.from (m * x) next old new =
     subst (λ (p : Progress). LaidNext m p.number p.asked c.args.fresh.now c.loop-cycle.from (m * x) next old new) inv.runner
-    (record { from_is = e.from; bytes = e.bytes; front = e.front; behind = e.behind }) in
+    (laid_over m c.loop-cycle.own.number c.loop-cycle.own.asked c.args.fresh.now c.loop-cycle.from (m * x) next old old new e.from e.bytes (λ i h. inv.clear (m * x + i) (omega arith)) e.front e.behind) in
     record {
       runner = e.runner ∙ ap (λ (p : Progress). record p { asked = p.asked + 1 }) inv.runner
           ∙ ap (λ k. record { number = r.number; asked = k }) (let f : r.asked + x + 1 ≡ r.asked + (x + 1) = omega arith in f);
+      clear = λ n h. (let wide : m * x + m ≤ n = omega arith in e.behind n wide ∙ inv.clear n (omega arith));
       laid = laid_next m r.number r.asked x c.loop-cycle.from next c.args.fresh.now old new inv.laid more;
     }

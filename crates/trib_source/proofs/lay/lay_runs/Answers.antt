@@ -1,6 +1,6 @@
 use Rattle.std.proofs.Common.{◌≡◌, ℕ, ◌≤◌, ◌<◌, ◌+◌, ◌*◌, ◌-◌, ◌∙◌, length, ap, sym, subst, arith}
 use Rattle.gmp_rule.specs.DataRule.{Progress, IsData, data_count}
-use Rattle.trib_source.proofs.Laid.{LaidTo, LaidNext, LaidRun, next_enough, laid_next, run_enough, run_room, laid_run}
+use Rattle.trib_source.proofs.Laid.{LaidTo, LaidNext, LaidRun, laid_over, next_enough, laid_next, run_enough, run_room, laid_run}
 use Rattle.trib_source.proofs.lay.lay_runs.Goals as goal
 
 pub lay_next-behind-requires-clause-enough : goal.lay_next-behind-requires-clause-enough
@@ -25,7 +25,8 @@ copy_at-from-requires-clause-fresh c =
     let next = c.lay_next-behind.result in
     let more : LaidNext m r.number (r.asked + x) c.args.fresh.now c.loop-cycle.from (m * x) next old mid =
     subst (λ (p : Progress). LaidNext m p.number p.asked c.args.fresh.now c.loop-cycle.from (m * x) next old mid) inv.runner
-    (record { from_is = e.from; bytes = e.bytes; front = e.front; behind = e.behind }) in
+    (laid_over m c.loop-cycle.runner.number c.loop-cycle.runner.asked c.args.fresh.now c.loop-cycle.from (m * x) next old c.clear_at.new.into mid e.from e.bytes c.clear_at.ensures.bytes
+    (λ n h. e.front n h ∙ c.clear_at.ensures.front n h) (λ n h. e.behind n h ∙ c.clear_at.ensures.behind n h)) in
     let asked : c.lay_next-behind.new.runner ≡ record { number = r.number; asked = r.asked + (x + 1) } =
     e.runner ∙ ap (λ (p : Progress). record p { asked = p.asked + 1 }) inv.runner ∙ ap (λ k. record { number = r.number; asked = k }) (let f : r.asked + x + 1 ≡ r.asked + (x + 1) = omega arith in f) in
     let each : (i : ℕ) → i < run → IsData r.number (r.asked + (x + 1) + i + 1) = λ i l. subst (λ (p : Progress). IsData p.number (p.asked + i + 1)) asked (c.data_run-run.ensures.«data» i l) in
@@ -60,7 +61,8 @@ loop-cycle-preserved c =
     let fresh = c.args.fresh.now in
     let more : LaidNext m r.number (r.asked + x) fresh c.loop-cycle.from (m * x) next old mid =
     subst (λ (p : Progress). LaidNext m p.number p.asked fresh c.loop-cycle.from (m * x) next old mid) inv.runner
-    (record { from_is = e.from; bytes = e.bytes; front = e.front; behind = e.behind }) in
+    (laid_over m c.loop-cycle.runner.number c.loop-cycle.runner.asked fresh c.loop-cycle.from (m * x) next old c.clear_at.new.into mid e.from e.bytes c.clear_at.ensures.bytes
+    (λ n h. e.front n h ∙ c.clear_at.ensures.front n h) (λ n h. e.behind n h ∙ c.clear_at.ensures.behind n h)) in
     let asked : c.lay_next-behind.new.runner ≡ record { number = r.number; asked = r.asked + (x + 1) } =
     e.runner ∙ ap (λ (p : Progress). record p { asked = p.asked + 1 }) inv.runner ∙ ap (λ k. record { number = r.number; asked = k }) (let f : r.asked + x + 1 ≡ r.asked + (x + 1) = omega arith in f) in
     let each : (i : ℕ) → i < run → IsData r.number (r.asked + (x + 1) + i + 1) = λ i l. subst (λ (p : Progress). IsData p.number (p.asked + i + 1)) asked (c.data_run-run.ensures.«data» i l) in
