@@ -1,17 +1,15 @@
 -- What a list delivers stays delivered, whatever comes after the list.
 use Rattle.std.proofs.Common.{◌≡◌, ℕ, zero, suc, ◌+◌, ◌-◌, ◌<◌, ◌≤◌, ◌⊎◌, List, [], ◌∷◌, ◌++◌, Bool, true, false, cond, Option, Some, None, length, take, drop, refl, ap, ◌∙◌, sym, arith, inl, inr, append_assoc, length-append, length-drop, length-take}
-use Rattle.std.specs.Prelude.{nat_lt, ◌||◌, option_to_list}
+use Rattle.std.specs.Prelude.{nat_lt, ◌||◌}
 use Rattle.std.proofs.lemmas.List.{take-append-le, drop-append-le, take-append-drop}
-use Rattle.std.proofs.lemmas.Grind.{flat_map-append}
 use Rattle.std.proofs.lemmas.Bool.{cases_lt, le-ltb}
 use Rattle.gfp_scrambler.specs.Register.{last_bits, descrambled}
 use Rattle.gfp_frames.specs.CoreHeader.{area_size, header_in, right_pli, near_pli}
-use Rattle.gfp_frames.specs.Area.{packet_in}
 use Rattle.gfp_frames.specs.Delineation.{whole_area, from_hunt, from_presync, from_sync, sync_areas}
-use Rattle.gfp_frames.specs.Delivered.{plain_areas, packets_in, delivered}
+use Rattle.gfp_frames.specs.Delivered.{plain_areas, packets_in, areas_in, delivered}
 use Rattle.gfp_frames.proofs.Lists.{all_dropped}
 use Rattle.gfp_frames.proofs.Delineating.{nothing_after, nothing_in_sync, hunt_goes, hunt_slides, presync_goes, presync_slides, sync_goes, sync_slides}
-use Rattle.gfp_frames.proofs.Reading.{hunt_short, presync_short, sync_short, area_short, plain_areas-none, plain_areas-cons}
+use Rattle.gfp_frames.proofs.Reading.{hunt_short, presync_short, sync_short, area_short, plain_areas-none, plain_areas-cons, delivered_is, packets-append}
 
 -- the first list, with more at its end
 abbrev Grows : {X : Type 0} → List X → List X → Type 0
@@ -164,19 +162,28 @@ plain-append r (area ∷ areas) ys =
     ∙ ap (λ y. descrambled r area ∷ y) (plain-append (last_bits r area) areas ys)
     ∙ ap (λ y. y ++ plain_areas (last_of (last_bits r area) areas) ys) (sym (plain_areas-cons r area areas))
 
-delivered_is : (bytes : List ℕ) → delivered bytes ≡ packets_in (plain_areas 0 (from_hunt bytes))
-unfolding delivered sync_areas
-delivered_is bytes = refl
+areas_are : (bytes : List ℕ) → areas_in bytes ≡ plain_areas 0 (from_hunt bytes)
+unfolding sync_areas
+areas_are bytes = refl
 
-pub delivered_grows : (bytes more : List ℕ) → (rest : List (List ℕ)) × (delivered (bytes ++ more) ≡ delivered bytes ++ rest)
-delivered_grows bytes more =
+pub areas_grow : (bytes more : List ℕ) → (rest : List (List ℕ)) × (areas_in (bytes ++ more) ≡ areas_in bytes ++ rest)
+areas_grow bytes more =
     let grown = (grow (suc (length bytes)) bytes more (omega arith)).hunt in
     let areas = from_hunt bytes in
     let late = plain_areas (last_of 0 areas) grown.0 in (
-      packets_in late,
+      late,
+      areas_are (bytes ++ more)
+          ∙ ap (plain_areas 0) grown.1
+          ∙ plain-append 0 areas grown.0
+          ∙ ap (λ y. y ++ late) (sym (areas_are bytes)),
+    )
+
+pub delivered_grows : (bytes more : List ℕ) → (rest : List (List ℕ)) × (delivered (bytes ++ more) ≡ delivered bytes ++ rest)
+delivered_grows bytes more =
+    let grown = areas_grow bytes more in (
+      packets_in grown.0,
       delivered_is (bytes ++ more)
-          ∙ ap (λ y. packets_in (plain_areas 0 y)) grown.1
-          ∙ ap packets_in (plain-append 0 areas grown.0)
-          ∙ flat_map-append (λ area. option_to_list (packet_in area)) (plain_areas 0 areas) late
-          ∙ ap (λ y. y ++ packets_in late) (sym (delivered_is bytes)),
+          ∙ ap packets_in grown.1
+          ∙ packets-append (areas_in bytes) grown.0
+          ∙ ap (λ y. y ++ packets_in grown.0) (sym (delivered_is bytes)),
     )

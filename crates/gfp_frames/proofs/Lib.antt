@@ -11,3 +11,4 @@ pub mod BitLists
 pub mod Grows
 pub mod Idles
 pub mod Over
+pub mod Packets

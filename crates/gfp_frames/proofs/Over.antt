@@ -99,9 +99,9 @@ sync_idle_part (suc n) k = elim (cases_lt k 4) [
 in_sync_at : (s : ReaderState) (bytes : List ℕ) → s.phase ≡ Sync → s.held ≡ [] → areas_from s.phase s.wanted (s.held ++ bytes) ≡ from_sync bytes
 in_sync_at s bytes phase none = ap (λ h. areas_from s.phase s.wanted (h ++ bytes)) none ∙ ap (λ p. areas_from p s.wanted bytes) phase
 
-pub over_idles : (old new : ReaderState) (n : ℕ) (bytes : List ℕ) → old.phase ≡ Sync → old.held ≡ [] → new ≡ record old { packet = [] } → bytes ≡ idle_bytes n → GoesOver old bytes false new
+pub over_idles : (old new : ReaderState) (n : ℕ) (bytes : List ℕ) → old.phase ≡ Sync → old.held ≡ [] → new ≡ record old { area = [] } → bytes ≡ idle_bytes n → GoesOver old bytes false new
 over_idles old new n bytes phase none is all =
-    let quiet : ReaderState = record old { packet = [] } in
+    let quiet : ReaderState = record old { area = [] } in
     let Q : ReaderState → Type 0 = λ s. GoesOver old bytes false s in
     let P : List ℕ → Type 0 = λ y. GoesOver old y false quiet in
     let over : GoesOver old (idle_bytes n) false quiet = record {
@@ -145,7 +145,7 @@ over_kept_part old mid new bytes at n first may short count is =
 
 -- ---- a hunt
 
--- what is to come is told by all but the packet
+-- what is to come is told by all but the area
 pub record SameView (s t : ReaderState) : Type 0 where
   pub phase : s.phase ≡ t.phase
   pub wanted : s.wanted ≡ t.wanted
@@ -154,7 +154,7 @@ pub record SameView (s t : ReaderState) : Type 0 where
 
 same_comes : (s t : ReaderState) → SameView s t → (more : List ℕ) → to_come s more ≡ to_come t more
 same_comes s t same more =
-    let state : Phase → ℕ → List ℕ → ℕ → ReaderState = λ p w h r. record { phase = p; wanted = w; held = h; register = r; packet = [] } in
+    let state : Phase → ℕ → List ℕ → ℕ → ReaderState = λ p w h r. record { phase = p; wanted = w; held = h; register = r; area = [] } in
     ap (λ p. to_come (state p s.wanted s.held s.register) more) same.phase
     ∙ ap (λ w. to_come (state t.phase w s.held s.register) more) same.wanted
     ∙ ap (λ h. to_come (state t.phase t.wanted h s.register) more) same.held
@@ -167,7 +167,7 @@ over_same s s' t t' bytes one other over = record {
   before = λ k h. sym (same_comes s s' one (take k bytes)) ∙ over.before k h;
 }
 
-pub over_hunted : (old new : ReaderState) (three last : ℕ) (bytes : List ℕ) → old.phase ≡ Hunt → old.wanted ≡ 4 → three_bytes three ≡ old.held → new ≡ record old { held = three_bytes last; packet = [] }
+pub over_hunted : (old new : ReaderState) (three last : ℕ) (bytes : List ℕ) → old.phase ≡ Hunt → old.wanted ≡ 4 → three_bytes three ≡ old.held → new ≡ record old { held = three_bytes last; area = [] }
     → ((register : ℕ) → GoesOver (hunts_after three register) bytes false (hunts_after last register)) → GoesOver old bytes false new
 over_hunted old new three last bytes phase four held is over =
     over_same (hunts_after three old.register) old (hunts_after last old.register) new bytes
@@ -197,7 +197,7 @@ hunt_next three first byte register bytes i small few within is none over =
     let e0 : first / 2 ^ 8 % 2 ^ 8 ≡ next / 2 ^ 16 = omega arith in
     let e1 : first % 2 ^ 8 ≡ next / 2 ^ 8 % 2 ^ 8 = omega arith in
     let e2 : byte ≡ next % 2 ^ 8 = omega arith in
-    let state : ℕ → ℕ → ℕ → ReaderState = λ a b c. record { phase = Hunt; wanted = 4; held = a ∷ b ∷ c ∷ []; register = register; packet = [] } in
+    let state : ℕ → ℕ → ℕ → ReaderState = λ a b c. record { phase = Hunt; wanted = 4; held = a ∷ b ∷ c ∷ []; register = register; area = [] } in
     let same : slid mid byte ≡ hunts_after next register =
     ap (λ a. state a (first % 2 ^ 8) byte) e0 ∙ ap (λ b. state (next / 2 ^ 16) b byte) e1 ∙ ap (state (next / 2 ^ 16) (next / 2 ^ 8 % 2 ^ 8)) e2 in
     let P : ReaderState → Type 0 = λ s. GoesOver (hunts_after three register) (take (i + 1) bytes) false s in

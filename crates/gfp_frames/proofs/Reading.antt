@@ -4,14 +4,15 @@ use Rattle.std.specs.Prelude.{nat_lt, ◌==◌, ◌||◌, bit_xor, option_to_lis
 use Rattle.std.specs.Option.{option_map_or}
 use Rattle.std.proofs.Math.Seq.{take-append_seam, drop-append_seam}
 use Rattle.std.proofs.lemmas.List.{append-nil}
+use Rattle.std.proofs.lemmas.Grind.{flat_map-append}
 use Rattle.std.proofs.lemmas.Bool.{lt-ltb, le-ltb, ltb-false, cond_both}
 use Rattle.std.proofs.lemmas.Bool.Decides.{nat_tests}
 use Rattle.gfp_scrambler.specs.Register.{shifted, last_bits, descrambled}
 use Rattle.gfp_frames.specs.CoreHeader.{area_size, header_in, right_pli, near_pli, right_at, near_at}
 use Rattle.gfp_frames.specs.Area.{packet_in}
 use Rattle.gfp_frames.specs.Delineation.{whole_area, from_hunt, from_presync, from_sync, sync_areas}
-use Rattle.gfp_frames.specs.Delivered.{joined, cut_as, plain_areas, packets_in, delivered}
-use Rattle.gfp_frames.specs.Reader.{ReaderState, may_want, areas_from, to_come, HasRead, hunts, kept, slid, presync_after, sync_after, area_after, news, Goes}
+use Rattle.gfp_frames.specs.Delivered.{joined, cut_as, plain_areas, packets_in, areas_in, delivered}
+use Rattle.gfp_frames.specs.Reader.{ReaderState, may_want, areas_from, to_come, HasRead, hunts, kept, slid, presync_after, sync_after, area_after, Goes}
 use Rattle.gfp_frames.specs.declared.phase.Phase.{Phase}
 use Rattle.gfp_frames.specs.declared.phase.Phase.TheVariants.{Hunt, PresyncArea, Presync, SyncArea, Sync}
 use Rattle.gfp_frames.proofs.Lists.{all_dropped}
@@ -72,7 +73,7 @@ sync_state pli more = by_size (nat_lt pli 4) ∙ ap (λ y. y ++ from_sync (drop 
 
 -- ---- descrambling
 
-length-descrambled : (r : ℕ) (got : List ℕ) → length (descrambled r got) ≡ length got
+pub length-descrambled : (r : ℕ) (got : List ℕ) → length (descrambled r got) ≡ length got
 unfolding descrambled
 length-descrambled r [] = refl
 length-descrambled r (g ∷ got) = ap suc (length-descrambled (shifted r g) got)
@@ -101,13 +102,13 @@ plain_areas-cons r area areas =
 -- ---- steps
 
 -- what comes is told by the areas alone
-pub same_to_come : (register : ℕ) (areas others : List (List ℕ)) → areas ≡ others → packets_in (plain_areas register areas) ≡ packets_in (plain_areas register others)
-same_to_come register areas others e = ap (λ y. packets_in (plain_areas register y)) e
+pub same_to_come : (register : ℕ) (areas others : List (List ℕ)) → areas ≡ others → plain_areas register areas ≡ plain_areas register others
+same_to_come register areas others e = ap (plain_areas register) e
 
-pub none_to_come : (register : ℕ) (areas : List (List ℕ)) → areas ≡ [] → packets_in (plain_areas register areas) ≡ []
-none_to_come register areas e = same_to_come register areas [] e ∙ ap packets_in (plain_areas-none register)
+pub none_to_come : (register : ℕ) (areas : List (List ℕ)) → areas ≡ [] → plain_areas register areas ≡ []
+none_to_come register areas e = same_to_come register areas [] e ∙ plain_areas-none register
 
--- a step that delivers nothing
+-- a step that finds no area
 quiet : (old new : ReaderState) (byte : ℕ) → new.register ≡ old.register
     → ((more : List ℕ) → areas_from old.phase old.wanted ((old.held ++ byte ∷ []) ++ more) ≡ areas_from new.phase new.wanted (new.held ++ more))
     → areas_from new.phase new.wanted (new.held ++ []) ≡ []
@@ -116,7 +117,7 @@ quiet old new byte same each none = record {
   each = λ more.
       same_to_come old.register (areas_from old.phase old.wanted (old.held ++ byte ∷ more)) (areas_from new.phase new.wanted (new.held ++ more))
       (ap (areas_from old.phase old.wanted) (sym (append_assoc old.held (byte ∷ []) more)) ∙ each more)
-      ∙ ap (λ r. packets_in (plain_areas r (areas_from new.phase new.wanted (new.held ++ more)))) (sym same);
+      ∙ ap (λ r. plain_areas r (areas_from new.phase new.wanted (new.held ++ more))) (sym same);
   none = none_to_come new.register (areas_from new.phase new.wanted (new.held ++ [])) none;
 }
 
@@ -212,19 +213,18 @@ goes_in_sync old byte None e four is = goes_slid old byte four
 
 -- the PRESYNC frame's area is over
 pub goes_past_presync : (old : ReaderState) (byte : ℕ) → old.phase ≡ PresyncArea → length (old.held ++ byte ∷ []) ≡ old.wanted
-    → Goes old byte false (record { phase = Presync; wanted = 4; held = []; register = old.register; packet = [] })
+    → Goes old byte false (record { phase = Presync; wanted = 4; held = []; register = old.register; area = [] })
 goes_past_presync old byte e size =
     let w = old.held ++ byte ∷ [] in
-    let next : ReaderState = record { phase = Presync; wanted = 4; held = []; register = old.register; packet = [] } in
+    let next : ReaderState = record { phase = Presync; wanted = 4; held = []; register = old.register; area = [] } in
     quiet old next byte refl
     (phase_is old PresyncArea byte from_presync e (λ more. ap from_presync (ap (λ n. drop n (w ++ more)) (sym size) ∙ drop-append_seam w more)))
     (waits Presync 4 [] refl (omega arith))
 
 -- an area in sync is whole
-pub goes_past_area : (old : ReaderState) (byte : ℕ) (found : Bool) (packet : List ℕ) → old.phase ≡ SyncArea → length (old.held ++ byte ∷ []) ≡ old.wanted → 4 ≤ old.wanted
-    → option_to_list (packet_in (descrambled old.register (old.held ++ byte ∷ []))) ≡ news found (area_after old byte packet)
-    → Goes old byte found (area_after old byte packet)
-goes_past_area old byte found packet e size big is =
+pub goes_past_area : (old : ReaderState) (byte : ℕ) → old.phase ≡ SyncArea → length (old.held ++ byte ∷ []) ≡ old.wanted → 4 ≤ old.wanted
+    → Goes old byte true (area_after old byte)
+goes_past_area old byte e size big =
     let w = old.held ++ byte ∷ [] in
     let r = old.register in
     record {
@@ -235,40 +235,50 @@ goes_past_area old byte found packet e size big is =
           ∙ ap (λ y. y ++ from_sync (drop old.wanted (w ++ more))) (area_whole old.wanted w more size big)
           ∙ ap (λ y. w ∷ from_sync y) (ap (λ n. drop n (w ++ more)) (sym size) ∙ drop-append_seam w more) in
           same_to_come r (areas_from old.phase old.wanted (old.held ++ byte ∷ more)) (w ∷ from_sync more) areas
-          ∙ ap packets_in (plain_areas-cons r w (from_sync more))
-          ∙ ap (λ y. y ++ packets_in (plain_areas (last_bits r w) (from_sync more))) is;
+          ∙ plain_areas-cons r w (from_sync more);
       none = none_to_come (last_bits r w) (from_sync []) (nothing_in_sync 0);
     }
 
 -- ---- histories
 
-nothing_delivered : delivered [] ≡ []
-unfolding delivered sync_areas
-nothing_delivered = none_to_come 0 (from_hunt []) (nothing_hunted 0)
+no_areas : areas_in [] ≡ []
+unfolding sync_areas
+no_areas = none_to_come 0 (from_hunt []) (nothing_hunted 0)
 
-begins_with : (more : List ℕ) → delivered more ≡ to_come hunts more
-unfolding delivered sync_areas
+begins_with : (more : List ℕ) → areas_in more ≡ to_come hunts more
+unfolding sync_areas
 begins_with more = refl
 
 pub begins : HasRead [] hunts
-begins = record { whole = λ more. begins_with more ∙ ap (λ y. y ++ to_come hunts more) (sym nothing_delivered) }
+begins = record { whole = λ more. begins_with more ∙ ap (λ y. y ++ to_come hunts more) (sym no_areas) }
 
-pub read_on : (taken : List ℕ) (old new : ReaderState) (byte : ℕ) (found : Bool) → HasRead taken old → Goes old byte found new
-    → (delivered (taken ++ byte ∷ []) ≡ delivered taken ++ news found new) × HasRead (taken ++ byte ∷ []) new
-read_on taken old new byte found has goes =
-    let now : delivered (taken ++ byte ∷ []) ≡ delivered taken ++ news found new =
-    has.whole (byte ∷ []) ∙ ap (λ y. delivered taken ++ y) (goes.each [] ∙ ap (λ y. news found new ++ y) goes.none ∙ append-nil (news found new)) in (
-      now,
-      record {
-        whole = λ more.
-            ap delivered (append_assoc taken (byte ∷ []) more) ∙ has.whole (byte ∷ more) ∙ ap (λ y. delivered taken ++ y) (goes.each more)
-            ∙ sym (append_assoc (delivered taken) (news found new) (to_come new more)) ∙ ap (λ y. y ++ to_come new more) (sym now);
-      },
-    )
+pub delivered_is : (bytes : List ℕ) → delivered bytes ≡ packets_in (areas_in bytes)
+unfolding delivered
+delivered_is bytes = refl
 
-pub begins_at : (reader : ReaderState) (register : ℕ) → reader ≡ record { phase = Hunt; wanted = 4; held = []; register = register; packet = [] } → register ≡ 0 → HasRead [] reader
+pub nothing_delivered : delivered [] ≡ []
+nothing_delivered = delivered_is [] ∙ ap packets_in no_areas
+
+pub packets-append : (xs ys : List (List ℕ)) → packets_in (xs ++ ys) ≡ packets_in xs ++ packets_in ys
+packets-append xs ys = flat_map-append (λ area. option_to_list (packet_in area)) xs ys
+
+-- bytes in which these areas are found
+pub found_on : (taken bytes : List ℕ) (old new : ReaderState) (areas : List (List ℕ)) → HasRead taken old → ((more : List ℕ) → to_come old (bytes ++ more) ≡ areas ++ to_come new more) → to_come new [] ≡ []
+    → areas_in (taken ++ bytes) ≡ areas_in taken ++ areas
+found_on taken bytes old new areas has each none =
+    has.whole bytes ∙ ap (λ y. areas_in taken ++ y) (ap (to_come old) (sym (append-nil bytes)) ∙ each [] ∙ ap (λ y. areas ++ y) none ∙ append-nil areas)
+
+pub reads_on : (taken bytes : List ℕ) (old new : ReaderState) (areas : List (List ℕ)) → HasRead taken old → ((more : List ℕ) → to_come old (bytes ++ more) ≡ areas ++ to_come new more) → to_come new [] ≡ []
+    → HasRead (taken ++ bytes) new
+reads_on taken bytes old new areas has each none = record {
+  whole = λ more.
+      ap areas_in (append_assoc taken bytes more) ∙ has.whole (bytes ++ more) ∙ ap (λ y. areas_in taken ++ y) (each more)
+      ∙ sym (append_assoc (areas_in taken) areas (to_come new more)) ∙ ap (λ y. y ++ to_come new more) (sym (found_on taken bytes old new areas has each none));
+}
+
+pub begins_at : (reader : ReaderState) (register : ℕ) → reader ≡ record { phase = Hunt; wanted = 4; held = []; register = register; area = [] } → register ≡ 0 → HasRead [] reader
 begins_at reader register e none =
-    let state : ℕ → ReaderState = λ r. record { phase = Hunt; wanted = 4; held = []; register = r; packet = [] } in
+    let state : ℕ → ReaderState = λ r. record { phase = Hunt; wanted = 4; held = []; register = r; area = [] } in
     let P : ReaderState → Type 0 = λ s. HasRead [] s in
     subst P (sym (e ∙ ap state none)) begins
 
@@ -280,6 +290,13 @@ at_most PresyncArea n e = grind (arith, nat_tests)
 at_most Presync n e = (let four = is_four n e in omega arith)
 at_most SyncArea n e = grind (arith, nat_tests)
 at_most Sync n e = (let four = is_four n e in omega arith)
+
+-- a plain area is as long as it was waited for
+pub area_length : (old new : ReaderState) (byte wanted : ℕ) → new ≡ area_after old byte → length (old.held ++ byte ∷ []) ≡ wanted → 4 ≤ wanted → wanted ≤ 65535
+    → (4 ≤ length new.area) × (length new.area ≤ 65535)
+area_length old new byte wanted is size big most =
+    let same : length new.area ≡ wanted = ap (λ (s : ReaderState). length s.area) is ∙ length-descrambled old.register (old.held ++ byte ∷ []) ∙ size in
+    (omega arith, omega arith)
 
 pub four_in_hunt : (phase : Phase) (n : ℕ) → phase ≡ Hunt → may_want phase n ≡ true → n ≡ 4
 four_in_hunt phase n e may = is_four n (sym (ap (λ p. may_want p n) e) ∙ may)

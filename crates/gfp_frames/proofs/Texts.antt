@@ -93,6 +93,9 @@ none_scrambled : (r : ℕ) → made_frame [] r ≡ record { hand = core_header 0
 unfolding scrambled last_bits core_header
 none_scrambled r = refl
 
+pub idle_made : (frames : List Frame) (given : List ℕ) (old new : MakerState) → HasMade frames given old → old.hand ≡ [] → new ≡ record old { hand = core_header 0 } → HasMade (frames ++ Idle ∷ []) given new
+idle_made frames given old new made none is = frame_made frames Idle given old new made none (is ∙ sym (none_scrambled old.register))
+
 byte_given_at : (hand : List ℕ) (frames : List Frame) (given : List ℕ) (byte : ℕ) (old new : MakerState) → old.hand ≡ hand → HasMade frames given old → byte ∷ new.hand ≡ in_hand hand
     → new.register ≡ old.register → HasMade (frames ++ begun hand) (given ++ byte ∷ []) new
 byte_given_at [] frames given byte old new none made next same =

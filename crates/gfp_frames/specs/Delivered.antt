@@ -1,4 +1,4 @@
--- The packets that a list of bytes delivers.
+-- The plain payload areas in a list of bytes, and the packets that it delivers.
 use Rattle.std.specs.Prelude.{ℕ, List, [], ◌∷◌, length, take, drop, flat_map, option_to_list}
 use Rattle.gfp_scrambler.specs.Register.{descrambled}
 use Rattle.gfp_frames.specs.Area.{packet_in}
@@ -21,6 +21,10 @@ plain_areas register areas = cut_as areas (descrambled register (joined areas))
 abbrev pub packets_in : List (List ℕ) → List (List ℕ)
 packets_in areas = flat_map (λ area. option_to_list (packet_in area)) areas
 
--- what a list of bytes delivers: bits before the first area in sync are 0
+-- the plain areas of all frames that begin in sync and lie whole in the list: bits before the first of them are 0
+abbrev pub areas_in : List ℕ → List (List ℕ)
+areas_in bytes = plain_areas 0 (sync_areas bytes)
+
+-- what a list of bytes delivers
 unfoldable pub delivered : List ℕ → List (List ℕ)
-delivered bytes = packets_in (plain_areas 0 (sync_areas bytes))
+delivered bytes = packets_in (areas_in bytes)

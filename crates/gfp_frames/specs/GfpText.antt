@@ -4,15 +4,17 @@ use Rattle.gfp_scrambler.specs.Register.{scrambled}
 use Rattle.gfp_frames.specs.CoreHeader.{core_header}
 use Rattle.gfp_frames.specs.Area.{client_area}
 
--- a frame that a sender makes: an idle frame, or one that carries a packet, with or without FCS
+-- a frame that a sender makes: an idle frame, one that carries a packet, with or without FCS, or one of any other plain payload area
 pub data Frame : Type 0 where
   Idle : Frame
   Client : (packet : List ℕ) (fcs : Bool) → Frame
+  WithArea : (area : List ℕ) → Frame
 
 -- the plain payload area of a frame; G.7041 clause 6.2.1: an idle frame has PLI 0 and no area
 abbrev pub area_of : Frame → List ℕ
 area_of Idle = []
 area_of (Client packet fcs) = client_area packet fcs
+area_of (WithArea area) = area
 
 -- all plain payload areas of a stream, joined
 abbrev pub areas_of : List Frame → List ℕ

@@ -1,19 +1,19 @@
 -- A reader of GFP frames, as contracts see it.
-use Rattle.std.specs.Prelude.{◌≡◌, ℕ, ◌/◌, ◌%◌, ◌^◌, ◌<◌, ◌==◌, nat_lt, nat_le, ◌&&◌, Bool, if◌then◌else◌, List, [], ◌∷◌, ◌++◌, length, take, drop}
-use Rattle.gfp_scrambler.specs.Register.{last_bits}
+use Rattle.std.specs.Prelude.{◌≡◌, ℕ, ◌/◌, ◌%◌, ◌^◌, ◌<◌, ◌==◌, nat_lt, nat_le, ◌&&◌, Bool, if◌then◌else◌, List, [], ◌∷◌, ◌++◌, Option, length, take, drop, option_to_list}
+use Rattle.gfp_scrambler.specs.Register.{last_bits, descrambled}
 use Rattle.gfp_frames.specs.Delineation.{whole_area, from_hunt, from_presync, from_sync}
-use Rattle.gfp_frames.specs.Delivered.{plain_areas, packets_in, delivered}
+use Rattle.gfp_frames.specs.Delivered.{plain_areas, packets_in, areas_in}
 use Rattle.gfp_frames.specs.declared.phase.Phase.{Phase}
 use Rattle.gfp_frames.specs.declared.phase.Phase.TheVariants.{Hunt, PresyncArea, Presync, SyncArea, Sync}
 
 -- What the reader waits for, how many bytes it is, and which of them came; the last 43 bits of the areas in sync so far;
--- and the packet that was delivered with the last byte, or nothing.
+-- and the plain area in sync that ended with the last byte, or nothing.
 pub record ReaderState : Type 0 where
   pub phase : Phase
   pub wanted : ℕ
   pub held : List ℕ
   pub register : ℕ
-  pub packet : List ℕ
+  pub area : List ℕ
 
 -- how many bytes a phase may wait for: the four of a header, or an area
 abbrev pub may_want : Phase → ℕ → Bool
@@ -31,31 +31,31 @@ areas_from Presync wanted bytes = from_presync bytes
 areas_from SyncArea wanted bytes = whole_area wanted bytes ++ from_sync (drop wanted bytes)
 areas_from Sync wanted bytes = from_sync bytes
 
--- what the reader has yet to deliver, if these bytes come
+-- the plain areas that the reader has yet to find, if these bytes come
 abbrev pub to_come : ReaderState → List ℕ → List (List ℕ)
-to_come reader more = packets_in (plain_areas reader.register (areas_from reader.phase reader.wanted (reader.held ++ more)))
+to_come reader more = plain_areas reader.register (areas_from reader.phase reader.wanted (reader.held ++ more))
 
--- The reader took these bytes since its start: whatever comes, the whole list delivers what these did and what the reader has yet to deliver.
+-- The reader took these bytes since its start: whatever comes, the areas of the whole list are those of these bytes, and those that the reader has yet to find.
 pub record HasRead (taken : List ℕ) (reader : ReaderState) : Type 0 where
-  pub whole : (more : List ℕ) → delivered (taken ++ more) ≡ delivered taken ++ to_come reader more
+  pub whole : (more : List ℕ) → areas_in (taken ++ more) ≡ areas_in taken ++ to_come reader more
 
 -- ---- steps of the reader
 
 -- a reader after its start
 abbrev pub hunts : ReaderState
-hunts = record { phase = Hunt; wanted = 4; held = []; register = 0; packet = [] }
+hunts = record { phase = Hunt; wanted = 4; held = []; register = 0; area = [] }
 
 -- one byte more, and no more news
 abbrev pub kept : ReaderState → ℕ → ReaderState
-kept reader byte = record reader { held = reader.held ++ byte ∷ []; packet = [] }
+kept reader byte = record reader { held = reader.held ++ byte ∷ []; area = [] }
 
 -- some bytes more, and no more news
 abbrev pub kept_some : ReaderState → List ℕ → ReaderState
-kept_some reader bytes = record reader { held = reader.held ++ bytes; packet = [] }
+kept_some reader bytes = record reader { held = reader.held ++ bytes; area = [] }
 
 -- no header here: the hunt goes on one byte further
 abbrev pub slid : ReaderState → ℕ → ReaderState
-slid reader byte = record { phase = Hunt; wanted = 4; held = drop 1 (reader.held ++ byte ∷ []); register = reader.register; packet = [] }
+slid reader byte = record { phase = Hunt; wanted = 4; held = drop 1 (reader.held ++ byte ∷ []); register = reader.register; area = [] }
 
 -- a number of 24 bits as bytes, the most significant first
 abbrev pub three_bytes : ℕ → List ℕ
@@ -63,7 +63,7 @@ three_bytes n = n / 2 ^ 16 ∷ n / 2 ^ 8 % 2 ^ 8 ∷ n % 2 ^ 8 ∷ []
 
 -- a hunt in which these three bytes came last
 abbrev pub hunts_after : (three register : ℕ) → ReaderState
-hunts_after three register = record { phase = Hunt; wanted = 4; held = three_bytes three; register = register; packet = [] }
+hunts_after three register = record { phase = Hunt; wanted = 4; held = three_bytes three; register = register; area = [] }
 
 -- a header was found: its area comes, or where it has none the next header
 abbrev pub after_header : ReaderState → (pli : ℕ) → (next area : Phase) → ReaderState
@@ -72,7 +72,7 @@ after_header reader pli next area = record {
   wanted = if nat_lt pli 4 then 4 else pli;
   held = [];
   register = reader.register;
-  packet = [];
+  area = [];
 }
 
 -- a hunt found the header of a PRESYNC frame
@@ -84,21 +84,37 @@ abbrev pub sync_after : ReaderState → (pli : ℕ) → ReaderState
 sync_after reader pli = after_header reader pli Sync SyncArea
 
 -- a whole area came
-abbrev pub area_after : ReaderState → ℕ → (packet : List ℕ) → ReaderState
-area_after reader byte packet =
-    record { phase = Sync; wanted = 4; held = []; register = last_bits reader.register (reader.held ++ byte ∷ []); packet = packet }
+abbrev pub area_after : ReaderState → ℕ → ReaderState
+area_after reader byte = record {
+  phase = Sync;
+  wanted = 4;
+  held = [];
+  register = last_bits reader.register (reader.held ++ byte ∷ []);
+  area = descrambled reader.register (reader.held ++ byte ∷ []);
+}
 
--- the packets that a step gives
+-- the areas that a step gives
 abbrev pub news : Bool → ReaderState → List (List ℕ)
-news found reader = if found then reader.packet ∷ [] else []
+news found reader = if found then reader.area ∷ [] else []
 
 -- what was to come with this byte came, or is to come still; and nothing comes of itself
 pub record Goes (old : ReaderState) (byte : ℕ) (found : Bool) (new : ReaderState) : Type 0 where
   pub each : (more : List ℕ) → to_come old (byte ∷ more) ≡ news found new ++ to_come new more
   pub none : to_come new [] ≡ []
 
--- the same of several bytes, of which no one before the last gives a packet
+-- the same of several bytes, of which no one before the last gives an area
 pub record GoesOver (old : ReaderState) (bytes : List ℕ) (found : Bool) (new : ReaderState) : Type 0 where
   pub each : (more : List ℕ) → to_come old (bytes ++ more) ≡ news found new ++ to_come new more
   pub none : to_come new [] ≡ []
   pub before : (k : ℕ) → k < length bytes → to_come old (take k bytes) ≡ []
+
+-- the same of several bytes, by the packet in the areas that they give, if any
+pub record GoesTo (old : ReaderState) (bytes : List ℕ) (packet : Option (List ℕ)) (new : ReaderState) : Type 0 where
+  pub areas : List (List ℕ)
+  pub each : (more : List ℕ) → to_come old (bytes ++ more) ≡ areas ++ to_come new more
+  pub none : to_come old [] ≡ [] → to_come new [] ≡ []
+  pub packets : packets_in areas ≡ option_to_list packet
+
+-- no packet comes before the last of the first n bytes
+abbrev pub NoneBefore : ReaderState → List ℕ → ℕ → Type 0
+NoneBefore old bytes n = (k : ℕ) → k < n → packets_in (to_come old (take k bytes)) ≡ []

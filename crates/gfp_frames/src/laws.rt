@@ -6,9 +6,9 @@ ghost use Rattle.gfp_frames.specs.CoreHeader.{near_pli};
 ghost use Rattle.gfp_frames.specs.GfpText.{Frame, Idle, areas_of, laid_out, text_of, gfp_text, stream_frames};
 ghost use Rattle.gfp_frames.specs.Maker.{MakerState, HasMade};
 ghost use Rattle.gfp_frames.specs.Delineation.{sync_areas};
-ghost use Rattle.gfp_frames.specs.Delivered.{joined, cut_as, packets_in, delivered};
+ghost use Rattle.gfp_frames.specs.Delivered.{joined, cut_as, packets_in, areas_in, delivered};
 ghost use Rattle.gfp_frames.specs.Places.{AreFramesInSync, areas_at};
-ghost use Rattle.gfp_frames.specs.Within.{packets_within, CanCarryAll};
+ghost use Rattle.gfp_frames.specs.Within.{packets_within, areas_within, CanCarryAll};
 
 /// Of any first bytes of a stream exactly the packets are delivered, in order, whose frames are whole in
 /// them: packets of 1 to 65,527 bytes, each with FCS or without.
@@ -17,6 +17,17 @@ pub fn packets_arrive()
         delivered (take n (text_of (Idle ∷ frames))) ≡ packets_within n (Idle ∷ frames) }
     ensures stream { (packets : List (List ℕ)) (fcs : Bool) (n : ℕ) → CanCarryAll (stream_frames packets fcs n) →
         delivered (gfp_text packets fcs n) ≡ packets_within n (stream_frames packets fcs n) }
+{}
+
+/// Of any first bytes of a stream exactly the plain payload areas are found, in order, whose frames are whole in them.
+pub fn areas_arrive()
+    ensures { (frames : List Frame) (n : ℕ) → CanCarryAll frames →
+        areas_in (take n (text_of (Idle ∷ frames))) ≡ areas_within n (Idle ∷ frames) }
+{}
+
+/// The areas of a list of bytes stay its areas, whatever comes after it.
+pub fn areas_stay()
+    ensures { (bytes more : List ℕ) → (rest : List (List ℕ)) × (areas_in (bytes ++ more) ≡ areas_in bytes ++ rest) }
 {}
 
 /// What a maker gives is the client's stream, where packets are offered without a gap after the first

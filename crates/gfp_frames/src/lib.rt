@@ -10,9 +10,10 @@ mod reader;
 #[cfg(test)]
 mod tests;
 
+pub use core_header::{bytes_of_16, bytes_of_32};
 pub use laws::{
-    areas_are_one_list_of_bits, delivered_stays, frames_stand_by_place, made_is_the_stream,
-    one_wrong_bit_is_corrected, packets_arrive,
+    areas_are_one_list_of_bits, areas_arrive, areas_stay, delivered_stays, frames_stand_by_place,
+    made_is_the_stream, one_wrong_bit_is_corrected, packets_arrive,
 };
 pub use maker::GfpMaker;
 pub use reader::GfpReader;

@@ -4,7 +4,7 @@ ghost use Rattle.std.specs.Vec.{vec_capacity};
 ghost use Rattle.gfp_scrambler.specs.Register.{last_bits, scrambled};
 ghost use Rattle.gfp_frames.specs.CoreHeader.{core_header};
 ghost use Rattle.gfp_frames.specs.Area.{client_area};
-ghost use Rattle.gfp_frames.specs.GfpText.{Frame, Idle, Client};
+ghost use Rattle.gfp_frames.specs.GfpText.{Frame, Idle, Client, WithArea};
 ghost use Rattle.gfp_frames.specs.Maker.{MakerState, HasMade, begun, made_frame, in_hand, idles_begun, idle_bytes, fresh};
 
 use crate::area::append_client_area;
@@ -84,6 +84,27 @@ impl GfpMaker {
         self.put_frame(packet, fcs);
     }
 
+    /// Takes the frame of this plain payload area of 4 to 65,535 bytes in hand (G.7041 clause 6.1.2).
+    pub fn offer_area(&mut self, area: &[u8])
+        requires idle { self.old.hand ≡ [] }
+        requires area { (4 ≤ length area.now) × (length area.now ≤ 65535) }
+        ensures made { (frames : List Frame) (given : List ℕ) → HasMade frames given self.old →
+            HasMade (frames ++ WithArea area.now ∷ []) given self.new }
+        ensures frame { self.new ≡ made_frame area.now self.old.register }
+    {
+        self.put_area(area);
+    }
+
+    /// Takes an idle frame in hand (G.7041 clause 6.2.1).
+    pub fn offer_idle(&mut self)
+        requires { self.old.hand ≡ [] }
+        ensures made { (frames : List Frame) (given : List ℕ) → HasMade frames given self.old →
+            HasMade (frames ++ Idle ∷ []) given self.new }
+        ensures frame { self.new ≡ record self.old { hand = core_header 0 } }
+    {
+        self.put_idle();
+    }
+
     /// The next byte of the stream. Where no frame is in hand an idle frame begins.
     pub fn next_byte(&mut self) -> u8
         ensures made { (frames : List Frame) (given : List ℕ) → HasMade frames given self.old →
@@ -155,6 +176,18 @@ impl GfpMaker {
         self.frame.clear();
         append(&mut self.frame, &header_bytes((packet.len() + rest) as u16));
         append_client_area(&mut self.frame, packet, fcs);
+        scramble_area(&mut self.scrambler, &mut self.frame);
+    }
+
+    // The frame in hand becomes that of a plain area.
+    fn put_area(&mut self, area: &[u8])
+        requires { (4 ≤ length area.now) × (length area.now ≤ 65535) }
+        ensures { self.new ≡ made_frame area.now self.old.register }
+    {
+        self.given = 0;
+        self.frame.clear();
+        append(&mut self.frame, &header_bytes(area.len() as u16));
+        append(&mut self.frame, area);
         scramble_area(&mut self.scrambler, &mut self.frame);
     }
 

@@ -5,8 +5,8 @@ ghost use Rattle.otn_base.specs.declared.limits.TheConstants.{MOST_DELIVERED};
 ghost use Rattle.gfp_scrambler.specs.Register.{last_bits, descrambled};
 ghost use Rattle.gfp_frames.specs.CoreHeader.{four_bytes, header_in, right_pli, near_pli};
 ghost use Rattle.gfp_frames.specs.Area.{packet_in};
-ghost use Rattle.gfp_frames.specs.Delivered.{delivered};
-ghost use Rattle.gfp_frames.specs.Reader.{ReaderState, may_want, HasRead, kept, kept_some, three_bytes, hunts_after, slid, after_header, presync_after, sync_after, area_after, news, Goes, GoesOver};
+ghost use Rattle.gfp_frames.specs.Delivered.{areas_in, delivered};
+ghost use Rattle.gfp_frames.specs.Reader.{ReaderState, may_want, HasRead, kept, kept_some, three_bytes, hunts_after, slid, after_header, presync_after, sync_after, area_after, news, Goes, GoesOver, GoesTo, NoneBefore};
 ghost use Rattle.gfp_frames.specs.Maker.{idle_bytes};
 
 use crate::area::packet_size;
@@ -23,8 +23,8 @@ const MOST_AREA: usize = 65_535;
 /// Bytes of a core header.
 const HEADER: usize = 4;
 
-/// Finds the frames of a stream of bytes and delivers their packets. Contracts see how far it is in the
-/// frame at hand.
+/// Finds the frames of a stream of bytes, and gives their payload areas, or the packets in them. Contracts see how far
+/// it is in the frame at hand.
 #[derive(Drop)]
 pub struct GfpReader {
     phase: Phase,
@@ -33,8 +33,8 @@ pub struct GfpReader {
     held: usize,
     buffer: Vec<u8>,
     descrambler: Descrambler,
-    // Bytes of the packet that was delivered with the last byte, or 0. It stands after the tHEC.
-    packet: usize,
+    // Bytes of the plain area in sync that ended with the last byte, or 0. It begins the buffer.
+    area: usize,
 }
 
 impl Model for GfpReader {
@@ -48,10 +48,10 @@ impl Model for GfpReader {
       wanted = r.wanted;
       held = take r.held r.buffer.items;
       register = r.descrambler;
-      packet = take r.packet (drop 4 r.buffer.items);
+      area = take r.area r.buffer.items;
     } };
 
-    ghost invariant = { λ r. (vec_len r.buffer ≡ 65535) × (r.held < r.wanted) × (r.packet + 4 ≤ 65535) × IsTrue (may_want r.phase r.wanted) };
+    ghost invariant = { λ r. (vec_len r.buffer ≡ 65535) × (r.held < r.wanted) × (r.area ≤ 65535) × IsTrue (may_want r.phase r.wanted) };
 }
 
 impl GfpReader {
@@ -68,7 +68,7 @@ impl GfpReader {
             held: 0,
             buffer: zeros(alloc, MOST_AREA)?,
             descrambler: Descrambler::new(),
-            packet: 0,
+            area: 0,
         })
     }
 
@@ -88,10 +88,9 @@ impl GfpReader {
             delivered (taken ++ byte ∷ []) ≡ delivered taken ++ option_to_list (option_copied result) }
         ensures size { IfSome result (λ packet. (1 ≤ length packet.now) × (length packet.now ≤ MOST_DELIVERED)) }
     {
-        if self.advance(byte) {
-            Some(&self.buffer[HEADER..HEADER + self.packet])
-        } else {
-            None
+        match self.find_packet_at(byte) {
+            Some(size) => Some(&self.area()[HEADER..HEADER + size]),
+            None => None,
         }
     }
 
@@ -108,24 +107,128 @@ impl GfpReader {
         ensures some { 1 ≤ length bytes.now → 1 ≤ result.0 }
         ensures size { IfSome result.1 (λ packet. (1 ≤ length packet.now) × (length packet.now ≤ MOST_DELIVERED)) }
     {
+        let (count, found) = self.find_packet(bytes);
+        match found {
+            Some(size) => (count, Some(&self.area()[HEADER..HEADER + size])),
+            None => (count, None),
+        }
+    }
+
+    /// Takes the next byte, and gives the plain payload area of the frame in sync that ends with it, if it has one.
+    pub fn take_area(&mut self, byte: u8) -> Option<&[u8]>
+        // Of every list of bytes since the start the areas are those of the list.
+        ensures* read { sem 𝓛 (EndsHavingRead self.entry byte) }
+        ensures areas { (taken : List ℕ) → HasRead taken self.old →
+            areas_in (taken ++ byte ∷ []) ≡ areas_in taken ++ option_to_list (option_copied result) }
+        ensures size { IfSome result (λ area. (4 ≤ length area.now) × (length area.now ≤ 65535)) }
+    {
+        if self.advance(byte) {
+            Some(&self.buffer[..self.area])
+        } else {
+            None
+        }
+    }
+
+    /// Takes bytes up to and with the one that ends a payload area in sync, or all where none does: how many, and the
+    /// plain area.
+    pub fn take_some_area(&mut self, bytes: &[u8]) -> (usize, Option<&[u8]>)
+        // Of every list of bytes since the start the areas are those of the list, each with its last byte.
+        ensures* read { sem 𝓛 (EndsHavingReadAll self.entry (take result.0 bytes.now)) }
+        ensures areas { (taken : List ℕ) → HasRead taken self.old →
+            areas_in (taken ++ take result.0 bytes.now) ≡ areas_in taken ++ option_to_list (option_copied result.1) }
+        ensures none_before { (taken : List ℕ) (k : ℕ) → HasRead taken self.old → k < result.0 →
+            areas_in (taken ++ take k bytes.now) ≡ areas_in taken }
+        ensures within { result.0 ≤ length bytes.now }
+        ensures all { IsNone result.1 → result.0 ≡ length bytes.now }
+        ensures some { 1 ≤ length bytes.now → 1 ≤ result.0 }
+        ensures size { IfSome result.1 (λ area. (4 ≤ length area.now) × (length area.now ≤ 65535)) }
+    {
         let (count, found) = self.advance_over(bytes);
-        let packet = if found {
-            Some(&self.buffer[HEADER..HEADER + self.packet])
+        let area = if found {
+            Some(&self.buffer[..self.area])
         } else {
             None
         };
-        (count, packet)
+        (count, area)
+    }
+
+    /// As `take_some_area`, but for the area itself, which `area` gives: how many bytes, and whether an area ends with the last of them.
+    pub fn find_area(&mut self, bytes: &[u8]) -> (usize, bool)
+        ensures read { (taken : List ℕ) → HasRead taken self.old → HasRead (taken ++ take result.0 bytes.now) self.new }
+        ensures areas { (taken : List ℕ) → HasRead taken self.old →
+            areas_in (taken ++ take result.0 bytes.now) ≡ areas_in taken ++ news result.1 self.new }
+        ensures none_before { (taken : List ℕ) (k : ℕ) → HasRead taken self.old → k < result.0 →
+            areas_in (taken ++ take k bytes.now) ≡ areas_in taken }
+        ensures within { result.0 ≤ length bytes.now }
+        ensures all { result.1 ≡ false → result.0 ≡ length bytes.now }
+        ensures some { 1 ≤ length bytes.now → 1 ≤ result.0 }
+        ensures size { result.1 ≡ true → (4 ≤ length self.new.area) × (length self.new.area ≤ 65535) }
+    {
+        self.advance_over(bytes)
+    }
+
+    /// The plain payload area in sync that ended with the last byte; it has no byte where none did.
+    pub fn area(&self) -> &[u8]
+        ensures { result.now ≡ self.now.area }
+    {
+        &self.buffer[..self.area]
     }
 }
 
 impl GfpReader {
-    // Goes on over bytes up to and with the one that delivers a packet, or over all: how many, and whether one does.
+    // Whether a packet is delivered with this byte: its size.
+    fn find_packet_at(&mut self, byte: u8) -> Option<usize>
+        ensures goes { GoesTo self.old (byte ∷ []) (option_map (λ n. take n (drop 4 self.new.area)) result) self.new }
+        ensures size { IfSome result (λ n. (1 ≤ n) × (n ≤ MOST_DELIVERED) × (n + 4 ≤ length self.new.area)) }
+    {
+        if self.advance(byte) {
+            self.packet_found()
+        } else {
+            None
+        }
+    }
+
+    // The size of the packet in the area that ended with the last byte.
+    fn packet_found(&self) -> Option<usize>
+        requires { 4 ≤ length self.now.area }
+        ensures packet { packet_in self.now.area ≡ option_map (λ n. take n (drop 4 self.now.area)) result }
+        ensures size { IfSome result (λ n. (1 ≤ n) × (n ≤ MOST_DELIVERED) × (n + 4 ≤ length self.now.area)) }
+    {
+        packet_size(&self.buffer[..self.area])
+    }
+
+    // Goes on over bytes up to and with the one that delivers a packet, or over all: how many, and the packet's size.
+    fn find_packet(&mut self, bytes: &[u8]) -> (usize, Option<usize>)
+        ensures goes { GoesTo self.old (take result.0 bytes.now) (option_map (λ n. take n (drop 4 self.new.area)) result.1) self.new }
+        ensures before { NoneBefore self.old bytes.now result.0 }
+        ensures within { result.0 ≤ length bytes.now }
+        ensures all { IsNone result.1 → result.0 ≡ length bytes.now }
+        ensures some { 1 ≤ length bytes.now → 1 ≤ result.0 }
+        ensures size { IfSome result.1 (λ n. (1 ≤ n) × (n ≤ MOST_DELIVERED) × (n + 4 ≤ length self.new.area)) }
+    {
+        let mut at = 0;
+        while at < bytes.len() {
+            let (count, found) = self.advance_over(&bytes[at..]);
+            at += count;
+            if found {
+                let size = self.packet_found();
+                if size.is_some() {
+                    return (at, size);
+                }
+            }
+        }
+        (at, None)
+    }
+}
+
+impl GfpReader {
+    // Goes on over bytes up to and with the one that ends an area in sync, or over all: how many, and whether one does.
     fn advance_over(&mut self, bytes: &[u8]) -> (usize, bool)
         ensures goes { GoesOver self.old (take result.0 bytes.now) result.1 self.new }
         ensures within { result.0 ≤ length bytes.now }
         ensures all { result.1 ≡ false → result.0 ≡ length bytes.now }
         ensures some { 1 ≤ length bytes.now → 1 ≤ result.0 }
-        ensures size { result.1 ≡ true → 1 ≤ length self.new.packet }
+        ensures size { result.1 ≡ true → (4 ≤ length self.new.area) × (length self.new.area ≤ 65535) }
     {
         let mut at = self.pass_over(bytes);
         while at < bytes.len() {
@@ -142,7 +245,7 @@ impl GfpReader {
         (at, false)
     }
 
-    // Passes what delivers nothing at the front, as far as it is seen at once: how many bytes.
+    // Passes what has no area at the front, as far as it is seen at once: how many bytes.
     fn pass_over(&mut self, bytes: &[u8]) -> usize
         ensures goes { GoesOver self.old (take result bytes.now) false self.new }
         ensures within { result ≤ length bytes.now }
@@ -158,7 +261,7 @@ impl GfpReader {
     {
         let sync = matches!(self.phase, Phase::Sync);
         if sync && self.held == 0 {
-            self.packet = 0;
+            self.area = 0;
             idles_before(bytes)
         } else {
             0
@@ -193,12 +296,12 @@ impl GfpReader {
     fn put_three(&mut self, three: u32)
         requires held { length self.old.held ≡ 3 }
         requires small { three < 2 ^ 24 }
-        ensures { self.new ≡ record self.old { held = three_bytes three; packet = [] } }
+        ensures { self.new ≡ record self.old { held = three_bytes three; area = [] } }
     {
         self.buffer[0] = (three >> 16) as u8;
         self.buffer[1] = (three >> 8 & 0xFF) as u8;
         self.buffer[2] = (three & 0xFF) as u8;
-        self.packet = 0;
+        self.area = 0;
     }
 
     // Keeps bytes as long as they do not end the header or area that is awaited: how many.
@@ -211,14 +314,14 @@ impl GfpReader {
         let count = bytes.len().min(self.wanted - self.held - 1);
         put_at(&mut self.buffer, self.held, &bytes[..count]);
         self.held += count;
-        self.packet = 0;
+        self.area = 0;
         count
     }
 
-    // Whether a packet is delivered with this byte.
+    // Whether an area in sync ends with this byte.
     fn advance(&mut self, byte: u8) -> bool
         ensures goes { Goes self.old byte result self.new }
-        ensures size { result ≡ true → 1 ≤ length self.new.packet }
+        ensures size { result ≡ true → (4 ≤ length self.new.area) × (length self.new.area ≤ 65535) }
     {
         if self.held + 1 < self.wanted {
             self.keep(byte);
@@ -237,7 +340,10 @@ impl GfpReader {
                 self.end_presync_header(byte);
                 false
             }
-            Phase::SyncArea => self.end_area(byte),
+            Phase::SyncArea => {
+                self.end_area(byte);
+                true
+            }
             Phase::Sync => {
                 self.end_sync_header(byte);
                 false
@@ -249,7 +355,7 @@ impl GfpReader {
         requires { length self.old.held + 1 < self.old.wanted }
         ensures { self.new ≡ kept self.old byte }
     {
-        self.packet = 0;
+        self.area = 0;
         self.buffer[self.held] = byte;
         self.held += 1;
     }
@@ -313,7 +419,7 @@ impl GfpReader {
         self.buffer[2] = byte;
         self.phase = Phase::Hunt;
         self.wanted = HEADER;
-        self.packet = 0;
+        self.area = 0;
     }
 
     // A header was found: its area comes, or where it has none the next header.
@@ -333,63 +439,39 @@ impl GfpReader {
     // A header is to come.
     fn await_next(&mut self, phase: Phase)
         requires { IsTrue (may_want phase 4) }
-        ensures { self.new ≡ record { phase = phase; wanted = 4; held = []; register = self.old.register; packet = [] } }
+        ensures { self.new ≡ record { phase = phase; wanted = 4; held = []; register = self.old.register; area = [] } }
     {
         self.phase = phase;
         self.wanted = HEADER;
         self.held = 0;
-        self.packet = 0;
+        self.area = 0;
     }
 
     // An area of this many bytes is to come.
     fn await_area(&mut self, phase: Phase, pli: usize)
         requires { IsTrue (may_want phase pli) }
-        ensures { self.new ≡ record { phase = phase; wanted = pli; held = []; register = self.old.register; packet = [] } }
+        ensures { self.new ≡ record { phase = phase; wanted = pli; held = []; register = self.old.register; area = [] } }
     {
         self.phase = phase;
         self.wanted = pli;
         self.held = 0;
-        self.packet = 0;
+        self.area = 0;
     }
 
-    // An area in sync ends with this byte: whether it holds a packet to deliver.
-    fn end_area(&mut self, byte: u8) -> bool
+    // An area in sync ends with this byte, and stands plain at the front of the buffer.
+    fn end_area(&mut self, byte: u8)
         requires phase { self.old.phase ≡ Phase.SyncArea }
         requires last { length self.old.held + 1 ≡ self.old.wanted }
-        ensures state { self.new ≡ area_after self.old byte self.new.packet }
-        ensures packet { option_to_list (packet_in (descrambled self.old.register (self.old.held ++ byte ∷ []))) ≡ news result self.new }
-        ensures size { result ≡ true → 1 ≤ length self.new.packet }
+        ensures { self.new ≡ area_after self.old byte }
     {
         let size = self.wanted;
         self.buffer[self.held] = byte;
         self.phase = Phase::Sync;
         self.wanted = HEADER;
         self.held = 0;
-        match open_area(&mut self.descrambler, &mut self.buffer, size) {
-            Some(packet) => {
-                self.packet = packet;
-                true
-            }
-            None => {
-                self.packet = 0;
-                false
-            }
-        }
+        self.area = size;
+        descramble_front(&mut self.descrambler, &mut self.buffer, size);
     }
-}
-
-// Descrambles the area at the front of the buffer, and gives the size of the packet in it.
-fn open_area(descrambler: &mut Descrambler, buffer: &mut Vec<u8>, size: usize) -> Option<usize>
-    requires area { 4 ≤ size }
-    requires here { size ≤ vec_len buffer.old }
-    ensures packet { packet_in (descrambled descrambler.old (take size buffer.old.items)) ≡ option_map (λ n. take n (drop 4 buffer.new.items)) result }
-    ensures some { IfSome result (λ n. 1 ≤ n) }
-    ensures within { IfSome result (λ n. n + 4 ≤ size) }
-    ensures register { descrambler.new ≡ last_bits descrambler.old (take size buffer.old.items) }
-    ensures len { vec_len buffer.new ≡ vec_len buffer.old }
-{
-    descramble_front(descrambler, buffer, size);
-    packet_size(&buffer[..size])
 }
 
 // Descrambles the area at the front of the buffer.

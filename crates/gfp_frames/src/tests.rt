@@ -203,3 +203,46 @@ fn greatest_packet_arrives(rt: HostRuntime) -> Result<(), Fail> {
     }
     Ok(())
 }
+
+// The area of a client management frame: client signal fail, an extension header of zeros; and the bytes of its frame
+// after the idle frame.
+static LOSS: [u8; 8] = [0x81, 0x01, 0x38, 0x88, 0x00, 0x00, 0x00, 0x00];
+
+static LOSS_STREAM: [u8; 20] = [
+    0xB6, 0xAB, 0x31, 0xE0, 0xB6, 0xA3, 0xB0, 0xE8, 0x81, 0x01, 0x38, 0x88, 0x00, 0x10, 0x20, 0x27,
+    0xB6, 0xAB, 0x31, 0xE0,
+];
+
+#[test]
+fn area_is_made(rt: HostRuntime) -> Result<(), Fail> {
+    let mut maker = GfpMaker::new(rt.alloc())?;
+    let mut made = [0u8; 20];
+    assert_eq!(rt; maker.give(&mut made), 4);
+    if maker.idle() {
+        maker.offer_area(&LOSS);
+    }
+    maker.fill(&mut made[4..]);
+    assert!(rt; made == LOSS_STREAM);
+    Ok(())
+}
+
+// The same area byte by byte, in blocks of 9 bytes, and where it stands.
+#[test]
+fn area_is_found(rt: HostRuntime) -> Result<(), Fail> {
+    let mut reader = GfpReader::new(rt.alloc())?;
+    for (at, byte) in LOSS_STREAM.iter().enumerate() {
+        match reader.take_area(*byte) {
+            Some(area) => assert!(rt; at == 15 && area == LOSS.as_slice()),
+            None => assert!(rt; at != 15),
+        }
+    }
+    reader.restart();
+    assert!(rt; reader.take_some_area(&LOSS_STREAM[..9]).1.is_none());
+    let (count, area) = reader.take_some_area(&LOSS_STREAM[9..]);
+    assert!(rt; count == 7 && area.is_some_and(|area| area == LOSS.as_slice()));
+    reader.restart();
+    assert!(rt; reader.find_area(&LOSS_STREAM) == (16, true));
+    assert!(rt; reader.area() == LOSS.as_slice());
+    assert!(rt; reader.take_some(&LOSS_STREAM).1.is_none());
+    Ok(())
+}

@@ -3,8 +3,7 @@ use Rattle.std.proofs.Common.{◌≡◌, ◌+◌, ℕ, List, [], ◌∷◌, ◌+
 use Rattle.std.specs.Prelude.{flat_map}
 use Rattle.std.proofs.lemmas.Grind.{flat_map-append}
 use Rattle.gfp_frames.specs.Delivered.{delivered}
-use Rattle.gfp_frames.specs.Delineation.{sync_areas, from_hunt}
-use Rattle.gfp_frames.proofs.Reading.{hunt_short, none_to_come}
+use Rattle.gfp_frames.proofs.Reading.{nothing_delivered}
 use Rattle.otn_base.specs.Counts.{saturated}
 use Rattle.packet_text.specs.PacketText.{packet_line, hex_text}
 use Rattle.odu_client.specs.AlignedRuns.{Arrival, Handed, Broken, arrivals, searching, payload_of, with_payload, runs_of}
@@ -89,10 +88,6 @@ pub broken_behind : (xs : List Arrival) (ended : List (List ℕ)) (run : List �
 unfolding runs_of
 broken_behind xs ended run e = goes_behind xs (Broken ∷ []) ended run e ∙ ap (λ p. ended ++ p ∷ [] ∷ []) (append-nil run) ∙ sym (append_assoc ended (run ∷ []) ([] ∷ []))
 
-no_bytes : delivered [] ≡ []
-unfolding delivered sync_areas
-no_bytes = none_to_come 0 (from_hunt []) (hunt_short [] (omega arith))
-
 -- the packets of all runs
 packets_of_runs : (ended : List (List ℕ)) (run : List ℕ) → flat_map delivered (ended ++ run ∷ []) ≡ flat_map delivered ended ++ delivered run
 packets_of_runs ended run = flat_map-append delivered ended (run ∷ []) ∙ ap (λ ps. flat_map delivered ended ++ ps) (append-nil (delivered run))
@@ -105,7 +100,7 @@ output_starts aligner reader aligned read = record {
   runs = refl;
   aligned = aligned;
   read = read;
-  all = sym (ap (λ ps. ps ++ []) no_bytes);
+  all = sym (ap (λ ps. ps ++ []) nothing_delivered);
 }
 
 pub output_goes_on : OutputGoesOn
@@ -142,7 +137,7 @@ output_goes_on arrived came frame packets more aligned.Break aligner next reader
       runs = runs;
       aligned = a.aligned;
       read = r.1;
-      all = ap (λ ps. packets ++ ps) r.0 ∙ append-nil packets ∙ h.all ∙ ap (flat_map delivered) h.runs ∙ sym (packets_of_runs (h.ended ++ h.run ∷ []) [] ∙ ap (λ ps. flat_map delivered (h.ended ++ h.run ∷ []) ++ ps) no_bytes ∙ append-nil (flat_map delivered (h.ended ++ h.run ∷ []))) ∙ sym (ap (flat_map delivered) runs);
+      all = ap (λ ps. packets ++ ps) r.0 ∙ append-nil packets ∙ h.all ∙ ap (flat_map delivered) h.runs ∙ sym (packets_of_runs (h.ended ++ h.run ∷ []) [] ∙ ap (λ ps. flat_map delivered (h.ended ++ h.run ∷ []) ++ ps) nothing_delivered ∙ append-nil (flat_map delivered (h.ended ++ h.run ∷ []))) ∙ sym (ap (flat_map delivered) runs);
     }
 
 pub output_goes_on_by_byte : OutputGoesOnByByte

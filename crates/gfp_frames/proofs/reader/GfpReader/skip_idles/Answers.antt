@@ -11,7 +11,7 @@ pub returns-then-self-eq0-clause-goes : goal.returns-then-self-eq0-clause-goes
 returns-then-self-eq0-clause-goes c =
     let old = c.args.self.now in
     let in_view = c.self.inside in
-    let quiet : ReaderState → ReaderState = λ s. record s { packet = [] } in
+    let quiet : ReaderState → ReaderState = λ s. record s { area = [] } in
     let phase : in_view.phase ≡ Sync = elim c.match-matches.branch [
       | in-Sync w ↦ w.in-Sync.is
       | in_default w ↦ absurd (false≢true (sym w.matches-is ∙ c.if-sync.true))
