@@ -1,0 +1,13 @@
+pub mod ChannelFrames
+pub mod Weave
+pub mod ChannelArrivals
+pub mod Weaver
+pub mod Lending
+pub mod Laws
+pub use Rattle.gfp_frames.specs.CoreHeader
+pub use Rattle.gfp_frames.specs.Area
+pub use Rattle.gfp_frames.specs.GfpText
+pub use Rattle.gfp_frames.specs.Delivered
+pub use Rattle.gfp_frames.specs.Within
+pub use Rattle.gfp_frames.specs.Maker
+pub use Rattle.gfp_frames.specs.Reader
