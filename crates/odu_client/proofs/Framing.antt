@@ -176,14 +176,15 @@ made_of : List ℕ → StreamState → Option ℕ → Option ℕ → ℕ → Lis
 made_of sapi stream last before mfas left fresh = record { sapi = sapi; stream = stream; path = record { last = last; before = before }; mfas = mfas; left = left; fresh = fresh }
 
 -- a framer that nothing was made with
-pub fresh_view : (sapi s : List ℕ) (fcs : Bool) (stream : StreamState) (path : Kept) (left : List ℕ) → s ≡ sapi → stream ≡ fresh_stream fcs → HasSent 3824 [] path → left ≡ []
-    → record { sapi = s; stream = stream; path = path; mfas = 0; left = left; fresh = true } ≡ fresh_framer sapi fcs
+pub fresh_view : (sapi s : List ℕ) (fcs : Bool) (stream : StreamState) (path : Kept) (mfas : ℕ) (left : List ℕ) → s ≡ sapi → stream ≡ fresh_stream fcs → HasSent 3824 [] path → mfas ≡ 0 → left ≡ []
+    → record { sapi = s; stream = stream; path = path; mfas = mfas; left = left; fresh = true } ≡ fresh_framer sapi fcs
 unfolding made_of
-fresh_view sapi s fcs stream path left a b h e =
-    ap (λ x. made_of x stream path.last path.before 0 left true) a
-    ∙ ap (λ x. made_of sapi x path.last path.before 0 left true) b
-    ∙ ap (λ x. made_of sapi (fresh_stream fcs) x path.before 0 left true) h.last
-    ∙ ap (λ x. made_of sapi (fresh_stream fcs) None x 0 left true) h.before
+fresh_view sapi s fcs stream path mfas left a b h m e =
+    ap (λ x. made_of x stream path.last path.before mfas left true) a
+    ∙ ap (λ x. made_of sapi x path.last path.before mfas left true) b
+    ∙ ap (λ x. made_of sapi (fresh_stream fcs) x path.before mfas left true) h.last
+    ∙ ap (λ x. made_of sapi (fresh_stream fcs) None x mfas left true) h.before
+    ∙ ap (λ x. made_of sapi (fresh_stream fcs) None None x left true) m
     ∙ ap (λ x. made_of sapi (fresh_stream fcs) None None 0 x true) e
 
 pub fresh_from : (first : InView) (sapi : List ℕ) (fcs : Bool) (f : FramerState) → f ≡ fresh_framer sapi fcs → ClientStands first first [] [] fresh_lines f

@@ -13,3 +13,4 @@ pub mod ArrivingText
 pub mod WholeFrames
 pub mod PayloadRows
 pub mod PuttingOut
+pub mod Making

@@ -2,6 +2,8 @@ pub mod AlignedRuns
 pub mod Aligner
 pub mod View
 pub mod ClientFrames
+pub mod ClientOverhead
+pub mod FrameLending
 pub mod ClientInput
 pub mod ClientOutput
 pub mod Framing

@@ -10,10 +10,9 @@ ghost use Rattle.odu_client.specs.Framing.{FramerState, ClientStands, Fills, May
 ghost use Rattle.odu_client.specs.FramerSteps.{fresh_framer, FramedSome, Makes, Gives};
 ghost use Rattle.otn_base.specs.declared.limits.TheConstants.{CLIENT_FRAME_BYTES};
 
-use crate::client_frame::put_beside;
+use crate::client_overhead::ClientOverhead;
 use crate::packet_stream::PacketStream;
 use frame_geometry::Frame;
-use odu_path::PathWriter;
 use otn_base::limits::{CLIENT_COLUMNS, CLIENT_FRAME_BYTES};
 use otn_base::{Memory, Trace};
 use otn_ports::{InPlaceOf, Source};
@@ -28,8 +27,7 @@ use std::marker::Model;
 pub struct ClientFramer {
     trace: Trace,
     stream: PacketStream,
-    path: PathWriter,
-    mfas: u8,
+    overhead: ClientOverhead,
     frame: Frame<CLIENT_COLUMNS>,
     // How many bytes of the frame in hand are gone: all where there is none.
     at: usize,
@@ -44,7 +42,7 @@ impl Model for ClientFramer {
 
     ghost Value = { FramerState };
 
-    ghost view = { λ f. record { sapi = f.trace; stream = f.stream; path = f.path; mfas = f.mfas; left = drop f.at f.frame; fresh = f.fresh } };
+    ghost view = { λ f. record { sapi = f.trace; stream = f.stream; path = f.overhead.path; mfas = f.overhead.mfas; left = drop f.at f.frame; fresh = f.fresh } };
 
     ghost invariant = { λ f. (f.at ≤ CLIENT_FRAME_BYTES) × (length f.frame ≡ CLIENT_FRAME_BYTES) };
 }
@@ -58,8 +56,7 @@ impl ClientFramer {
         Ok(ClientFramer {
             trace: no_trace(),
             stream: PacketStream::new(alloc)?,
-            path: PathWriter::new(),
-            mfas: 0,
+            overhead: ClientOverhead::new(),
             frame: Frame::new(alloc)?,
             at: CLIENT_FRAME_BYTES,
             fresh: true,
@@ -73,8 +70,7 @@ impl ClientFramer {
     {
         self.trace = same_trace(trace);
         self.stream.restart(fcs);
-        self.path = PathWriter::new();
-        self.mfas = 0;
+        self.overhead = ClientOverhead::new();
         self.at = CLIENT_FRAME_BYTES;
         self.fresh = true;
     }
@@ -167,11 +163,9 @@ impl ClientFramer {
             → Makes first (in_view P.Source place.new) taken gone (lines_view lines.old) (lines_view lines.new) self.old self.new }
         ensures over { self.old.stream.answer ≢ Line.Packet → (place.new ≡ place.old) × (lines.new ≡ lines.old) × (self.new.stream.answer ≡ self.old.stream.answer) }
     {
-        self.fresh = self.stream.answer() == Line::Packet;
+        self.fresh = self.stream.goes_on();
         self.stream.fill_payload(lines, place, &mut self.frame);
-        put_beside(&mut self.frame, self.mfas);
-        self.path.write(&mut self.frame, self.mfas, &self.trace);
-        self.mfas = self.mfas.wrapping_add(1);
+        self.overhead.write(&mut self.frame, &self.trace);
         self.at = 0;
     }
 

@@ -4,7 +4,9 @@
 mod aligned;
 mod aligner;
 mod client_frame;
+mod client_overhead;
 mod fas;
+mod frame_maker;
 mod framer;
 mod laws;
 mod packet_stream;
@@ -13,5 +15,7 @@ mod tests;
 
 pub use aligned::Aligned;
 pub use aligner::ClientAligner;
+pub use client_overhead::ClientOverhead;
+pub use frame_maker::FrameMaker;
 pub use framer::ClientFramer;
 pub use laws::{delivered_stays, output_goes_on, packets_arrive};

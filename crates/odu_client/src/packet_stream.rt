@@ -1,5 +1,5 @@
 // The payload of a client's frames: the packets of a text as a stream of GFP frames.
-ghost use Rattle.std.specs.Prelude.{◌≡◌, ◌≢◌, ◌≤◌, ℕ, List, [], ◌∷◌, ◌++◌, true, length, take, IfOk};
+ghost use Rattle.std.specs.Prelude.{◌≡◌, ◌≢◌, ◌≤◌, ℕ, List, [], ◌∷◌, ◌++◌, true, false, length, take, IfOk};
 ghost use Rattle.frame_geometry.specs.Places.{payload_row_of};
 ghost use Rattle.otn_base.specs.declared.limits.TheConstants.{CLIENT_COLUMNS, CLIENT_PAYLOAD_BYTES, PAYLOAD_COLUMNS};
 ghost use Rattle.otn_ports.specs.InPlace.{in_view};
@@ -72,6 +72,14 @@ impl PacketStream {
         ensures { result ≡ self.now.answer }
     {
         self.answer
+    }
+
+    /// Whether there may be packets yet.
+    pub(crate) fn goes_on(&self) -> bool
+        ensures yes { result ≡ true → self.now.answer ≡ Line.Packet }
+        ensures no { result ≡ false → self.now.answer ≢ Line.Packet }
+    {
+        self.answer == Line::Packet
     }
 
     /// The next bytes of the stream, as the payload of a frame, row by row.

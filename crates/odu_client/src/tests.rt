@@ -1,5 +1,5 @@
 // Whole frames, byte by byte and at once, and frames out of texts.
-use crate::{Aligned, ClientAligner, ClientFramer};
+use crate::{Aligned, ClientAligner, ClientFramer, FrameMaker};
 use otn_base::Trace;
 use otn_ports::{InPlaceOf, MemSource, Source};
 use packet_text::PacketLines;
@@ -112,5 +112,30 @@ fn a_packet_and_a_bad_line(rt: HostRuntime) -> Result<(), Fail> {
     assert_eq!(rt; made.spent, (false, false));
     assert_eq!(rt; made.packets, 2);
     assert_eq!(rt; made.bad, Some(4));
+    Ok(())
+}
+
+// A payload of this byte.
+fn payload(alloc: Global, byte: u8, n: usize) -> Result<Vec<u8>, AllocError> {
+    vec![in alloc; byte; n]
+}
+
+// Two frames of a payload: MFAS, PSI, and the first and the last column of the payload.
+#[test]
+fn frames_of_a_payload(rt: HostRuntime) -> Result<(), Fail> {
+    let alloc = rt.alloc();
+    let payload = payload(alloc, 0x5A, 15_232)?;
+    let mut maker = FrameMaker::new(alloc).map_err(|_memory| AllocError)?;
+    if let Some(trace) = Trace::new(b"EAST")
+        && payload.len() == 15_232
+    {
+        let first = maker.make(&payload, &trace);
+        assert!(rt; (first.get(1, 7), first.get(4, 15)) == (0, 0x05));
+        assert!(rt; (first.get(1, 17), first.get(4, 3824)) == (0x5A, 0x5A));
+        let second = maker.make(&payload, &trace);
+        assert!(rt; (second.get(1, 7), second.get(4, 15)) == (1, 0));
+        maker.restart();
+        assert_eq!(rt; maker.make(&payload, &trace).get(1, 7), 0);
+    }
     Ok(())
 }

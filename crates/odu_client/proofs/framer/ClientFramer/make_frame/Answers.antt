@@ -1,11 +1,10 @@
-use Rattle.std.proofs.Common.{rules, ◌≡◌, ◌+◌, ◌%◌, [], refl, sym, ap, subst, ◌∙◌, arith, drop}
+use Rattle.std.proofs.Common.{◌≡◌, [], refl, sym, ap, subst, ◌∙◌, arith, drop}
 use Rattle.otn_ports.specs.InPlace.{in_view}
 use Rattle.packet_text.specs.LinesStand.{lines_view}
 use Rattle.odu_client.specs.AlignedRuns.{payload_of}
 use Rattle.odu_client.specs.Framing.{FramerState}
 use Rattle.odu_client.specs.FramerSteps.{FramedSome, Makes}
 use Rattle.odu_client.proofs.Framing.{makes_frame, some_left}
-use Rattle.odu_client.proofs.FrameBytes.{is_client_frame}
 use Rattle.odu_client.proofs.framer.ClientFramer.make_frame.Goals as goal
 
 pub returns-clause-some : goal.returns-clause-some
@@ -13,8 +12,8 @@ returns-clause-some g c = some_left _ (let size = c.write.ensures.size in omega 
 
 pub returns-clause-makes : goal.returns-clause-makes
 returns-clause-makes g c = λ first taken gone h.
-    let old : FramerState = record { sapi = c.self.inside.trace; stream = c.self.inside.stream; path = c.self.inside.path; mfas = c.self.inside.mfas; left = drop c.self.inside.at c.self.inside.frame; fresh = c.self.inside.fresh } in
-    let new : FramerState = record { sapi = c.self.inside.trace; stream = c.fill_payload.new.self; path = c.write.new.self; mfas = (c.self.inside.mfas + 1) % 256; left = c.write.new.frame; fresh = c.eq-self-inside.result } in
+    let old : FramerState = record { sapi = c.self.inside.trace; stream = c.self.inside.stream; path = c.self.inside.overhead.path; mfas = c.self.inside.overhead.mfas; left = drop c.self.inside.at c.self.inside.frame; fresh = c.self.inside.fresh } in
+    let new : FramerState = record { sapi = c.self.inside.trace; stream = c.fill_payload.new.self; path = c.write.new.self.path; mfas = c.write.new.self.mfas; left = c.write.new.frame; fresh = c.goes_on-self-inside.result } in
     let P : FramerState → Type 0 = λ f. FramedSome first (in_view g.P.Source c.args.place.now) taken gone (lines_view c.args.lines.now) f
     → Makes first (in_view g.P.Source c.fill_payload.new.place) taken gone (lines_view c.args.lines.now) (lines_view c.fill_payload.new.lines) f new in
     let none : old.left ≡ [] = ap (λ f. f.left) c.self.view_is ∙ c.requires in
@@ -22,8 +21,8 @@ returns-clause-makes g c = λ first taken gone h.
     subst P c.self.view_is
     (makes_frame first (in_view g.P.Source c.args.place.now) (in_view g.P.Source c.fill_payload.new.place) taken gone payload (lines_view c.args.lines.now) (lines_view c.fill_payload.new.lines) old new none c.fill_payload.ensures.size
     (λ tk gn ps t s. c.fill_payload.ensures.goes first tk gn ps t s)
-    (λ fs sent. (is_client_frame c.self.inside.trace c.self.inside.mfas _ payload c.put_beside.new.frame c.write.new.frame c.put_beside.ensures (c.write.ensures.frame fs sent), c.write.ensures.sent fs sent))
-    refl refl (search (rules, c.eq-self-inside.ensures, c.answer.ensures)) (search (rules, c.eq-self-inside.ensures, c.answer.ensures))) h
+    (λ fs sent. (c.write.ensures.frame fs sent, c.write.ensures.sent fs sent))
+    refl c.write.ensures.mfas c.goes_on-self-inside.ensures.yes c.goes_on-self-inside.ensures.no) h
 
 pub returns-clause-over : goal.returns-clause-over
 returns-clause-over g c = λ other.

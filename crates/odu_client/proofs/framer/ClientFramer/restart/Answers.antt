@@ -3,10 +3,10 @@ use Rattle.odu_client.proofs.framer.ClientFramer.restart.Goals as goal
 
 pub returns-clause-fresh : goal.returns-clause-fresh
 returns-clause-fresh c =
-    fresh_view _ _ c.args.fcs _ _ _ c.same_trace-self-inside.ensures c.restart.ensures (c.new-self-inside.ensures 3824)
+    fresh_view _ _ c.args.fcs _ _ _ _ c.same_trace-self-inside.ensures c.restart.ensures c.new-self-inside.ensures.sent c.new-self-inside.ensures.mfas
     (none_left c.self.inside.frame c.self.invariant.1)
 
 pub returns-clause-stands : goal.returns-clause-stands
 returns-clause-stands c = λ first. fresh_from first c.args.trace.now c.args.fcs _
-    (fresh_view _ _ c.args.fcs _ _ _ c.same_trace-self-inside.ensures c.restart.ensures (c.new-self-inside.ensures 3824)
+    (fresh_view _ _ c.args.fcs _ _ _ _ c.same_trace-self-inside.ensures c.restart.ensures c.new-self-inside.ensures.sent c.new-self-inside.ensures.mfas
     (none_left c.self.inside.frame c.self.invariant.1))

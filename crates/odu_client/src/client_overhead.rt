@@ -1,0 +1,60 @@
+// What stands beside the payload of a client's frames, one after another.
+ghost use Rattle.std.specs.Prelude.{◌≡◌, ℕ, ◌+◌, ◌%◌, List, [], ◌∷◌, ◌++◌, length};
+ghost use Rattle.frame_overhead.specs.TwoBefore.{HasSent, parity_due, or_zero};
+ghost use Rattle.otn_base.specs.declared.limits.TheConstants.{CLIENT_COLUMNS, CLIENT_FRAME_BYTES, CLIENT_PAYLOAD_BYTES};
+ghost use Rattle.odu_client.specs.AlignedRuns.{payload_of};
+ghost use Rattle.odu_client.specs.ClientFrames.{client_frame};
+ghost use Rattle.odu_client.specs.ClientOverhead.{HasMadeFrames, MakesFrame};
+
+use crate::client_frame::put_beside;
+use frame_geometry::Frame;
+use odu_path::PathWriter;
+use otn_base::Trace;
+use otn_base::limits::CLIENT_COLUMNS;
+use std::marker::Model;
+
+/// Writes what stands beside the payload of a client's frames (G.709 clause 17.4), one after another: the alignment, the
+/// overhead of the OPU and of the path. The payload is the caller's, in a frame of the caller's. Contracts see the parities that
+/// are kept and the MFAS of the next frame.
+#[derive(Drop)]
+pub struct ClientOverhead {
+    pub(crate) path: PathWriter,
+    pub(crate) mfas: u8,
+}
+
+impl Model for ClientOverhead {
+    ghost use Rattle.odu_client.specs.ClientOverhead.{OverheadState};
+
+    ghost Value = { OverheadState };
+
+    ghost view = { λ o. record { path = o.path; mfas = o.mfas } };
+}
+
+impl ClientOverhead {
+    /// No frame was made.
+    pub fn new() -> ClientOverhead
+        ensures sent { HasSent CLIENT_COLUMNS [] result.path }
+        ensures mfas { result.mfas ≡ 0 }
+        ensures made { (sapi : List ℕ) → HasMadeFrames sapi 0 [] result }
+    {
+        ClientOverhead {
+            path: PathWriter::new(),
+            mfas: 0,
+        }
+    }
+
+    /// Makes the next frame of the payload that stands in it: writes every other byte.
+    pub fn write(&mut self, frame: &mut Frame<CLIENT_COLUMNS>, trace: &Trace)
+        ensures made { (count : ℕ) (given : List ℕ) → HasMadeFrames trace.now count given self.old → length (payload_of frame.old) ≡ CLIENT_PAYLOAD_BYTES
+            → MakesFrame trace.now count given (payload_of frame.old) frame.new self.new }
+        ensures frame { (frames : List (List ℕ)) → HasSent CLIENT_COLUMNS frames self.old.path
+            → frame.new ≡ client_frame trace.now self.old.mfas (or_zero (parity_due CLIENT_COLUMNS frames)) (payload_of frame.old) }
+        ensures sent { (frames : List (List ℕ)) → HasSent CLIENT_COLUMNS frames self.old.path → HasSent CLIENT_COLUMNS (frames ++ frame.new ∷ []) self.new.path }
+        ensures mfas { self.new.mfas ≡ (self.old.mfas + 1) % 256 }
+        ensures size { length frame.new ≡ CLIENT_FRAME_BYTES }
+    {
+        put_beside(frame, self.mfas);
+        self.path.write(frame, self.mfas, trace);
+        self.mfas = self.mfas.wrapping_add(1);
+    }
+}

@@ -1,0 +1,95 @@
+// The frames of a client out of their payload.
+ghost use Rattle.std.specs.Prelude.{◌≡◌, ◌≢◌, ◌≤◌, ℕ, ◌+◌, List, [], ◌∷◌, ◌++◌, IfOk, length};
+ghost use Rattle.frame_geometry.specs.Places.{payload_row_of};
+ghost use Rattle.otn_base.specs.declared.limits.TheConstants.{CLIENT_COLUMNS, CLIENT_PAYLOAD_BYTES, PAYLOAD_COLUMNS};
+ghost use Rattle.odu_client.specs.AlignedRuns.{payload_of};
+ghost use Rattle.odu_client.specs.ClientFrames.{client_frames};
+ghost use Rattle.odu_client.specs.ClientOverhead.{HasMadeFrames, MakesFrame};
+
+use crate::client_overhead::ClientOverhead;
+use frame_geometry::Frame;
+use otn_base::limits::{CLIENT_COLUMNS, PAYLOAD_COLUMNS};
+use otn_base::{Memory, Trace};
+use std::alloc::Global;
+use std::marker::Model;
+
+/// Makes the frames of a client (G.709 clause 17.4), one after another, each of the payload that is handed in. Contracts see the
+/// frame that was made last, and what is kept for the next.
+#[derive(Drop)]
+pub struct FrameMaker {
+    overhead: ClientOverhead,
+    frame: Frame<CLIENT_COLUMNS>,
+}
+
+impl Model for FrameMaker {
+    ghost use Rattle.odu_client.specs.ClientOverhead.{MakerState};
+
+    ghost Value = { MakerState };
+
+    ghost view = { λ m. record { overhead = m.overhead; frame = m.frame } };
+}
+
+impl FrameMaker {
+    ghost use Rattle.std.specs.Borrow.{sem};
+    ghost use Rattle.odu_client.specs.FrameLending.{EndsHavingMade};
+
+    /// A maker that has made no frame. All memory is taken here.
+    pub fn new(alloc: Global) -> Result<FrameMaker, Memory>
+        ensures made { IfOk result (λ maker. (sapi : List ℕ) → HasMadeFrames sapi 0 [] maker.overhead) }
+    {
+        Ok(FrameMaker {
+            overhead: ClientOverhead::new(),
+            frame: Frame::new(alloc)?,
+        })
+    }
+
+    /// Begins anew.
+    pub fn restart(&mut self)
+        ensures made { (sapi : List ℕ) → HasMadeFrames sapi 0 [] self.new.overhead }
+    {
+        self.overhead = ClientOverhead::new();
+    }
+
+    /// The next frame, of this payload of 15,232 bytes. The trace is the same each time.
+    pub fn make(&mut self, payload: &[u8], trace: &Trace) -> &Frame<CLIENT_COLUMNS>
+        requires { length payload.now ≡ CLIENT_PAYLOAD_BYTES }
+        // The frames since the start are the client's frames of all these payloads.
+        ensures* made { sem 𝓛 (EndsHavingMade self.entry trace.now payload.now) }
+        ensures frame { (count : ℕ) (given : List ℕ) → HasMadeFrames trace.now count given self.old.overhead
+            → client_frames trace.now (count + 1) (given ++ payload.now) ≡ client_frames trace.now count given ++ result.now ∷ [] }
+    {
+        self.put_frame(payload, trace);
+        &self.frame
+    }
+
+    fn put_frame(&mut self, payload: &[u8], trace: &Trace)
+        requires { length payload.now ≡ CLIENT_PAYLOAD_BYTES }
+        ensures { (count : ℕ) (given : List ℕ) → HasMadeFrames trace.now count given self.old.overhead
+            → MakesFrame trace.now count given payload.now self.new.frame self.new.overhead }
+    {
+        put_payload(&mut self.frame, payload);
+        self.overhead.write(&mut self.frame, trace);
+    }
+}
+
+// Puts the payload in its four rows.
+fn put_payload(frame: &mut Frame<CLIENT_COLUMNS>, payload: &[u8])
+    requires { length payload.now ≡ CLIENT_PAYLOAD_BYTES }
+    ensures { payload_of frame.new ≡ payload.now }
+{
+    put_row(frame, 1, &payload[..PAYLOAD_COLUMNS]);
+    put_row(frame, 2, &payload[PAYLOAD_COLUMNS..2 * PAYLOAD_COLUMNS]);
+    put_row(frame, 3, &payload[2 * PAYLOAD_COLUMNS..3 * PAYLOAD_COLUMNS]);
+    put_row(frame, 4, &payload[3 * PAYLOAD_COLUMNS..]);
+}
+
+// Puts the payload of a row (1 to 4). That of every other row stays.
+fn put_row(frame: &mut Frame<CLIENT_COLUMNS>, row: u32, bytes: &[u8])
+    requires row_low { 1 ≤ row }
+    requires row_high { row ≤ 4 }
+    requires bytes { length bytes.now ≡ PAYLOAD_COLUMNS }
+    ensures row { payload_row_of CLIENT_COLUMNS row frame.new ≡ bytes.now }
+    ensures others { (r : ℕ) → 1 ≤ r → r ≤ 4 → r ≢ row → payload_row_of CLIENT_COLUMNS r frame.new ≡ payload_row_of CLIENT_COLUMNS r frame.old }
+{
+    frame.payload_row_mut(row).copy_from_slice(bytes);
+}
