@@ -16,9 +16,9 @@ const REFUSED: u16 = 256;
 
 const ZERO: u8 = b'0';
 
-/// The answers of the library `hex` for every two bytes, asked once and kept.
+/// What every two bytes are worth as hex digits of either case: the answers of the library `hex`, asked once and kept.
 #[derive(Drop)]
-pub(crate) struct DigitPairs {
+pub struct DigitPairs {
     // That for two digits stands at the first and 256 times the second.
     answers: Vec<u16>,
     ghost size: { vec_len answers ≡ 65536 },
@@ -26,16 +26,17 @@ pub(crate) struct DigitPairs {
 }
 
 impl DigitPairs {
-    /// All memory is taken here.
-    pub(crate) fn new(alloc: Global) -> Result<DigitPairs, Memory> {
+    /// Asks for all pairs. All memory, 128 KiB, is taken here.
+    pub fn new(alloc: Global) -> Result<DigitPairs, Memory> {
         let mut answers = vec![in alloc; 0u16; BYTES * BYTES]?;
         ask_all(&mut answers);
         Ok(DigitPairs { answers })
     }
 
-    /// Writes the bytes that the digits say to the slice, and says whether they are digits; if not, the slice's content is open.
+    /// Writes the bytes that hex digits say, two of them a byte, to the slice, and says whether they are digits; if not, the
+    /// slice's content is open.
     #[tactic(auto, using(crate::proofs::LookingUp::looked_on, crate::proofs::LookingUp::looked_up))]
-    pub(crate) fn decode(&self, digits: &[u8], bytes: &mut [u8]) -> bool
+    pub fn decode(&self, digits: &[u8], bytes: &mut [u8]) -> bool
         requires { length digits.now ≡ 2 * length bytes.old }
         ensures { decoded (decode_of digits.now) ≡ (if result then Some bytes.new else None) }
     {
