@@ -1,0 +1,7 @@
+use Rattle.std.proofs.Common.{refl}
+use Rattle.pcap_packets.specs.HeldBytes.{held}
+use Rattle.pcap_packets.proofs.held.Held.clear.Goals as goal
+
+pub returns-clause-none : goal.returns-clause-none
+unfolding held
+returns-clause-none c = refl
