@@ -5,7 +5,7 @@ use Rattle.otn_base.specs.LineSlots.{LineSlots}
 use Rattle.otn_base.specs.declared.line_kind.LineKind.{LineKind}
 use Rattle.line_tool.specs.Words.{IsForm, slots_text}
 use Rattle.line_tool.specs.declared.words.Command.{Command}
-use Rattle.line_tool.specs.declared.words.Command.TheVariants.{Slot, Pull, Check, Run, RunOrdered, Trial}
+use Rattle.line_tool.specs.declared.words.Command.TheVariants.{Slot, Pull, Check, Run, RunOrdered, RunCaptures, Trial}
 
 -- a text is that of one list of slots
 same_slots : (a b : List ℕ) → slots_text a ≡ slots_text b → a ≡ b
@@ -86,3 +86,16 @@ one_form words (Trial a) Check h k = absurd (cc (h.1, k))
 one_form words (Trial a) Run h k = absurd (cc (h.1, k))
 one_form words (Trial a) (RunOrdered b) h k = absurd (cc (h.1, k.1))
 one_form words (Trial a) (Trial b) h k = ap Trial (same_trial words a b h k)
+one_form words (Slot a) RunCaptures h k = absurd (cc (h.0, k))
+one_form words (Pull port slots) RunCaptures h k = absurd (cc (h.0, k))
+one_form words Check RunCaptures h k = absurd (cc (h, k))
+one_form words Run RunCaptures h k = absurd (cc (h, k))
+one_form words (RunOrdered a) RunCaptures h k = absurd (cc (h.1, k))
+one_form words (Trial a) RunCaptures h k = absurd (cc (h.1, k))
+one_form words RunCaptures (Slot b) h k = absurd (cc (h, k.0))
+one_form words RunCaptures (Pull n others) h k = absurd (cc (h, k.0))
+one_form words RunCaptures Check h k = absurd (cc (h, k))
+one_form words RunCaptures Run h k = absurd (cc (h, k))
+one_form words RunCaptures (RunOrdered b) h k = absurd (cc (h, k.1))
+one_form words RunCaptures (Trial b) h k = absurd (cc (h, k.1))
+one_form words RunCaptures RunCaptures h k = refl

@@ -18,7 +18,7 @@ use Rattle.line_tool.specs.TrialAnswers.{TrialAnswers}
 use Rattle.line_tool.specs.declared.status.Status.{Status}
 use Rattle.line_tool.specs.declared.status.Status.TheVariants.{Unfinished, ReportFault, Cut, Memory}
 use Rattle.line_tool.specs.declared.words.Command.{Command}
-use Rattle.line_tool.specs.declared.words.Command.TheVariants.{Slot, Pull, Check, Run, RunOrdered, Trial}
+use Rattle.line_tool.specs.declared.words.Command.TheVariants.{Slot, Pull, Check, Run, RunOrdered, RunCaptures, Trial}
 
 -- ---- a command over line input 0, by what it is to have done once there was memory
 
@@ -89,6 +89,7 @@ Answers (Pull port slots) old new asked asked_now status = LineAnswers (PullRan 
 Answers Check old new asked asked_now status = CheckAnswers old new status
 Answers Run old new asked asked_now status = RunAnswers old new asked asked_now status
 Answers (RunOrdered number) old new asked asked_now status = RunAnswers old new asked asked_now status
+Answers RunCaptures old new asked asked_now status = RunAnswers old new asked asked_now status
 Answers (Trial number) old new asked asked_now status = TrialAnswers number old.report new.report asked asked_now status
 
 -- the commands that leave the plan's source alone, those that leave the places alone, and those that leave the chooser alone
@@ -98,6 +99,7 @@ LeavesPlan (Pull port slots) = Unit {0}
 LeavesPlan Check = ⊥
 LeavesPlan Run = ⊥
 LeavesPlan (RunOrdered number) = ⊥
+LeavesPlan RunCaptures = ⊥
 LeavesPlan (Trial number) = Unit {0}
 
 abbrev pub LeavesBays : Command → Type 0
@@ -106,6 +108,7 @@ LeavesBays (Pull port slots) = ⊥
 LeavesBays Check = Unit {0}
 LeavesBays Run = ⊥
 LeavesBays (RunOrdered number) = ⊥
+LeavesBays RunCaptures = ⊥
 LeavesBays (Trial number) = Unit {0}
 
 abbrev pub LeavesChooser : Command → Type 0
@@ -114,4 +117,5 @@ LeavesChooser (Pull port slots) = Unit {0}
 LeavesChooser Check = Unit {0}
 LeavesChooser Run = ⊥
 LeavesChooser (RunOrdered number) = ⊥
+LeavesChooser RunCaptures = ⊥
 LeavesChooser (Trial number) = ⊥

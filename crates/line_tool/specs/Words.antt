@@ -7,7 +7,7 @@ use Rattle.otn_base.specs.declared.limits.TheConstants.{OTU2_SLOTS}
 use Rattle.otn_base.specs.declared.line_kind.LineKind.TheVariants.{Otu2}
 use Rattle.line_tool.specs.declared.words.TheConstants.{NUMBER_DIGITS}
 use Rattle.line_tool.specs.declared.words.Command.{Command}
-use Rattle.line_tool.specs.declared.words.Command.TheVariants.{Slot, Pull, Check, Run, RunOrdered, Trial}
+use Rattle.line_tool.specs.declared.words.Command.TheVariants.{Slot, Pull, Check, Run, RunOrdered, RunCaptures, Trial}
 
 -- the bytes of each word
 abbrev pub texts : List (String Global) → List (List ℕ)
@@ -35,6 +35,7 @@ IsForm words (Pull port slots) =
 IsForm words Check = words ≡ codes "check" ∷ []
 IsForm words Run = words ≡ codes "run" ∷ []
 IsForm words (RunOrdered number) = (text : List ℕ) × (words ≡ codes "run" ∷ codes "--order" ∷ text ∷ []) × IsNumberText text number
+IsForm words RunCaptures = words ≡ codes "run" ∷ codes "--pcap" ∷ []
 IsForm words (Trial number) = (text : List ℕ) × (words ≡ codes "trial" ∷ text ∷ []) × IsNumberText text number
 
 -- words that are the form of no command

@@ -27,9 +27,10 @@ use std::alloc::Global;
 /// 16,384 turns at most; where by then the line has not ended, no read came to its end and it is not dead, it asks for one
 /// byte more. A write of the report that fails ends either at once, with ReportFault.
 /// `check` reads the plan, and writes `plan connections N turns T` where it is accepted.
-/// `run` and `run --order N` read the plan, and where it is accepted carry it over the places, turn by turn, serving the ports that are ready
+/// `run`, `run --order N` and `run --pcap` read the plan, and where it is accepted carry it over the places, turn by turn, serving the ports that are ready
 /// in an order that the chooser says (how often it is asked is proved, that it is followed is tested); then they write the report. `run` does
-/// not look at N: its caller makes the chooser of it (`order_of`). A write of the report that fails ends them with ReportFault; else the
+/// not look at N: its caller makes the chooser of it (`order_of`); nor does `run --pcap` look at its option: its caller makes the places
+/// (`takes_captures`). A write of the report that fails ends them with ReportFault; else the
 /// answer is Cut where a place that the plan uses is dead, Unfinished where a line has more or a client is not spent, and Done.
 /// `trial N` draws packets for eight clients by the number, carries them through four nodes in a row over ports in memory, and writes the
 /// check of each line file and what came back. It leaves all places as they were.
@@ -80,6 +81,7 @@ pub fn run<P: Source, K: Sink, C: Chooser, I: Source, O: Sink>(
         Some(Command::RunOrdered(_number)) => {
             status_of_run(run_plan(alloc, plan, bays, chooser, report))
         }
+        Some(Command::RunCaptures) => status_of_run(run_plan(alloc, plan, bays, chooser, report)),
         Some(Command::Trial(seed)) => status_of_trial(run_trial(alloc, seed, chooser, report)),
         None => Status::Words,
     }

@@ -1,5 +1,5 @@
 // The words of a command.
-ghost use Rattle.std.specs.Prelude.{◌≡◌, ℕ, List, ◌+◌, ◌≤◌, ◌∷◌, [], ◌++◌, IfSome, IfNone, codes, length};
+ghost use Rattle.std.specs.Prelude.{◌≡◌, ◌↔◌, true, ℕ, List, ◌+◌, ◌≤◌, ◌∷◌, [], ◌++◌, IfSome, IfNone, codes, length};
 ghost use Rattle.otn_base.specs.SlotList.{IsSlotList};
 ghost use Rattle.otn_base.specs.declared.limits.TheConstants.{OTU2_SLOTS};
 ghost use Rattle.line_tool.specs.Words.{IsForm, IsNoForm, IsNumberText, texts, digit, slots_text};
@@ -21,6 +21,8 @@ pub enum Command {
     Run,
     /// `run --order N`: the same, in the order that the number N, of 64 bits, settles.
     RunOrdered(u64),
+    /// `run --pcap`: the same as `run`, over places whose clients may hold captures.
+    RunCaptures,
     /// `trial N`: packets drawn by the number N, of 64 bits, carried through four nodes in a row.
     Trial(u64),
 }
@@ -55,6 +57,22 @@ pub fn order_of(words: &[String]) -> Option<u64>
     }
 }
 
+/// Whether the words are `run --pcap`, so that clients may be captures.
+pub fn takes_captures(words: &[String]) -> bool
+    ensures { result ≡ true ↔ IsForm (texts words.now) Command.RunCaptures }
+{
+    match command_of(words) {
+        Some(command) => is_of_captures(&command),
+        None => false,
+    }
+}
+
+fn is_of_captures(command: &Command) -> bool
+    ensures { result ≡ true ↔ command.now ≡ Command.RunCaptures }
+{
+    matches!(command, Command::RunCaptures)
+}
+
 // The command of one word.
 fn command_alone(name: &str) -> Option<Command>
     ensures form { IfSome result (IsForm (name.now ∷ [])) }
@@ -74,6 +92,7 @@ fn command_with_one(name: &str, word: &str) -> Option<Command>
 {
     match name {
         "slot" => slot_command(word),
+        "run" => captures_command(word),
         "trial" => trial_command(word),
         _ => None,
     }
@@ -97,6 +116,17 @@ fn slot_command(slot: &str) -> Option<Command>
     ensures no_form { IfNone result (IsNoForm (codes "slot" ∷ slot.now ∷ [])) }
 {
     Some(Command::Slot(one_digit(slot.as_bytes())?))
+}
+
+// The command `run` with this word after it.
+fn captures_command(option: &str) -> Option<Command>
+    ensures form { IfSome result (IsForm (codes "run" ∷ option.now ∷ [])) }
+    ensures no_form { IfNone result (IsNoForm (codes "run" ∷ option.now ∷ [])) }
+{
+    match option {
+        "--pcap" => Some(Command::RunCaptures),
+        _ => None,
+    }
 }
 
 // The command `trial` with this word after it.

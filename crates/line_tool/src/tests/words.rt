@@ -1,5 +1,5 @@
 // The words of the commands, and of no command.
-use crate::{Command, command_of, order_of};
+use crate::{Command, command_of, order_of, takes_captures};
 use otn_base::Memory;
 use std::alloc::Global;
 use std::test::Fail;
@@ -29,6 +29,7 @@ fn forms_of_run(rt: HostRuntime) -> Result<(), Fail> {
             Command::RunOrdered(u64::MAX),
             Some(u64::MAX),
         ),
+        ("run --pcap", Command::RunCaptures, None),
         ("trial 7", Command::Trial(7), None),
         ("check", Command::Check, None),
         ("slot 8", Command::Slot(8), None),
@@ -36,6 +37,7 @@ fn forms_of_run(rt: HostRuntime) -> Result<(), Fail> {
         let words = words_of(rt.alloc(), text)?;
         assert_eq!(rt; command_of(&words), Some(command), "{text}");
         assert_eq!(rt; order_of(&words), order, "{text}");
+        assert_eq!(rt; takes_captures(&words), text == "run --pcap", "{text}");
     }
     Ok(())
 }
@@ -52,6 +54,9 @@ fn words_of_no_command(rt: HostRuntime) -> Result<(), Fail> {
         "run extra",
         "run --order",
         "run --order ",
+        "run --pcap ",
+        "run --pcap --order 1",
+        "run --order 1 --pcap",
         "run --order 18446744073709551616",
         "run --order 000000000000000000000",
         "run --order 000000000000000000042",

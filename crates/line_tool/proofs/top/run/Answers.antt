@@ -9,7 +9,7 @@ use Rattle.line_tool.specs.PullReport.{tributary}
 use Rattle.line_tool.specs.RunAnswers.{RunAnswers}
 use Rattle.line_tool.specs.AnswerWords.{IsRefusal}
 use Rattle.line_tool.specs.Words.{texts}
-use Rattle.line_tool.specs.declared.words.Command.TheVariants.{Slot, Pull, Run, RunOrdered, Trial}
+use Rattle.line_tool.specs.declared.words.Command.TheVariants.{Slot, Pull, Run, RunOrdered, RunCaptures, Trial}
 use Rattle.line_tool.proofs.Answered.{check_stays, line_stays, nothing_stays, pull_answered, refused_line, slot_answered}
 use Rattle.line_tool.proofs.Forms.{one_form}
 use Rattle.line_tool.proofs.TrialTold.{trial_answered, trial_later, trial_refused, trial_told}
@@ -102,6 +102,22 @@ returns-in-Some-RunOrdered-clause-refused g c = λ refusal.
 
 pub returns-in-Some-RunOrdered-clause-stays : goal.returns-in-Some-RunOrdered-clause-stays
 returns-in-Some-RunOrdered-clause-stays g c = c.run_plan-in-Some-RunOrdered.ensures.stays
+
+pub returns-in-Some-RunCaptures-clause-answers : goal.returns-in-Some-RunCaptures-clause-answers
+returns-in-Some-RunCaptures-clause-answers g c = λ command form.
+    let mine = rw c.in-Some-RunCaptures.field-0-is at c.in-Some-RunCaptures.ensures.form in
+    let old = device g.P.Source g.K.Sink g.I.Source g.O.Sink c.args.plan.now c.args.bays.now c.args.report.now in
+    let new = device g.P.Source g.K.Sink g.I.Source g.O.Sink c.run_plan-in-Some-RunCaptures.new.plan c.run_plan-in-Some-RunCaptures.new.bays c.run_plan-in-Some-RunCaptures.new.report in
+    subst (λ k. Answers k old new (g.C.Chooser.asked c.args.chooser.now) (g.C.Chooser.asked c.run_plan-in-Some-RunCaptures.new.chooser) c.status_of_run-in-Some-RunCaptures.result) (one_form (texts c.args.words.now) RunCaptures command mine form)
+    (subst (λ answer. RunAnswers old new (g.C.Chooser.asked c.args.chooser.now) (g.C.Chooser.asked c.run_plan-in-Some-RunCaptures.new.chooser) answer) (sym c.status_of_run-in-Some-RunCaptures.ensures) c.run_plan-in-Some-RunCaptures.ensures.ran)
+
+pub returns-in-Some-RunCaptures-clause-refused : goal.returns-in-Some-RunCaptures-clause-refused
+returns-in-Some-RunCaptures-clause-refused g c = λ refusal.
+    let same = c.run_plan-in-Some-RunCaptures.ensures.refused (subst IsRefusal c.status_of_run-in-Some-RunCaptures.ensures refusal) in
+    (same.0, same.1)
+
+pub returns-in-Some-RunCaptures-clause-stays : goal.returns-in-Some-RunCaptures-clause-stays
+returns-in-Some-RunCaptures-clause-stays g c = c.run_plan-in-Some-RunCaptures.ensures.stays
 
 -- ---- `trial`
 
