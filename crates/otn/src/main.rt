@@ -4,19 +4,23 @@
 
 ghost use Rattle.std.specs.Prelude.{◌≤◌, IfSome, length};
 
-use line_tool::{NumberChooser, Status, order_of, run};
+use line_tool::{NumberChooser, Status, order_of, run, takes_captures};
 use otn_base::Memory;
 use otn_base::limits::{CLIENTS, LINES};
 use otn_ports::{
     Bays, Chooser, FileSink, FileSource, FirstReady, InPlace, InPort, OutPlace, OutPort, Rack,
     Sink, Source, StdoutSink,
 };
+use pcap_packets::{PcapSink, PcapSource};
 use std::alloc::{AllocError, Global};
 use std::env::FillError;
 use std::io::ErrorKind;
 use std::process::ExitCode;
 use std::rt::Env;
 use std::{fs, str};
+
+#[cfg(test)]
+mod tests;
 
 const HELP: &str = "\
 otn, an ODU2 multiplexer and cross-connect (ITU-T G.709)
@@ -27,6 +31,8 @@ usage: otn slot K           the payload bytes of tributary slot K, 1 to 8, of ea
        otn check            whether plan.toml is a plan, and of how many connections and turns
        otn run              carries plan.toml, and reports what came of it
        otn run --order N    the same, with the ports taken in an order drawn from the number N
+       otn run --pcap       the same as run, with captures for clients: client-00.pcap to client-15.pcap where there
+                            is no file with .in, and client-00.pcap.out to client-15.pcap.out
        otn trial N          carries packets drawn from the number N through four nodes in a row, in memory
        otn --help
        otn --version
@@ -67,6 +73,7 @@ fn serve(rt: &HostRuntime) -> Result<Status, Memory> {
 fn over_files(rt: &HostRuntime, words: &[String]) -> Result<Status, Memory> {
     let alloc = rt.alloc();
     let mut bays = Bays::new(alloc)?;
+    let captures = takes_captures(words);
     for n in 0..LINES as u8 {
         if let Some(source) = input_file(rt, &format!(in alloc; "line-{n}.in")?) {
             let port: Box<dyn Source> = Box::new(alloc, source)?;
@@ -77,6 +84,11 @@ fn over_files(rt: &HostRuntime, words: &[String]) -> Result<Status, Memory> {
         if let Some(source) = input_file(rt, &format!(in alloc; "client-{n:02}.in")?) {
             let port: Box<dyn Source> = Box::new(alloc, source)?;
             bays.set_client_in(n, InPlace::Live(InPort::Boxed(port), 0));
+        } else if captures {
+            if let Some(source) = input_file(rt, &format!(in alloc; "client-{n:02}.pcap")?) {
+                let port: Box<dyn Source> = Box::new(alloc, PcapSource::new(alloc, source)?)?;
+                bays.set_client_in(n, InPlace::Live(InPort::Boxed(port), 0));
+            }
         }
     }
     if makes_outputs(words) {
@@ -86,9 +98,15 @@ fn over_files(rt: &HostRuntime, words: &[String]) -> Result<Status, Memory> {
             bays.set_line_out(n, OutPlace::Live(OutPort::Boxed(port), 0));
         }
         for n in 0..CLIENTS as u8 {
-            let sink = output_file(rt, &format!(in alloc; "client-{n:02}.out")?);
-            let port: Box<dyn Sink> = Box::new(alloc, sink)?;
-            bays.set_client_out(n, OutPlace::Live(OutPort::Boxed(port), 0));
+            if captures {
+                let sink = output_file(rt, &format!(in alloc; "client-{n:02}.pcap.out")?);
+                let port: Box<dyn Sink> = Box::new(alloc, PcapSink::new(alloc, sink)?)?;
+                bays.set_client_out(n, OutPlace::Live(OutPort::Boxed(port), 0));
+            } else {
+                let sink = output_file(rt, &format!(in alloc; "client-{n:02}.out")?);
+                let port: Box<dyn Sink> = Box::new(alloc, sink)?;
+                bays.set_client_out(n, OutPlace::Live(OutPort::Boxed(port), 0));
+            }
         }
     }
     Ok(match order_of(words) {
