@@ -1,0 +1,77 @@
+-- Counts modulo m of bytes that came, that are skipped and that are given on.
+use Rattle.std.proofs.Common.{◌≡◌, ℕ, ◌+◌, ◌*◌, ◌/◌, ◌%◌, ◌-◌, ◌<◌, ◌≤◌, min, inl, inr, ap, sym, ◌∙◌, arith}
+use Rattle.std.proofs.lemmas.Bool.Decides.{leb_tells}
+use Rattle.std.proofs.lemmas.Nat.{le-div}
+use Rattle.std.proofs.Math.Nat.{mod-add-mod, add-mod-mod, add-mod_right, mod-eq_of_lt, mod-lt, mod-eq-sub-mod, div-eq_of_lt, div-mul-le_self, mul-add-div, div-add-mod}
+
+-- a count that is kept modulo m goes on as the whole one does
+pub added_is : (count bytes m : ℕ) → (count % m + bytes) % m ≡ (count + bytes) % m
+added_is count bytes m = mod-add-mod count m bytes
+
+-- what was given on is as much as what came with what is still to be skipped: so it stays
+pub still_aligned : (m came skip given bytes : ℕ) → given % m ≡ (came + skip) % m
+    → (given + (bytes - min skip bytes)) % m ≡ (came + bytes + (skip - min skip bytes)) % m
+still_aligned m came skip given bytes e =
+    let turned : came + skip + (bytes - min skip bytes) ≡ came + bytes + (skip - min skip bytes) = omega arith in
+    sym (mod-add-mod given m (bytes - min skip bytes))
+    ∙ ap (λ x. (x + (bytes - min skip bytes)) % m) e
+    ∙ mod-add-mod (came + skip) m (bytes - min skip bytes)
+    ∙ ap (λ x. x % m) turned
+
+-- and so it is from a switch on
+pub aligned_at_switch : (m came given : ℕ) → 0 < m → given % m ≡ (came + (given + (m - came % m)) % m) % m
+aligned_at_switch m came given pos =
+    let low : came % m < m = mod-lt came pos in
+    let whole : came % m + (given + (m - came % m)) ≡ given + m = omega arith in
+    sym (
+    add-mod-mod came (given + (m - came % m)) m
+    ∙ sym (mod-add-mod came m (given + (m - came % m)))
+    ∙ ap (λ x. x % m) whole
+    ∙ add-mod_right given m
+    )
+
+-- a sum of numbers below m, modulo m
+small_sum : (m a b g : ℕ) → a < m → b < m → g ≡ (a + b) % m → g ≤ a + b
+small_sum m a b g la lb e = elim (leb_tells m (a + b)) [
+  | inl over ↦
+      let back : (a + b) % m ≡ (a + b - m) % m = mod-eq-sub-mod over.1 in
+      let low : (a + b - m) % m ≡ a + b - m = mod-eq_of_lt (let f : a + b - m < m = omega arith in f) in
+      omega arith
+  | inr below ↦
+      let same : (a + b) % m ≡ a + b = mod-eq_of_lt (let f : a + b < m = (let u = below.1 in omega arith) in f) in
+      omega arith
+]
+
+-- more bytes have no fewer groups
+quotients : (m x y : ℕ) → 0 < m → x ≤ y → x / m ≤ y / m
+quotients m x y pos h = let whole : x / m * m ≤ x = div-mul-le_self x m in le-div (x / m) y m pos (omega arith)
+
+-- what is given on completes no more groups than what came
+pub no_more_groups : (m came skip given bytes : ℕ) → came < m → skip < m → given < m → given ≡ (came + skip) % m
+    → (given + (bytes - min skip bytes)) / m ≤ (came + bytes) / m
+no_more_groups m came skip given bytes lc ls lg e = elim (leb_tells bytes skip) [
+  | inl few ↦
+      let none : (given + (bytes - min skip bytes)) / m ≡ 0 = div-eq_of_lt (let u = few.1 in let f : given + (bytes - min skip bytes) < m = omega arith in f) in
+      omega arith
+  | inr more ↦
+      let u = more.1 in
+      let small = small_sum m came skip given lc ls e in
+      let less : given + (bytes - min skip bytes) ≤ came + bytes = omega arith in
+      quotients m _ _ (let f : 0 < m = omega arith in f) less
+]
+
+-- whole groups of a sum
+groups_of_sum : (m x y : ℕ) → 0 < m → (x + y) / m ≡ x / m + (x % m + y) / m
+groups_of_sum m x y pos =
+    let split : m * (x / m) + x % m ≡ x = div-add-mod x m in
+    let whole : x + y ≡ m * (x / m) + (x % m + y) = omega arith in
+    ap (λ z. z / m) whole ∙ mul-add-div pos (x / m) (x % m + y)
+
+-- the same of totals
+pub no_more_in_total : (m came skip given bytes most : ℕ) → 0 < m → skip < m → given % m ≡ (came + skip) % m → (came + bytes) / m ≤ came / m + most
+    → (given + (bytes - min skip bytes)) / m ≤ given / m + most
+no_more_in_total m came skip given bytes most pos ls e fits =
+    let one = groups_of_sum m came bytes pos in
+    let two = groups_of_sum m given (bytes - min skip bytes) pos in
+    let less = no_more_groups m (came % m) skip (given % m) bytes (mod-lt came pos) ls (mod-lt given pos) (e ∙ sym (mod-add-mod came m skip)) in
+    omega arith
