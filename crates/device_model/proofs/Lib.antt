@@ -1,4 +1,6 @@
 pub mod LineViews
+pub mod TurnFrames
+pub mod SettledLines
 pub mod Kept
 pub mod SeenNumbers
 pub mod SoundEnds

@@ -14,14 +14,14 @@ use Rattle.device_model.specs.LineFiles.{IsFrameOf, IsLineFile}
 use Rattle.device_model.specs.Through.{Inputs}
 
 -- as many frames as were put
-many_frames : (n : ℕ) (before : List (List ℕ)) (puts : List FramePut) (frames : List (List ℕ)) → AreLineFrames n before puts frames → length frames ≡ length puts
+pub many_frames : (n : ℕ) (before : List (List ℕ)) (puts : List FramePut) (frames : List (List ℕ)) → AreLineFrames n before puts frames → length frames ≡ length puts
 many_frames n before [] [] h = refl
 many_frames n before (put ∷ puts) (frame ∷ frames) h = ap (λ k. suc k) (many_frames n (before ++ frame ∷ []) puts frames h.1)
 many_frames n before (put ∷ puts) [] h = absurd h
 many_frames n before [] (frame ∷ frames) h = absurd h
 
 -- a frame of the bytes of all
-frame_in_file : (n : ℕ) (before : List (List ℕ)) (puts : List FramePut) (frames : List (List ℕ)) (i : ℕ) → AreLineFrames n before puts frames → i < length frames
+pub frame_in_file : (n : ℕ) (before : List (List ℕ)) (puts : List FramePut) (frames : List (List ℕ)) (i : ℕ) → AreLineFrames n before puts frames → i < length frames
     → frame_at (concat frames) i ≡ get_or frames i []
 unfolding frame_at
 frame_in_file n before [] [] i h l = absurd (omega arith)

@@ -51,7 +51,7 @@ kept_at n bip put frame row column is first last low high not_psi =
     is.byte row column (record { row_low = first; row_high = last; col_low = omega arith; col_high = omega arith })
     ∙ kept_byte n bip put row column (byte_at put.bytes row column) low high not_psi
 
-kept_place : (own : Tributary) (m n bip : ℕ) (put : FramePut) (frame : List ℕ) (row column : ℕ) → IsLineFrame n bip put frame → IsSourcePlace own m row column → byte_at frame row column ≡ byte_at put.bytes row column
+pub kept_place : (own : Tributary) (m n bip : ℕ) (put : FramePut) (frame : List ℕ) (row column : ℕ) → IsLineFrame n bip put frame → IsSourcePlace own m row column → byte_at frame row column ≡ byte_at put.bytes row column
 kept_place own m n bip put frame row column is (inl o) = let low = o.columns.0 in kept_at n bip put frame row column is o.rows.0 o.rows.1 (omega arith) o.columns.1 (inr (omega arith))
 kept_place own m n bip put frame row column is (inr (inl o)) =
     let last = o.rows.1 in let high = o.columns.1 in kept_at n bip put frame row column is o.rows.0 (omega arith) o.columns.0 (omega arith) (inl (omega arith))
@@ -87,7 +87,7 @@ in_turn plan inputs b past n given l made =
 some_port : (plan : Plan) (b port : ℕ) (slots : LineSlots) → IsLineEnd plan b port slots → 1 ≤ port
 some_port plan b port slots end = search rules
 
-psi_at : (ports : List ℕ) (mfas k port : ℕ) → mfas ≡ 1 + k → 1 ≤ k → k ≤ length ports → port_at ports k ≡ port → 1 ≤ port → psi_of ports mfas ≡ msi_byte port
+pub psi_at : (ports : List ℕ) (mfas k port : ℕ) → mfas ≡ 1 + k → 1 ≤ k → k ≤ length ports → port_at ports k ≡ port → 1 ≤ port → psi_of ports mfas ≡ msi_byte port
 psi_at ports mfas k port e low high is some =
     let slot : mfas - 1 ≡ k = omega arith in
     let known : port_at ports (mfas - 1) ≡ port = ap (port_at ports) slot ∙ is in
@@ -113,7 +113,7 @@ msi_in plan inputs b past n frame x port slots expected row column made sends en
 
 -- ---- the frames of a turn
 
-member_is : (size : ℕ) (given : List ℕ) (lock : Lock) (n : ℕ) (f : Taken) → slice_get (frames_of size given lock) n ≡ Some f → (n < size) × (f ≡ member_at given lock n)
+pub member_is : (size : ℕ) (given : List ℕ) (lock : Lock) (n : ℕ) (f : Taken) → slice_get (frames_of size given lock) n ≡ Some f → (n < size) × (f ≡ member_at given lock n)
 unfolding frames_of
 member_is size given lock n f e =
     let inside = slice_get_within (map (member_at given lock) (range_with_len 0 size)) n f e in
@@ -121,7 +121,7 @@ member_is size given lock n f e =
     let l : n < size = omega arith in
     (l, sym (get_or_from_slice_get (map (member_at given lock) (range_with_len 0 size)) n f f e) ∙ get_or-map-range_with_len (member_at given lock) 0 size n n f l (omega arith))
 
-frames_many : (size : ℕ) (given : List ℕ) (lock : Lock) → length (frames_of size given lock) ≡ size
+pub frames_many : (size : ℕ) (given : List ℕ) (lock : Lock) → length (frames_of size given lock) ≡ size
 unfolding frames_of
 frames_many size given lock = length-map-range_with_len (member_at given lock) 0 size
 

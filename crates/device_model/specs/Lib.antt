@@ -1,5 +1,7 @@
 pub mod Agreements
 pub mod LineViews
+pub mod TurnFrames
+pub mod LineAsked
 pub mod Entries
 pub mod SoundPlans
 pub mod Through

@@ -25,8 +25,6 @@ pub mod SlotLoop
 pub mod SlotSteps
 pub mod SlotTable
 pub mod SlotTexts
-pub mod TapPieces
-pub mod TapTurns
 pub mod TrialAnswers
 pub mod TrialCarried
 pub mod TrialDraw

@@ -22,26 +22,25 @@ use Rattle.device_model.specs.LineViews.{emitted_at}
 use Rattle.line_tool.specs.PullReport.{emitted_until, pull_report, frames_wanted, bytes_taken, LeavesBytes}
 use Rattle.line_tool.specs.PullRuns.{PullEnded, TurnRun, AnswerRun}
 use Rattle.line_tool.specs.PullReport.{MayFollow}
-use Rattle.line_tool.specs.PullTurn.{TapStands}
+use Rattle.tributary_line.specs.TapTurn.{TapView, TapStands}
 use Rattle.line_tool.specs.declared.pull.After.{After}
 use Rattle.line_tool.specs.declared.pull.After.TheVariants as next
 use Rattle.line_tool.specs.declared.ended.Ended.{Ended}
 use Rattle.line_tool.specs.declared.ended.Ended.TheVariants.{Done, Unfinished, ReportFault, Cut}
-use Rattle.line_tool.specs.declared.tap.Tap.{Tap}
 use Rattle.line_tool.proofs.PullEnds.{took_so_far, TookWanted, took_wanted, frames_there}
 use Rattle.line_tool.proofs.PullTurns.{turn_count, written_first, written_all}
 use Rattle.line_tool.proofs.Rows.{flat_map-range_more}
 use Rattle.line_tool.proofs.SlotLoop.{after-none, part_after}
 
 -- the turns so far: t of them, and the line had not ended before any
-pub record TurnsSoFar (own : Tributary) (first now : InView) (t : ℕ) (tap : Tap) (old new : Option (List ℕ)) : Type 0 where
+pub record TurnsSoFar (own : Tributary) (first now : InView) (t : ℕ) (tap : TapView) (old new : Option (List ℕ)) : Type 0 where
   pub taken : List ℕ
   pub stands : TapStands own first now taken t tap
   pub report : (given : List ℕ) → MayBe false tap.line.reader.ending taken given → new ≡ after old (emitted_until own given t)
   pub unended : (given : List ℕ) → MayBe false tap.line.reader.ending taken given → (s : ℕ) → s < t → has_ended (line_state 8 (mfas_of given) s) ≡ false
 
 -- whether the line has ended after these turns
-abbrev pub HasLast : (own : Tributary) (first now : InView) (t : ℕ) (tap : Tap) (old new : Option (List ℕ)) → TurnsSoFar own first now t tap old new → Bool → Type 0
+abbrev pub HasLast : (own : Tributary) (first now : InView) (t : ℕ) (tap : TapView) (old new : Option (List ℕ)) → TurnsSoFar own first now t tap old new → Bool → Type 0
 HasLast own first now t tap old new h ended =
     (given : List ℕ) → MayBe false tap.line.reader.ending h.taken given → has_ended (line_state 8 (mfas_of given) t) ≡ ended
 
@@ -57,7 +56,7 @@ unfolding line_state
 first_open ms = refl
 
 -- before the first turn
-pub turns_none : (own : Tributary) (first : InView) (tap : Tap) (got : Option (List ℕ)) → ((first : InView) → TapStands own first first [] 0 tap)
+pub turns_none : (own : Tributary) (first : InView) (tap : TapView) (got : Option (List ℕ)) → ((first : InView) → TapStands own first first [] 0 tap)
     → (h : TurnsSoFar own first first 0 tap got got) × HasLast own first first 0 tap got got h false
 turns_none own first tap got stands = (
   record {
@@ -87,7 +86,7 @@ still_unended ms t before last s within = by_place (last_or_before s t within)
     by_place (inr same) = ap (λ k. has_ended (line_state 8 ms k)) same ∙ last
 
 -- a turn more, after which the line has ended or not
-pub turns_more : (own : Tributary) (first was now : InView) (t : ℕ) (before later : Tap) (old gained new : Option (List ℕ)) (ended : Bool) (answer : After)
+pub turns_more : (own : Tributary) (first was now : InView) (t : ℕ) (before later : TapView) (old gained new : Option (List ℕ)) (ended : Bool) (answer : After)
     → (h : TurnsSoFar own first was t before old gained) → HasLast own first was t before old gained h false
     → (run : TurnRun own first now h.taken t before later gained new answer) → (new ≡ after gained run.emitted) × (later.line.ended ≡ ended)
     → (k : TurnsSoFar own first now (t + 1) later old new) × HasLast own first now (t + 1) later old new k ended
@@ -134,7 +133,7 @@ closed_is Seen e = λ f. cc
 closed_is Died e = λ f. cc
 
 -- with a write that failed
-pub turns_lost : (own : Tributary) (first was now : InView) (t : ℕ) (before later : Tap) (old gained new : Option (List ℕ))
+pub turns_lost : (own : Tributary) (first was now : InView) (t : ℕ) (before later : TapView) (old gained new : Option (List ℕ))
     → (h : TurnsSoFar own first was t before old gained) → HasLast own first was t before old gained h false → t < 16384
     → TurnRun own first now h.taken t before later gained new next.ReportFailed → later.line.pieces ≡ 0 → PullEnded own first now old new ReportFault
 turns_lost own first was now t before later old gained new h last few run none = record {
@@ -190,7 +189,7 @@ record AllTurns (own : Tributary) (taken : List ℕ) (line : LineView) (old new 
   pub report : (given : List ℕ) → MayBe false line.reader.ending taken given → new ≡ after old (pull_report own given)
   pub took : (given : List ℕ) → MayBe false line.reader.ending taken given → TookWanted given taken line.reader
 
-all_turns : (own : Tributary) (first was : InView) (t : ℕ) (tap : Tap) (old new : Option (List ℕ)) → (h : TurnsSoFar own first was t tap old new) → t ≤ 16384
+all_turns : (own : Tributary) (first was : InView) (t : ℕ) (tap : TapView) (old new : Option (List ℕ)) → (h : TurnsSoFar own first was t tap old new) → t ≤ 16384
     → ((given : List ℕ) → MayBe false tap.line.reader.ending h.taken given → (has_ended (line_state 8 (mfas_of given) t) ≡ true) ⊎ (t ≡ 16384))
     → tap.line.pieces ≡ 0 → AllTurns own h.taken tap.line old new
 all_turns own first was t tap old new h few last none = record {
@@ -277,7 +276,7 @@ seen_ends own first now taken line old new all gave alive over seen =
     )
 
 -- how the command ends with an answer
-pub turns_end : (ended : Ended) (own : Tributary) (first was now : InView) (t : ℕ) (tap : Tap) (old new : Option (List ℕ)) → (h : TurnsSoFar own first was t tap old new)
+pub turns_end : (ended : Ended) (own : Tributary) (first was now : InView) (t : ℕ) (tap : TapView) (old new : Option (List ℕ)) → (h : TurnsSoFar own first was t tap old new)
     → t ≤ 16384 → ((given : List ℕ) → MayBe false tap.line.reader.ending h.taken given → (has_ended (line_state 8 (mfas_of given) t) ≡ true) ⊎ (t ≡ 16384))
     → tap.line.pieces ≡ 0 → AnswerRun tap.line was now ended → PullEnded own first now old new ended
 turns_end Done own first was now t tap old new h few last none a = by_end a.ends.2

@@ -18,7 +18,8 @@ use Rattle.device_model.specs.LineFiles.{IsLineFile}
 use Rattle.device_model.specs.Moments.{touches, uses}
 use Rattle.device_model.specs.Report.{Numbers}
 use Rattle.device_model.specs.Through.{Inputs}
-use Rattle.node_core.specs.RunLeft.{Takings, MayHave, MayBeInputs, InputLeft, OutputLeft, RunLeft}
+use Rattle.device_model.specs.LineAsked.{MayHave, InputLeft}
+use Rattle.node_core.specs.RunLeft.{Takings, MayBeInputs, OutputLeft, RunLeft}
 use Rattle.odu_client.specs.ClientInput.{AtEnd, input_given}
 use Rattle.packet_text.specs.PacketText.{hex_text}
 use Rattle.packet_text.proofs.ReadingBack.{reads_back}

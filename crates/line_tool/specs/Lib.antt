@@ -17,7 +17,6 @@ pub mod PullCarried
 pub mod PullDamaged
 pub mod PullReport
 pub mod PullRuns
-pub mod PullTurn
 pub mod RunAnswers
 pub mod RunLaws
 pub mod RunReport

@@ -11,13 +11,12 @@ use Rattle.tributary_model.specs.Places.{Tributary}
 use Rattle.line_tool.specs.Ends.{line_status}
 use Rattle.line_tool.specs.Gains.{GainsPart}
 use Rattle.line_tool.specs.PullReport.{pull_report, LeavesBytes, bytes_taken, MayFollow, StoppedInTurn}
-use Rattle.line_tool.specs.PullTurn.{TurnMoves}
+use Rattle.tributary_line.specs.TapTurn.{TapView, TurnMoves}
 use Rattle.line_tool.specs.AnswerWords.{Reports}
 use Rattle.line_tool.specs.declared.pull.After.{After}
 use Rattle.line_tool.specs.declared.pull.After.TheVariants as next
 use Rattle.line_tool.specs.declared.ended.Ended.{Ended}
 use Rattle.line_tool.specs.declared.ended.Ended.TheVariants.{Done, Unfinished, ReportFault, Cut}
-use Rattle.line_tool.specs.declared.tap.Tap.{Tap}
 
 -- what an answer says of the bytes taken, and of all that may stand behind them
 abbrev pub PullEnds : Ended → (more : Bool) → (taken : List ℕ) → (now : InView) → Type 0
@@ -45,7 +44,7 @@ TurnWrote next.LineEnded ended old new emitted = (new ≡ after old emitted) × 
 TurnWrote next.ReportFailed ended old new emitted = GainsPart old new emitted
 
 -- turn t + 1, from the line and the report as they were to how they are
-pub record TurnRun (own : Tributary) (first now : InView) (taken : List ℕ) (t : ℕ) (before later : Tap) (old new : Option (List ℕ)) (answer : After) : Type 0 where
+pub record TurnRun (own : Tributary) (first now : InView) (taken : List ℕ) (t : ℕ) (before later : TapView) (old new : Option (List ℕ)) (answer : After) : Type 0 where
   pub emitted : List ℕ
   pub moves : TurnMoves own first now taken t before later emitted
   pub wrote : TurnWrote answer later.line.ended old new emitted

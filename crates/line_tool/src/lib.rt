@@ -9,7 +9,7 @@
 //! - `check`: whether a plan is one.
 //! - `plan_run`: a plan is carried over the places, and reported.
 //! - `slot`: the payload bytes of one tributary slot of a line.
-//! - `pull`, `tap`: what the sink of a tributary on a line emits, turn by turn.
+//! - `pull`: what the sink of a tributary on a line emits, turn by turn.
 //! - `report`, `report_lines`, `report_words`: the report of a run, as text.
 //! - `beyond`: whether a line has more than a command reads.
 //! - `damage`: the headline of damaged lines.
@@ -31,7 +31,6 @@ mod report_lines;
 mod report_words;
 mod slot;
 mod status;
-mod tap;
 mod top;
 mod trial;
 mod words;

@@ -7,16 +7,16 @@ ghost use Rattle.otn_base.specs.declared.limits.TheConstants.{GROUPS, OTU2_SLOTS
 ghost use Rattle.otn_ports.specs.PortViews.{sink_view};
 ghost use Rattle.line_tool.specs.Ends.{ReportAfter};
 ghost use Rattle.line_tool.specs.PullReport.{tributary};
-ghost use Rattle.line_tool.specs.PullTurn.{TapStands, IsBetweenTurns};
+ghost use Rattle.tributary_line.specs.TapTurn.{TapStands, IsBetweenTurns};
 
 use crate::beyond::ask_for_more;
 use crate::ended::Ended;
-use crate::tap::Tap;
 use line_side::UncountedLineIn;
 use otn_base::limits::{GROUPS, MOST_TURNS};
 use otn_base::{LineKind, Memory, Slots};
 use otn_ports::{InPlaceOf, Sink, Source, Written, write_whole};
 use std::alloc::{AllocError, Global};
+use tributary_line::Tap;
 
 // What comes after a turn.
 enum After {

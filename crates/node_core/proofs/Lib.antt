@@ -6,7 +6,6 @@ pub mod PiecesLeft
 pub mod Senders
 pub mod LinkSteps
 pub mod LineFrames
-pub mod TurnFrames
 pub mod Later
 pub mod Retired
 pub mod LinkTurns
@@ -31,7 +30,6 @@ pub mod ClientPieces
 pub mod NodeReads
 pub mod Told
 pub mod PlanPieces
-pub mod SettledLines
 pub mod SettledClients
 pub mod Settled
 pub mod Asked

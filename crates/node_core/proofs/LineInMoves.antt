@@ -29,7 +29,8 @@ use Rattle.node_core.specs.Links.{IsLinkOf, SameEntry, is_on, origin_of}
 use Rattle.node_core.specs.Moves.{EachLink, TookFrame, is_from_line, takes_line}
 use Rattle.node_core.specs.NodeMoves.{LineInMove}
 use Rattle.node_core.specs.NodeView.{NodeView, HasLineIn, is_ready, done_at, taken_pieces, given_pieces}
-use Rattle.node_core.specs.Stands.{InputBytes, MayGive, member_of, frames_in, frames_by, ended_by, PlanStands, LinesIn, PipesStand, StandsAt, Later}
+use Rattle.device_model.specs.TurnFrames.{member_of, frames_in}
+use Rattle.node_core.specs.Stands.{InputBytes, MayGive, frames_by, ended_by, PlanStands, LinesIn, PipesStand, StandsAt, Later}
 use Rattle.node_core.specs.declared.link.Link.{Link}
 use Rattle.node_core.specs.declared.link.Target.{Target}
 use Rattle.node_core.specs.declared.link.Target.TheVariants as target

@@ -19,7 +19,7 @@ use Rattle.node_core.specs.RunLeft.{OutputsLeft, RunLeft}
 use Rattle.node_core.specs.Settling.{Settled, OutputsStand}
 use Rattle.node_core.specs.Stands.{InputBytes, MayGive, StandsAt}
 use Rattle.node_core.proofs.Settled.{turns_past, used_line_at}
-use Rattle.node_core.proofs.SettledLines.{rest_settled}
+use Rattle.device_model.proofs.SettledLines.{rest_settled}
 
 -- the bytes after the last whole frame of a line that is used are counted as its place and the turns of the plan have it in the end
 pub rest_at_end : (plan : Plan) (first was last : BaysView) (taken : InputBytes) (node : NodeView) (inputs : Inputs) (a : ℕ) (line : LineView) → node.turns ≤ node.past → StandsAt plan first taken node was

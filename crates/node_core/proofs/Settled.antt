@@ -22,7 +22,8 @@ use Rattle.device_model.specs.SoundPlans.{IsSoundEntry}
 use Rattle.device_model.proofs.SoundPlans.{sound_plan}
 use Rattle.cross_matrix.specs.Parts.{MayShow}
 use Rattle.cross_matrix.specs.Receiving.{is_dead}
-use Rattle.node_core.specs.Asking.{has_come, ByteAsked, is_seen, asks_line, LinesAsked, LinesAnswer, is_cut, CutAnswer, SaysSpent, OpenLink, OpensAnswer, outcome_by}
+use Rattle.device_model.specs.LineAsked.{has_come, ByteAsked, is_seen}
+use Rattle.node_core.specs.Asking.{asks_line, LinesAsked, LinesAnswer, is_cut, CutAnswer, SaysSpent, OpenLink, OpensAnswer, outcome_by}
 use Rattle.node_core.specs.Links.{origin_of}
 use Rattle.node_core.specs.Moves.{is_from_client}
 use Rattle.node_core.specs.NodeView.{NodeView, HasLineIn, HasLink, IsNode, done_at}
@@ -37,7 +38,7 @@ use Rattle.node_core.proofs.Parts.{known_at}
 use Rattle.node_core.proofs.PortNumbers.{line_in_index}
 use Rattle.node_core.proofs.Retired.{entry_at, from_as, is_client}
 use Rattle.node_core.proofs.UsedPorts.{used_within, used_pieces, from_client_used}
-use Rattle.node_core.proofs.SettledLines.{may_at_end, EndOfLine, end_of_line, line_left}
+use Rattle.device_model.proofs.SettledLines.{may_at_end, EndOfLine, end_of_line, line_left}
 use Rattle.node_core.proofs.SettledClients.{more_of, goes_on_of, text_left, text_may, all_done, retires_at_end, more_before, died_before}
 
 -- ---- the plan

@@ -1,17 +1,14 @@
 -- How the lines of a node are asked for one byte more at its end, and what the end comes to.
-use Rattle.std.specs.Prelude.{◌≡◌, ◌<◌, ◌≤◌, ℕ, Bool, true, false, ◌&&◌, not, nat_lt, List, [], ◌∷◌, length, Some, slice_get}
+use Rattle.std.specs.Prelude.{◌≡◌, ◌<◌, ◌≤◌, ℕ, Bool, true, false, ◌&&◌, not, nat_lt, List, [], Some, slice_get}
 use Rattle.otn_base.specs.declared.kind.PortName.{PortName}
 use Rattle.otn_base.specs.declared.kind.PortName.TheVariants as port
-use Rattle.otn_ports.specs.Given.{Gave}
-use Rattle.otn_ports.specs.Reads.{HasEnded}
-use Rattle.otn_ports.specs.Views.{Live, InView, BaysView, line_in_at}
+use Rattle.otn_ports.specs.Views.{InView, BaysView, line_in_at}
 use Rattle.line_side.specs.LineStands.{LineView}
-use Rattle.line_side.specs.declared.ending.Ending.{Ending}
-use Rattle.line_side.specs.declared.ending.Ending.TheVariants.{Open, Seen, Died}
 use Rattle.odu_client.specs.ClientInput.{ClientInput, is_spent, emitted_before}
 use Rattle.plan_file.specs.declared.connection.Connection.{Connection}
 use Rattle.cross_matrix.specs.Parts.{ClientInStands, MayShow}
 use Rattle.cross_matrix.specs.Receiving.{is_dead}
+use Rattle.device_model.specs.LineAsked.{ByteAsked, has_come, is_seen}
 use Rattle.device_model.specs.Outcomes.{place_state}
 use Rattle.device_model.specs.Through.{of_client}
 use Rattle.device_model.specs.declared.outcome.Outcome.{Outcome}
@@ -22,31 +19,6 @@ use Rattle.node_core.specs.declared.link.Link.{Link}
 use Rattle.node_core.specs.declared.link.Origin.TheVariants as origin
 
 -- ---- lines
-
--- a byte came
-abbrev pub has_come : List ℕ → Bool
-has_come [] = false
-has_come (byte ∷ bytes) = true
-
--- A place was asked for one byte, or was not to be asked. Where it was asked and none came, a live place has ended.
-pub record ByteAsked (asks : Bool) (was is : InView) (came : List ℕ) : Type 0 where
-  pub gave : Gave was came is
-  pub quiet : asks ≡ false → (is ≡ was) × (came ≡ [])
-  pub most : length came ≤ 1
-  pub lives : has_come came ≡ true → is.state ≡ Live
-  pub over : asks ≡ true → has_come came ≡ false → is.state ≡ Live → HasEnded is.left is.ended
-
--- and this says whether it came
-pub record ByteAnswer (asks : Bool) (was is : InView) (answer : Bool) : Type 0 where
-  pub came : List ℕ
-  pub asked : ByteAsked asks was is came
-  pub tells : answer ≡ has_come came
-
--- a read came to the end of the bytes
-abbrev pub is_seen : Ending → Bool
-is_seen Open = false
-is_seen Seen = true
-is_seen Died = false
 
 -- a line is to be asked where it has pieces and its end was not seen
 abbrev pub asks_line : PiecesView → (a : ℕ) → LineView → Bool

@@ -3,8 +3,7 @@ use Rattle.std.specs.Prelude.{◌≡◌, ℕ, suc, min, Bool, true, false, List,
 use Rattle.std.specs.List.{Contains}
 use Rattle.otn_base.specs.declared.kind.PortName.{PortName}
 use Rattle.otn_base.specs.declared.kind.PortName.TheVariants as port
-use Rattle.otn_ports.specs.Given.{Gave, Gained}
-use Rattle.otn_ports.specs.Reads.{HasEnded}
+use Rattle.otn_ports.specs.Given.{Gained}
 use Rattle.otn_ports.specs.Views.{Live, InView, OutView, BaysView, line_in_at, line_out_at, client_in_at, client_out_at}
 use Rattle.line_side.specs.LineForm.{through_mask}
 use Rattle.odu_client.specs.ClientInput.{input_given}
@@ -14,6 +13,7 @@ use Rattle.plan_file.specs.declared.connection.ToEnd.TheVariants as to_end
 use Rattle.plan_file.specs.declared.plan.Plan.{Plan}
 use Rattle.device_model.specs.Entries.{form_in}
 use Rattle.device_model.specs.Inputs.{has_died}
+use Rattle.device_model.specs.LineAsked.{MayHave, InputLeft}
 use Rattle.device_model.specs.Moments.{uses, line_taken, client_due, LineDue}
 use Rattle.device_model.specs.Numbers.{Went, AreNumbers}
 use Rattle.device_model.specs.Report.{Numbers}
@@ -29,12 +29,6 @@ pub record Takings : Type 0 where
   pub client : (n : ℕ) → List ℕ
   pub client_more : (n : ℕ) → Bool
 
--- bytes that an input may turn out to have, of which these were taken: they begin with these, and are no others where no more may follow
-pub record MayHave (more : Bool) (taken given : List ℕ) : Type 0 where
-  pub rest : List ℕ
-  pub over : more ≡ false → rest ≡ []
-  pub parts : given ≡ taken ++ rest
-
 -- What the inputs of a run may turn out to be, each for itself: of a line the bytes through its mask, of a client the packets of its text, or
 -- of what is left of it where its place died.
 pub record MayBeInputs (plan : Plan) (first last : BaysView) (takings : Takings) (inputs : Inputs) : Type 0 where
@@ -45,13 +39,6 @@ pub record MayBeInputs (plan : Plan) (first last : BaysView) (takings : Takings)
       × (inputs.client n ≡ input_given (has_died (client_in_at first n).state (client_in_at last n).state) given)
 
 -- ---- inputs
-
--- These bytes were taken of an input place. More may stand behind them only where it is live; where none may, a live place has answered its
--- end, whether or not it tells its bytes.
-pub record InputLeft (first last : InView) (taken : List ℕ) (more : Bool) : Type 0 where
-  pub gave : Gave first taken last
-  pub live : more ≡ true → last.state ≡ Live
-  pub over : more ≡ false → last.state ≡ Live → HasEnded last.left last.ended
 
 -- the place of a client, as it was until its connection's stop, and as it is: emptied there where it was live and its connection retires
 pub record ClientInLeft (retires : Bool) (first last : InView) (taken : List ℕ) (more : Bool) : Type 0 where

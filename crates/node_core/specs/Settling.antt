@@ -22,7 +22,8 @@ use Rattle.device_model.specs.Through.{Inputs, own_input}
 use Rattle.device_model.specs.declared.outcome.FromState.{FromState}
 use Rattle.device_model.specs.declared.outcome.Outcome.{Outcome}
 use Rattle.node_core.specs.NodeView.{NodeView, HasLineIn, HasLineOut, HasLink}
-use Rattle.node_core.specs.RunLeft.{Takings, MayBeInputs, InputLeft, ClientInLeft, SamePlace, TookOf, OutputsLeft}
+use Rattle.device_model.specs.LineAsked.{InputLeft}
+use Rattle.node_core.specs.RunLeft.{Takings, MayBeInputs, ClientInLeft, SamePlace, TookOf, OutputsLeft}
 use Rattle.node_core.specs.Stands.{InputBytes, MayGive, StandsAt}
 use Rattle.node_core.specs.declared.link.Link.{Link}
 

@@ -1,16 +1,13 @@
 -- Where a node and its bays stand: in turn past + 1 of a plan, after so many pieces of each port. No definition of a part names two ports.
-use Rattle.std.specs.Prelude.{◌≡◌, ◌<◌, ◌≤◌, ◌+◌, ◌*◌, ℕ, zero, suc, Bool, true, false, ◌==◌, if◌then◌else◌, Option, None, Some, List, [], ◌∷◌, ◌++◌, length, slice_get}
+use Rattle.std.specs.Prelude.{◌≡◌, ◌<◌, ◌≤◌, ◌+◌, ◌*◌, ℕ, Bool, true, false, ◌==◌, if◌then◌else◌, Option, None, Some, List, [], length, slice_get}
 use Rattle.otn_base.specs.declared.kind.PortName.{PortName}
 use Rattle.otn_base.specs.declared.kind.PortName.TheVariants as port
 use Rattle.otn_ports.specs.Retiring.{retired_in, retired_out}
 use Rattle.otn_ports.specs.Views.{InView, OutView, BaysView, line_in_at, line_out_at, client_in_at, client_out_at}
-use Rattle.line_side.specs.LineFile.{frame_at, mfas_of}
 use Rattle.line_side.specs.LineForm.{size_of}
 use Rattle.line_side.specs.LineOutput.{LineOutView, FramePut, LineMade}
 use Rattle.line_side.specs.LineStands.{LineView, LineStands}
 use Rattle.line_side.specs.MayBe.{MayBe}
-use Rattle.multiframe.specs.LineTurns.{Lock, line_state}
-use Rattle.multiframe.specs.TurnPieces.{in_hand}
 use Rattle.plan_file.specs.Answer.{fault_in}
 use Rattle.plan_file.specs.declared.connection.Connection.{Connection}
 use Rattle.plan_file.specs.declared.connection.FromEnd.{FromEnd}
@@ -22,6 +19,7 @@ use Rattle.device_model.specs.Entries.{form_in, form_out, own_turn, IsActive}
 use Rattle.device_model.specs.LineFiles.{AreFramesOf}
 use Rattle.device_model.specs.Moments.{uses, pieces_of, turns_done, is_retired}
 use Rattle.device_model.specs.Through.{Inputs, of_client, own_input}
+use Rattle.device_model.specs.TurnFrames.{frames_in}
 use Rattle.cross_matrix.specs.Parts.{ClientInStands, ClientOutStands, MayShow}
 use Rattle.cross_matrix.specs.Pipes.{PipeStands}
 use Rattle.node_core.specs.Links.{IsLinkOf}
@@ -42,16 +40,6 @@ pub record MayGive (plan : Plan) (taken : InputBytes) (node : NodeView) (inputs 
       → MayShow link.pipe.taking (taken.client n) (of_client (inputs.client n))
 
 -- ---- the pieces of a line
-
--- the frame of a multiframe that a piece came to, if it came to one
-abbrev pub member_of : (given : List ℕ) → Option Lock → List Taken
-member_of given None = []
-member_of given (Some member) = record { frame = frame_at given member.frame; expected = member.expected } ∷ []
-
--- the frames of the multiframe of turn past + 1 that the first k pieces of the turn came to
-unfoldable pub frames_in : (size : ℕ) → (given : List ℕ) → (past k : ℕ) → List Taken
-frames_in size given past zero = []
-frames_in size given past (suc k) = frames_in size given past k ++ member_of given (in_hand size (mfas_of given) (line_state size (mfas_of given) past) (suc k))
 
 -- what k pieces of a connection's own input took: the frames of a line, and whether a client's turn was taken
 abbrev pub frames_by : Plan → Inputs → FromEnd → (past k : ℕ) → List Taken

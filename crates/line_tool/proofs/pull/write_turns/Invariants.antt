@@ -2,7 +2,7 @@ use Rattle.std.proofs.Common.{◌≡◌, [], None, false, vec_len}
 use Rattle.otn_ports.specs.InPlace.{in_view}
 use Rattle.otn_ports.specs.Views.{InView}
 use Rattle.tributary_model.specs.Places.{Tributary}
-use Rattle.line_tool.specs.PullTurn.{TapStands, IsBetweenTurns}
+use Rattle.tributary_line.specs.TapTurn.{TapStands, IsBetweenTurns}
 use Rattle.otn_ports.specs.PortViews.{sink_view}
 use Rattle.line_tool.specs.Ends.{ReportAfter}
 use Rattle.line_tool.proofs.PullLoop.{TurnsSoFar, HasLast}

@@ -1,0 +1,217 @@
+-- What the end of a run makes of an input line: what was taken of it, whether more is there, and how it ended.
+use Rattle.std.proofs.Common.{◌≡◌, ◌≢◌, ◌<◌, ◌≤◌, ◌+◌, ◌∙◌, ℕ, zero, suc, Bool, true, false, cond, List, [], ◌∷◌, ◌++◌, Option, Some, None, length, min, max, refl, sym, ap, subst, append_assoc, length-append, arith}
+use Rattle.std.specs.Prelude.{nat_le, nat_lt, slice_index, not}
+use Rattle.std.proofs.lemmas.Bool.Decides.{nat_tests}
+use Rattle.otn_base.specs.LineSlots.{slots_of}
+use Rattle.otn_base.specs.declared.line_kind.LineKind.{LineKind}
+use Rattle.otn_base.specs.declared.line_kind.LineKind.TheVariants.{Otu2, Otu3}
+use Rattle.otn_ports.specs.Reads.{HasEnded}
+use Rattle.otn_ports.specs.Views.{State, Empty, Live, Dead, InView}
+use Rattle.otn_ports.proofs.GivenLaws.{gave_twice, dead_not_live}
+use Rattle.line_side.specs.LineForm.{LineForm, size_of, through_mask}
+use Rattle.line_side.specs.LineFile.{mfas_of}
+use Rattle.line_side.specs.LineStands.{LineView, LineStands, IsLine}
+use Rattle.line_side.specs.MayBe.{MayBe}
+use Rattle.line_side.specs.Reader.{rest_of}
+use Rattle.line_side.specs.declared.ending.Ending.{Ending}
+use Rattle.line_side.specs.declared.ending.Ending.TheVariants.{Open, Seen, Died}
+use Rattle.line_side.proofs.Exits.{took_is}
+use Rattle.line_side.proofs.Frames.{length_parts}
+use Rattle.line_side.proofs.Mfas.{length_mfas}
+use Rattle.multiframe.specs.LineTurns.{Lock, LineState, Hunting, Locked, Ended, Outcome, CutShort, Lost, Whole, lock_from, least_start, outcome_of, after_outcome, after_hunt, after_turn, line_state, wanted, wanted_in, wanted_from, wanted_so_far}
+use Rattle.device_model.specs.Moments.{line_taken}
+use Rattle.device_model.specs.Numbers.{ending_of, line_ending}
+use Rattle.device_model.specs.LineAsked.{ByteAsked, has_come, is_seen, MayHave, InputLeft}
+
+-- ---- between turns nothing more is wanted than by the turns before
+
+after_locked : (ms : List ℕ) (p : ℕ) (lock : Lock) (outcome : Outcome) → wanted_in (suc p) ms (after_outcome (suc p) lock outcome) 0 ≤ lock.frame + suc p
+after_locked ms p lock CutShort = omega arith
+after_locked ms p lock Lost = omega arith
+after_locked ms p lock Whole = omega arith
+
+after_none : (ms : List ℕ) (p i n : ℕ) (more : Bool) → wanted_in (suc p) ms (cond more (Hunting (i + suc p)) Ended) 0 ≤ n
+after_none ms p i n true = omega arith
+after_none ms p i n false = omega arith
+
+after_hunting : (ms : List ℕ) (p i : ℕ) (least : Option ℕ) → wanted_in (suc p) ms (after_hunt (suc p) ms i (lock_from ms i least)) 0 ≤ wanted_from (suc p) ms i least (suc p)
+after_hunting ms p i None = after_none ms p i (wanted_from (suc p) ms i None (suc p)) (nat_le (i + suc p) (length ms))
+after_hunting ms p i (Some n) =
+    let lock : Lock = lock_at i n in
+    let h = after_locked ms p lock (outcome_of (suc p) ms lock) in
+    omega (arith, h)
+  where
+    lock_at : (i n : ℕ) → Lock
+    lock_at i n = record { frame = i + n; expected = slice_index ms (i + n) }
+
+after_any : (ms : List ℕ) (p : ℕ) (st : LineState) → wanted_in (suc p) ms (after_turn (suc p) ms st) 0 ≤ wanted_in (suc p) ms st (suc p)
+after_any ms p (Hunting i) = after_hunting ms p i (least_start (suc p) ms i (suc p))
+after_any ms p (Locked lock) = after_locked ms p lock (outcome_of (suc p) ms lock)
+after_any ms p Ended = omega arith
+
+wanted_more : (size : ℕ) (ms : List ℕ) (t : ℕ) → wanted size ms (suc t) ≡ max (wanted size ms t) (wanted_in size ms (line_state size ms t) size)
+unfolding wanted
+wanted_more size ms t = refl
+
+line_state_more : (size : ℕ) (ms : List ℕ) (t : ℕ) → line_state size ms (suc t) ≡ after_turn size ms (line_state size ms t)
+unfolding line_state
+line_state_more size ms t = refl
+
+line_state_first : (size : ℕ) (ms : List ℕ) → line_state size ms 0 ≡ Hunting 0
+unfolding line_state
+line_state_first size ms = refl
+
+none_wanted : (p : ℕ) (ms : List ℕ) (t : ℕ) → wanted_in (suc p) ms (line_state (suc p) ms t) 0 ≤ wanted (suc p) ms t
+none_wanted p ms zero = subst (λ s. wanted_in (suc p) ms s 0 ≤ wanted (suc p) ms 0) (sym (line_state_first (suc p) ms)) (omega arith)
+none_wanted p ms (suc t) =
+    let after = subst (λ s. wanted_in (suc p) ms s 0 ≤ wanted_in (suc p) ms (line_state (suc p) ms t) (suc p)) (sym (line_state_more (suc p) ms t)) (after_any ms p (line_state (suc p) ms t)) in
+    omega (arith, after, wanted_more (suc p) ms t)
+
+between_turns : (p : ℕ) (ms : List ℕ) (t : ℕ) → wanted_so_far (suc p) ms t 0 ≡ wanted (suc p) ms t
+between_turns p ms t = let none = none_wanted p ms t in omega (arith, none)
+
+pub between : (kind : LineKind) (ms : List ℕ) (t : ℕ) → wanted_so_far (slots_of kind) ms t 0 ≡ wanted (slots_of kind) ms t
+between Otu2 ms t = between_turns 7 ms t
+between Otu3 ms t = between_turns 31 ms t
+
+-- ---- the byte that was asked for
+
+none_came : (came : List ℕ) → has_come came ≡ false → came ≡ []
+none_came [] e = refl
+none_came (byte ∷ bytes) e = absurd (cc)
+
+one_came : (came : List ℕ) → length came ≤ 1 → has_come came ≡ true → length came ≡ 1
+one_came [] most e = absurd (cc)
+one_came (byte ∷ []) most e = refl
+one_came (byte ∷ (next ∷ bytes)) most e = absurd (omega arith)
+
+-- a place that is not live is as it was, and no byte of it came
+idle_asked : (asks : Bool) (was is : InView) (came : List ℕ) → ByteAsked asks was is came → was.state ≢ Live → (is ≡ was) × (came ≡ [])
+idle_asked asks was is came h idle = h.gave.idle idle
+
+-- where a line has ended no byte came, and its place is as it was
+ended_asked : (form : LineForm) (first was is : InView) (taken came : List ℕ) (t : ℕ) (line : LineView) → LineStands form first was taken t line → ByteAsked (not (is_seen line.reader.ending)) was is came
+    → (e : Ending) → line.reader.ending ≡ e → e ≢ Open → (is ≡ was) × (came ≡ [])
+ended_asked form first was is taken came t line h asked Open e closed = absurd (closed refl)
+ended_asked form first was is taken came t line h asked Seen e closed = asked.quiet (ap (λ d. not (is_seen d)) e)
+ended_asked form first was is taken came t line h asked Died e closed = asked.gave.idle (λ live. dead_not_live (sym (h.ending.died e) ∙ live))
+
+-- what a line may turn out to be at the end it might be before
+pub may_at_end : (form : LineForm) (first was is : InView) (taken came raw given : List ℕ) (t : ℕ) (line : LineView) → LineStands form first was taken t line → ByteAsked (not (is_seen line.reader.ending)) was is came
+    → MayHave (has_come came) (taken ++ came) raw → given ≡ through_mask form.scrambled raw → MayBe form.scrambled line.reader.ending taken given
+may_at_end form first was is taken came raw given t line h asked may e = record {
+  rest = came ++ may.rest;
+  over = λ closed. (let none = (ended_asked form first was is taken came t line h asked line.reader.ending refl closed).1 in
+      ap (λ bytes. bytes ++ may.rest) none ∙ may.over (ap has_come none));
+  parts = e ∙ ap (through_mask form.scrambled) (may.parts ∙ append_assoc taken came may.rest);
+}
+
+-- how many bytes there are
+length_at_end : (form : LineForm) (taken came raw given : List ℕ) → (may : MayHave (has_come came) (taken ++ came) raw) → given ≡ through_mask form.scrambled raw
+    → length given ≡ length taken + length came + length may.rest
+length_at_end form taken came raw given may e =
+    ap length (e ∙ ap (through_mask form.scrambled) (may.parts ∙ append_assoc taken came may.rest)) ∙ length_parts form.scrambled taken came may.rest
+
+-- Of the line was taken what its turns want, and one byte more, or all that there is; and more was there exactly where that byte came.
+pub record EndOfLine (form : LineForm) (taken came given : List ℕ) (t : ℕ) : Type 0 where
+  pub took : length (taken ++ came) ≡ min (length given) (suc (line_taken form given t 0))
+  pub more : has_come came ≡ true → line_taken form given t 0 < length given
+  pub none : has_come came ≡ false → length given ≤ line_taken form given t 0
+
+end_by : (form : LineForm) (taken came rest given : List ℕ) (t : ℕ) (b : Bool) → has_come came ≡ b → length came ≤ 1 → (b ≡ false → rest ≡ []) → length given ≡ length taken + length came + length rest
+    → length (taken ++ came) ≡ length taken + length came → length taken ≡ line_taken form given t 0 → EndOfLine form taken came given t
+end_by form taken came rest given t true e most over parts sum took =
+    let one = one_came came most e in
+    record { took = omega (arith, one, parts, sum, took); more = λ _. omega (arith, one, parts, took); none = λ f. absurd (cc) }
+end_by form taken came rest given t false e most over parts sum took =
+    let none : length came ≡ 0 = ap length (none_came came e) in
+    let nothing : length rest ≡ 0 = ap length (over refl) in
+    record { took = omega (arith, none, nothing, parts, sum, took); more = λ f. absurd (cc); none = λ _. omega (arith, none, nothing, parts, took) }
+
+pub end_of_line : (form : LineForm) (first was is : InView) (taken came raw given : List ℕ) (t : ℕ) (line : LineView) → LineStands form first was taken t line → line.pieces ≡ 0
+    → ByteAsked (not (is_seen line.reader.ending)) was is came → MayHave (has_come came) (taken ++ came) raw → given ≡ through_mask form.scrambled raw → EndOfLine form taken came given t
+end_of_line form first was is taken came raw given t line h none asked may e =
+    end_by form taken came may.rest given t (has_come came) refl asked.most may.over (length_at_end form taken came raw given may e) (length-append taken came)
+    (took_is form first was taken given t line h (may_at_end form first was is taken came raw given t line h asked may e) ∙ ap (line_taken form given t) none)
+
+-- ---- the place
+
+-- what was taken of its place, and whether more may stand behind that
+pub line_left : (form : LineForm) (first was is : InView) (taken came : List ℕ) (t : ℕ) (line : LineView) → LineStands form first was taken t line → ByteAsked (not (is_seen line.reader.ending)) was is came
+    → InputLeft first is (taken ++ came) (has_come came)
+line_left form first was is taken came t line h asked = record {
+  gave = gave_twice first was is taken came h.gave asked.gave;
+  live = asked.lives;
+  over = λ none live. by_ending line.reader.ending refl none live;
+}
+  where
+    by_closed : (e : Ending) → line.reader.ending ≡ e → e ≢ Open → is.state ≡ Live → HasEnded is.left is.ended
+    by_closed e at closed live =
+        let same = (ended_asked form first was is taken came t line h asked e at closed).0 in
+        subst (λ (v : InView). HasEnded v.left v.ended) (sym same) (h.over (λ o. closed (sym at ∙ o)) (sym (ap (λ (v : InView). v.state) same) ∙ live))
+
+    by_ending : (e : Ending) → line.reader.ending ≡ e → has_come came ≡ false → is.state ≡ Live → HasEnded is.left is.ended
+    by_ending Open e none live = asked.over (ap (λ d. not (is_seen d)) e) none live
+    by_ending Seen e none live = by_closed Seen e (λ o. cc) live
+    by_ending Died e none live = by_closed Died e (λ o. cc) live
+
+-- ---- how the line ended
+
+-- the frames that its turns wanted are whole, while its end was not seen; once it was, they are not
+wanted_whole : (form : LineForm) (given : List ℕ) (n t : ℕ) (line : LineView) → IsLine (size_of form) given n t line → line.pieces ≡ 0 → line.reader.ending ≡ Open
+    → nat_lt (length (mfas_of given)) (wanted (size_of form) (mfas_of given) t) ≡ false
+wanted_whole form given n t line h none e =
+    let s = (h.read.still e).1 in
+    let within = h.read.within in
+    let count = length_mfas given in
+    let turns : wanted_so_far (size_of form) (mfas_of given) t line.pieces ≡ wanted (size_of form) (mfas_of given) t = ap (wanted_so_far (size_of form) (mfas_of given) t) none ∙ between form.kind (mfas_of given) t in
+    not_less _ _ (omega (arith, s, within, count, turns))
+  where
+    not_less : (a b : ℕ) → b ≤ a → nat_lt a b ≡ false
+    not_less a b le = grind (arith, nat_tests)
+
+wanted_more_than_whole : (form : LineForm) (given : List ℕ) (n t : ℕ) (line : LineView) → IsLine (size_of form) given n t line → line.pieces ≡ 0 → line.reader.ending ≢ Open
+    → nat_lt (length (mfas_of given)) (wanted (size_of form) (mfas_of given) t) ≡ true
+wanted_more_than_whole form given n t line h none closed =
+    let over = (h.read.over closed).2 in
+    let count = length_mfas given in
+    let turns : wanted_so_far (size_of form) (mfas_of given) t line.pieces ≡ wanted (size_of form) (mfas_of given) t = ap (wanted_so_far (size_of form) (mfas_of given) t) none ∙ between form.kind (mfas_of given) t in
+    less _ _ (omega (arith, over, count, turns))
+  where
+    less : (a b : ℕ) → a < b → nat_lt a b ≡ true
+    less a b lt = grind (arith, nat_tests)
+
+rest_open : (s : State) (given : List ℕ) (a b : ℕ) → nat_lt a b ≡ false → 0 ≡ rest_of (ending_of s a b) given
+rest_open Dead given a b e = refl
+rest_open Live given a b e = rw e refl
+rest_open Empty given a b e = rw e refl
+
+rest_seen : (s : State) (given : List ℕ) (a b : ℕ) → s ≢ Dead → nat_lt a b ≡ true → rest_of Seen given ≡ rest_of (ending_of s a b) given
+rest_seen Dead given a b alive e = absurd (alive refl)
+rest_seen Live given a b alive e = rw e refl
+rest_seen Empty given a b alive e = rw e refl
+
+rest_died : (s : State) (given : List ℕ) (a b : ℕ) → s ≡ Dead → rest_of Died given ≡ rest_of (ending_of s a b) given
+rest_died Dead given a b e = refl
+rest_died Live given a b e = absurd (cc)
+rest_died Empty given a b e = absurd (cc)
+
+-- The bytes after the last whole frame are counted as the line's place and its turns have it in the end.
+pub rest_settled : (form : LineForm) (first was is : InView) (taken came given : List ℕ) (t : ℕ) (line : LineView) → LineStands form first was taken t line → line.pieces ≡ 0
+    → ByteAsked (not (is_seen line.reader.ending)) was is came → MayBe form.scrambled line.reader.ending taken given → rest_of line.reader.ending given ≡ rest_of (line_ending is.state form given t) given
+rest_settled form first was is taken came given t line h none asked may = by_ending line.reader.ending refl
+  where
+    whole : ℕ
+    whole = length (mfas_of given)
+
+    wants : ℕ
+    wants = wanted (size_of form) (mfas_of given) t
+
+    stays : (e : Ending) → line.reader.ending ≡ e → e ≢ Open → is.state ≡ was.state
+    stays e at closed = ap (λ (v : InView). v.state) (ended_asked form first was is taken came t line h asked e at closed).0
+
+    by_ending : (e : Ending) → line.reader.ending ≡ e → rest_of line.reader.ending given ≡ rest_of (ending_of is.state whole wants) given
+    by_ending Open e = ap (λ d. rest_of d given) e ∙ rest_open is.state given whole wants (wanted_whole form given (length taken) t line (h.is_line given may) none e)
+    by_ending Seen e = ap (λ d. rest_of d given) e ∙ rest_seen is.state given whole wants (λ dead. h.ending.seen e (sym (stays Seen e (λ o. cc)) ∙ dead))
+        (wanted_more_than_whole form given (length taken) t line (h.is_line given may) none (λ o. (let f = sym e ∙ o in cc)))
+    by_ending Died e = ap (λ d. rest_of d given) e ∙ rest_died is.state given whole wants (stays Died e (λ o. cc) ∙ h.ending.died e)

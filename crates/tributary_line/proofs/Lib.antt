@@ -1,0 +1,4 @@
+pub mod TapPieces
+pub mod TapTurns
+pub mod FeedTurns
+pub mod FileTurns

@@ -1,0 +1,90 @@
+-- The pieces of a turn, with a sink on the line.
+use Rattle.std.proofs.Common.{◌≡◌, ◌+◌, ◌∙◌, ℕ, true, false, List, [], ◌∷◌, ◌++◌, Option, Some, None, refl, sym, ap, subst, add-one, append-nil}
+use Rattle.std.specs.Prelude.{is_some, IfSome}
+use Rattle.otn_ports.specs.Views.{InView}
+use Rattle.line_side.specs.LineForm.{plain_otu2}
+use Rattle.line_side.specs.LineFile.{frame_at, mfas_of}
+use Rattle.line_side.specs.LineStands.{LineView, PieceStands}
+use Rattle.line_side.specs.MayBe.{MayBe}
+use Rattle.multiframe.specs.LineTurns.{Lock, line_state}
+use Rattle.multiframe.specs.TurnPieces.{in_hand}
+use Rattle.tributary_model.specs.Places.{Tributary, Taken, View}
+use Rattle.trib_sink.specs.Sink.{Sink, StandsAfter}
+use Rattle.device_model.specs.LineViews.{views_until}
+use Rattle.device_model.specs.TurnFrames.{member_of, frames_in}
+use Rattle.tributary_line.specs.TapTurn.{TapView, TapStands, TapMoves}
+
+frames_more : (given : List ℕ) (t k : ℕ)
+    → frames_in 8 given t (k + 1) ≡ frames_in 8 given t k ++ member_of given (in_hand 8 (mfas_of given) (line_state 8 (mfas_of given) t) (k + 1))
+unfolding frames_in
+frames_more given t k = rw (add-one k) refl
+
+-- a piece with no frame in hand adds none
+no_frame : (given : List ℕ) (t k : ℕ) → is_some (in_hand 8 (mfas_of given) (line_state 8 (mfas_of given) t) (k + 1)) ≡ false → frames_in 8 given t (k + 1) ≡ frames_in 8 given t k
+no_frame given t k none =
+    frames_more given t k ∙ by_hand (in_hand 8 (mfas_of given) (line_state 8 (mfas_of given) t) (k + 1)) none
+  where
+    by_hand : (hand : Option Lock) → is_some hand ≡ false → frames_in 8 given t k ++ member_of given hand ≡ frames_in 8 given t k
+    by_hand None e = append-nil (frames_in 8 given t k)
+    by_hand (Some lock) e = absurd (cc)
+
+-- a piece with a frame in hand adds it
+one_frame : (given frame : List ℕ) (t k expected : ℕ) → is_some (in_hand 8 (mfas_of given) (line_state 8 (mfas_of given) t) (k + 1)) ≡ true
+    → IfSome (in_hand 8 (mfas_of given) (line_state 8 (mfas_of given) t) (k + 1)) (λ member. frame ≡ frame_at given member.frame)
+    → IfSome (in_hand 8 (mfas_of given) (line_state 8 (mfas_of given) t) (k + 1)) (λ member. expected ≡ member.expected)
+    → frames_in 8 given t k ++ record { frame = frame; expected = expected } ∷ [] ≡ frames_in 8 given t (k + 1)
+one_frame given frame t k expected some hand number =
+    by_hand (in_hand 8 (mfas_of given) (line_state 8 (mfas_of given) t) (k + 1)) some hand number ∙ sym (frames_more given t k)
+  where
+    taken : List ℕ → ℕ → Taken
+    taken f e = record { frame = f; expected = e }
+
+    by_hand : (member : Option Lock) → is_some member ≡ true → IfSome member (λ m. frame ≡ frame_at given m.frame) → IfSome member (λ m. expected ≡ m.expected)
+        → frames_in 8 given t k ++ taken frame expected ∷ [] ≡ frames_in 8 given t k ++ member_of given member
+    by_hand None e h n = absurd (cc)
+    by_hand (Some lock) e h n =
+        let same : taken frame expected ≡ taken (frame_at given lock.frame) lock.expected = ap (λ f. taken f expected) h ∙ ap (taken (frame_at given lock.frame)) n in
+        ap (λ x. frames_in 8 given t k ++ x ∷ []) same
+
+-- after a piece that has no frame in hand the sink has taken no more
+pub piece_none : (own : Tributary) (first was now : InView) (taken : List ℕ) (t : ℕ) (tap : TapView) (line : LineView)
+    → line.pieces ≡ tap.line.pieces + 1 → line.has_frame ≡ false → TapStands own first was taken t tap → PieceStands plain_otu2 first now taken t tap.line line
+    → TapMoves own first now taken t tap (record { line = line; sink = tap.sink })
+piece_none own first was now taken t tap line pieces none h p = record {
+  came = p.came;
+  stands = record {
+    size = h.size;
+    line = p.stands;
+    sink = λ given may.
+        let is = p.stands.is_line given may in
+        let hand = subst (λ k. is_some (in_hand 8 (mfas_of given) (line_state 8 (mfas_of given) t) k) ≡ false) pieces (sym is.has_frame ∙ none) in
+        let frames = no_frame given t tap.line.pieces hand in
+        subst (λ xs. StandsAfter own (views_until own given t) xs tap.sink) (sym (ap (frames_in 8 given t) pieces ∙ frames)) (h.sink given (p.earlier given may));
+  };
+  earlier = p.earlier;
+}
+
+-- after a piece that has a frame in hand the sink has taken this one
+pub piece_frame : (own : Tributary) (first was now : InView) (taken : List ℕ) (t expected : ℕ) (tap : TapView) (line : LineView) (sink : Sink)
+    → line.pieces ≡ tap.line.pieces + 1 → line.has_frame ≡ true
+    → TapStands own first was taken t tap → (p : PieceStands plain_otu2 first now taken t tap.line line)
+    → ((given : List ℕ) → MayBe false line.reader.ending (taken ++ p.came) given
+    → IfSome (in_hand 8 (mfas_of given) (line_state 8 (mfas_of given) t) line.pieces) (λ member. expected ≡ member.expected))
+    → ((past : List (Option View)) (frames : List Taken) → StandsAfter own past frames tap.sink
+    → StandsAfter own past (frames ++ record { frame = line.reader.hand; expected = expected } ∷ []) sink)
+    → TapMoves own first now taken t tap (record { line = line; sink = sink })
+piece_frame own first was now taken t expected tap line sink pieces some h p number takes = record {
+  came = p.came;
+  stands = record {
+    size = h.size;
+    line = p.stands;
+    sink = λ given may.
+        let is = p.stands.is_line given may in
+        let there = subst (λ k. is_some (in_hand 8 (mfas_of given) (line_state 8 (mfas_of given) t) k) ≡ true) pieces (sym is.has_frame ∙ some) in
+        let hand = subst (λ k. IfSome (in_hand 8 (mfas_of given) (line_state 8 (mfas_of given) t) k) (λ member. line.reader.hand ≡ frame_at given member.frame)) pieces is.hand in
+        let mfas = subst (λ k. IfSome (in_hand 8 (mfas_of given) (line_state 8 (mfas_of given) t) k) (λ member. expected ≡ member.expected)) pieces (number given may) in
+        let frames = one_frame given line.reader.hand t tap.line.pieces expected there hand mfas ∙ sym (ap (frames_in 8 given t) pieces) in
+        subst (λ xs. StandsAfter own (views_until own given t) xs sink) frames (takes (views_until own given t) (frames_in 8 given t tap.line.pieces) (h.sink given (p.earlier given may)));
+  };
+  earlier = p.earlier;
+}

@@ -1,0 +1,4 @@
+pub mod TapTurn
+pub mod TributaryFile
+pub mod FeedTurn
+pub mod Laws
