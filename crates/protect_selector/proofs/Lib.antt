@@ -1,2 +1,5 @@
 pub mod Modulo
 pub mod Turns
+pub mod OfLines
+pub mod ProtectTurns
+pub mod ProtectEnds

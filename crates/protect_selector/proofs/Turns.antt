@@ -175,6 +175,9 @@ few_groups s now choice new is turn =
     let even : s.given ≡ (came_in choice.side s + turn.to_skip) % s.m = sym (mod-eq_of_lt is.given_high) ∙ fits.aligned in
     rw (turn.skip, sym (bytes_is choice.side now)) (no_more_groups s.m (came_in choice.side s) turn.to_skip s.given bytes low fits.low is.given_high even)
 
+pub skip_low : (to_skip : ℕ) (side : Side) (now : BothTurn) → min to_skip (number_by side now.working.bytes now.protection.bytes) ≤ (of_side side now).bytes
+skip_low to_skip side now = rw (bytes_is side now) (omega arith)
+
 -- ---- the laws
 
 -- what is to be skipped is less than a group, and with it what was given on and what came are alike

@@ -1,3 +1,6 @@
 pub mod Selected
 pub mod Selector
+pub mod OfLines
+pub mod Protecting
+pub mod ProtectLeft
 pub mod Laws

@@ -65,7 +65,9 @@ impl Selector {
         ensures choice { let now : BothTurn = record { working = record { state = working; bytes = working_len }; protection = record { state = protection; bytes = protection_len } } in
             (m n : ℕ) (past : List BothTurn) → HasChosen m n past self.old → (result ≡ choice_in m n now past) × HasChosen m n (now ∷ past) self.new }
 
-        // no more groups are completed than by the side's own bytes
+        // at most all of the side's bytes are skipped, and no more groups are completed than by these bytes
+        ensures within { let now : BothTurn = record { working = record { state = working; bytes = working_len }; protection = record { state = protection; bytes = protection_len } } in
+            result.skip ≤ (of_side_in result.side now).bytes }
         ensures groups { let now : BothTurn = record { working = record { state = working; bytes = working_len }; protection = record { state = protection; bytes = protection_len } } in
             (self.old.given + ((of_side_in result.side now).bytes - result.skip)) / self.old.m ≤ (came_in result.side self.old + (of_side_in result.side now).bytes) / self.old.m }
         ensures slots { self.new.m ≡ self.old.m }

@@ -2,7 +2,7 @@ use Rattle.std.proofs.Common.{◌-◌, refl, sym}
 use Rattle.protect_selector.specs.declared.side.Choice.{Choice}
 use Rattle.protect_selector.specs.Selected.{BothTurn}
 use Rattle.protect_selector.specs.Selector.{SelectorView}
-use Rattle.protect_selector.proofs.Turns.{Picks, next_agrees, stays_selector, few_groups}
+use Rattle.protect_selector.proofs.Turns.{Picks, next_agrees, stays_selector, few_groups, skip_low}
 use Rattle.protect_selector.proofs.selector.Selector.pick.Goals as goal
 
 abbrev now_of : goal.After-self-5-1 → BothTurn
@@ -43,3 +43,6 @@ returns-clause-choice c = λ m n past old.
 
 pub returns-clause-groups : goal.returns-clause-groups
 returns-clause-groups c = rw (sym c.self.view_is) (few_groups (old_of c) (now_of c) (choice_of c) (new_of c) c.self.invariant (picks c))
+
+pub returns-clause-within : goal.returns-clause-within
+returns-clause-within c = rw (picks c).skip (skip_low (picks c).to_skip (choice_of c).side (now_of c))

@@ -1,0 +1,69 @@
+-- What the command leaves, from its places and the report as they were first to how they are last.
+use Rattle.std.specs.Prelude.{◌≡◌, ◌⊎◌, ◌↔◌, ◌<◌, ◌*◌, ℕ, suc, min, Bool, List, ◌++◌, length, take}
+use Rattle.std.specs.List.{concat}
+use Rattle.otn_base.specs.declared.limits.TheConstants.{OTU2_SLOTS}
+use Rattle.otn_ports.specs.PortViews.{SinkGot}
+use Rattle.otn_ports.specs.Sent.{IsSent}
+use Rattle.otn_ports.specs.Views.{Dead}
+use Rattle.line_side.specs.LineForm.{plain_otu2}
+use Rattle.tributary_model.specs.Places.{Tributary}
+use Rattle.device_model.specs.Moments.{line_taken}
+use Rattle.tributary_line.specs.TributaryFile.{IsTributaryFile}
+use Rattle.device_model.specs.LineAsked.{MayHave, InputLeft}
+use Rattle.protect_selector.specs.OfLines.{given_before, switch_text, switch_text_at}
+use Rattle.protect_selector.specs.Protecting.{Ends}
+use Rattle.protect_selector.specs.declared.ended.Ended.{Ended}
+use Rattle.protect_selector.specs.declared.ended.Ended.TheVariants.{Unfinished, Cut, ReportFault, Memory}
+
+-- a line that has more than so many turns want
+abbrev pub HasMore : (turns : ℕ) → (given : List ℕ) → Type 0
+HasMore turns given = line_taken plain_otu2 given turns 0 < length given
+
+-- of a line was taken what so many turns want, and one byte more, or all that there is
+abbrev pub TookOf : (turns : ℕ) → (given taken : List ℕ) → Type 0
+TookOf turns given taken = length taken ≡ min (length given) (suc (line_taken plain_otu2 given turns 0))
+
+-- a place of the command is dead
+abbrev pub IsCut : Ends → Type 0
+IsCut last = (last.working.state ≡ Dead) ⊎ (last.protection.state ≡ Dead) ⊎ (last.output.state ≡ Dead)
+
+-- the frames of these turns were due to the line output
+pub record OutputDue (own : Tributary) (turns : List (List ℕ)) (count : ℕ) (first last : Ends) : Type 0 where
+  pub frames : List (List ℕ)
+  pub file : IsTributaryFile 0 own turns (OTU2_SLOTS * count) frames
+  pub sent : IsSent first.output (concat frames) last.output
+
+-- where the report did not fail: all turns were done, and all lines written; the lines of both were taken
+pub record AllDone (own : Tributary) (turns n : ℕ) (first last : Ends) (ended : Ended) (working protection w p : List ℕ) : Type 0 where
+  pub output : OutputDue own (given_before own n w p turns) turns first last
+  pub report : SinkGot first.report (switch_text own n w p turns) last.report
+  pub working_took : TookOf turns w working
+  pub protection_took : TookOf turns p protection
+  pub cut : (ended ≡ Cut) ↔ IsCut last
+  pub unfinished : (ended ≡ Unfinished) ↔ ((IsCut last → ⊥) × (HasMore turns w ⊎ HasMore turns p))
+
+-- Where it failed: that was at the line of the switch in turn t + 1, of which a part was written and not all, behind the lines before. The
+-- frames of the turns before were written.
+pub record StoppedIn (own : Tributary) (t n : ℕ) (first last : Ends) (w p : List ℕ) : Type 0 where
+  pub output : OutputDue own (given_before own n w p t) t first last
+  pub went : ℕ
+  pub part : went < length (switch_text_at own n w p t)
+  pub report : SinkGot first.report (switch_text own n w p t ++ take went (switch_text_at own n w p t)) last.report
+
+-- by how the command ended, where the lines are these, of so many turns
+abbrev pub LeftSo : (ended : Ended) → Tributary → (turns n t : ℕ) → (first last : Ends) → (working protection w p : List ℕ) → Type 0
+LeftSo ReportFault own turns n t first last working protection w p = (t < turns) × StoppedIn own t n first last w p
+LeftSo Memory own turns n t first last working protection w p = ⊥
+LeftSo ended own turns n t first last working protection w p = AllDone own turns n first last ended working protection w p
+
+-- These bytes were taken of the lines. More may stand behind them; whatever both turn out to be, this is left.
+pub record ProtectRan (own : Tributary) (turns n : ℕ) (first last : Ends) (ended : Ended) : Type 0 where
+  pub working : List ℕ
+  pub protection : List ℕ
+  pub working_more : Bool
+  pub protection_more : Bool
+  pub working_left : InputLeft first.working last.working working working_more
+  pub protection_left : InputLeft first.protection last.protection protection protection_more
+  -- the turn at whose switch the report failed, from 0, where it did
+  pub stopped : ℕ
+  pub left : (w p : List ℕ) → MayHave working_more working w → MayHave protection_more protection p → LeftSo ended own turns n stopped first last working protection w p
