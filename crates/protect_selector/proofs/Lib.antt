@@ -3,3 +3,4 @@ pub mod Turns
 pub mod OfLines
 pub mod ProtectTurns
 pub mod ProtectEnds
+pub mod Carried

@@ -4,3 +4,4 @@ pub mod OfLines
 pub mod Protecting
 pub mod ProtectLeft
 pub mod Laws
+pub mod Carried

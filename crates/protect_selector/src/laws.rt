@@ -1,4 +1,5 @@
 // The laws about the choices, each the contract of a function.
+ghost use Rattle.protect_selector.specs.Carried.{StaysWhileCarried, CarriesTwoLater, IsApart};
 ghost use Rattle.protect_selector.specs.Laws.{HaveCauses, IsUpWhereOneIs, GivesAllOn, AreAligned, CompletesNoMore};
 
 /// Every switch has its cause: a defect, where the side was not Up and the other one is; or, in revertive operation, that
@@ -15,4 +16,16 @@ pub fn groups_stay_whole()
     ensures all { GivesAllOn }
     ensures aligned { AreAligned }
     ensures groups { CompletesNoMore }
+{}
+
+/// Where the working line carries a client's bytes in steady numbers, there is no switch, whatever protection brings, and the line
+/// output carries the same bytes, two turns later.
+pub fn protects_what_is_carried()
+    ensures stays { StaysWhileCarried }
+    ensures carries { CarriesTwoLater }
+{}
+
+/// Two worlds: what goes on and what is told is fixed by the MFAS bytes and the tributary's own places of both lines.
+pub fn selected_is_apart()
+    ensures { IsApart }
 {}

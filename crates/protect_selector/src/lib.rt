@@ -22,6 +22,8 @@ mod tests;
 
 pub use command::protect;
 pub use ended::Ended;
-pub use laws::{groups_stay_whole, switches_have_causes};
+pub use laws::{
+    groups_stay_whole, protects_what_is_carried, selected_is_apart, switches_have_causes,
+};
 pub use selector::Selector;
 pub use side::{Choice, Side, SwitchCause};
