@@ -114,7 +114,7 @@ sends_as_got one other x b port past n row column slots have same =
 -- ---- through the mask
 
 -- an own place is one of the frame
-inside : (own : Tributary) (n expected row column : ℕ) → IsOwn own n expected row column → place_of 4080 row column < 16320
+pub inside : (own : Tributary) (n expected row column : ℕ) → IsOwn own n expected row column → place_of 4080 row column < 16320
 inside own n expected row column (inl o) = let last = o.rows.1 in let high = o.columns.1 in omega arith
 inside own n expected row column (inr (inl o)) = let last = o.rows.1 in let high = o.columns.1 in omega arith
 inside own n expected row column (inr (inr o)) = let row_is = o.place.0 in let column_is = o.place.1 in omega arith

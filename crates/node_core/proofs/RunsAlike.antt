@@ -1,21 +1,22 @@
 -- What left on a connection that two runs share is the same, as far as both have gone.
-use Rattle.std.proofs.Common.{◌≡◌, ◌≢◌, ◌<◌, ◌≤◌, ◌+◌, ◌-◌, ◌*◌, ◌/◌, inl, inr, min, ℕ, Bool, true, false, List, [], ◌∷◌, ◌++◌, Some, length, take, drop, slice_get, nat_le, ◌&&◌, if◌then◌else◌, refl, sym, ap, ◌∙◌, subst, arith, append-nil, length-drop, mul_comm, ◌==◌, None}
+use Rattle.std.proofs.Common.{◌≡◌, ◌≢◌, ◌<◌, ◌≤◌, ◌+◌, ◌-◌, ◌*◌, ◌/◌, ◌%◌, inl, inr, min, ℕ, zero, suc, Bool, true, false, List, [], ◌∷◌, ◌++◌, Some, length, slice_index, take, drop, slice_get, nat_le, ◌&&◌, if◌then◌else◌, refl, sym, ap, ◌∙◌, subst, arith, append-nil, length-drop, mul_comm, ◌==◌, None}
 use Rattle.std.specs.List.{Contains, concat}
 use Rattle.std.proofs.lemmas.Nat.{mul-add-lt}
-use Rattle.std.proofs.lemmas.List.{take-append-le, drop-append-le}
+use Rattle.std.proofs.lemmas.List.{drop-append-le}
 use Rattle.std.proofs.lemmas.Option.{slice_get_read}
 use Rattle.std.proofs.lemmas.Bool.Decides.{nat_tests}
 use Rattle.otn_base.specs.LineSlots.{LineSlots, slots_of}
 use Rattle.otn_ports.specs.Given.{Lives}
 use Rattle.otn_ports.specs.Retiring.{retired_out_as}
 use Rattle.otn_ports.specs.Views.{State, Live, Dead, OutView, line_out_at, client_out_at}
+use Rattle.frame_geometry.specs.Places.{place_of}
 use Rattle.line_side.specs.LineFile.{frame_at, whole_frames}
 use Rattle.line_side.specs.LineForm.{size_of, through_mask}
 use Rattle.line_side.proofs.Masks.{length_through}
 use Rattle.plan_file.specs.declared.connection.Connection.{Connection}
 use Rattle.plan_file.specs.declared.connection.FromEnd.TheVariants as from_end
 use Rattle.plan_file.specs.declared.connection.ToEnd.TheVariants as to_end
-use Rattle.tributary_model.specs.Places.{byte_at}
+use Rattle.tributary_model.specs.Places.{byte_at, tributary_of}
 use Rattle.device_model.specs.Entries.{first_turn, own_turn, form_out}
 use Rattle.device_model.specs.Moments.{turns_done, client_due}
 use Rattle.device_model.specs.Numbers.{client_numbers, output_numbers, last_state}
@@ -24,10 +25,10 @@ use Rattle.device_model.specs.SoundPlans.{IsSoundEntry}
 use Rattle.device_model.specs.Through.{OwnInput, own_input, got_by, arrived_by, text_by, state_in}
 use Rattle.device_model.specs.TwoWorlds.{SameInput, AgreeOnEnd, HasFrame, HaveFrame, HaveSameByte, FiledRun, written}
 use Rattle.device_model.proofs.MadeFrames.{made_whole}
-use Rattle.device_model.proofs.OwnBytes.{writes_as_got}
+use Rattle.device_model.proofs.OwnBytes.{inside, writes_as_got}
 use Rattle.device_model.proofs.WorldInputs.{gives_the_same_input, leaves_the_same, sound_of}
 use Rattle.node_core.specs.RunLeft.{LineOutLeft, ClientOutLeft}
-use Rattle.node_core.specs.RunsAlike.{World, IsWorld, ShareOne, IsFrontOfOther, HasLived, BothLived, HasPlace, LeftAlike, state_of_client, went_out}
+use Rattle.node_core.specs.RunsAlike.{World, IsWorld, ShareOne, IsFrontOfOther, HasLived, BothLived, HasPlace, HasGone, LeftAlike, state_of_client, went_out}
 use Rattle.node_core.specs.Stands.{out_after_retire}
 use Rattle.node_core.proofs.UsedPorts.{to_line_used}
 
@@ -97,22 +98,29 @@ line_left world x b number slots is has to =
     let at = slice_get_read world.plan.connections (length world.plan.connections) has.0 x refl has.1 (sym has.2) in
     (is.left.of_inputs world.inputs is.may_be).outputs.line b (to_line_used world.plan has.0 b number slots x at to)
 
--- a frame that is whole in the front of a file is that of the file
-front_frame : (xs ys : List ℕ) (f : ℕ) → f < whole_frames xs → frame_at xs f ≡ frame_at (xs ++ ys) f
+-- a byte that stands in the front of a list is that of the list
+front_byte : (size place : ℕ) (xs ys : List ℕ) → place < length xs → slice_index (take size xs) place ≡ slice_index (take size (xs ++ ys)) place
+front_byte zero place xs ys less = refl
+front_byte (suc size) place [] ys less = absurd (omega arith)
+front_byte (suc size) zero (x ∷ xs) ys less = refl
+front_byte (suc size) (suc place) (x ∷ xs) ys less = front_byte size place xs ys (omega arith)
+
+-- so is one of a frame
+byte_in : (f place : ℕ) (xs ys : List ℕ) → 16320 * f + place < length xs → slice_index (frame_at xs f) place ≡ slice_index (frame_at (xs ++ ys) f) place
 unfolding frame_at
-front_frame xs ys f less =
-    let room : 16320 * f + 16320 ≤ length xs = omega arith in
-    let rest : 16320 ≤ length (drop (16320 * f) xs) = omega (arith, length-drop (16320 * f) xs) in
-    sym (ap (take 16320) (drop-append-le (16320 * f) xs ys (omega arith)) ∙ take-append-le 16320 (drop (16320 * f) xs) ys rest)
+byte_in f place xs ys less =
+    let rest : place < length (drop (16320 * f) xs) = omega (arith, length-drop (16320 * f) xs) in
+    front_byte 16320 place (drop (16320 * f) xs) ys rest ∙ sym (ap (λ l. slice_index (take 16320 l) place) (drop-append-le (16320 * f) xs ys (omega arith)))
 
 run_at : (world : World) (b : ℕ) (went : List ℕ) → LineOutLeft world.plan world.inputs b (line_out_at world.first b) went (line_out_at world.last b) → FiledRun
 run_at world b went l = record { plan = world.plan; inputs = world.inputs; frames = l.is_due.frames }
 
--- a whole frame of what went is that of the file
-went_frame : (world : World) (b f : ℕ) (went : List ℕ) (l : LineOutLeft world.plan world.inputs b (line_out_at world.first b) went (line_out_at world.last b)) → f < whole_frames went
-    → frame_at went f ≡ frame_at (written (run_at world b went l) b) f
+-- a byte of what went is that of the file
+went_byte : (world : World) (b f row column : ℕ) (went : List ℕ) (l : LineOutLeft world.plan world.inputs b (line_out_at world.first b) went (line_out_at world.last b)) → HasGone went f row column
+    → HaveSameByte went (written (run_at world b went l) b) f row column
 unfolding run_at
-went_frame world b f went l less = front_frame went l.left.rest f less ∙ ap (λ bytes. frame_at bytes f) (l.left.parts ∙ l.is_due.bytes)
+went_byte world b f row column went l has =
+    byte_in f (place_of 4080 row column) went l.left.rest has ∙ ap (λ bytes. byte_at (frame_at bytes f) row column) (l.left.parts ∙ l.is_due.bytes)
 
 frame_made : (past n size turns : ℕ) → past < turns → n < size → size * past + n < size * turns + 0
 frame_made past n size turns p l =
@@ -137,6 +145,10 @@ has_frame world x b number past n row column slots went is has place l =
       made = frame_made past n (size_of (form_out world.plan b)) world.plan.turns (omega arith) (omega arith);
     }
 
+-- a place of a whole frame is in front of the bytes' end
+frame_gone : (f place size : ℕ) → f < size / 16320 → place < 16320 → 16320 * f + place < size
+frame_gone f place size less inner = omega arith
+
 -- where the line has lived all frames of the plan's turns went whole
 pub line_lived : (world : World) (b : ℕ) (went : List ℕ) (l : LineOutLeft world.plan world.inputs b (line_out_at world.first b) went (line_out_at world.last b))
     → HasLived (line_out_at world.first b).state (line_out_at world.last b).state → whole_frames went ≡ size_of (form_out world.plan b) * world.plan.turns + 0
@@ -146,10 +158,10 @@ line_lived world b went l lived =
     ap whole_frames all ∙ ap (λ n. n / 16320) (length_through (form_out world.plan b).scrambled (concat l.is_due.frames))
     ∙ made_whole world.plan world.inputs b (size_of (form_out world.plan b) * world.plan.turns + 0) l.is_due.frames l.is_due.file
 
-went_whole : (world : World) (x : Connection) (b number past n row column : ℕ) (slots : LineSlots) (went : List ℕ) → IsWorld world → Contains world.plan.connections x → HasPlace x b number past n row column slots
+all_gone : (world : World) (x : Connection) (b number past n row column : ℕ) (slots : LineSlots) (went : List ℕ) → IsWorld world → Contains world.plan.connections x → HasPlace x b number past n row column slots
     → LineOutLeft world.plan world.inputs b (line_out_at world.first b) went (line_out_at world.last b)
-    → HasLived (line_out_at world.first b).state (line_out_at world.last b).state → slots_of slots.kind * past + n < whole_frames went
-went_whole world x b number past n row column slots went is has place l lived =
+    → HasLived (line_out_at world.first b).state (line_out_at world.last b).state → HasGone went (slots_of slots.kind * past + n) row column
+all_gone world x b number past n row column slots went is has place l lived =
     let sound = sound_in world x is has in
     let same : slots_of slots.kind ≡ size_of (form_out world.plan b) = ap slots_of (sound.to_line b number slots place.to).kind in
     let stop = sound.stop in
@@ -158,7 +170,10 @@ went_whole world x b number past n row column slots went is has place l lived =
     let whole = line_lived world b went l lived in
     let made = frame_made past n (size_of (form_out world.plan b)) world.plan.turns (omega arith) (omega arith) in
     let size = ap (λ s. s * past + n) same in
-    omega arith
+    let f = slots_of slots.kind * past + n in
+    let inner : place_of 4080 row column < 16320 = inside (tributary_of slots number) n (f % 256) row column place.own in
+    let less : f < whole_frames went = omega arith in
+    frame_gone f (place_of 4080 row column) (length went) less inner
 
 -- ---- both
 
@@ -202,7 +217,7 @@ same_bytes one other x b number past n row column slots went others l r have sam
 
 same_places : (one other : World) (x : Connection) (first : IsWorld one) (second : IsWorld other) → CarryAlike one other x → (b number past n row column : ℕ) (slots : LineSlots)
     → HasPlace x b number past n row column slots → (form_out one.plan b).scrambled ≡ (form_out other.plan b).scrambled
-    → slots_of slots.kind * past + n < whole_frames ((went_out one first).line b) → slots_of slots.kind * past + n < whole_frames ((went_out other second).line b)
+    → HasGone ((went_out one first).line b) (slots_of slots.kind * past + n) row column → HasGone ((went_out other second).line b) (slots_of slots.kind * past + n) row column
     → HaveSameByte ((went_out one first).line b) ((went_out other second).line b) (slots_of slots.kind * past + n) row column
 same_places one other x first second share b number past n row column slots place mask went others =
     let f = slots_of slots.kind * past + n in
@@ -219,9 +234,9 @@ same_places one other x first second share b number past n row column slots plac
     let began = place.active.start in
     let stop = place.active.stop in
     let same = share.alike.got (own_turn x past + 1) (omega arith) in
-    ap (λ frame. byte_at frame row column) (went_frame one b f ((went_out one first).line b) l went)
+    went_byte one b f row column ((went_out one first).line b) l went
     ∙ same_bytes one other x b number past n row column slots ((went_out one first).line b) ((went_out other second).line b) l r have same mask
-    ∙ sym (ap (λ frame. byte_at frame row column) (went_frame other b f ((went_out other second).line b) r others))
+    ∙ sym (went_byte other b f row column ((went_out other second).line b) r others)
 
 -- ---- numbers
 
@@ -280,8 +295,8 @@ left_as_alike one other x first second share = record {
   places = same_places one other x first second share;
   all_places = λ b number past n row column slots place mask lived.
       same_places one other x first second share b number past n row column slots place mask
-      (went_whole one x b number past n row column slots ((went_out one first).line b) first share.first place (line_left one x b number slots first share.first place.to) lived.first)
-      (went_whole other x b number past n row column slots ((went_out other second).line b) second share.second place (line_left other x b number slots second share.second place.to) lived.second);
+      (all_gone one x b number past n row column slots ((went_out one first).line b) first share.first place (line_left one x b number slots first share.first place.to) lived.first)
+      (all_gone other x b number past n row column slots ((went_out other second).line b) second share.second place (line_left other x b number slots second share.second place.to) lived.second);
   client_in = same_client_in one other x first second share;
   client_out = same_client_out one other x first second share;
   from = same_from one other x first second share;

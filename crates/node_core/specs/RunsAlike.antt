@@ -1,10 +1,11 @@
 -- Two worlds, by what runs leave: two runs that carry one connection, which comes from the same in both. What left on it is the same, as far as
 -- both have gone.
-use Rattle.std.specs.Prelude.{◌≡◌, ◌≢◌, ◌<◌, ◌+◌, ◌*◌, ◌%◌, ◌⊎◌, ℕ, List, ◌++◌, None, Some, slice_get}
+use Rattle.std.specs.Prelude.{◌≡◌, ◌≢◌, ◌<◌, ◌+◌, ◌*◌, ◌%◌, ◌⊎◌, ℕ, List, ◌++◌, None, Some, length, slice_get}
 use Rattle.std.specs.List.{Contains}
 use Rattle.otn_base.specs.LineSlots.{LineSlots, slots_of}
+use Rattle.otn_base.specs.declared.limits.TheConstants.{LINE_COLUMNS, LINE_FRAME_BYTES}
+use Rattle.frame_geometry.specs.Places.{place_of}
 use Rattle.otn_ports.specs.Views.{State, Live, Dead, BaysView, line_out_at, client_out_at}
-use Rattle.line_side.specs.LineFile.{whole_frames}
 use Rattle.plan_file.specs.Answer.{fault_in}
 use Rattle.plan_file.specs.declared.connection.Connection.{Connection}
 use Rattle.plan_file.specs.declared.connection.FromEnd.TheVariants as from_end
@@ -76,18 +77,21 @@ pub record HasPlace (x : Connection) (b port past n row column : ℕ) (slots : L
   pub frame : n < slots_of slots.kind
   pub own : IsOwn (tributary_of slots port) n ((slots_of slots.kind * past + n) % 256) row column
 
+-- the byte in a row and a column of frame f is among these bytes of a line
+abbrev pub HasGone : (line : List ℕ) → (f row column : ℕ) → Type 0
+HasGone line f row column = LINE_FRAME_BYTES * f + place_of LINE_COLUMNS row column < length line
+
 -- ---- all of it
 
 -- What left on the connection is the same in both runs, to whose outputs these went. To a client: of the two texts one begins with the other,
--- and where its place has lived in both they are one, as are the client's numbers. On a line: at each own place of a frame that went whole in
--- both, and so in each of its turns where the line has lived in both, stands the same byte, where both lines are scrambled, or neither is. The
--- numbers of a client that it comes from are the same; and so, in runs of as many turns, is its own line of the report.
+-- and where its place has lived in both they are one, as are the client's numbers. On a line: at each own place whose byte has gone in both,
+-- and so in each of its turns where the line has lived in both, stands the same byte, where both lines are scrambled, or neither is. The numbers of a client that it comes from are the same; and so, in runs of as many turns, is its own line of the report.
 pub record LeftAlike (one other : World) (went others : Went) (x : Connection) : Type 0 where
   pub text : (n : ℕ) → x.to ≡ to_end.Client n → IsFrontOfOther (went.client n) (others.client n)
   pub whole_text : (n : ℕ) → x.to ≡ to_end.Client n → BothLived one other (state_of_client n) → went.client n ≡ others.client n
   pub places : (b port past n row column : ℕ) (slots : LineSlots) → HasPlace x b port past n row column slots
       → (form_out one.plan b).scrambled ≡ (form_out other.plan b).scrambled
-      → slots_of slots.kind * past + n < whole_frames (went.line b) → slots_of slots.kind * past + n < whole_frames (others.line b)
+      → HasGone (went.line b) (slots_of slots.kind * past + n) row column → HasGone (others.line b) (slots_of slots.kind * past + n) row column
       → HaveSameByte (went.line b) (others.line b) (slots_of slots.kind * past + n) row column
   pub all_places : (b port past n row column : ℕ) (slots : LineSlots) → HasPlace x b port past n row column slots
       → (form_out one.plan b).scrambled ≡ (form_out other.plan b).scrambled → BothLived one other (state_of_line b)
