@@ -102,21 +102,30 @@ was_given true first was last taken more given left place told =
 
 -- ---- all inputs
 
+-- what a line had to give may have been what its bytes were taken of
+pub line_had : (plan : Plan) (first last : BaysView) (takings : Takings) (numbers : Numbers) (a : ℕ) (given : List ℕ) → RunLeft plan first last takings numbers → uses plan (port.LineIn a) ≡ true
+    → HadToGive (line_in_at first a) (line_in_at last a) given → MayHave (takings.line_more a) (takings.line a) given
+line_had plan first last takings numbers a given left used had =
+    follows (line_in_at first a) (line_in_at last a) (takings.line a) (takings.line_more a) given (left.line_in a used) had
+
+-- so of a client of a connection
+pub client_had : (plan : Plan) (first last : BaysView) (takings : Takings) (numbers : Numbers) (x : Connection) (n : ℕ) (given : List ℕ) → RunLeft plan first last takings numbers
+    → Contains plan.connections x → x.from ≡ from_end.Client n → HadToGive (client_in_at first n) (client_in_at last n) given → MayHave (takings.client_more n) (takings.client n) given
+client_had plan first last takings numbers x n given left has from had =
+    let l = left.client_in x n has from in
+    follows (client_in_at first n) l.was (takings.client n) (takings.client_more n) given l.left
+    (was_given x.retire (client_in_at first n) l.was (client_in_at last n) (takings.client n) (takings.client_more n) given l.left l.place had)
+
 pub given_inputs : (plan : Plan) (first last : BaysView) (takings : Takings) (numbers : Numbers) (inputs : Inputs) → RunLeft plan first last takings numbers → HasGiven plan first last
     → AreInputs plan first last inputs → MayBeInputs plan first last takings inputs
 given_inputs plan first last takings numbers inputs left has are = record {
   line = λ a used.
       let g = has.line a used in
-      (g.0, follows (line_in_at first a) (line_in_at last a) (takings.line a) (takings.line_more a) g.0 (left.line_in a used) g.1, are.line a g.0 used g.1);
+      (g.0, line_had plan first last takings numbers a g.0 left used g.1, are.line a g.0 used g.1);
   client = λ n used.
       let g = has.client n used in
       let x = client_read plan n used in
-      let l = left.client_in x.0 n x.1 x.2 in (
-        g.0,
-        follows (client_in_at first n) l.was (takings.client n) (takings.client_more n) g.0 l.left
-            (was_given x.0.retire (client_in_at first n) l.was (client_in_at last n) (takings.client n) (takings.client_more n) g.0 l.left l.place g.1),
-        are.client n g.0 used g.1,
-      );
+      (g.0, client_had plan first last takings numbers x.0 n g.0 left x.1 x.2 g.1, are.client n g.0 used g.1);
 }
 
 pub of_given : (plan : Plan) (first last : BaysView) (takings : Takings) (numbers : Numbers) (inputs : Inputs) → RunLeft plan first last takings numbers → HasGiven plan first last

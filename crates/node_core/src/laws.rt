@@ -3,6 +3,7 @@ ghost use Rattle.node_core.specs.FaultlessRuns.{FaultlessRunsEndByInputs};
 ghost use Rattle.node_core.specs.GivenRuns.{GivenMayBeInputs, IsRunOfGiven};
 ghost use Rattle.node_core.specs.RunsAlike.{RunsAgree};
 ghost use Rattle.node_core.specs.RunsThrough.{OutputsAreThrough, RunsCarry};
+ghost use Rattle.node_core.specs.SeenRuns.{SeenRunsAgree, SeenRunsCarry, SeenRunsLeaveOthers, SeenRunsPutThrough};
 
 /// A run whose inputs tell their bytes: each place of an input that the plan uses gave some bytes, so these
 /// are the lines and the packets that it carried. All that is said of a run's outputs and numbers for any
@@ -39,4 +40,17 @@ pub fn outputs_through()
 /// packets are written whose GFP frames lie whole in the frames that came whole.
 pub fn runs_carry()
     ensures { RunsCarry }
+{}
+
+/// The last three by what is seen of the places before and after: two runs of accepted plans have the same entry,
+/// and what its own port had to give agrees; then what its output's port got agrees (`agree`). To a client went
+/// what its entry puts through it of what its own port gave, to a line the file of what all ports gave (`through`);
+/// and what is carried to a connection leaves on it (`carry`). That is said of ports that tell their bytes: of all other
+/// ports, and of what a run takes of its inputs and counts, nothing is asked. A place that the plan does not use is seen
+/// as it was (`others`).
+pub fn seen_runs()
+    ensures agree { SeenRunsAgree }
+    ensures through { SeenRunsPutThrough }
+    ensures carry { SeenRunsCarry }
+    ensures others { SeenRunsLeaveOthers }
 {}

@@ -37,7 +37,7 @@ mod turn;
 
 pub use damage::{runs_agree_but_for_one, runs_hand_on_a_front, runs_heal};
 pub use device_model::{FromState, Outcome};
-pub use laws::{faultless_runs, outputs_through, run_of_given, runs_agree, runs_carry};
+pub use laws::{faultless_runs, outputs_through, run_of_given, runs_agree, runs_carry, seen_runs};
 pub use node::Node;
 pub use numbers::{ClientInCounts, ClientOutCounts, RunNumbers};
 pub use ports::uses;

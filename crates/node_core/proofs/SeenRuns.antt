@@ -1,0 +1,333 @@
+-- What runs leave on a connection, by what is seen of the places before and after.
+use Rattle.std.proofs.Common.{◌≡◌, ◌<◌, ◌≤◌, ◌+◌, ◌-◌, ◌*◌, ℕ, Bool, true, false, List, [], ◌∷◌, ◌++◌, length, Option, Some, refl, sym, ap, ◌∙◌, subst, arith, append-nil, ◌==◌, if◌then◌else◌}
+use Rattle.std.specs.List.{concat, Contains}
+use Rattle.std.proofs.lemmas.Bool.Decides.{nat_tests}
+use Rattle.std.proofs.lemmas.List.{append_cancel_left}
+use Rattle.std.proofs.lemmas.Option.{slice_get_read}
+use Rattle.otn_base.specs.LineSlots.{LineSlots, slots_of}
+use Rattle.otn_base.specs.declared.kind.PortName.TheVariants as port
+use Rattle.otn_ports.specs.Bytes.{after}
+use Rattle.otn_ports.specs.Given.{Grew, IsGone, gone_between}
+use Rattle.otn_ports.specs.Views.{State, Empty, Live, Dead, OutView, line_out_at, client_in_at, client_out_at}
+use Rattle.packet_text.specs.PacketText.{hex_text}
+use Rattle.line_side.specs.LineForm.{through_mask}
+use Rattle.maintenance_signals.specs.Stream.{signal_bytes}
+use Rattle.maintenance_signals.specs.declared.signal.Signal.{Signal}
+use Rattle.odu_client.specs.ClientFrames.{client_stream}
+use Rattle.odu_client.specs.ClientInput.{ClientInput, emitted_before, input_given}
+use Rattle.plan_file.specs.declared.connection.Connection.{Connection}
+use Rattle.plan_file.specs.declared.connection.FromEnd.{FromEnd}
+use Rattle.plan_file.specs.declared.connection.FromEnd.TheVariants as from_end
+use Rattle.plan_file.specs.declared.connection.ToEnd.TheVariants as to_end
+use Rattle.tributary_model.specs.Carries.{sent}
+use Rattle.tributary_model.specs.Places.{tributary_of}
+use Rattle.device_model.specs.Agreements.{AgreeOnTributary}
+use Rattle.device_model.specs.Carried.{numbers_got}
+use Rattle.device_model.specs.Delivery.{AreOffered, whole_packets}
+use Rattle.device_model.specs.Entries.{first_turn, form_in, form_out}
+use Rattle.device_model.specs.Inputs.{AreInputs, has_died}
+use Rattle.device_model.specs.LineViews.{view_at}
+use Rattle.device_model.specs.Through.{Inputs, OwnInput, of_line, of_client, own_of, own_input, text_by}
+use Rattle.device_model.specs.TwoWorlds.{AgreeOnEnd}
+use Rattle.node_core.specs.GivenRuns.{HasGiven}
+use Rattle.node_core.specs.RunLeft.{Takings, MayHave, MayBeInputs}
+use Rattle.node_core.specs.RunsAlike.{World, IsWorld, went_out}
+use Rattle.node_core.specs.RunsThrough.{IsFrontOf, CarriedOn}
+use Rattle.node_core.specs.SeenRuns.{Run, IsRun, LineGave, ClientGave, AgreeOnInput, ShareInput, LineGot, ClientGot, LineLived, ClientLived, SameText, SameOnLine, SameOutput, Shows, FileGot, PutThrough, read_back, CarriesOver}
+use Rattle.node_core.proofs.GivenRuns.{given_inputs, line_had, client_had}
+use Rattle.node_core.proofs.RunsAlike.{left_alike}
+use Rattle.node_core.proofs.RunsThrough.{left_through, carried_in}
+use Rattle.node_core.proofs.UsedPorts.{from_line_used}
+
+-- ---- what went out is what the port got
+
+of_one : (xs ys : List ℕ) → Some xs ≡ Some ys → xs ≡ ys
+of_one xs ys e = cc
+
+grew_by : (first last : Option (List ℕ)) (went left : List ℕ) → last ≡ after first left → Grew first last went → went ≡ left
+grew_by first last went left e k =
+    append_cancel_left k.before went left
+    (of_one (k.before ++ went) (k.before ++ left) (sym k.has ∙ e ∙ ap (λ got. after got left) k.had))
+
+by_states : (was is : State) (first last : OutView) (all left went : List ℕ) → first.state ≡ was → last.state ≡ is → IsFrontOf first last all left → gone_between was is first.got last.got went → went ≡ left
+by_states Live Live first last all left went f l front k = grew_by first.got last.got went left (front.got f (λ e. cc)) k
+by_states Live Dead first last all left went f l front k = grew_by first.got last.got went left (front.got f (λ e. cc)) k
+by_states Live Empty first last all left went f l front k = absurd k
+by_states Empty is first last all left went f l front k = k ∙ sym (front.idle (λ e. cc))
+by_states Dead is first last all left went f l front k = k ∙ sym (front.idle (λ e. cc))
+
+got_is : (first last : OutView) (all left went : List ℕ) → IsFrontOf first last all left → IsGone first last went → went ≡ left
+got_is first last all left went front k = by_states first.state last.state first last all left went refl refl front k
+
+-- ---- what the inputs may have been
+
+-- a line and a client that may have been
+abbrev MayLine : Run → Takings → (a : ℕ) → (line : List ℕ) → Type 0
+MayLine run takings a line = (given : List ℕ) × MayHave (takings.line_more a) (takings.line a) given × (line ≡ through_mask (form_in run.plan a).scrambled given)
+
+abbrev MayClient : Run → Takings → (n : ℕ) → ClientInput → Type 0
+MayClient run takings n input = (given : List ℕ) × MayHave (takings.client_more n) (takings.client n) given
+    × (input ≡ input_given (has_died (client_in_at run.before n).state (client_in_at run.after n).state) given)
+
+-- inputs that may have been
+abbrev MayBe : Run → Takings → Inputs → Type 0
+MayBe run takings inputs = MayBeInputs run.plan run.before run.after takings inputs
+
+-- what was taken of each, and nothing behind it
+abbrev taken_inputs : Run → Takings → Inputs
+taken_inputs run takings = record {
+  line = λ a. through_mask (form_in run.plan a).scrambled (takings.line a);
+  client = λ n. input_given (has_died (client_in_at run.before n).state (client_in_at run.after n).state) (takings.client n);
+}
+
+all_taken : (more : Bool) (taken : List ℕ) → MayHave more taken taken
+all_taken more taken = record { rest = []; over = λ e. refl; parts = sym (append-nil taken) }
+
+taken_may : (run : Run) (takings : Takings) → MayBe run takings (taken_inputs run takings)
+taken_may run takings = record {
+  line = λ a used. (takings.line a, all_taken (takings.line_more a) (takings.line a), refl);
+  client = λ n used. (takings.client n, all_taken (takings.client_more n) (takings.client n), refl);
+}
+
+-- with another line a, or client n
+abbrev with_line : (a : ℕ) → (line : List ℕ) → Inputs → Inputs
+with_line a line inputs = record { line = λ c. if c == a then line else inputs.line c; client = inputs.client }
+
+abbrev with_client : (n : ℕ) → ClientInput → Inputs → Inputs
+with_client n input inputs = record { line = inputs.line; client = λ c. if c == n then input else inputs.client c }
+
+same_number : (a b : ℕ) → (a == b) ≡ true → a ≡ b
+same_number a b e = grind (arith, nat_tests)
+
+one_number : (a : ℕ) → (a == a) ≡ true
+one_number a = grind (arith, nat_tests)
+
+line_is : (a : ℕ) (line : List ℕ) (inputs : Inputs) → (with_line a line inputs).line a ≡ line
+line_is a line inputs = ap (λ test. if test then line else inputs.line a) (one_number a)
+
+client_is : (n : ℕ) (input : ClientInput) (inputs : Inputs) → (with_client n input inputs).client n ≡ input
+client_is n input inputs = ap (λ test. if test then input else inputs.client n) (one_number n)
+
+with_line_may : (run : Run) (takings : Takings) (a : ℕ) (line : List ℕ) (inputs : Inputs) → MayBe run takings inputs → MayLine run takings a line → MayBe run takings (with_line a line inputs)
+with_line_may run takings a line inputs may own = record { line = λ c used. go c (c == a) refl (may.line c used); client = may.client }
+  where
+    go : (c : ℕ) (test : Bool) → (c == a) ≡ test → MayLine run takings c (inputs.line c) → MayLine run takings c (if test then line else inputs.line c)
+    go c true e other = subst (λ i. MayLine run takings i line) (sym (same_number c a e)) own
+    go c false e other = other
+
+with_client_may : (run : Run) (takings : Takings) (n : ℕ) (input : ClientInput) (inputs : Inputs) → MayBe run takings inputs → MayClient run takings n input → MayBe run takings (with_client n input inputs)
+with_client_may run takings n input inputs may own = record { line = may.line; client = λ c used. go c (c == n) refl (may.client c used) }
+  where
+    go : (c : ℕ) (test : Bool) → (c == n) ≡ test → MayClient run takings c (inputs.client c) → MayClient run takings c (if test then input else inputs.client c)
+    go c true e other = subst (λ i. MayClient run takings i input) (sym (same_number c n e)) own
+    go c false e other = other
+
+-- ---- inputs with what its own port had to give
+
+abbrev own_line_inputs : (run : Run) → IsRun run → (a : ℕ) → (line : List ℕ) → Inputs
+own_line_inputs run is a line = with_line a line (taken_inputs run is.takings)
+
+own_line_may : (run : Run) (is : IsRun run) (x : Connection) (a number : ℕ) (slots : LineSlots) (line : List ℕ) → Contains run.plan.connections x → x.from ≡ from_end.Line a number slots → LineGave run a line
+    → MayBe run is.takings (own_line_inputs run is a line)
+own_line_may run is x a number slots line has from gave =
+    let at = slice_get_read run.plan.connections (length run.plan.connections) has.0 x refl has.1 (sym has.2) in
+    let used = from_line_used run.plan has.0 a number slots x at from in
+    with_line_may run is.takings a line (taken_inputs run is.takings) (taken_may run is.takings)
+    (gave.given, line_had run.plan run.before run.after is.takings is.numbers a gave.given is.left used gave.had, gave.frames)
+
+abbrev own_client_inputs : (run : Run) → IsRun run → (n : ℕ) → ClientInput → Inputs
+own_client_inputs run is n input = with_client n input (taken_inputs run is.takings)
+
+own_client_may : (run : Run) (is : IsRun run) (x : Connection) (n : ℕ) (input : ClientInput) → Contains run.plan.connections x → x.from ≡ from_end.Client n → ClientGave run n input
+    → MayBe run is.takings (own_client_inputs run is n input)
+own_client_may run is x n input has from gave =
+    with_client_may run is.takings n input (taken_inputs run is.takings) (taken_may run is.takings)
+    (gave.given, client_had run.plan run.before run.after is.takings is.numbers x n gave.given is.left has from gave.had, gave.packets)
+
+-- ---- the run, as one of these inputs
+
+abbrev world_of : (run : Run) → IsRun run → Inputs → World
+world_of run is inputs = record { plan = run.plan; first = run.before; last = run.after; takings = is.takings; numbers = is.numbers; inputs = inputs }
+
+abbrev is_world : (run : Run) (is : IsRun run) (inputs : Inputs) → MayBe run is.takings inputs → IsWorld (world_of run is inputs)
+is_world run is inputs may = record { accepted = is.accepted; left = is.left; may_be = may }
+
+-- ---- two runs
+
+-- inputs that both may have had, and that agree on what the end comes from
+record AgreeingInputs (one other : Run) (first : IsRun one) (second : IsRun other) (from : FromEnd) : Type 0 where
+  mine : Inputs
+  theirs : Inputs
+  may : MayBe one first.takings mine
+  may_too : MayBe other second.takings theirs
+  agree : AgreeOnEnd from mine theirs
+
+agreeing : (one other : Run) (first : IsRun one) (second : IsRun other) (x : Connection) (from : FromEnd) → x.from ≡ from → Contains one.plan.connections x → Contains other.plan.connections x
+    → AgreeOnInput from one other → AgreeingInputs one other first second from
+agreeing one other first second x (from_end.Line a number slots) e has has_too (line, others, gave, gave_too, agree) =
+    let own = tributary_of slots number in
+    record {
+      mine = own_line_inputs one first a line;
+      theirs = own_line_inputs other second a others;
+      may = own_line_may one first x a number slots line has e gave;
+      may_too = own_line_may other second x a number slots others has_too e gave_too;
+      agree = subst (λ l. AgreeOnTributary own l ((own_line_inputs other second a others).line a)) (sym (line_is a line (taken_inputs one first.takings)))
+          (subst (λ l. AgreeOnTributary own line l) (sym (line_is a others (taken_inputs other second.takings))) agree);
+    }
+agreeing one other first second x (from_end.Client n) e has has_too (input, gave, gave_too) = record {
+  mine = own_client_inputs one first n input;
+  theirs = own_client_inputs other second n input;
+  may = own_client_may one first x n input has e gave;
+  may_too = own_client_may other second x n input has_too e gave_too;
+  agree = client_is n input (taken_inputs one first.takings) ∙ sym (client_is n input (taken_inputs other second.takings));
+}
+agreeing one other first second x (from_end.Signal signal) e has has_too same = record {
+  mine = taken_inputs one first.takings;
+  theirs = taken_inputs other second.takings;
+  may = taken_may one first.takings;
+  may_too = taken_may other second.takings;
+  agree = tt;
+}
+
+pub seen_alike : (one other : Run) (x : Connection) → IsRun one → IsRun other → ShareInput one other x → SameOutput one other x
+seen_alike one other x first second share =
+    let w = agreeing one other first second x x.from refl share.first share.second share.agree in
+    let is = is_world one first w.mine w.may in
+    let is_too = is_world other second w.theirs w.may_too in
+    let mine = world_of one first w.mine in
+    let theirs = world_of other second w.theirs in
+    let left = left_alike mine theirs x is is_too (record { first = share.first; second = share.second; agree = w.agree }) in
+    let through = left_through mine x is share.first in
+    let through_too = left_through theirs x is_too share.second in
+    record {
+      client = λ n went others to got got_too.
+          let all = text_by x (own_input w.mine x) (x.stop - first_turn x) in
+          let all_too = text_by x (own_input w.theirs x) (x.stop - first_turn x) in
+          let e = got_is (client_out_at one.before n) (client_out_at one.after n) all ((went_out mine is).client n) went (through.client n to) got in
+          let f = got_is (client_out_at other.before n) (client_out_at other.after n) all_too ((went_out theirs is_too).client n) others (through_too.client n to) got_too in
+          subst (λ l. SameText one other n l others) (sym e)
+          (subst (λ l. SameText one other n ((went_out mine is).client n) l) (sym f)
+          (record { front = left.text n to; whole = λ l m. left.whole_text n to (record { first = l; second = m }) }));
+      line = λ b number past n row column slots went others place mask got got_too.
+          let file = through.line b number slots place.to in
+          let file_too = through_too.line b number slots place.to in
+          let e = got_is (line_out_at one.before b) (line_out_at one.after b) (through_mask (form_out one.plan b).scrambled (concat file.frames)) ((went_out mine is).line b) went file.front got in
+          let f = got_is (line_out_at other.before b) (line_out_at other.after b) (through_mask (form_out other.plan b).scrambled (concat file_too.frames)) ((went_out theirs is_too).line b) others file_too.front got_too in
+          let at = slots_of slots.kind * past + n in
+          subst (λ l. SameOnLine one other b at row column l others) (sym e)
+          (subst (λ l. SameOnLine one other b at row column ((went_out mine is).line b) l) (sym f)
+          (record {
+            gone = left.places b number past n row column slots place mask;
+            whole = λ l m. left.all_places b number past n row column slots place mask (record { first = l; second = m });
+          }));
+    }
+
+-- ---- what is put through
+
+-- inputs that the run may have had, of which the end's own is this
+record ShownInputs (run : Run) (is : IsRun run) (from : FromEnd) (own : OwnInput) : Type 0 where
+  inputs : Inputs
+  may : MayBe run is.takings inputs
+  own_is : own ≡ own_of inputs from
+
+shown : (run : Run) (is : IsRun run) (x : Connection) (from : FromEnd) (own : OwnInput) → x.from ≡ from → Contains run.plan.connections x → Shows run from own → ShownInputs run is from own
+shown run is x (from_end.Line a number slots) own e has (line, gave, same) = record {
+  inputs = own_line_inputs run is a line;
+  may = own_line_may run is x a number slots line has e gave;
+  own_is = same ∙ ap (λ l. of_line (view_at (tributary_of slots number) l)) (sym (line_is a line (taken_inputs run is.takings)));
+}
+shown run is x (from_end.Client n) own e has (input, gave, same) = record {
+  inputs = own_client_inputs run is n input;
+  may = own_client_may run is x n input has e gave;
+  own_is = same ∙ ap of_client (sym (client_is n input (taken_inputs run is.takings)));
+}
+shown run is x (from_end.Signal signal) own e has same = record { inputs = taken_inputs run is.takings; may = taken_may run is.takings; own_is = same }
+
+text_through : (run : Run) (x : Connection) → IsRun run → Contains run.plan.connections x → (n : ℕ) (own : OwnInput) (went : List ℕ) → x.to ≡ to_end.Client n → Shows run x.from own → ClientGot run n went
+    → IsFrontOf (client_out_at run.before n) (client_out_at run.after n) (text_by x own (x.stop - first_turn x)) went
+text_through run x is has n own went to shows got =
+    let s = shown run is x x.from own refl has shows in
+    let world = world_of run is s.inputs in
+    let in_world = is_world run is s.inputs s.may in
+    let all = text_by x (own_input s.inputs x) (x.stop - first_turn x) in
+    let front = (left_through world x in_world has).client n to in
+    let e = got_is (client_out_at run.before n) (client_out_at run.after n) all ((went_out world in_world).client n) went front got in
+    subst (λ o. IsFrontOf (client_out_at run.before n) (client_out_at run.after n) (text_by x o (x.stop - first_turn x)) went) (sym s.own_is)
+    (subst (λ l. IsFrontOf (client_out_at run.before n) (client_out_at run.after n) all l) (sym e) front)
+
+file_through : (run : Run) (x : Connection) → IsRun run → Contains run.plan.connections x → (b number : ℕ) (slots : LineSlots) (inputs : Inputs) (went : List ℕ) → x.to ≡ to_end.Line b number slots
+    → HasGiven run.plan run.before run.after → AreInputs run.plan run.before run.after inputs → LineGot run b went → FileGot run inputs b went
+file_through run x is has b number slots inputs went to given are got =
+    let in_world = is_world run is inputs (given_inputs run.plan run.before run.after is.takings is.numbers inputs is.left given are) in
+    let world = world_of run is inputs in
+    let file = (left_through world x in_world has).line b number slots to in
+    let all = through_mask (form_out run.plan b).scrambled (concat file.frames) in
+    let e = got_is (line_out_at run.before b) (line_out_at run.after b) all ((went_out world in_world).line b) went file.front got in
+    record { frames = file.frames; file = file.file; front = subst (λ l. IsFrontOf (line_out_at run.before b) (line_out_at run.after b) all l) (sym e) file.front }
+
+pub puts_through : (run : Run) (x : Connection) → IsRun run → Contains run.plan.connections x → PutThrough run x
+puts_through run x is has = record { client = text_through run x is has; line = file_through run x is has }
+
+-- ---- what is carried
+
+-- what its line got, in a world of the run
+line_got : (world : World) (x : Connection) (is : IsWorld world) → Contains world.plan.connections x → (b number : ℕ) (slots : LineSlots) (went : List ℕ) → x.to ≡ to_end.Line b number slots
+    → IsGone (line_out_at world.first b) (line_out_at world.last b) went → went ≡ (went_out world is).line b
+line_got world x is has b number slots went to got =
+    let file = (left_through world x is has).line b number slots to in
+    got_is (line_out_at world.first b) (line_out_at world.last b) (through_mask (form_out world.plan b).scrambled (concat file.frames)) ((went_out world is).line b) went file.front got
+
+client_got : (world : World) (x : Connection) (is : IsWorld world) → Contains world.plan.connections x → (n : ℕ) (went : List ℕ) → x.to ≡ to_end.Client n
+    → IsGone (client_out_at world.first n) (client_out_at world.last n) went → went ≡ (went_out world is).client n
+client_got world x is has n went to got =
+    got_is (client_out_at world.first n) (client_out_at world.last n) (text_by x (own_input world.inputs x) (x.stop - first_turn x)) ((went_out world is).client n) went
+    ((left_through world x is has).client n to) got
+
+line_over : (run : Run) (x : Connection) → IsRun run → Contains run.plan.connections x → (a from b number u w : ℕ) (slots others : LineSlots) (line went bytes p : List ℕ) → x.from ≡ from_end.Line a from slots
+    → x.to ≡ to_end.Line b number others → LineGave run a line → LineGot run b went → LineLived run b → w ≤ u → w < x.stop
+    → CarriedOn x from slots line bytes p u → CarriedOn x number others (read_back run b went) bytes (0 ∷ 0 ∷ 0 ∷ p) w
+line_over run x is has a from b number u w slots others line went bytes p comes to gave got lived le less carried =
+    let inputs = own_line_inputs run is a line in
+    let world = world_of run is inputs in
+    let in_world = is_world run is inputs (own_line_may run is x a from slots line has comes gave) in
+    let e = line_got world x in_world has b number others went to got in
+    subst (λ l. CarriedOn x number others (read_back run b l) bytes (0 ∷ 0 ∷ 0 ∷ p) w) (sym e)
+    ((carried_in world x in_world has).line a from b number u w slots others bytes p comes to lived le less
+    (subst (λ l. CarriedOn x from slots l bytes p u) (sym (line_is a line (taken_inputs run is.takings))) carried))
+
+client_over : (run : Run) (x : Connection) → IsRun run → Contains run.plan.connections x → (m b number u n : ℕ) (slots : LineSlots) (input : ClientInput) (went : List ℕ) → x.from ≡ from_end.Client m
+    → x.to ≡ to_end.Line b number slots → ClientGave run m input → LineGot run b went → LineLived run b → u < x.stop → u ≤ first_turn x + n
+    → CarriedOn x number slots (read_back run b went) (client_stream x.trace input.packets x.fcs (emitted_before x.pace n)) (numbers_got x.pace n) u
+client_over run x is has m b number u n slots input went comes to gave got lived less high =
+    let inputs = own_client_inputs run is m input in
+    let world = world_of run is inputs in
+    let in_world = is_world run is inputs (own_client_may run is x m input has comes gave) in
+    let e = line_got world x in_world has b number slots went to got in
+    subst (λ l. CarriedOn x number slots (read_back run b l) (client_stream x.trace input.packets x.fcs (emitted_before x.pace n)) (numbers_got x.pace n) u) (sym e)
+    (subst (λ i. CarriedOn x number slots (read_back run b ((went_out world in_world).line b)) (client_stream x.trace (ClientInput.packets i) x.fcs (emitted_before x.pace n)) (numbers_got x.pace n) u)
+    (client_is m input (taken_inputs run is.takings)) ((carried_in world x in_world has).client m b number u n slots comes to lived less high))
+
+signal_over : (run : Run) (x : Connection) → IsRun run → Contains run.plan.connections x → (signal : Signal) (b number u n : ℕ) (slots : LineSlots) (went : List ℕ) → x.from ≡ from_end.Signal signal
+    → x.to ≡ to_end.Line b number slots → LineGot run b went → LineLived run b → u < x.stop → u ≤ first_turn x + n
+    → CarriedOn x number slots (read_back run b went) (signal_bytes signal 0 (emitted_before x.pace n)) (numbers_got x.pace n) u
+signal_over run x is has signal b number u n slots went comes to got lived less high =
+    let inputs = taken_inputs run is.takings in
+    let world = world_of run is inputs in
+    let in_world = is_world run is inputs (taken_may run is.takings) in
+    let e = line_got world x in_world has b number slots went to got in
+    subst (λ l. CarriedOn x number slots (read_back run b l) (signal_bytes signal 0 (emitted_before x.pace n)) (numbers_got x.pace n) u) (sym e)
+    ((carried_in world x in_world has).signal signal b number u n slots comes to lived less high)
+
+packets_over : (run : Run) (x : Connection) → IsRun run → Contains run.plan.connections x → (a from n u k : ℕ) (slots : LineSlots) (sapi : List ℕ) (packets : List (List ℕ)) (fcs : Bool) (line went p : List ℕ)
+    → x.from ≡ from_end.Line a from slots → x.to ≡ to_end.Client n → LineGave run a line → ClientGot run n went → ClientLived run n → x.stop ≤ u + 2 → AreOffered packets
+    → CarriedOn x from slots line (client_stream sapi packets fcs k) p u → went ≡ hex_text (whole_packets packets fcs (sent p (x.stop - x.start - 2)))
+packets_over run x is has a from n u k slots sapi packets fcs line went p comes to gave got lived most offered carried =
+    let inputs = own_line_inputs run is a line in
+    let world = world_of run is inputs in
+    let in_world = is_world run is inputs (own_line_may run is x a from slots line has comes gave) in
+    client_got world x in_world has n went to got
+    ∙ (carried_in world x in_world has).packets a from n u k slots sapi packets fcs p comes to lived most offered
+    (subst (λ l. CarriedOn x from slots l (client_stream sapi packets fcs k) p u) (sym (line_is a line (taken_inputs run is.takings))) carried)
+
+pub carries_over : (run : Run) (x : Connection) → IsRun run → Contains run.plan.connections x → CarriesOver run x
+carries_over run x is has = record { line = line_over run x is has; client = client_over run x is has; signal = signal_over run x is has; packets = packets_over run x is has }
