@@ -21,6 +21,7 @@ pub mod Rows
 pub mod RunCalls
 pub mod RunLaws
 pub mod RunReports
+pub mod SeenCalls
 pub mod SlotLoop
 pub mod SlotSteps
 pub mod SlotTable

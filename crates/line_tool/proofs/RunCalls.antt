@@ -1,4 +1,4 @@
--- The headline, of each connection of a plan that `run` carried.
+-- What calls of `run` left, whatever their inputs may have been.
 use Rattle.std.proofs.Common.{◌≡◌, ℕ, List, None, Some, Ok, Result, refl, subst}
 use Rattle.std.specs.List.{Contains}
 use Rattle.std.specs.Prelude.{IfOk}
@@ -17,7 +17,7 @@ use Rattle.node_core.proofs.GivenRuns.{given_inputs}
 use Rattle.node_core.proofs.RunsAlike.{left_alike}
 use Rattle.node_core.proofs.RunsThrough.{left_through, carried_in}
 use Rattle.line_tool.specs.Device.{Device}
-use Rattle.line_tool.specs.Headline.{Call, HasCarried, CarriesPlan, world_of, went_of}
+use Rattle.line_tool.specs.RunCalls.{Call, HasCarried, CarriesPlan, world_of, went_of}
 use Rattle.line_tool.specs.RunAnswers.{PlanRan, RunAnswers}
 use Rattle.line_tool.specs.declared.status.Status.{Status}
 use Rattle.line_tool.specs.declared.status.Status.TheVariants as status
@@ -35,6 +35,10 @@ accepted_plan text plan e =
 
 unfoldable pub is_world : (call : Call) (has : HasCarried call) → IsWorld (world_of call has)
 is_world call has = record { accepted = accepted_plan call.text call.plan has.is_plan; left = has.ran.left; may_be = has.may_be }
+
+-- an answer is of one plan
+pub same_answer : (answer : Result Plan NoPlan) (one other : Plan) → answer ≡ Ok one → answer ≡ Ok other → one ≡ other
+same_answer answer one other e f = cc
 
 -- ---- what was carried
 

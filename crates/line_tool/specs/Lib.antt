@@ -18,6 +18,7 @@ pub mod PullDamaged
 pub mod PullReport
 pub mod PullRuns
 pub mod RunAnswers
+pub mod RunCalls
 pub mod RunLaws
 pub mod RunReport
 pub mod SlotReport

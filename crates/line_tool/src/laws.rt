@@ -8,12 +8,13 @@ ghost use Rattle.device_model.specs.Agreements.{AgreeOnTributary};
 ghost use Rattle.line_tool.specs.Agreements.{AgreeOnSlot};
 ghost use Rattle.line_tool.specs.Answers.{CheckAnswers, LineAnswers, PullRan, SlotRan};
 ghost use Rattle.line_tool.specs.Device.{Device, line_zero};
-ghost use Rattle.line_tool.specs.Headline.{IsCarried, IsIsolated, IsThrough, HasRunItsPlan};
+ghost use Rattle.line_tool.specs.Headline.{IsCarried, IsIsolated, IsOfAPlan, IsThrough, LeavesOthers};
 ghost use Rattle.line_tool.specs.PlanCheck.{CheckEnds};
 ghost use Rattle.line_tool.specs.PullCarried.{BeginsWithWhatIsCarried, IsTheWholeGroups, HasWhatIsCarriedAfterDamage};
 ghost use Rattle.line_tool.specs.PullDamaged.{WritesAsIfRepeated};
 ghost use Rattle.line_tool.specs.PullReport.{LeavesBytes, bytes_taken, pull_report, tributary};
 ghost use Rattle.line_tool.specs.PullReport.{StoppedInTurn};
+ghost use Rattle.line_tool.specs.RunCalls.{CallsAreIsolated, CallsCarry, CallsPutThrough, HasRunItsPlan};
 ghost use Rattle.line_tool.specs.RunLaws.{RunAnswersForItsText, RunEndsByInputs, RunIsComplete};
 ghost use Rattle.line_tool.specs.AnswerWords.{IsWell, Reports};
 ghost use Rattle.line_tool.specs.SlotReport.{HasBytesBehind};
@@ -96,16 +97,31 @@ pub fn run_of_text()
     ensures { RunAnswersForItsText }
 {}
 
-/// The headline, of each connection of a plan that `run` carried (`runs`: after Done, Unfinished, Cut and ReportFault), whatever its inputs
-/// may have been, and where they tell, with what they gave. No connection touches another (`isolated`): where two calls share an
-/// entry, and their inputs agree on what it comes from, what went out on it agrees as far as both have gone, and wholly where its place
-/// has lived in both: a client's text, and on a line its own places, where both lines are scrambled or neither is. To a client went what its own entry and its own input put through it, to a line the line's file (`through`). Where its bytes come unharmed they leave
-/// the same (`carried`): on a line three turns later, and of packets exactly those that came whole.
+/// The headline, by what is seen of the places before and after a call of `run` that carried a plan (`runs`: each that answered Done,
+/// Unfinished, Cut or ReportFault). No connection touches another (`isolated`): where two calls share an entry, and what its own port
+/// had to give agrees (a line's whole frames, MFAS bytes and own places; a client's packets), what its output's port got agrees as far as
+/// both have gone, and wholly where its place has lived in both: a client's text, and on a line its own places, where both lines are
+/// scrambled or neither is. To a client went what its own entry puts through it of what its own port gave, to a line the file of what all
+/// ports gave (`through`). Where its bytes come unharmed they leave the same (`carried`): on a line three turns later, and of packets exactly
+/// those that came whole. The two ports are to tell their bytes; of all others nothing is asked, and no client place that was retired
+/// shows what went to it (`headline_of_any_inputs` speaks of these too). A place that the plan does not use is as it was (`others`).
 pub fn headline()
-    ensures runs { HasRunItsPlan }
+    ensures runs { IsOfAPlan }
     ensures isolated { IsIsolated }
     ensures through { IsThrough }
     ensures carried { IsCarried }
+    ensures others { LeavesOthers }
+{}
+
+/// The headline, whatever the inputs of a call may have been, so also of ports that tell nothing; and where they tell, with what they gave
+/// (`runs`). What went to the outputs is what the calls themselves say of it: on a connection it agrees in two calls whose inputs agree on
+/// what it comes from, and so do its numbers in the report (`isolated`); it is what its entry puts through it (`through`), and carries what came
+/// (`carried`).
+pub fn headline_of_any_inputs()
+    ensures runs { HasRunItsPlan }
+    ensures isolated { CallsAreIsolated }
+    ensures through { CallsPutThrough }
+    ensures carried { CallsCarry }
 {}
 
 /// Two worlds: lines that have as many whole frames, and the same bytes in a slot's payload columns, give

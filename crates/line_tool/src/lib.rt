@@ -37,8 +37,9 @@ mod words;
 
 pub use damage::damaged_lines;
 pub use laws::{
-    check_of_text, forms_are_apart, headline, pull_of_carried, pull_of_given, pull_of_one_damaged,
-    pull_two_worlds, run_of_text, slot_of_given, slot_two_worlds, without_faults,
+    check_of_text, forms_are_apart, headline, headline_of_any_inputs, pull_of_carried,
+    pull_of_given, pull_of_one_damaged, pull_two_worlds, run_of_text, slot_of_given,
+    slot_two_worlds, without_faults,
 };
 pub use number_chooser::NumberChooser;
 pub use status::Status;

@@ -1,8 +1,8 @@
-use Rattle.line_tool.proofs.RunCalls.{run_carries, isolated, is_through, is_carried}
+use Rattle.line_tool.proofs.SeenCalls.{of_a_plan, isolated, is_through, is_carried, leaves_others}
 use Rattle.line_tool.proofs.laws.headline.Goals as goal
 
 pub returns-clause-runs : goal.returns-clause-runs
-returns-clause-runs c = λ old new asked now reply. run_carries reply old new asked now
+returns-clause-runs c = λ old new asked now reply. of_a_plan reply old new asked now
 
 pub returns-clause-isolated : goal.returns-clause-isolated
 returns-clause-isolated c = isolated
@@ -12,3 +12,6 @@ returns-clause-through c = is_through
 
 pub returns-clause-carried : goal.returns-clause-carried
 returns-clause-carried c = is_carried
+
+pub returns-clause-others : goal.returns-clause-others
+returns-clause-others c = leaves_others
