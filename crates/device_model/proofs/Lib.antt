@@ -24,6 +24,7 @@ pub mod OwnBytes
 pub mod LineBytes
 pub mod OneFile
 pub mod TwoWorlds
+pub mod UpToTurn
 pub mod RunsInARow
 pub mod Healed
 pub mod OneDamaged

@@ -17,6 +17,7 @@ pub mod Delivery
 pub mod Chains
 pub mod Accepted
 pub mod TwoWorlds
+pub mod UpToTurn
 pub mod OneFile
 pub mod RunsInARow
 pub mod Healing

@@ -7,7 +7,7 @@
 //! - `outcome`: how a run ends, and what the from end of a connection is.
 //! - `plans`: what is promised of a plan that breaks no rule.
 //! - `runs`: what runs in a row carry, each over the file that the one before made.
-//! - `worlds`: what leaves on a connection is the same wherever its own input is.
+//! - `worlds`: what leaves on a connection is the same wherever its own input is, and as far as that is.
 #![tactic(auto)]
 
 mod carriage;
@@ -26,4 +26,4 @@ pub use line_views::{same_views, whole_views};
 pub use outcome::{FromState, Outcome};
 pub use plans::accepted_plans;
 pub use runs::carried_through_runs;
-pub use worlds::{one_line_file, same_leaving, same_places, two_worlds};
+pub use worlds::{nothing_ahead, one_line_file, same_leaving, same_places, two_worlds};

@@ -1,6 +1,7 @@
 // The laws of two worlds, each the contract of a function: what leaves on a connection is fixed by its own entry and its own input.
 ghost use Rattle.device_model.specs.OneFile.{HasOneFile, HasOneFileForItsInputs};
 ghost use Rattle.device_model.specs.TwoWorlds.{GivesTheSameInput, IsSameWhereShared, LeavesTheSame, OwesTheSame, ReportsTheSame, SendsTheSame, WritesTheSame};
+ghost use Rattle.device_model.specs.UpToTurn.{LooksNotAhead, ShowsTheSameUpTo, WritesNothingAhead};
 
 /// Two worlds: two accepted plans have the same entry, and two sets of inputs give its line as many whole
 /// frames, with the same MFAS bytes, and the same bytes at the own places of its tributary, or its client the
@@ -25,6 +26,17 @@ pub fn same_leaving()
 pub fn same_places()
     ensures frames { SendsTheSame }
     ensures file { WritesTheSame }
+{}
+
+/// No turn looks ahead: where the own input shows the same in a connection's first n own turns, its from end
+/// emits the same in these, and in one turn more its to end gets the same, whatever the input shows later
+/// (`leaves`); so the own places of a turn's frames are fixed by the own turns before it (`file`). Lines show
+/// the same so far where the multiframes of these turns agree, and clients where their first packets do, as many
+/// as fill the frames that are begun (`input`).
+pub fn nothing_ahead()
+    ensures input { ShowsTheSameUpTo }
+    ensures leaves { LooksNotAhead }
+    ensures file { WritesNothingAhead }
 {}
 
 /// A line file is one function of its plan and inputs, overhead and parities included: its first frames are
