@@ -7,8 +7,8 @@ use Rattle.plan_file.specs.declared.connection.Connection.{Connection}
 use Rattle.plan_file.specs.declared.plan.Plan.{Plan}
 use Rattle.device_model.specs.Moments.{uses}
 use Rattle.node_core.specs.RunLeft.{RunLeft, SamePlace}
-use Rattle.node_core.specs.SeenRuns.{Run, IsRun, ShareInput, SameOutput, PutThrough, CarriesOver}
-use Rattle.node_core.proofs.SeenRuns.{seen_alike, puts_through, carries_over}
+use Rattle.node_core.specs.SeenRuns.{Run, IsRun, ShareInput, SameOutput, ShareInputUpTo, SameLineUpTo, PutThrough, CarriesOver}
+use Rattle.node_core.proofs.SeenRuns.{seen_alike, not_ahead as seen_not_ahead, puts_through, carries_over}
 use Rattle.line_tool.specs.Device.{Device}
 use Rattle.line_tool.specs.Headline.{Ran}
 use Rattle.line_tool.specs.RunAnswers.{PlanRan, RunAnswers}
@@ -40,6 +40,9 @@ left_by run r =
 
 pub isolated : (one other : Run) (x : Connection) → Ran one → Ran other → ShareInput one other x → SameOutput one other x
 isolated one other x first second share = seen_alike one other x (left_by one first) (left_by other second) share
+
+pub not_ahead : (n : ℕ) (one other : Run) (x : Connection) → Ran one → Ran other → ShareInputUpTo n one other x → SameLineUpTo n one other x
+not_ahead n one other x first second share = seen_not_ahead n one other x (left_by one first) (left_by other second) share
 
 pub is_through : (run : Run) (x : Connection) → Ran run → Contains run.plan.connections x → PutThrough run x
 is_through run x ran has = puts_through run x (left_by run ran) has

@@ -8,7 +8,7 @@ use Rattle.plan_file.specs.declared.connection.Connection.{Connection}
 use Rattle.plan_file.specs.declared.plan.Plan.{Plan}
 use Rattle.device_model.specs.Moments.{uses}
 use Rattle.node_core.specs.RunLeft.{SamePlace}
-use Rattle.node_core.specs.SeenRuns.{Run, ShareInput, SameOutput, PutThrough, CarriesOver}
+use Rattle.node_core.specs.SeenRuns.{Run, ShareInput, SameOutput, ShareInputUpTo, SameLineUpTo, PutThrough, CarriesOver}
 use Rattle.line_tool.specs.Device.{Device}
 use Rattle.line_tool.specs.RunAnswers.{RunAnswers}
 use Rattle.line_tool.specs.RunCalls.{CarriesPlan}
@@ -37,6 +37,10 @@ IsOfAPlan = (old new : Device) (asked now : ℕ) (reply : Status) → RunAnswers
 -- connections, slots, ports, bytes, faults and orders there are.
 abbrev pub IsIsolated : Type 0
 IsIsolated = (one other : Run) (x : Connection) → Ran one → Ran other → ShareInput one other x → SameOutput one other x
+
+-- Not ahead: where they agree on it in the connection's first n own turns alone, the same leaves on its line up to the frames of own turn n, from 0.
+abbrev pub LooksNotAhead : Type 0
+LooksNotAhead = (n : ℕ) (one other : Run) (x : Connection) → Ran one → Ran other → ShareInputUpTo n one other x → SameLineUpTo n one other x
 
 -- Through: to a client went the text that its own entry puts through it of its own input, to a line the line's file: from the front, and all
 -- where its place has lived.

@@ -158,7 +158,7 @@ line_lived world b went l lived =
     ap whole_frames all ∙ ap (λ n. n / 16320) (length_through (form_out world.plan b).scrambled (concat l.is_due.frames))
     ∙ made_whole world.plan world.inputs b (size_of (form_out world.plan b) * world.plan.turns + 0) l.is_due.frames l.is_due.file
 
-all_gone : (world : World) (x : Connection) (b number past n row column : ℕ) (slots : LineSlots) (went : List ℕ) → IsWorld world → Contains world.plan.connections x → HasPlace x b number past n row column slots
+pub all_gone : (world : World) (x : Connection) (b number past n row column : ℕ) (slots : LineSlots) (went : List ℕ) → IsWorld world → Contains world.plan.connections x → HasPlace x b number past n row column slots
     → LineOutLeft world.plan world.inputs b (line_out_at world.first b) went (line_out_at world.last b)
     → HasLived (line_out_at world.first b).state (line_out_at world.last b).state → HasGone went (slots_of slots.kind * past + n) row column
 all_gone world x b number past n row column slots went is has place l lived =
@@ -215,28 +215,36 @@ unfolding run_at
 same_bytes one other x b number past n row column slots went others l r have same mask =
     writes_as_got (run_at one b went l) (run_at other b others r) x b number past n row column slots have same mask
 
+-- where the same was got up to the turn, its frames have the same bytes at the own places
+pub places_as_got : (one other : World) (x : Connection) (first : IsWorld one) (second : IsWorld other) → Contains one.plan.connections x → Contains other.plan.connections x → (b number past n row column : ℕ) (slots : LineSlots)
+    → HasPlace x b number past n row column slots → got_by x (own_input one.inputs x) (own_turn x past + 1) ≡ got_by x (own_input other.inputs x) (own_turn x past + 1)
+    → (form_out one.plan b).scrambled ≡ (form_out other.plan b).scrambled
+    → HasGone ((went_out one first).line b) (slots_of slots.kind * past + n) row column → HasGone ((went_out other second).line b) (slots_of slots.kind * past + n) row column
+    → HaveSameByte ((went_out one first).line b) ((went_out other second).line b) (slots_of slots.kind * past + n) row column
+places_as_got one other x first second has has_too b number past n row column slots place same mask went others =
+    let f = slots_of slots.kind * past + n in
+    let l = line_left one x b number slots first has place.to in
+    let r = line_left other x b number slots second has_too place.to in
+    let have : HaveFrame (run_at one b ((went_out one first).line b) l) (run_at other b ((went_out other second).line b) r) x b number past n row column slots = record {
+      first = has_frame one x b number past n row column slots ((went_out one first).line b) first has place l;
+      second = has_frame other x b number past n row column slots ((went_out other second).line b) second has_too place r;
+      frame = place.frame;
+      own = place.own;
+    } in
+    went_byte one b f row column ((went_out one first).line b) l went
+    ∙ same_bytes one other x b number past n row column slots ((went_out one first).line b) ((went_out other second).line b) l r have same mask
+    ∙ sym (went_byte other b f row column ((went_out other second).line b) r others)
+
 same_places : (one other : World) (x : Connection) (first : IsWorld one) (second : IsWorld other) → CarryAlike one other x → (b number past n row column : ℕ) (slots : LineSlots)
     → HasPlace x b number past n row column slots → (form_out one.plan b).scrambled ≡ (form_out other.plan b).scrambled
     → HasGone ((went_out one first).line b) (slots_of slots.kind * past + n) row column → HasGone ((went_out other second).line b) (slots_of slots.kind * past + n) row column
     → HaveSameByte ((went_out one first).line b) ((went_out other second).line b) (slots_of slots.kind * past + n) row column
 same_places one other x first second share b number past n row column slots place mask went others =
-    let f = slots_of slots.kind * past + n in
-    let l = line_left one x b number slots first share.first place.to in
-    let r = line_left other x b number slots second share.second place.to in
-    let have : HaveFrame (run_at one b ((went_out one first).line b) l) (run_at other b ((went_out other second).line b) r) x b number past n row column slots = record {
-      first = has_frame one x b number past n row column slots ((went_out one first).line b) first share.first place l;
-      second = has_frame other x b number past n row column slots ((went_out other second).line b) second share.second place r;
-      frame = place.frame;
-      own = place.own;
-    } in
     let sound = sound_in one x first share.first in
     let start = sound.start in
     let began = place.active.start in
     let stop = place.active.stop in
-    let same = share.alike.got (own_turn x past + 1) (omega arith) in
-    went_byte one b f row column ((went_out one first).line b) l went
-    ∙ same_bytes one other x b number past n row column slots ((went_out one first).line b) ((went_out other second).line b) l r have same mask
-    ∙ sym (went_byte other b f row column ((went_out other second).line b) r others)
+    places_as_got one other x first second share.first share.second b number past n row column slots place (share.alike.got (own_turn x past + 1) (omega arith)) mask went others
 
 -- ---- numbers
 

@@ -24,18 +24,20 @@ use Rattle.tributary_model.specs.Places.{tributary_of}
 use Rattle.device_model.specs.Agreements.{AgreeOnTributary}
 use Rattle.device_model.specs.Carried.{numbers_got}
 use Rattle.device_model.specs.Delivery.{AreOffered, whole_packets}
-use Rattle.device_model.specs.Entries.{first_turn, form_in, form_out}
+use Rattle.device_model.specs.Entries.{first_turn, own_turn, form_in, form_out}
 use Rattle.device_model.specs.Inputs.{AreInputs, has_died}
 use Rattle.device_model.specs.LineViews.{view_at}
 use Rattle.device_model.specs.Through.{Inputs, OwnInput, of_line, of_client, own_of, own_input, text_by}
 use Rattle.device_model.specs.TwoWorlds.{AgreeOnEnd}
+use Rattle.device_model.specs.UpToTurn.{AgreeInTurn, BringAlike, AgreeUpTo}
+use Rattle.device_model.proofs.UpToTurn.{looks_not_ahead, shows_the_same_up_to}
 use Rattle.node_core.specs.GivenRuns.{HasGiven}
 use Rattle.node_core.specs.RunLeft.{Takings, MayHave, MayBeInputs}
 use Rattle.node_core.specs.RunsAlike.{World, IsWorld, went_out}
 use Rattle.node_core.specs.RunsThrough.{IsFrontOf, CarriedOn}
-use Rattle.node_core.specs.SeenRuns.{Run, IsRun, LineGave, ClientGave, AgreeOnInput, ShareInput, LineGot, ClientGot, LineLived, ClientLived, SameText, SameOnLine, SameOutput, Shows, FileGot, PutThrough, read_back, CarriesOver}
+use Rattle.node_core.specs.SeenRuns.{Run, IsRun, LineGave, ClientGave, AgreeOnInput, ShareInput, LineGot, ClientGot, LineLived, ClientLived, SameText, SameOnLine, SameOutput, AgreeOnInputUpTo, ShareInputUpTo, SameLineUpTo, Shows, FileGot, PutThrough, read_back, CarriesOver}
 use Rattle.node_core.proofs.GivenRuns.{given_inputs, line_had, client_had}
-use Rattle.node_core.proofs.RunsAlike.{left_alike}
+use Rattle.node_core.proofs.RunsAlike.{left_alike, places_as_got, all_gone, line_left}
 use Rattle.node_core.proofs.RunsThrough.{left_through, carried_in}
 use Rattle.node_core.proofs.UsedPorts.{from_line_used}
 
@@ -152,6 +154,19 @@ world_of run is inputs = record { plan = run.plan; first = run.before; last = ru
 abbrev is_world : (run : Run) (is : IsRun run) (inputs : Inputs) → MayBe run is.takings inputs → IsWorld (world_of run is inputs)
 is_world run is inputs may = record { accepted = is.accepted; left = is.left; may_be = may }
 
+-- what its line got, in a world of the run
+line_got : (world : World) (x : Connection) (is : IsWorld world) → Contains world.plan.connections x → (b number : ℕ) (slots : LineSlots) (went : List ℕ) → x.to ≡ to_end.Line b number slots
+    → IsGone (line_out_at world.first b) (line_out_at world.last b) went → went ≡ (went_out world is).line b
+line_got world x is has b number slots went to got =
+    let file = (left_through world x is has).line b number slots to in
+    got_is (line_out_at world.first b) (line_out_at world.last b) (through_mask (form_out world.plan b).scrambled (concat file.frames)) ((went_out world is).line b) went file.front got
+
+client_got : (world : World) (x : Connection) (is : IsWorld world) → Contains world.plan.connections x → (n : ℕ) (went : List ℕ) → x.to ≡ to_end.Client n
+    → IsGone (client_out_at world.first n) (client_out_at world.last n) went → went ≡ (went_out world is).client n
+client_got world x is has n went to got =
+    got_is (client_out_at world.first n) (client_out_at world.last n) (text_by x (own_input world.inputs x) (x.stop - first_turn x)) ((went_out world is).client n) went
+    ((left_through world x is has).client n to) got
+
 -- ---- two runs
 
 -- inputs that both may have had, and that agree on what the end comes from
@@ -222,6 +237,69 @@ seen_alike one other x first second share =
           }));
     }
 
+-- ---- two runs, up to a turn
+
+-- inputs that both may have had, and that agree so far on what the end comes from
+record AgreeingSoFar (one other : Run) (first : IsRun one) (second : IsRun other) (from : FromEnd) (x : Connection) (n : ℕ) : Type 0 where
+  mine : Inputs
+  theirs : Inputs
+  may : MayBe one first.takings mine
+  may_too : MayBe other second.takings theirs
+  agree : AgreeUpTo from x n mine theirs
+
+agreeing_so_far : (one other : Run) (first : IsRun one) (second : IsRun other) (x : Connection) (n : ℕ) (from : FromEnd) → x.from ≡ from → Contains one.plan.connections x → Contains other.plan.connections x
+    → AgreeOnInputUpTo from x n one other → AgreeingSoFar one other first second from x n
+agreeing_so_far one other first second x n (from_end.Line a number slots) e has has_too (line, others, gave, gave_too, agree) =
+    let own = tributary_of slots number in
+    record {
+      mine = own_line_inputs one first a line;
+      theirs = own_line_inputs other second a others;
+      may = own_line_may one first x a number slots line has e gave;
+      may_too = own_line_may other second x a number slots others has_too e gave_too;
+      agree = λ j less. subst (λ l. AgreeInTurn own l ((own_line_inputs other second a others).line a) (first_turn x + j)) (sym (line_is a line (taken_inputs one first.takings)))
+          (subst (λ l. AgreeInTurn own line l (first_turn x + j)) (sym (line_is a others (taken_inputs other second.takings))) (agree j less));
+    }
+agreeing_so_far one other first second x n (from_end.Client m) e has has_too (input, others, gave, gave_too, alike) = record {
+  mine = own_client_inputs one first m input;
+  theirs = own_client_inputs other second m others;
+  may = own_client_may one first x m input has e gave;
+  may_too = own_client_may other second x m others has_too e gave_too;
+  agree = subst (λ i. BringAlike x.fcs (emitted_before x.pace n) i ((own_client_inputs other second m others).client m)) (sym (client_is m input (taken_inputs one first.takings)))
+      (subst (λ i. BringAlike x.fcs (emitted_before x.pace n) input i) (sym (client_is m others (taken_inputs other second.takings))) alike);
+}
+agreeing_so_far one other first second x n (from_end.Signal signal) e has has_too same = record {
+  mine = taken_inputs one first.takings;
+  theirs = taken_inputs other second.takings;
+  may = taken_may one first.takings;
+  may_too = taken_may other second.takings;
+  agree = tt;
+}
+
+pub not_ahead : (n : ℕ) (one other : Run) (x : Connection) → IsRun one → IsRun other → ShareInputUpTo n one other x → SameLineUpTo n one other x
+not_ahead n one other x first second share =
+    let w = agreeing_so_far one other first second x n x.from refl share.first share.second share.agree in
+    let is = is_world one first w.mine w.may in
+    let is_too = is_world other second w.theirs w.may_too in
+    let mine = world_of one first w.mine in
+    let theirs = world_of other second w.theirs in
+    let alike = looks_not_ahead x n (own_input w.mine x) (own_input w.theirs x) (shows_the_same_up_to one.plan x n w.mine w.theirs first.accepted share.first w.agree) in
+    record {
+      line = λ b number past k row column slots went others place mask so_far got got_too.
+          let e = line_got mine x is share.first b number slots went place.to got in
+          let f = line_got theirs x is_too share.second b number slots others place.to got_too in
+          let at = slots_of slots.kind * past + k in
+          let same = alike.got (own_turn x past + 1) (omega (arith, so_far)) in
+          let bytes = places_as_got mine theirs x is is_too share.first share.second b number past k row column slots place same mask in
+          subst (λ l. SameOnLine one other b at row column l others) (sym e)
+          (subst (λ l. SameOnLine one other b at row column ((went_out mine is).line b) l) (sym f)
+          (record {
+            gone = bytes;
+            whole = λ l m.
+                bytes (all_gone mine x b number past k row column slots ((went_out mine is).line b) is share.first place (line_left mine x b number slots is share.first place.to) l)
+                (all_gone theirs x b number past k row column slots ((went_out theirs is_too).line b) is_too share.second place (line_left theirs x b number slots is_too share.second place.to) m);
+          }));
+    }
+
 -- ---- what is put through
 
 -- inputs that the run may have had, of which the end's own is this
@@ -269,19 +347,6 @@ pub puts_through : (run : Run) (x : Connection) → IsRun run → Contains run.p
 puts_through run x is has = record { client = text_through run x is has; line = file_through run x is has }
 
 -- ---- what is carried
-
--- what its line got, in a world of the run
-line_got : (world : World) (x : Connection) (is : IsWorld world) → Contains world.plan.connections x → (b number : ℕ) (slots : LineSlots) (went : List ℕ) → x.to ≡ to_end.Line b number slots
-    → IsGone (line_out_at world.first b) (line_out_at world.last b) went → went ≡ (went_out world is).line b
-line_got world x is has b number slots went to got =
-    let file = (left_through world x is has).line b number slots to in
-    got_is (line_out_at world.first b) (line_out_at world.last b) (through_mask (form_out world.plan b).scrambled (concat file.frames)) ((went_out world is).line b) went file.front got
-
-client_got : (world : World) (x : Connection) (is : IsWorld world) → Contains world.plan.connections x → (n : ℕ) (went : List ℕ) → x.to ≡ to_end.Client n
-    → IsGone (client_out_at world.first n) (client_out_at world.last n) went → went ≡ (went_out world is).client n
-client_got world x is has n went to got =
-    got_is (client_out_at world.first n) (client_out_at world.last n) (text_by x (own_input world.inputs x) (x.stop - first_turn x)) ((went_out world is).client n) went
-    ((left_through world x is has).client n to) got
 
 line_over : (run : Run) (x : Connection) → IsRun run → Contains run.plan.connections x → (a from b number u w : ℕ) (slots others : LineSlots) (line went bytes p : List ℕ) → x.from ≡ from_end.Line a from slots
     → x.to ≡ to_end.Line b number others → LineGave run a line → LineGot run b went → LineLived run b → w ≤ u → w < x.stop

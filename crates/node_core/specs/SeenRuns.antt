@@ -23,7 +23,7 @@ use Rattle.tributary_model.specs.Places.{tributary_of}
 use Rattle.device_model.specs.Agreements.{AgreeOnTributary}
 use Rattle.device_model.specs.Carried.{numbers_got}
 use Rattle.device_model.specs.Delivery.{AreOffered, whole_packets}
-use Rattle.device_model.specs.Entries.{first_turn, form_in, form_out}
+use Rattle.device_model.specs.Entries.{first_turn, own_turn, form_in, form_out}
 use Rattle.device_model.specs.Inputs.{AreInputs, has_died}
 use Rattle.device_model.specs.LineFiles.{IsLineFile}
 use Rattle.device_model.specs.LineViews.{view_at}
@@ -31,6 +31,7 @@ use Rattle.device_model.specs.Moments.{uses}
 use Rattle.device_model.specs.Report.{Numbers}
 use Rattle.device_model.specs.Through.{Inputs, OwnInput, of_line, of_client, of_signal, text_by}
 use Rattle.device_model.specs.TwoWorlds.{HaveSameByte}
+use Rattle.device_model.specs.UpToTurn.{AgreeInTurn, BringAlike}
 use Rattle.node_core.specs.GivenRuns.{HasGiven}
 use Rattle.node_core.specs.RunLeft.{Takings, RunLeft, SamePlace}
 use Rattle.node_core.specs.RunsAlike.{IsFrontOfOther, HasLived, HasPlace, HasGone}
@@ -117,6 +118,33 @@ pub record SameOutput (one other : Run) (x : Connection) : Type 0 where
 -- So it is of any two runs that share a connection, whatever else they carry.
 abbrev pub SeenRunsAgree : Type 0
 SeenRunsAgree = (one other : Run) (x : Connection) → IsRun one → IsRun other → ShareInput one other x → SameOutput one other x
+
+-- ---- up to a turn
+
+-- Two runs agree on what an end comes from in a connection's first n own turns: in each of these its line has the same multiframe in both, or has
+-- none in either, with the same bytes at the own places of its tributary; its client has brought the same packets by then.
+abbrev pub AgreeOnInputUpTo : FromEnd → Connection → (n : ℕ) → (one other : Run) → Type 0
+AgreeOnInputUpTo (from_end.Line a port slots) x n one other = (line others : List ℕ) × LineGave one a line × LineGave other a others
+    × ((j : ℕ) → j < n → AgreeInTurn (tributary_of slots port) line others (first_turn x + j))
+AgreeOnInputUpTo (from_end.Client m) x n one other = (input others : ClientInput) × ClientGave one m input × ClientGave other m others
+    × BringAlike x.fcs (emitted_before x.pace n) input others
+AgreeOnInputUpTo (from_end.Signal signal) x n one other = ⊤
+
+-- both plans have the connection, and the runs agree so far on what it comes from
+pub record ShareInputUpTo (n : ℕ) (one other : Run) (x : Connection) : Type 0 where
+  pub first : Contains one.plan.connections x
+  pub second : Contains other.plan.connections x
+  pub agree : AgreeOnInputUpTo x.from x n one other
+
+-- Its own places on its line are the same in both up to the frames of own turn n, from 0, whatever its input shows from that turn on.
+pub record SameLineUpTo (n : ℕ) (one other : Run) (x : Connection) : Type 0 where
+  pub line : (b port past k row column : ℕ) (slots : LineSlots) (went others : List ℕ) → HasPlace x b port past k row column slots
+      → (form_out one.plan b).scrambled ≡ (form_out other.plan b).scrambled → own_turn x past ≤ n → LineGot one b went → LineGot other b others
+      → SameOnLine one other b (slots_of slots.kind * past + k) row column went others
+
+-- So it is of any two runs that share a connection.
+abbrev pub SeenRunsLookNotAhead : Type 0
+SeenRunsLookNotAhead = (n : ℕ) (one other : Run) (x : Connection) → IsRun one → IsRun other → ShareInputUpTo n one other x → SameLineUpTo n one other x
 
 -- ---- what is put through
 

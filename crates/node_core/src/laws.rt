@@ -3,7 +3,7 @@ ghost use Rattle.node_core.specs.FaultlessRuns.{FaultlessRunsEndByInputs};
 ghost use Rattle.node_core.specs.GivenRuns.{GivenMayBeInputs, IsRunOfGiven};
 ghost use Rattle.node_core.specs.RunsAlike.{RunsAgree};
 ghost use Rattle.node_core.specs.RunsThrough.{OutputsAreThrough, RunsCarry};
-ghost use Rattle.node_core.specs.SeenRuns.{SeenRunsAgree, SeenRunsCarry, SeenRunsLeaveOthers, SeenRunsPutThrough};
+ghost use Rattle.node_core.specs.SeenRuns.{SeenRunsAgree, SeenRunsCarry, SeenRunsLeaveOthers, SeenRunsLookNotAhead, SeenRunsPutThrough};
 
 /// A run whose inputs tell their bytes: each place of an input that the plan uses gave some bytes, so these
 /// are the lines and the packets that it carried. All that is said of a run's outputs and numbers for any
@@ -47,10 +47,12 @@ pub fn runs_carry()
 /// what its entry puts through it of what its own port gave, to a line the file of what all ports gave (`through`);
 /// and what is carried to a connection leaves on it (`carry`). That is said of ports that tell their bytes: of all other
 /// ports, and of what a run takes of its inputs and counts, nothing is asked. A place that the plan does not use is seen
-/// as it was (`others`).
+/// as it was (`others`). And no turn looks ahead (`ahead`): where the two agree in the entry's first own turns alone, so do
+/// its own places on its line in these and one turn more.
 pub fn seen_runs()
     ensures agree { SeenRunsAgree }
     ensures through { SeenRunsPutThrough }
     ensures carry { SeenRunsCarry }
     ensures others { SeenRunsLeaveOthers }
+    ensures ahead { SeenRunsLookNotAhead }
 {}

@@ -1,4 +1,4 @@
-use Rattle.line_tool.proofs.SeenCalls.{of_a_plan, isolated, is_through, is_carried, leaves_others}
+use Rattle.line_tool.proofs.SeenCalls.{of_a_plan, isolated, not_ahead, is_through, is_carried, leaves_others}
 use Rattle.line_tool.proofs.laws.headline.Goals as goal
 
 pub returns-clause-runs : goal.returns-clause-runs
@@ -6,6 +6,9 @@ returns-clause-runs c = λ old new asked now reply. of_a_plan reply old new aske
 
 pub returns-clause-isolated : goal.returns-clause-isolated
 returns-clause-isolated c = isolated
+
+pub returns-clause-ahead : goal.returns-clause-ahead
+returns-clause-ahead c = not_ahead
 
 pub returns-clause-through : goal.returns-clause-through
 returns-clause-through c = is_through

@@ -1,4 +1,4 @@
-use Rattle.node_core.proofs.SeenRuns.{seen_alike, puts_through, carries_over}
+use Rattle.node_core.proofs.SeenRuns.{seen_alike, not_ahead, puts_through, carries_over}
 use Rattle.node_core.proofs.laws.seen_runs.Goals as goal
 
 pub returns-clause-agree : goal.returns-clause-agree
@@ -12,3 +12,6 @@ returns-clause-carry c = carries_over
 
 pub returns-clause-others : goal.returns-clause-others
 returns-clause-others c = λ run name is unused. is.left.idle name unused
+
+pub returns-clause-ahead : goal.returns-clause-ahead
+returns-clause-ahead c = not_ahead
