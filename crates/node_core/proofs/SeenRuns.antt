@@ -1,6 +1,7 @@
 -- What runs leave on a connection, by what is seen of the places before and after.
-use Rattle.std.proofs.Common.{◌≡◌, ◌<◌, ◌≤◌, ◌+◌, ◌-◌, ◌*◌, ℕ, Bool, true, false, List, [], ◌∷◌, ◌++◌, length, Option, Some, refl, sym, ap, ◌∙◌, subst, arith, append-nil, ◌==◌, if◌then◌else◌}
-use Rattle.std.specs.List.{concat, Contains}
+use Rattle.std.proofs.Common.{◌≡◌, ◌<◌, ◌≤◌, ◌+◌, ◌-◌, ◌*◌, ◌/◌, ◌%◌, ◌&&◌, ℕ, Bool, true, false, List, [], ◌∷◌, ◌++◌, length, Option, Some, refl, sym, ap, ◌∙◌, subst, arith, append-nil, ◌==◌, if◌then◌else◌}
+use Rattle.std.specs.List.{concat, list_any, Contains}
+use Rattle.std.proofs.lemmas.Bool.{and_parts}
 use Rattle.std.proofs.lemmas.Bool.Decides.{nat_tests}
 use Rattle.std.proofs.lemmas.List.{append_cancel_left}
 use Rattle.std.proofs.lemmas.Option.{slice_get_read}
@@ -10,7 +11,8 @@ use Rattle.otn_ports.specs.Bytes.{after}
 use Rattle.otn_ports.specs.Given.{Grew, IsGone, gone_between}
 use Rattle.otn_ports.specs.Views.{State, Empty, Live, Dead, OutView, line_out_at, client_in_at, client_out_at}
 use Rattle.packet_text.specs.PacketText.{hex_text}
-use Rattle.line_side.specs.LineForm.{through_mask}
+use Rattle.line_side.specs.LineForm.{size_of, through_mask}
+use Rattle.line_side.specs.LineOutput.{FramePut}
 use Rattle.maintenance_signals.specs.Stream.{signal_bytes}
 use Rattle.maintenance_signals.specs.declared.signal.Signal.{Signal}
 use Rattle.odu_client.specs.ClientFrames.{client_stream}
@@ -18,28 +20,34 @@ use Rattle.odu_client.specs.ClientInput.{ClientInput, emitted_before, input_give
 use Rattle.plan_file.specs.declared.connection.Connection.{Connection}
 use Rattle.plan_file.specs.declared.connection.FromEnd.{FromEnd}
 use Rattle.plan_file.specs.declared.connection.FromEnd.TheVariants as from_end
+use Rattle.plan_file.specs.declared.connection.ToEnd.{ToEnd}
 use Rattle.plan_file.specs.declared.connection.ToEnd.TheVariants as to_end
+use Rattle.plan_file.specs.declared.plan.Plan.{Plan}
 use Rattle.tributary_model.specs.Carries.{sent}
 use Rattle.tributary_model.specs.Places.{tributary_of}
+use Rattle.tributary_model.specs.Puts.{IsPut}
 use Rattle.device_model.specs.Agreements.{AgreeOnTributary}
 use Rattle.device_model.specs.Carried.{numbers_got}
 use Rattle.device_model.specs.Delivery.{AreOffered, whole_packets}
-use Rattle.device_model.specs.Entries.{first_turn, own_turn, form_in, form_out}
-use Rattle.device_model.specs.Inputs.{AreInputs, has_died}
+use Rattle.device_model.specs.Entries.{first_turn, own_turn, form_in, form_out, is_from_line, is_from_client, is_to_line}
+use Rattle.device_model.specs.Inputs.{has_died}
+use Rattle.device_model.specs.LineFiles.{IsFrameOf, IsLineFile}
 use Rattle.device_model.specs.LineViews.{view_at}
+use Rattle.device_model.specs.Moments.{uses}
+use Rattle.device_model.specs.OneFile.{SameInputsTo}
 use Rattle.device_model.specs.Through.{Inputs, OwnInput, of_line, of_client, own_of, own_input, text_by}
-use Rattle.device_model.specs.TwoWorlds.{AgreeOnEnd}
+use Rattle.device_model.specs.TwoWorlds.{AgreeOnEnd, SameInput}
 use Rattle.device_model.specs.UpToTurn.{AgreeInTurn, BringAlike, AgreeUpTo}
+use Rattle.device_model.proofs.WorldInputs.{leaves_the_same}
 use Rattle.device_model.proofs.UpToTurn.{looks_not_ahead, shows_the_same_up_to}
-use Rattle.node_core.specs.GivenRuns.{HasGiven}
 use Rattle.node_core.specs.RunLeft.{Takings, MayHave, MayBeInputs}
 use Rattle.node_core.specs.RunsAlike.{World, IsWorld, went_out}
 use Rattle.node_core.specs.RunsThrough.{IsFrontOf, CarriedOn}
-use Rattle.node_core.specs.SeenRuns.{Run, IsRun, LineGave, ClientGave, AgreeOnInput, ShareInput, LineGot, ClientGot, LineLived, ClientLived, SameText, SameOnLine, SameOutput, AgreeOnInputUpTo, ShareInputUpTo, SameLineUpTo, Shows, FileGot, PutThrough, read_back, CarriesOver}
-use Rattle.node_core.proofs.GivenRuns.{given_inputs, line_had, client_had}
+use Rattle.node_core.specs.SeenRuns.{Run, IsRun, LineGave, ClientGave, AgreeOnInput, ShareInput, LineGot, ClientGot, LineLived, ClientLived, SameText, SameOnLine, SameOutput, AgreeOnInputUpTo, ShareInputUpTo, SameLineUpTo, Shows, Gave, GaveTo, FileGot, PutThrough, read_back, CarriesOver}
+use Rattle.node_core.proofs.GivenRuns.{some_passes, line_had, client_had}
 use Rattle.node_core.proofs.RunsAlike.{left_alike, places_as_got, all_gone, line_left}
 use Rattle.node_core.proofs.RunsThrough.{left_through, carried_in}
-use Rattle.node_core.proofs.UsedPorts.{from_line_used}
+use Rattle.node_core.proofs.UsedPorts.{from_line_used, one_passes}
 
 -- ---- what went out is what the port got
 
@@ -333,15 +341,116 @@ text_through run x is has n own went to shows got =
     subst (λ o. IsFrontOf (client_out_at run.before n) (client_out_at run.after n) (text_by x o (x.stop - first_turn x)) went) (sym s.own_is)
     (subst (λ l. IsFrontOf (client_out_at run.before n) (client_out_at run.after n) all l) (sym e) front)
 
+-- ---- the file of a line, by the inputs of the connections that go to it
+
+pub same_frame : (plan : Plan) (one other : Inputs) (b past n : ℕ) (put : FramePut) → SameInputsTo plan one other b → IsFrameOf plan one b past n put → IsFrameOf plan other b past n put
+same_frame plan one other b past n put same h = record {
+  mfas = h.mfas;
+  many = h.many;
+  used = h.used;
+  free = h.free;
+  size = h.size;
+  own = λ x port slots sent. subst (λ turns. IsPut (tributary_of slots port) turns (own_turn x past) n put.bytes)
+      (leaves_the_same x (own_input one x) (own_input other x) (own_turn x past + 1) (same x port slots sent.is_of sent.to)).got (h.own x port slots sent);
+  other = h.other;
+}
+
+same_file : (plan : Plan) (one other : Inputs) (b count : ℕ) (frames : List (List ℕ)) → SameInputsTo plan one other b → IsLineFile plan one b count frames → IsLineFile plan other b count frames
+same_file plan one other b count frames same h = record {
+  puts = h.puts;
+  are_put = record {
+    many = h.are_put.many;
+    each = λ f put at. same_frame plan one other b (f / size_of (form_out plan b)) (f % size_of (form_out plan b)) put same (h.are_put.each f put at);
+  };
+  are_frames = h.are_frames;
+}
+
+to_it : (b : ℕ) (to : ToEnd) → is_to_line b to ≡ true → (port : ℕ) × (slots : LineSlots) × (to ≡ to_end.Line b port slots)
+to_it b (to_end.Line c port slots) e = (port, slots, ap (λ c. to_end.Line c port slots) (same_number c b e))
+to_it b (to_end.Client n) e = absurd (cc)
+
+is_to_it : (b port : ℕ) (slots : LineSlots) (to : ToEnd) → to ≡ to_end.Line b port slots → is_to_line b to ≡ true
+is_to_it b port slots to e = ap (is_to_line b) e ∙ one_number b
+
+-- a connection goes from line a, or from client n, to line b
+abbrev from_line_to : (a b : ℕ) → Connection → Bool
+from_line_to a b y = is_from_line a y.from && is_to_line b y.to
+
+abbrev from_client_to : (n b : ℕ) → Connection → Bool
+from_client_to n b y = is_from_client n y.from && is_to_line b y.to
+
+gave_line : (run : Run) (a : ℕ) (from : FromEnd) (inputs : Inputs) → is_from_line a from ≡ true → Gave run from inputs → LineGave run a (inputs.line a)
+gave_line run a (from_end.Line c port slots) inputs e gave = subst (λ i. LineGave run i (inputs.line i)) (same_number c a e) gave
+gave_line run a (from_end.Client n) inputs e gave = absurd (cc)
+gave_line run a (from_end.Signal signal) inputs e gave = absurd (cc)
+
+gave_client : (run : Run) (n : ℕ) (from : FromEnd) (inputs : Inputs) → is_from_client n from ≡ true → Gave run from inputs → ClientGave run n (inputs.client n) × (from ≡ from_end.Client n)
+gave_client run n (from_end.Line c port slots) inputs e gave = absurd (cc)
+gave_client run n (from_end.Client m) inputs e gave =
+    let same = same_number m n e in
+    (subst (λ i. ClientGave run i (inputs.client i)) same gave, ap from_end.Client same)
+gave_client run n (from_end.Signal signal) inputs e gave = absurd (cc)
+
+-- these inputs where they go to line b, and else what was taken
+abbrev inputs_to : Run → Takings → (b : ℕ) → Inputs → Inputs
+inputs_to run takings b inputs = record {
+  line = λ a. if list_any (from_line_to a b) run.plan.connections then inputs.line a else (taken_inputs run takings).line a;
+  client = λ n. if list_any (from_client_to n b) run.plan.connections then inputs.client n else (taken_inputs run takings).client n;
+}
+
+inputs_to_may : (run : Run) (is : IsRun run) (b : ℕ) (inputs : Inputs) → GaveTo run b inputs → MayBe run is.takings (inputs_to run is.takings b inputs)
+inputs_to_may run is b inputs gave = record {
+  line = λ a used. line_at a used (list_any (from_line_to a b) run.plan.connections) refl;
+  client = λ n used. client_at n (list_any (from_client_to n b) run.plan.connections) refl;
+}
+  where
+    line_at : (a : ℕ) → uses run.plan (port.LineIn a) ≡ true → (test : Bool) → list_any (from_line_to a b) run.plan.connections ≡ test
+        → MayLine run is.takings a (if test then inputs.line a else (taken_inputs run is.takings).line a)
+    line_at a used true e =
+        let y = some_passes (from_line_to a b) run.plan.connections e in
+        let both = and_parts (is_from_line a y.0.from) (is_to_line b y.0.to) y.2 in
+        let to = to_it b y.0.to both.1 in
+        let g = gave_line run a y.0.from inputs both.0 (gave y.0 to.0 to.1 y.1 to.2) in
+        (g.given, line_had run.plan run.before run.after is.takings is.numbers a g.given is.left used g.had, g.frames)
+    line_at a used false e = (is.takings.line a, all_taken (is.takings.line_more a) (is.takings.line a), refl)
+
+    client_at : (n : ℕ) (test : Bool) → list_any (from_client_to n b) run.plan.connections ≡ test
+        → MayClient run is.takings n (if test then inputs.client n else (taken_inputs run is.takings).client n)
+    client_at n true e =
+        let y = some_passes (from_client_to n b) run.plan.connections e in
+        let both = and_parts (is_from_client n y.0.from) (is_to_line b y.0.to) y.2 in
+        let to = to_it b y.0.to both.1 in
+        let g = gave_client run n y.0.from inputs both.0 (gave y.0 to.0 to.1 y.1 to.2) in
+        (g.0.given, client_had run.plan run.before run.after is.takings is.numbers y.0 n g.0.given is.left y.1 g.1 g.0.had, g.0.packets)
+    client_at n false e = (is.takings.client n, all_taken (is.takings.client_more n) (is.takings.client n), refl)
+
+same_to : (run : Run) (takings : Takings) (b : ℕ) (inputs : Inputs) → SameInputsTo run.plan (inputs_to run takings b inputs) inputs b
+same_to run takings b inputs = λ x port slots has to. by_from x port slots has to x.from refl
+  where
+    by_from : (x : Connection) (number : ℕ) (slots : LineSlots) → Contains run.plan.connections x → x.to ≡ to_end.Line b number slots → (from : FromEnd) → x.from ≡ from
+        → SameInput (own_of (inputs_to run takings b inputs) from) (own_of inputs from)
+    by_from x number slots has to (from_end.Line a own list) e =
+        let at = slice_get_read run.plan.connections (length run.plan.connections) has.0 x refl has.1 (sym has.2) in
+        let from : is_from_line a x.from ≡ true = ap (is_from_line a) e ∙ one_number a in
+        let on : list_any (from_line_to a b) run.plan.connections ≡ true = one_passes (from_line_to a b) run.plan.connections has.0 x at (rw (from, is_to_it b number slots x.to to) refl) in
+        λ t. ap (λ test. view_at (tributary_of list own) (if test then inputs.line a else (taken_inputs run takings).line a) t) on
+    by_from x number slots has to (from_end.Client n) e =
+        let at = slice_get_read run.plan.connections (length run.plan.connections) has.0 x refl has.1 (sym has.2) in
+        let from : is_from_client n x.from ≡ true = ap (is_from_client n) e ∙ one_number n in
+        let on : list_any (from_client_to n b) run.plan.connections ≡ true = one_passes (from_client_to n b) run.plan.connections has.0 x at (rw (from, is_to_it b number slots x.to to) refl) in
+        ap (λ test. if test then inputs.client n else (taken_inputs run takings).client n) on
+    by_from x number slots has to (from_end.Signal signal) e = tt
+
 file_through : (run : Run) (x : Connection) → IsRun run → Contains run.plan.connections x → (b number : ℕ) (slots : LineSlots) (inputs : Inputs) (went : List ℕ) → x.to ≡ to_end.Line b number slots
-    → HasGiven run.plan run.before run.after → AreInputs run.plan run.before run.after inputs → LineGot run b went → FileGot run inputs b went
-file_through run x is has b number slots inputs went to given are got =
-    let in_world = is_world run is inputs (given_inputs run.plan run.before run.after is.takings is.numbers inputs is.left given are) in
-    let world = world_of run is inputs in
+    → GaveTo run b inputs → LineGot run b went → FileGot run inputs b went
+file_through run x is has b number slots inputs went to gave got =
+    let known = inputs_to run is.takings b inputs in
+    let in_world = is_world run is known (inputs_to_may run is b inputs gave) in
+    let world = world_of run is known in
     let file = (left_through world x in_world has).line b number slots to in
     let all = through_mask (form_out run.plan b).scrambled (concat file.frames) in
     let e = got_is (line_out_at run.before b) (line_out_at run.after b) all ((went_out world in_world).line b) went file.front got in
-    record { frames = file.frames; file = file.file; front = subst (λ l. IsFrontOf (line_out_at run.before b) (line_out_at run.after b) all l) (sym e) file.front }
+    record { frames = file.frames; file = same_file run.plan known inputs b (size_of (form_out run.plan b) * run.plan.turns) file.frames (same_to run is.takings b inputs) file.file; front = subst (λ l. IsFrontOf (line_out_at run.before b) (line_out_at run.after b) all l) (sym e) file.front }
 
 pub puts_through : (run : Run) (x : Connection) → IsRun run → Contains run.plan.connections x → PutThrough run x
 puts_through run x is has = record { client = text_through run x is has; line = file_through run x is has }

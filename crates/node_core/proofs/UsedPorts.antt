@@ -37,7 +37,7 @@ or_true true b h = refl
 or_true false b h = h
 
 -- where it holds for one it holds for some
-one_passes : (test : Connection → Bool) (xs : List Connection) (i : ℕ) (x : Connection) → slice_get xs i ≡ Some x → test x ≡ true → list_any test xs ≡ true
+pub one_passes : (test : Connection → Bool) (xs : List Connection) (i : ℕ) (x : Connection) → slice_get xs i ≡ Some x → test x ≡ true → list_any test xs ≡ true
 one_passes test [] i x e h = cc
 one_passes test (y ∷ ys) zero x e h = let same : y ≡ x = cc in rw (same, h) refl
 one_passes test (y ∷ ys) (suc i) x e h = or_true (test y) (list_any test ys) (one_passes test ys i x e h)

@@ -24,7 +24,7 @@ use Rattle.device_model.specs.Agreements.{AgreeOnTributary}
 use Rattle.device_model.specs.Carried.{numbers_got}
 use Rattle.device_model.specs.Delivery.{AreOffered, whole_packets}
 use Rattle.device_model.specs.Entries.{first_turn, own_turn, form_in, form_out}
-use Rattle.device_model.specs.Inputs.{AreInputs, has_died}
+use Rattle.device_model.specs.Inputs.{has_died}
 use Rattle.device_model.specs.LineFiles.{IsLineFile}
 use Rattle.device_model.specs.LineViews.{view_at}
 use Rattle.device_model.specs.Moments.{uses}
@@ -32,7 +32,6 @@ use Rattle.device_model.specs.Report.{Numbers}
 use Rattle.device_model.specs.Through.{Inputs, OwnInput, of_line, of_client, of_signal, text_by}
 use Rattle.device_model.specs.TwoWorlds.{HaveSameByte}
 use Rattle.device_model.specs.UpToTurn.{AgreeInTurn, BringAlike}
-use Rattle.node_core.specs.GivenRuns.{HasGiven}
 use Rattle.node_core.specs.RunLeft.{Takings, RunLeft, SamePlace}
 use Rattle.node_core.specs.RunsAlike.{IsFrontOfOther, HasLived, HasPlace, HasGone}
 use Rattle.node_core.specs.RunsThrough.{IsFrontOf, CarriedOn}
@@ -154,18 +153,28 @@ Shows run (from_end.Line a port slots) own = (line : List ℕ) × LineGave run a
 Shows run (from_end.Client n) own = (input : ClientInput) × ClientGave run n input × (own ≡ of_client input)
 Shows run (from_end.Signal signal) own = own ≡ of_signal
 
--- so much of the file of line b, of what all inputs of the plan gave, went to it
+-- inputs have what the port of an end had to give; and so of each end from which a connection of the plan goes to line b
+abbrev pub Gave : Run → FromEnd → Inputs → Type 0
+Gave run (from_end.Line a port slots) inputs = LineGave run a (inputs.line a)
+Gave run (from_end.Client n) inputs = ClientGave run n (inputs.client n)
+Gave run (from_end.Signal signal) inputs = ⊤
+
+abbrev pub GaveTo : Run → (b : ℕ) → Inputs → Type 0
+GaveTo run b inputs = (y : Connection) (port : ℕ) (slots : LineSlots) → Contains run.plan.connections y → y.to ≡ to_end.Line b port slots → Gave run y.from inputs
+
+-- so much of the file of line b, where the inputs are these, went to it
 pub record FileGot (run : Run) (inputs : Inputs) (b : ℕ) (went : List ℕ) : Type 0 where
   pub frames : List (List ℕ)
   pub file : IsLineFile run.plan inputs b (size_of (form_out run.plan b) * run.plan.turns) frames
   pub front : IsFrontOf (line_out_at run.before b) (line_out_at run.after b) (through_mask (form_out run.plan b).scrambled (concat frames)) went
 
--- To a client of a connection went the text that its own entry puts through it of its own input; to a line of it the line's file.
+-- To a client of a connection went the text that its own entry puts through it of its own input; to a line of it the line's file, of all
+-- connections that go there.
 pub record PutThrough (run : Run) (x : Connection) : Type 0 where
   pub client : (n : ℕ) (own : OwnInput) (went : List ℕ) → x.to ≡ to_end.Client n → Shows run x.from own → ClientGot run n went
       → IsFrontOf (client_out_at run.before n) (client_out_at run.after n) (text_by x own (x.stop - first_turn x)) went
   pub line : (b port : ℕ) (slots : LineSlots) (inputs : Inputs) (went : List ℕ) → x.to ≡ to_end.Line b port slots
-      → HasGiven run.plan run.before run.after → AreInputs run.plan run.before run.after inputs → LineGot run b went → FileGot run inputs b went
+      → GaveTo run b inputs → LineGot run b went → FileGot run inputs b went
 
 -- So it is of each connection of a run.
 abbrev pub SeenRunsPutThrough : Type 0
