@@ -1,5 +1,5 @@
 -- The numbers of a run, by its plan, what its inputs gave, and what went to its outputs.
-use Rattle.std.specs.Prelude.{◌≡◌, ◌-◌, ◌*◌, ◌==◌, ℕ, true, if◌then◌else◌, nat_lt, List, length, filter, Option, Some, None, option_map, slice_get}
+use Rattle.std.specs.Prelude.{◌≡◌, ◌-◌, ◌*◌, ◌==◌, ℕ, true, ◌&&◌, if◌then◌else◌, nat_le, nat_lt, List, length, filter, Option, Some, None, option_map, slice_get}
 use Rattle.std.specs.List.{Contains}
 use Rattle.otn_base.specs.declared.kind.PortName.TheVariants as port
 use Rattle.otn_ports.specs.Views.{State, Empty, Live, Dead, BaysView}
@@ -50,13 +50,17 @@ counted_packets Empty packets went = length packets
 counted_packets Live packets went = whole_lines went
 counted_packets Dead packets went = whole_lines went
 
--- of the client input of a connection, when all its turns are done
-abbrev pub client_numbers : Connection → ClientInput → ClientInNumbers
-client_numbers x input = record {
-  packets = saturated (packets_begun input.packets x.fcs (emitted_in_all x));
-  spent = is_spent input x.fcs (emitted_in_all x);
-  bad = option_map saturated (bad_line input x.fcs (emitted_in_all x));
+-- of the client input of a connection, when so many bytes of its stream are emitted
+abbrev pub client_numbers_by : Connection → ClientInput → (emitted : ℕ) → ClientInNumbers
+client_numbers_by x input emitted = record {
+  packets = saturated (packets_begun input.packets x.fcs emitted);
+  spent = is_spent input x.fcs emitted;
+  bad = option_map saturated (bad_line input x.fcs emitted);
 }
+
+-- when all its turns are done
+abbrev pub client_numbers : Connection → ClientInput → ClientInNumbers
+client_numbers x input = client_numbers_by x input (emitted_in_all x)
 
 -- of its client output, to which this text went; a place that was so at first
 abbrev pub output_numbers : State → (arrived went : List ℕ) → ClientOutNumbers
@@ -64,7 +68,11 @@ output_numbers first arrived went = record { frames = saturated (arriving_frames
 
 -- ---- of a connection
 
--- what its from end was after the last turn of the plan; nothing where the connection was not active in that
+-- what its from end was after turn `past` of the plan; nothing where the connection was not active in that
+abbrev pub state_after_turn : (past : ℕ) → Connection → OwnInput → Option FromState
+state_after_turn past x input = if nat_le x.start past && nat_le past x.stop then Some (state_in x input (past - first_turn x)) else None
+
+-- what it was after the last turn of the plan
 abbrev pub last_state : (turns : ℕ) → Connection → OwnInput → Option FromState
 last_state turns x input = if x.stop == turns then Some (state_in x input (turns - first_turn x)) else None
 

@@ -77,7 +77,10 @@ first_pipes plan node accepted new = record {
       let zeroth : 0 ≡ own_turn x node.past = (let past = new.past in omega arith) in
       at_start plan inputs x node.past (own_turn x node.past) (taken_pieces node link.from) (given_pieces node link.to) link.pipe (none_taken plan node new link.from) (none_given plan node new link.to)
       (subst (λ j. PipeStands x (own_input inputs x) j [] false 0 link.pipe) zeroth (first_pipe inputs x link (new.links.each i x link at has) start));
-  last = λ over inputs may i x link at has stop. absurd (not_past plan node accepted new over);
+  last = λ inputs may i x link at has stop.
+      let first = (new.links.each i x link at has).is.first in
+      let span = ((sound_plan plan accepted).entries i x at).span in
+      absurd (omega (arith, stop, new.past));
 }
 
 no_frames_yet : (size past done : ℕ) → past ≡ 0 → done ≡ 0 → 0 ≡ size * past + done

@@ -25,7 +25,7 @@ use Rattle.node_core.specs.NodeView.{NodeView, HasLink, is_ready, done_at, taken
 use Rattle.node_core.specs.Stands.{InputBytes, MayGive, frames_by, ended_by, after_retire, PlanStands, PipesStand, ClientInAt, ClientsIn, StandsAt, Later}
 use Rattle.node_core.specs.declared.link.Link.{Link}
 use Rattle.node_core.proofs.PieceCounts.{done_more, done_same}
-use Rattle.node_core.proofs.Parts.{and_none, not_over, one_at, known_at, each_goes, link_before, link_after, on_active, IsReady, ready, ready_used, plan_counted, lines_in_same, lines_out_same}
+use Rattle.node_core.proofs.Parts.{and_none, none_and, off_stopped, one_at, known_at, each_goes, link_before, link_after, on_active, IsReady, ready, ready_used, plan_counted, lines_in_same, lines_out_same}
 use Rattle.node_core.proofs.ClientLinks.{HasSome, one_or_none, both_left, both_right, left_off, active_on, active_retired, active_turns, idle_turns, from_or_not, from_client, client_from, taken_but_in, given_but_in, none_in, pipe_as, clients_out_as}
 
 -- ---- what the piece does to a connection
@@ -60,8 +60,8 @@ pipes_in : (plan : Plan) (taken more : InputBytes) (old new : NodeView) (n : ℕ
     → ((inputs : Inputs) → MayGive plan more new inputs → (i : ℕ) (x : Connection) (link next : Link) → slice_get plan.connections i ≡ Some x → HasLink old i link → HasLink new i next
     → x.from ≡ from_end.Client n → IsActive x old.past → PipeStands x (own_input inputs x) (own_turn x old.past) [] false (given_pieces old link.to) link.pipe
     → PipeStands x (own_input inputs x) (own_turn x old.past) [] true (given_pieces old link.to) next.pipe)
-    → (new.turns ≤ new.past → ⊥) → PipesStand plan taken old → PipesStand plan more new
-pipes_in plan taken more old new n p took past same none one earlier mine going h = record {
+    → PipesStand plan taken old → PipesStand plan more new
+pipes_in plan taken more old new n p took past same none one earlier mine h = record {
   each = λ inputs may i x link at_i has active.
       let b = link_before (Took old.past n) old.links new.links i link took has in
       let is = p.links i x b.old at_i b.known in
@@ -88,7 +88,12 @@ pipes_in plan taken more old new n p took past same none one earlier mine going 
             (ended_by x.from (taken_pieces old b.old.from)) (ended_by x.from (taken_pieces new link.from)) (given_pieces old b.old.to) (given_pieces new link.to) b.old.pipe link.pipe
             turn frames (ap (ended_by x.from) takes) gives (ap (λ (l : Link). l.pipe) kept) stood
       ];
-  last = λ over inputs may i x link at_i has stop. absurd (going over);
+  last = λ inputs may i x link at_i has stop.
+      let b = link_before (Took old.past n) old.links new.links i link took has in
+      let is = p.links i x b.old at_i b.known in
+      let done : x.stop ≡ old.past = stop ∙ past in
+      let off : takes_client old.past n b.old ≡ false = none_and (is_on old.past b.old) (is_from_client n b.old.from) (off_stopped x old.past b.old is done) in
+      rw (past, b.goes.other off) (h.last inputs (earlier inputs may) i x b.old at_i b.known done);
 }
 
 -- what is said of a client that is not this one
@@ -193,7 +198,7 @@ none_takes plan first n taken old new was is r m only h none =
     earlier_in plan taken taken old new n p took m.past m.lines_in (λ a. refl) (λ c differ. refl) inputs may (λ i x link next at_i had has from now. rw (kept i link next had has) at now) in
     later_in plan first n taken taken old new was is r m only took h (λ a. refl) earlier
     (pipes_in plan taken taken old new n p took m.past same zero_done one_done earlier
-    (λ inputs may i x link next at_i had has from active stood. absurd (cc (is_taker x old.past n link (p.links i x link at_i had) from active, none i link had))) (not_over old new r.going m.turns m.past) h.pipes)
+    (λ inputs may i x link next at_i had has from active stood. absurd (cc (is_taker x old.past n link (p.links i x link at_i had) from active, none i link had))) h.pipes)
     (clients_in plan first taken taken old new was is n p took m.past same one_done (ready_used plan old (port.ClientIn n) p r) (λ c differ. refl) only
     (λ i x link next at_i had has from start.
     let turns : turns_done x old.past 1 ≡ turns_done x old.past (done_at old (port.ClientIn n)) = idle_turns x old.past 1 (done_at old (port.ClientIn n)) (idle_from x old.past n link (p.links i x link at_i had) from (none i link had)) in
@@ -326,7 +331,7 @@ one_takes plan first n taken old new was is r m only h some =
     let show : MayShow t.next.pipe.taking (taken.client n ++ c.more) (own_input inputs t.x) =
     may_as t.next.pipe.taking (taken.client n ++ c.more) (more.client n) (own_input inputs t.x) (of_client (inputs.client n)) (sym bytes) (ap (own_of inputs) t.from) (may.clients t.i n t.x t.next t.known t.has t.from start) in
     let had_it : PipeStands t.x (own_input inputs t.x) (own_turn t.x old.past) [] false (given_pieces old t.link.to) t.link.pipe = rw (s.entry, s.before) at stood in
-    rw (s.entry, s.before, s.after) (c.pipe (own_input inputs t.x) [] (given_pieces old t.link.to) show had_it)) (not_over old new r.going m.turns m.past) h.pipes)
+    rw (s.entry, s.before, s.after) (c.pipe (own_input inputs t.x) [] (given_pieces old t.link.to) show had_it)) h.pipes)
     (clients_in plan first taken more old new was is n p took m.past same one_done (ready_used plan old (port.ClientIn n) p r) others only
     (λ i x link next at_i had has from start.
     let s = one_taker plan old new n t p i x link next at_i had has from in

@@ -1,5 +1,5 @@
 -- A piece of a client output leads to the next moment.
-use Rattle.std.proofs.Common.{◌≡◌, ◌≢◌, ◌<◌, ◌≤◌, ◌+◌, ℕ, Bool, true, false, ◌&&◌, nat_le, List, length, Some, slice_get, get_or, arith, refl, sym, ap, ◌∙◌, inl, inr}
+use Rattle.std.proofs.Common.{◌≡◌, ◌≢◌, ◌<◌, ◌≤◌, ◌+◌, ℕ, Bool, true, false, ◌&&◌, nat_le, List, length, Some, slice_get, get_or, arith, refl, sym, ap, ◌∙◌, inl, inr, []}
 use Rattle.std.proofs.lemmas.Bool.{eq-eqb}
 use Rattle.std.proofs.lemmas.Bool.Decides.{eqb_tells}
 use Rattle.std.proofs.lemmas.Option.{slice_get_within}
@@ -27,7 +27,7 @@ use Rattle.node_core.specs.NodeView.{NodeView, HasLink, is_ready, done_at, taken
 use Rattle.node_core.specs.Stands.{InputBytes, MayGive, frames_by, ended_by, out_after_retire, PlanStands, PipesStand, ClientOutAt, ClientsOut, StandsAt, Later}
 use Rattle.node_core.specs.declared.link.Link.{Link}
 use Rattle.node_core.proofs.PieceCounts.{done_more, done_same}
-use Rattle.node_core.proofs.Parts.{and_none, not_over, one_at, known_at, each_goes, link_before, link_after, on_active, IsReady, ready, ready_used, plan_counted, lines_in_same, lines_out_same}
+use Rattle.node_core.proofs.Parts.{and_none, one_at, known_at, each_goes, link_before, link_after, on_active, IsReady, ready, ready_used, plan_counted, lines_in_same, lines_out_same}
 use Rattle.node_core.proofs.ClientLinks.{HasSome, one_or_none, both_left, both_right, left_off, active_on, active_retired, active_turns, idle_turns, to_or_not, to_client, client_to, taken_but_out, given_but_out, none_out, pipe_as, clients_in_as}
 
 -- ---- what the piece does to a connection
@@ -74,8 +74,8 @@ earlier_out plan taken old new n gave past lines_in inputs may = record {
 
 pipes_out : (plan : Plan) (taken : InputBytes) (old new : NodeView) (n : ℕ) → PlanStands plan old → EachLink (Gave old.past n) old.links new.links → new.past ≡ old.past
     → ((other : PortName) → other ≢ port.ClientOut n → done_at new other ≡ done_at old other) → ((inputs : Inputs) → MayGive plan taken new inputs → MayGive plan taken old inputs)
-    → (new.turns ≤ new.past → ⊥) → PipesStand plan taken old → PipesStand plan taken new
-pipes_out plan taken old new n p gave past same earlier going h = record {
+    → PipesStand plan taken old → PipesStand plan taken new
+pipes_out plan taken old new n p gave past same earlier h = record {
   each = λ inputs may i x link at_i has active.
       let b = link_before (Gave old.past n) old.links new.links i link gave has in
       let is = p.links i x b.old at_i b.known in
@@ -95,7 +95,10 @@ pipes_out plan taken old new n p gave past same earlier going h = record {
             let gives : given_pieces new link.to ≡ given_pieces old b.old.to = ap (given_pieces new) b.goes.same.to ∙ given_but_out n old new same b.old.to (ap (is_to_client n) is.to ∙ off) in
             rw gives now
       ];
-  last = λ over inputs may i x link at_i has stop. absurd (going over);
+  last = λ inputs may i x link at_i has stop.
+      let b = link_before (Gave old.past n) old.links new.links i link gave has in
+      let stood = h.last inputs (earlier inputs may) i x b.old at_i b.known (stop ∙ past) in
+      rw past (b.goes.stands x (own_input inputs x) (own_turn x old.past) 0 [] false stood);
 }
 
 -- what is said of a client that is not this one
@@ -147,7 +150,7 @@ later_out plan first n taken old new was is r m only gave h earlier clients =
       stands = record {
         plan_stands = plan_counted plan (port.ClientOut n) old new r m.counted m.turns m.past (each_goes (Gave old.past n) SameEntry old.links new.links (λ link next t. t.same) gave) h.plan_stands;
         lines_in = lines_in_same plan first taken taken old new was is m.past (λ a. same (port.LineIn a) (λ e. cc)) m.lines_in (λ a. refl) (λ a. ap (λ l. get_or l a no_input) only.line_in) h.lines_in;
-        pipes = pipes_out plan taken old new n h.plan_stands gave m.past same earlier (not_over old new r.going m.turns m.past) h.pipes;
+        pipes = pipes_out plan taken old new n h.plan_stands gave m.past same earlier h.pipes;
         lines_out = lines_out_same plan first taken taken old new was is earlier m.past (λ b. same (port.LineOut b) (λ e. cc)) m.lines_out (λ b. ap (λ l. get_or l b no_output) only.line_out) h.lines_out;
         clients_in = clients_in_as plan first taken old new was is (each_goes (Gave old.past n) (λ link next. next.pipe.taking ≡ link.pipe.taking) old.links new.links (λ link next t. t.taking) gave)
             m.past (λ c. same (port.ClientIn c) (λ e. cc)) (λ c. ap (λ l. get_or l c no_input) only.client_in) h.clients_in;

@@ -193,7 +193,7 @@ fence_pipes plan first taken old new was p m done lines pipes = record {
       let next = pipe_next plan first taken old new was inputs p m done lines pipes (fence_earlier old new plan taken p m inputs may) i x link at t on in
       at_start plan inputs x new.past (own_turn x new.past) (taken_pieces new link.from) (given_pieces new link.to) link.pipe (no_taken old new m link.from) (no_given old new m link.to)
       (subst (λ n. PipeStands x (own_input inputs x) (own_turn x n) [] false 0 link.pipe) (sym m.past) next);
-  last = λ over inputs may i x link at has stop.
+  last = λ inputs may i x link at has stop.
       subst (λ n. PipeStands x (own_input inputs x) (own_turn x n) [] false 0 link.pipe) (sym m.past)
       (pipe_last plan first taken old new was inputs p m done lines pipes (fence_earlier old new plan taken p m inputs may) i x link at (turned plan old new p m i x link at has) (stop ∙ m.past));
 }

@@ -35,7 +35,7 @@ use Rattle.node_core.specs.declared.link.Link.{Link}
 use Rattle.node_core.specs.declared.link.Target.{Target}
 use Rattle.node_core.specs.declared.link.Target.TheVariants as target
 use Rattle.node_core.proofs.PieceCounts.{done_more, done_same}
-use Rattle.node_core.proofs.Parts.{and_none, not_over, one_at, each_goes, link_before, Kept, on_active, IsReady, ready, ready_used, ready_less, plan_counted, lines_out_same, clients_in_same, clients_out_same, clients_may}
+use Rattle.node_core.proofs.Parts.{and_none, none_and, off_stopped, one_at, each_goes, link_before, Kept, on_active, IsReady, ready, ready_used, ready_less, plan_counted, lines_out_same, clients_in_same, clients_out_same, clients_may}
 
 -- ---- the frames that pieces came to
 
@@ -218,7 +218,15 @@ line_in_pipes plan first was is a taken old new p r m counted ps kept h = record
       let from : link.from ≡ origin_of x.from = b.goes.same.from ∙ of_x.from in
       let given : given_pieces new link.to ≡ given_pieces old b.old.to = ap (given_pieces new) b.goes.same.to ∙ given_same a old new same b.old.to in
       rw (m.past, from, given) after;
-  last = λ over inputs may i x link at_i has stop. absurd (not_over old new r.going m.turns m.past over);
+  last = λ inputs may i x link at_i has stop.
+      let used = ready_used plan old (port.LineIn a) p r in
+      let frame : Taken = record { frame = m.next.reader.hand; expected = m.reads.expected } in
+      let b = link_before (λ link next. TookFrame (m.next.has_frame && takes_line old.past a link) frame link next) old.links new.links i link m.reads.took has in
+      let of_x = p.links i x b.old at_i b.known in
+      let done : x.stop ≡ old.past = stop ∙ m.past in
+      let off : takes_line old.past a b.old ≡ false = none_and (is_on old.past b.old) (is_from_line a b.old.from) (off_stopped x old.past b.old of_x done) in
+      let stood = h.last inputs (line_in_earlier plan first was is a taken old new p used m ps kept inputs may) i x b.old at_i b.known done in
+      rw (m.past, b.goes.other (and_none m.next.has_frame (takes_line old.past a b.old) off)) stood;
 }
 
 -- ---- the moment

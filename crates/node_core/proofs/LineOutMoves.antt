@@ -32,7 +32,7 @@ use Rattle.node_core.specs.declared.link.Origin.{Origin}
 use Rattle.node_core.specs.declared.link.Origin.TheVariants as origin
 use Rattle.node_core.specs.declared.link.Target.TheVariants as target
 use Rattle.node_core.proofs.PieceCounts.{done_more, done_same}
-use Rattle.node_core.proofs.Parts.{and_none, not_over, one_at, each_goes, link_before, Kept, on_active, IsReady, ready, ready_used, ready_less, plan_counted, lines_in_same, clients_in_same, clients_out_same, clients_may}
+use Rattle.node_core.proofs.Parts.{and_none, none_and, off_stopped, one_at, each_goes, link_before, Kept, on_active, IsReady, ready, ready_used, ready_less, plan_counted, lines_in_same, clients_in_same, clients_out_same, clients_may}
 
 -- ---- connections that give nothing to the line
 
@@ -112,7 +112,13 @@ line_out_pipes plan was is b taken old new p r m kept h = record {
       let to : link.to ≡ target_of x.to = before.goes.same.to ∙ of_x.to in
       let from : taken_pieces new link.from ≡ taken_pieces old before.old.from = ap (taken_pieces new) before.goes.same.from ∙ taken_same b old new same before.old.from in
       rw (m.past, to, from) after;
-  last = λ over inputs may i x link at_i has stop. absurd (not_over old new r.going m.turns m.past over);
+  last = λ inputs may i x link at_i has stop.
+      let before = link_before (λ link next. GaveFrame (gives_line old.past b link) (done_at old (port.LineOut b)) link next) old.links new.links i link m.writes.gave has in
+      let of_x = p.links i x before.old at_i before.known in
+      let done : x.stop ≡ old.past = stop ∙ m.past in
+      let off : gives_line old.past b before.old ≡ false = none_and (is_on old.past before.old) (is_to_line b before.old.to) (off_stopped x old.past before.old of_x done) in
+      let stood = h.last inputs (line_out_earlier plan was is b taken old new p m kept inputs may) i x before.old at_i before.known done in
+      rw (m.past, before.goes.other off) stood;
 }
 
 -- ---- the frame

@@ -1,28 +1,29 @@
 -- What a node tells of its ports and its connections, in words of its plan.
-use Rattle.std.proofs.Common.{◌≡◌, ◌<◌, ◌≤◌, ◌+◌, ◌-◌, ◌&&◌, ℕ, min, nat_le, Bool, true, false, List, [], Option, Some, None, length, slice_get, arith, refl, sym, ap, subst, ◌∙◌, inl, inr}
+use Rattle.std.proofs.Common.{◌≡◌, ◌≢◌, ◌<◌, ◌≤◌, ◌+◌, ◌-◌, ◌*◌, ◌/◌, ◌&&◌, ◌==◌, ℕ, min, nat_le, nat_lt, Bool, true, false, List, [], Option, Some, None, length, slice_get, arith, refl, sym, ap, subst, ◌∙◌, inl, inr}
 use Rattle.std.specs.Prelude.{is_some, if◌then◌else◌, option_map}
 use Rattle.std.specs.List.{Contains}
 use Rattle.std.proofs.lemmas.Bool.{eq-eqb}
 use Rattle.std.proofs.lemmas.Bool.Decides.{nat_tests, eqb_tells}
 use Rattle.std.proofs.lemmas.Option.{slice_get_within, slice_get_read}
 use Rattle.otn_base.specs.declared.kind.PortName.TheVariants as port
-use Rattle.otn_ports.specs.Views.{InView, line_in_at, client_in_at}
+use Rattle.otn_ports.specs.Views.{InView, BaysView, line_in_at, client_in_at}
 use Rattle.line_side.specs.LineNumbers.{numbers_of}
 use Rattle.line_side.specs.LineOutput.{LineOutView}
 use Rattle.line_side.specs.LineStands.{LineView, InItsTurn}
 use Rattle.line_side.specs.declared.counts.LineCounts.{LineCounts}
-use Rattle.odu_client.specs.ClientInput.{ClientInput, packets_begun, is_spent, bad_line, emitted_before}
+use Rattle.odu_client.specs.ClientInput.{ClientInput, gfp_length, begun_within, is_end, packets_begun, is_spent, bad_line, emitted_before}
 use Rattle.otn_base.specs.Counts.{saturated}
 use Rattle.plan_file.specs.declared.connection.Connection.{Connection}
+use Rattle.plan_file.specs.declared.connection.FromEnd.{FromEnd}
 use Rattle.plan_file.specs.declared.connection.FromEnd.TheVariants as from_end
 use Rattle.plan_file.specs.declared.connection.ToEnd.TheVariants as to_end
 use Rattle.plan_file.specs.declared.plan.Plan.{Plan}
 use Rattle.tributary_model.specs.Places.{Taken}
-use Rattle.device_model.specs.Entries.{first_turn, form_in, own_turn}
-use Rattle.device_model.specs.Moments.{turns_done}
-use Rattle.device_model.specs.Numbers.{client_numbers}
+use Rattle.device_model.specs.Entries.{first_turn, form_in, own_turn, IsActive}
+use Rattle.device_model.specs.Moments.{turns_done, emitted_by}
+use Rattle.device_model.specs.Numbers.{client_numbers, client_numbers_by, last_state, state_after_turn}
 use Rattle.device_model.specs.Report.{ClientInNumbers}
-use Rattle.device_model.specs.Through.{OwnInput, of_client, own_input, state_in}
+use Rattle.device_model.specs.Through.{Inputs, OwnInput, of_client, own_of, own_input, state_by, state_in}
 use Rattle.device_model.specs.declared.outcome.FromState.{FromState}
 use Rattle.device_model.proofs.SoundPlans.{sound_plan}
 use Rattle.cross_matrix.specs.Parts.{ClientInStands, MayShow, GivesTo, IsToClient, IsReceived, turns_taken}
@@ -30,14 +31,14 @@ use Rattle.cross_matrix.specs.Pipes.{PipeStands}
 use Rattle.cross_matrix.specs.declared.giving.GivingPart.{GivingPart}
 use Rattle.cross_matrix.specs.declared.giving.GivingPart.TheVariants as giving
 use Rattle.node_core.specs.LinkMoves.{FirstOf}
-use Rattle.node_core.specs.Links.{IsLinkOf, was_on}
+use Rattle.node_core.specs.Links.{IsLinkOf, is_later, was_on}
 use Rattle.node_core.specs.Moves.{is_from_client, is_to_client, has_client_in, has_client_out}
-use Rattle.node_core.specs.NodeView.{NodeView, HasLineIn, HasLineOut, HasLink, done_at}
+use Rattle.node_core.specs.NodeView.{NodeView, HasLineIn, HasLineOut, HasLink, done_at, taken_pieces, given_pieces}
 use Rattle.node_core.specs.Settling.{IsLineCounts, IsFrameCount, IsClientInCount, IsClientOutCount, IsLastState}
-use Rattle.node_core.specs.Stands.{PlanStands}
+use Rattle.node_core.specs.Stands.{InputBytes, MayGive, PlanStands, StandsAt, frames_by, ended_by}
 use Rattle.node_core.specs.declared.link.Link.{Link}
 use Rattle.node_core.proofs.ClientLinks.{from_client, to_client, client_from, client_to}
-use Rattle.node_core.proofs.Parts.{one_at, known_at, and_none}
+use Rattle.node_core.proofs.Parts.{one_at, known_at, and_none, none_and}
 
 -- ---- lines
 
@@ -110,7 +111,7 @@ none_out plan node n j x p none at to =
     let mine : has_client_out n l.link ≡ true = ap (is_to_client n) (client_to n x l.link l.is to) ∙ eq-eqb n n refl in
     absurd (cc (mine, none j l.link l.has))
 
--- ---- behind the last turn
+-- ---- the turns that are done
 
 -- a connection has done all of its own turns
 pub all_turns : (x : Connection) (past pieces : ℕ) → x.stop ≤ past → turns_done x past pieces ≡ x.stop - first_turn x
@@ -120,44 +121,74 @@ all_turns x past pieces over =
     let least : min past x.stop ≡ x.stop = omega arith in
     rw (off, least) (omega arith)
 
--- and has started
-pub record IsPast (plan : Plan) (node : NodeView) (x : Connection) : Type 0 where
-  pub past : node.past ≡ plan.turns
-  pub first : 1 ≤ x.start
-  pub span : x.start ≤ x.stop
-  pub stop : x.stop ≤ node.past
-  pub start : x.start ≤ node.past + 1
-
-pub is_past : (plan : Plan) (node : NodeView) (i : ℕ) (x : Connection) → PlanStands plan node → node.turns ≤ node.past → slice_get plan.connections i ≡ Some x → IsPast plan node x
-is_past plan node i x p over at =
-    let sound = (sound_plan plan p.accepted).entries i x at in
-    let past : node.past ≡ plan.turns = (let turns = p.turns in let most = p.past in omega arith) in
-    let stop : x.stop ≤ node.past = (let last = sound.stop in omega arith) in
-    record { past = past; first = sound.start; span = sound.span; stop = stop; start = (let span = sound.span in omega arith) }
+-- it has done none, before its first one
+pub no_turns : (x : Connection) (past pieces : ℕ) → past + 1 < x.start → turns_done x past pieces ≡ 0
+no_turns x past pieces later =
+    let early : nat_le x.start (past + 1) ≡ false = grind (arith, nat_tests) in
+    let off : (nat_le x.start (past + 1) && nat_le (past + 1) x.stop) ≡ false = none_and (nat_le x.start (past + 1)) (nat_le (past + 1) x.stop) early in
+    let least : min past x.stop - first_turn x ≡ 0 = omega arith in
+    rw (off, least) refl
 
 -- ---- clients
 
-text_numbers : (x : Connection) (input : ClientInput) (k : ℕ) (t : ℕ × Bool × Option ℕ) → k ≡ x.stop - first_turn x
-    → t ≡ (saturated (packets_begun input.packets x.fcs (emitted_before x.pace k)), is_spent input x.fcs (emitted_before x.pace k), option_map saturated (bad_line input x.fcs (emitted_before x.pace k)))
-    → ◌≡◌ {A = ClientInNumbers} (record { packets = t.0; spent = t.1; bad = t.2 }) (client_numbers x input)
-text_numbers x input k t e told = rw (told, e) refl
+text_numbers : (x : Connection) (input : ClientInput) (emitted : ℕ) (t : ℕ × Bool × Option ℕ)
+    → t ≡ (saturated (packets_begun input.packets x.fcs emitted), is_spent input x.fcs emitted, option_map saturated (bad_line input x.fcs emitted))
+    → ◌≡◌ {A = ClientInNumbers} (record { packets = t.0; spent = t.1; bad = t.2 }) (client_numbers_by x input emitted)
+text_numbers x input emitted t told = rw told refl
+
+-- with nothing emitted no packet is begun, and nothing is seen
+none_begun : (input : ClientInput) (fcs : Bool) → packets_begun input.packets fcs 0 ≡ 0
+unfolding begun_within
+none_begun input fcs = refl
+
+none_spent : (length ending : Bool) (n : ℕ) → (ending && nat_le (15296 * (n + 1)) 0) ≡ false
+none_spent length ending n = and_none ending (nat_le (15296 * (n + 1)) 0) (grind (arith, nat_tests))
+
+none_seen : (n : ℕ) → nat_lt n 0 ≡ false
+none_seen n = grind (arith, nat_tests)
+
+none_yet : (x : Connection) (input : ClientInput) → ◌≡◌ {A = ℕ × Bool × Option ℕ} (0, false, None)
+    (saturated (packets_begun input.packets x.fcs 0), is_spent input x.fcs 0, option_map saturated (bad_line input x.fcs 0))
+none_yet x input =
+    let size = gfp_length input.packets x.fcs in
+    rw (none_begun input x.fcs, none_spent false (is_end input.ending) (size / 15232), none_seen size) refl
+
+none_emitted : (paces : List ℕ) → emitted_before paces 0 ≡ 0
+unfolding emitted_before
+none_emitted paces = refl
 
 pub client_in_told : (node : NodeView) (n i : ℕ) (link : Link) (t : ℕ × Bool × Option ℕ) → FirstOf (has_client_in n) node.links (Some i) → HasLink node i link
-    → ((x : Connection) (first now : InView) (taken : List ℕ) (k : ℕ) (input : ClientInput) → ClientInStands x first now taken k link.pipe.taking → MayShow link.pipe.taking taken (of_client input)
+    → (is_later node.past link ≡ true → t ≡ (0, false, None))
+    → (is_later node.past link ≡ false → (x : Connection) (first now : InView) (taken : List ℕ) (k : ℕ) (input : ClientInput) → ClientInStands x first now taken k link.pipe.taking → MayShow link.pipe.taking taken (of_client input)
     → t ≡ (saturated (packets_begun input.packets x.fcs (emitted_before x.pace k)), is_spent input x.fcs (emitted_before x.pace k), option_map saturated (bad_line input x.fcs (emitted_before x.pace k))))
     → IsClientInCount node n (record { packets = t.0; spent = t.1; bad = t.2 })
-client_in_told node n i link t found has told = λ plan first taken now inputs x h over may is_of from.
+client_in_told node n i link t found has later told = λ plan first taken now inputs x h may is_of from.
     let p = h.plan_stands in
     let same : is_of.0 ≡ i = sym (found_in plan node n i is_of.0 x link p has (found.is.1 link has) (entry_of plan x is_of) from) in
     let at_i : slice_get plan.connections i ≡ Some x = subst (λ k. slice_get plan.connections k ≡ Some x) same (entry_of plan x is_of) in
-    let end = is_past plan node i x p over at_i in
-    let k = turns_done x node.past (done_at node (port.ClientIn n)) in
-    let s = h.clients_in.started i n x link at_i has from end.start in
-    text_numbers x (inputs.client n) k t (all_turns x node.past (done_at node (port.ClientIn n)) end.stop)
-    (told x (client_in_at first n) s.was (taken.client n) k (inputs.client n) s.stands (may.clients i n x link at_i has from end.start))
+    let is = p.links i x link at_i has in
+    let pieces = done_at node (port.ClientIn n) in
+    let k = turns_done x node.past pieces in
+    by_start plan first taken now inputs x h may at_i is pieces k from (is_later node.past link) refl
+  where
+    by_start : (plan : Plan) (first : BaysView) (taken : InputBytes) (now : BaysView) (inputs : Inputs) (x : Connection) → StandsAt plan first taken node now → MayGive plan taken node inputs → slice_get plan.connections i ≡ Some x
+        → IsLinkOf x link → (pieces k : ℕ) → x.from ≡ from_end.Client n → (test : Bool) → is_later node.past link ≡ test
+        → ◌≡◌ {A = ClientInNumbers} (record { packets = t.0; spent = t.1; bad = t.2 }) (client_numbers_by x (inputs.client n) (emitted_before x.pace (turns_done x node.past (done_at node (port.ClientIn n)))))
+    by_start plan first taken now inputs x h may at_i is pieces k from true e =
+        let start = is.start in
+        let before : node.past + 1 < x.start = grind (arith, nat_tests) in
+        let none : emitted_before x.pace (turns_done x node.past (done_at node (port.ClientIn n))) ≡ 0 =
+        ap (emitted_before x.pace) (no_turns x node.past (done_at node (port.ClientIn n)) before) ∙ none_emitted x.pace in
+        rw none (text_numbers x (inputs.client n) 0 t (later e ∙ none_yet x (inputs.client n)))
+    by_start plan first taken now inputs x h may at_i is pieces k from false e =
+        let start = is.start in
+        let begun : x.start ≤ node.past + 1 = grind (arith, nat_tests) in
+        let s = h.clients_in.started i n x link at_i has from begun in
+        text_numbers x (inputs.client n) (emitted_before x.pace (turns_done x node.past (done_at node (port.ClientIn n)))) t
+        (told e x (client_in_at first n) s.was (taken.client n) (turns_done x node.past (done_at node (port.ClientIn n))) (inputs.client n) s.stands (may.clients i n x link at_i has from begun))
 
 pub client_in_none : (node : NodeView) (n : ℕ) (counts : ClientInNumbers) → FirstOf (has_client_in n) node.links None → IsClientInCount node n counts
-client_in_none node n counts found = λ plan first taken now inputs x h over may is_of from. absurd (none_in plan node n is_of.0 x h.plan_stands found.is (entry_of plan x is_of) from)
+client_in_none node n counts found = λ plan first taken now inputs x h may is_of from. absurd (none_in plan node n is_of.0 x h.plan_stands found.is (entry_of plan x is_of) from)
 
 to_part : (n : ℕ) (part : GivingPart) → GivesTo (to_end.Client n) part → IsToClient part
 to_part n (giving.Line source) h = absurd h
@@ -181,30 +212,91 @@ nothing : (state : Option FromState) → is_some state ≡ false → state ≡ N
 nothing None h = refl
 nothing (Some s) h = cc
 
+-- the own turns that its input has taken by a piece of a turn make no other state
+state_taken : (from : FromEnd) (x : Connection) (inputs : Inputs) (j k : ℕ) → state_by from x (own_of inputs from) (turns_taken j (ended_by from k)) ≡ state_by from x (own_of inputs from) j
+state_taken (from_end.Line a number slots) x inputs j k = refl
+state_taken (from_end.Client n) x inputs j k = refl
+state_taken (from_end.Signal signal) x inputs j k = refl
+
+on_then : (past start stop : ℕ) → (nat_le 1 past && (nat_le start past && nat_le past stop)) ≡ true → (start ≤ past) × (past ≤ stop)
+on_then past start stop e = go (nat_le 1 past) (nat_le start past) refl (nat_le past stop) refl e
+  where
+    go : (a b : Bool) → nat_le start past ≡ b → (c : Bool) → nat_le past stop ≡ c → (a && (b && c)) ≡ true → (start ≤ past) × (past ≤ stop)
+    go true true f true g e = (grind (arith, nat_tests), grind (arith, nat_tests))
+    go true true f false g e = absurd (cc)
+    go true false f c g e = absurd (cc)
+    go false b f c g e = absurd (cc)
+
+off_then : (past start stop : ℕ) → 1 ≤ start → (nat_le 1 past && (nat_le start past && nat_le past stop)) ≡ false → (nat_le start past && nat_le past stop) ≡ false
+off_then past start stop some e = go (nat_le 1 past) refl e
+  where
+    go : (a : Bool) → nat_le 1 past ≡ a → (a && (nat_le start past && nat_le past stop)) ≡ false → (nat_le start past && nat_le past stop) ≡ false
+    go true f e = e
+    go false f e =
+        let none : nat_le start past ≡ false = grind (arith, nat_tests) in
+        none_and (nat_le start past) (nat_le past stop) none
+
+both_so : (past start stop : ℕ) → start ≤ past → past ≤ stop → (nat_le start past && nat_le past stop) ≡ true
+both_so past start stop low high = grind (arith, nat_tests)
+
 pub state_told : (node : NodeView) (i : ℕ) (link : Link) (state : Option FromState) → HasLink node i link → is_some state ≡ was_on node.past link
     → (was_on node.past link ≡ true → (x : Connection) (input : OwnInput) (j filled : ℕ) (frames : List Taken) (ended : Bool) → PipeStands x input j frames ended filled link.pipe
     → state ≡ Some (state_in x input (turns_taken j ended))) → IsLastState node i state
-state_told node i link state has some told = λ plan first taken now inputs x h over may at_i.
-    let p = h.plan_stands in
-    let is = p.links i x link at_i has in
-    let end = is_past plan node i x p over at_i in
-    elim (eqb_tells x.stop plan.turns) [
-      | inl t ↦
-          let stop : x.stop ≡ node.past = t.1 ∙ sym end.past in
-          let on : was_on node.past link ≡ true = on_last node.past link (let first = end.first in let span = end.span in omega arith)
-          (let start = is.start in let span = end.span in omega arith) (let last = is.stop in omega arith) in
-          let turns : own_turn x node.past ≡ plan.turns - first_turn x = ap (λ k. k - first_turn x) end.past in
-          told on x (own_input inputs x) (own_turn x node.past) 0 [] false (h.pipes.last over inputs may i x link at_i has stop)
-          ∙ ap (λ k. Some (state_in x (own_input inputs x) k)) turns ∙ ap (λ b. if b then Some (state_in x (own_input inputs x) (plan.turns - first_turn x)) else None) (sym t.0)
-      | inr t ↦
-          let off : was_on node.past link ≡ false = off_last node.past link (let last = is.stop in let stop = end.stop in let past = end.past in let other = t.1 in omega arith) in
-          nothing state (some ∙ off) ∙ ap (λ b. if b then Some (state_in x (own_input inputs x) (plan.turns - first_turn x)) else None) (sym t.0)
-    ]
+state_told node i link state has some told = λ plan first taken now inputs x h may at_i.
+    by_turn plan first taken now inputs x h may at_i (h.plan_stands.links i x link at_i has) (was_on node.past link) refl
   where
-    on_last : (past : ℕ) (link : Link) → 1 ≤ past → link.start ≤ past → past ≤ link.stop → was_on past link ≡ true
-    on_last past link some start stop = grind (arith, nat_tests)
+    active_then : (x : Connection) → x.start ≤ node.past → node.past ≤ x.stop → x.stop ≢ node.past → IsActive x node.past
+    active_then x low high other = record { start = omega arith; stop = omega (arith, other) }
 
-    off_last : (past : ℕ) (link : Link) → link.stop < past → was_on past link ≡ false
-    off_last past link late =
-        let off : nat_le past link.stop ≡ false = grind (arith, nat_tests) in
-        and_none (nat_le 1 past) (nat_le link.start past && nat_le past link.stop) (and_none (nat_le link.start past) (nat_le past link.stop) off)
+    by_turn : (plan : Plan) (first : BaysView) (taken : InputBytes) (now : BaysView) (inputs : Inputs) (x : Connection) → StandsAt plan first taken node now → MayGive plan taken node inputs → slice_get plan.connections i ≡ Some x
+        → IsLinkOf x link → (on : Bool) → was_on node.past link ≡ on → state ≡ state_after_turn node.past x (own_input inputs x)
+    by_turn plan first taken now inputs x h may at_i is false e =
+        let off : (nat_le x.start node.past && nat_le node.past x.stop) ≡ false = rw (sym is.start, sym is.stop) (off_then node.past link.start link.stop (rw is.start is.first) e) in
+        nothing state (some ∙ e) ∙ ap (λ b. if b then Some (state_in x (own_input inputs x) (node.past - first_turn x)) else None) (sym off)
+    by_turn plan first taken now inputs x h may at_i is true e =
+        let span = on_then node.past link.start link.stop e in
+        let low : x.start ≤ node.past = rw (sym is.start) span.0 in
+        let high : node.past ≤ x.stop = rw (sym is.stop) span.1 in
+        let on : (nat_le x.start node.past && nat_le node.past x.stop) ≡ true = both_so node.past x.start x.stop low high in
+        let is_so : state ≡ Some (state_in x (own_input inputs x) (own_turn x node.past)) = elim (eqb_tells x.stop node.past) [
+          | inl t ↦ told e x (own_input inputs x) (own_turn x node.past) 0 [] false (h.pipes.last inputs may i x link at_i has t.1)
+          | inr t ↦
+              let active = active_then x low high t.1 in
+              let k = taken_pieces node link.from in
+              told e x (own_input inputs x) (own_turn x node.past) (given_pieces node link.to) (frames_by plan inputs x.from node.past k) (ended_by x.from k) (h.pipes.each inputs may i x link at_i has active)
+              ∙ ap Some (state_taken x.from x inputs (own_turn x node.past) k)
+        ] in
+        is_so ∙ ap (λ b. if b then Some (state_in x (own_input inputs x) (node.past - first_turn x)) else None) (sym on)
+
+-- ---- past the last turn
+
+-- a connection of the plan has started by then, and all its turns are done
+pub record IsPast (plan : Plan) (node : NodeView) (x : Connection) : Type 0 where
+  pub past : node.past ≡ plan.turns
+  pub first : 1 ≤ x.start
+  pub span : x.start ≤ x.stop
+  pub stop : x.stop ≤ node.past
+  pub start : x.start ≤ node.past + 1
+
+pub is_past : (plan : Plan) (node : NodeView) (i : ℕ) (x : Connection) → PlanStands plan node → node.turns ≤ node.past → slice_get plan.connections i ≡ Some x → IsPast plan node x
+is_past plan node i x p over at =
+    let sound = (sound_plan plan p.accepted).entries i x at in
+    let past : node.past ≡ plan.turns = (let turns = p.turns in let most = p.past in omega arith) in
+    let stop : x.stop ≤ node.past = (let last = sound.stop in omega arith) in
+    record { past = past; first = sound.start; span = sound.span; stop = stop; start = (let span = sound.span in omega arith) }
+
+-- its client's numbers are then those of all its turns
+pub client_numbers_then : (plan : Plan) (node : NodeView) (x : Connection) (input : ClientInput) (pieces : ℕ) → IsPast plan node x → client_numbers_by x input (emitted_by x node.past pieces) ≡ client_numbers x input
+client_numbers_then plan node x input pieces end = ap (λ k. client_numbers_by x input (emitted_before x.pace k)) (all_turns x node.past pieces end.stop)
+
+-- and its state is that after the plan's last turn
+pub last_state_then : (plan : Plan) (node : NodeView) (x : Connection) (input : OwnInput) → IsPast plan node x → state_after_turn node.past x input ≡ last_state plan.turns x input
+last_state_then plan node x input end =
+    ap (λ t. state_after_turn t x input) end.past
+    ∙ ap (λ b. if b then Some (state_in x input (plan.turns - first_turn x)) else None) (same_test x.start x.stop plan.turns end.span (let stop = end.stop in let past = end.past in omega arith))
+  where
+    same_test : (start stop turns : ℕ) → start ≤ stop → stop ≤ turns → (nat_le start turns && nat_le turns stop) ≡ (stop == turns)
+    same_test start stop turns span most = elim (eqb_tells stop turns) [
+      | inl t ↦ (let high : turns ≤ stop = omega (arith, t.1) in both_so turns start stop (omega arith) high ∙ sym t.0)
+      | inr t ↦ (let late : nat_le turns stop ≡ false = (let other = t.1 in grind (arith, nat_tests)) in and_none (nat_le start turns) (nat_le turns stop) late ∙ sym t.0)
+    ]

@@ -18,14 +18,14 @@ use Rattle.device_model.specs.Moments.{uses}
 use Rattle.device_model.specs.Numbers.{Went, AreNumbers, line_ending}
 use Rattle.device_model.specs.Outcomes.{place_state, IsOutcome}
 use Rattle.device_model.specs.Report.{Numbers, ClientOutNumbers}
-use Rattle.device_model.specs.Through.{Inputs}
+use Rattle.device_model.specs.Through.{Inputs, own_input}
 use Rattle.device_model.proofs.OneFile.{one_file}
-use Rattle.node_core.specs.NodeView.{NodeView, HasLineIn}
+use Rattle.node_core.specs.NodeView.{NodeView, HasLineIn, done_at}
 use Rattle.node_core.specs.Ports.{index_of}
 use Rattle.node_core.specs.RunLeft.{OutputsLeft}
 use Rattle.node_core.specs.Settling.{ToldBy}
 use Rattle.node_core.specs.Stands.{InputBytes, MayGive, StandsAt}
-use Rattle.node_core.proofs.NodeReads.{entry_of}
+use Rattle.node_core.proofs.NodeReads.{entry_of, is_past, client_numbers_then, last_state_then}
 use Rattle.node_core.proofs.OutputsLeft.{AllWent, all_went, outputs_left}
 use Rattle.node_core.proofs.Parts.{known_at}
 use Rattle.node_core.proofs.UsedPorts.{used_within, from_client_used, to_client_used}
@@ -84,12 +84,15 @@ numbers_are plan first taken node was last inputs numbers went lines h over may 
       let l = all.line b used in
       let same : l.frames ≡ frames = only_file plan inputs b (size_of (form_out plan b) * plan.turns) l.frames frames l.file file in
       told.line_out b used l.line l.has ∙ l.counts ∙ ap (λ fs. saturated (counted_frames (line_out_at first b).state fs (went.line b))) same;
-  client_in = λ x n is_of from. told.client_in n (from_client_used plan is_of.0 n x (entry_of plan x is_of) from) plan first taken was inputs x h over may is_of from;
+  client_in = λ x n is_of from.
+      let end = is_past plan node is_of.0 x h.plan_stands over (entry_of plan x is_of) in
+      told.client_in n (from_client_used plan is_of.0 n x (entry_of plan x is_of) from) plan first taken was inputs x h may is_of from
+      ∙ client_numbers_then plan node x (inputs.client n) (done_at node (port.ClientIn n)) end;
   client_out = λ x n is_of to.
       let c = all.client x n is_of to in
       let told_it = told.client_out n (to_client_used plan is_of.0 n x (entry_of plan x is_of) to) plan first taken was c.i x c.link h c.at_i c.has to in
       two_numbers (numbers.client_out n) _ _ (c.counts ((numbers.client_out n).frames, (numbers.client_out n).packets) told_it);
-  from = λ i x at. told.from i x at plan first taken was inputs x h over may at;
+  from = λ i x at. told.from i x at plan first taken was inputs x h may at ∙ last_state_then plan node x (own_input inputs x) (is_past plan node i x h.plan_stands over at);
   outcome = outcome;
 }
 

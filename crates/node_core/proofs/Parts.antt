@@ -1,5 +1,5 @@
 -- The parts of a moment whose ports and pieces are as they were.
-use Rattle.std.proofs.Common.{◌≡◌, ◌<◌, ◌≤◌, ◌+◌, ℕ, zero, suc, Bool, true, false, ◌&&◌, List, [], ◌∷◌, Some, length, slice_get, get_or, set, nat_lt, arith, refl, ap, ◌∙◌, inl, inr}
+use Rattle.std.proofs.Common.{◌≡◌, ◌<◌, ◌≤◌, ◌+◌, ℕ, zero, suc, Bool, true, false, ◌&&◌, List, [], ◌∷◌, Some, length, slice_get, get_or, set, nat_lt, arith, refl, ap, ◌∙◌, inl, inr, nat_le}
 use Rattle.std.proofs.lemmas.Bool.Decides.{nat_tests, eqb_tells}
 use Rattle.std.proofs.lemmas.List.{get_or-set_same, get_or-set_other}
 use Rattle.std.proofs.lemmas.Option.{slice_get_within}
@@ -90,6 +90,17 @@ on_active x past link is active =
     let start : link.start ≤ past + 1 = rw is.start active.start in
     let stop : past + 1 ≤ link.stop = rw is.stop active.stop in
     grind (arith, nat_tests)
+
+-- one whose last turn is done is not
+pub off_stopped : (x : Connection) (past : ℕ) (link : Link) → IsLinkOf x link → x.stop ≡ past → is_on past link ≡ false
+off_stopped x past link is stop =
+    let last : link.stop ≡ past = is.stop ∙ stop in
+    let late : nat_le (past + 1) link.stop ≡ false = grind (arith, nat_tests) in
+    and_none (nat_le link.start (past + 1)) (nat_le (past + 1) link.stop) late
+
+pub none_and : (b c : Bool) → b ≡ false → (b && c) ≡ false
+none_and true c h = cc
+none_and false c h = refl
 
 -- ---- a port that is ready
 

@@ -1,5 +1,5 @@
 -- The connections of a node: for each, which ports it joins and in which turns, and its pipe.
-use Rattle.std.specs.Prelude.{◌≡◌, ◌+◌, ◌≤◌, ℕ, Bool, ◌&&◌, nat_le}
+use Rattle.std.specs.Prelude.{◌≡◌, ◌+◌, ◌≤◌, ℕ, Bool, ◌&&◌, nat_le, nat_lt}
 use Rattle.plan_file.specs.declared.connection.Connection.{Connection}
 use Rattle.plan_file.specs.declared.connection.FromEnd.{FromEnd}
 use Rattle.plan_file.specs.declared.connection.FromEnd.TheVariants as from_end
@@ -39,6 +39,10 @@ is_on past link = nat_le link.start (past + 1) && nat_le (past + 1) link.stop
 -- it was active in the last turn that is done
 abbrev pub was_on : (past : ℕ) → Link → Bool
 was_on past link = nat_le 1 past && (nat_le link.start past && nat_le past link.stop)
+
+-- its first turn comes after turn past + 1
+abbrev pub is_later : (past : ℕ) → Link → Bool
+is_later past link = nat_lt (past + 1) link.start
 
 -- all but its pipe is as it was
 pub record SameEntry (old new : Link) : Type 0 where

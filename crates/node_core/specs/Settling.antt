@@ -1,5 +1,5 @@
 -- How a node that is past its last turn is settled.
-use Rattle.std.specs.Prelude.{◌≡◌, ◌≤◌, ℕ, true, false, slice_get, Some, Option}
+use Rattle.std.specs.Prelude.{◌≡◌, ℕ, true, false, slice_get, Some, Option}
 use Rattle.std.specs.List.{Contains}
 use Rattle.otn_base.specs.declared.kind.PortName.{PortName}
 use Rattle.otn_base.specs.declared.kind.PortName.TheVariants as port
@@ -14,14 +14,14 @@ use Rattle.plan_file.specs.declared.connection.ToEnd.TheVariants as to_end
 use Rattle.plan_file.specs.declared.plan.Plan.{Plan}
 use Rattle.cross_matrix.specs.Parts.{IsReceived}
 use Rattle.device_model.specs.Entries.{form_in}
-use Rattle.device_model.specs.Moments.{uses}
-use Rattle.device_model.specs.Numbers.{Went, client_numbers, last_state}
+use Rattle.device_model.specs.Moments.{uses, emitted_by}
+use Rattle.device_model.specs.Numbers.{Went, client_numbers_by, state_after_turn}
 use Rattle.device_model.specs.Outcomes.{IsOutcome}
 use Rattle.device_model.specs.Report.{Numbers, ClientInNumbers, ClientOutNumbers}
 use Rattle.device_model.specs.Through.{Inputs, own_input}
 use Rattle.device_model.specs.declared.outcome.FromState.{FromState}
 use Rattle.device_model.specs.declared.outcome.Outcome.{Outcome}
-use Rattle.node_core.specs.NodeView.{NodeView, HasLineIn, HasLineOut, HasLink}
+use Rattle.node_core.specs.NodeView.{NodeView, HasLineIn, HasLineOut, HasLink, done_at}
 use Rattle.device_model.specs.LineAsked.{InputLeft}
 use Rattle.node_core.specs.RunLeft.{Takings, MayBeInputs, ClientInLeft, SamePlace, TookOf, OutputsLeft}
 use Rattle.node_core.specs.Stands.{InputBytes, MayGive, StandsAt}
@@ -61,22 +61,23 @@ IsLineCounts node a counts = (plan : Plan) (first : BaysView) (taken : InputByte
 abbrev pub IsFrameCount : NodeView → (b : ℕ) → (frames : ℕ) → Type 0
 IsFrameCount node b frames = (line : LineOutView) → HasLineOut node b line → frames ≡ line.frames
 
--- these are the numbers of client input n, of a node past its last turn
+-- these are the numbers of client input n, at whatever moment the node stands: by what is emitted until then, and before its first turn none
 abbrev pub IsClientInCount : NodeView → (n : ℕ) → ClientInNumbers → Type 0
-IsClientInCount node n counts = (plan : Plan) (first : BaysView) (taken : InputBytes) (now : BaysView) (inputs : Inputs) (x : Connection) → StandsAt plan first taken node now → node.turns ≤ node.past
-    → MayGive plan taken node inputs → Contains plan.connections x → x.from ≡ from_end.Client n → counts ≡ client_numbers x (inputs.client n)
+IsClientInCount node n counts = (plan : Plan) (first : BaysView) (taken : InputBytes) (now : BaysView) (inputs : Inputs) (x : Connection) → StandsAt plan first taken node now
+    → MayGive plan taken node inputs → Contains plan.connections x → x.from ≡ from_end.Client n
+    → counts ≡ client_numbers_by x (inputs.client n) (emitted_by x node.past (done_at node (port.ClientIn n)))
 
 -- these are the numbers of client output n: those of the receiver of the connection that goes to it
 abbrev pub IsClientOutCount : NodeView → (n : ℕ) → ClientOutNumbers → Type 0
 IsClientOutCount node n counts = (plan : Plan) (first : BaysView) (taken : InputBytes) (now : BaysView) (i : ℕ) (x : Connection) (link : Link) → StandsAt plan first taken node now
     → slice_get plan.connections i ≡ Some x → HasLink node i link → x.to ≡ to_end.Client n → IsReceived link.pipe.giving (counts.frames, counts.packets)
 
--- this is what the from end of connection i was after the last turn, of a node past that
+-- this is what the from end of connection i was after the last turn that is done, at whatever moment the node stands
 abbrev pub IsLastState : NodeView → (i : ℕ) → Option FromState → Type 0
-IsLastState node i state = (plan : Plan) (first : BaysView) (taken : InputBytes) (now : BaysView) (inputs : Inputs) (x : Connection) → StandsAt plan first taken node now → node.turns ≤ node.past
-    → MayGive plan taken node inputs → slice_get plan.connections i ≡ Some x → state ≡ last_state plan.turns x (own_input inputs x)
+IsLastState node i state = (plan : Plan) (first : BaysView) (taken : InputBytes) (now : BaysView) (inputs : Inputs) (x : Connection) → StandsAt plan first taken node now
+    → MayGive plan taken node inputs → slice_get plan.connections i ≡ Some x → state ≡ state_after_turn node.past x (own_input inputs x)
 
--- the numbers that a node of a plan tells: of its lines and client outputs at any moment, of its client inputs and connections past its last turn
+-- the numbers that a node of a plan tells, at any moment
 pub record ToldBy (plan : Plan) (node : NodeView) (numbers : Numbers) : Type 0 where
   pub line_in : (a : ℕ) → uses plan (port.LineIn a) ≡ true → IsLineCounts node a (numbers.line_in a)
   pub line_out : (b : ℕ) → uses plan (port.LineOut b) ≡ true → IsFrameCount node b (numbers.line_out b)

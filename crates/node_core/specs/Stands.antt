@@ -80,13 +80,13 @@ pub record LinesIn (plan : Plan) (first : BaysView) (taken : InputBytes) (node :
       → LineStands (form_in plan a) (line_in_at first a) (line_in_at now a) (taken.line a) node.past line × (line.pieces ≡ done_at node (port.LineIn a))
   pub idle : (a : ℕ) → uses plan (port.LineIn a) ≡ false → line_in_at now a ≡ line_in_at first a
 
--- Each active connection stands where its own entry and its own input have it. Behind the last turn so does each whose last turn that was: all
--- of its turns are done.
+-- Each active connection stands where its own entry and its own input have it. So does each whose last turn is the last that is done: all of its
+-- turns are done.
 pub record PipesStand (plan : Plan) (taken : InputBytes) (node : NodeView) : Type 0 where
   pub each : (inputs : Inputs) → MayGive plan taken node inputs → (i : ℕ) (x : Connection) (link : Link) → slice_get plan.connections i ≡ Some x → HasLink node i link → IsActive x node.past
       → PipeStands x (own_input inputs x) (own_turn x node.past) (frames_by plan inputs x.from node.past (taken_pieces node link.from)) (ended_by x.from (taken_pieces node link.from))
       (given_pieces node link.to) link.pipe
-  pub last : node.turns ≤ node.past → (inputs : Inputs) → MayGive plan taken node inputs → (i : ℕ) (x : Connection) (link : Link) → slice_get plan.connections i ≡ Some x → HasLink node i link
+  pub last : (inputs : Inputs) → MayGive plan taken node inputs → (i : ℕ) (x : Connection) (link : Link) → slice_get plan.connections i ≡ Some x → HasLink node i link
       → x.stop ≡ node.past → PipeStands x (own_input inputs x) (own_turn x node.past) [] false 0 link.pipe
 
 -- of each output line that is used the first so many frames were made, and were due to its place

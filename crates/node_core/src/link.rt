@@ -1,15 +1,18 @@
 // A connection of a node: which ports it joins, in which turns, and its pipe.
-ghost use Rattle.std.specs.Prelude.{◌≡◌, ◌<◌, ◌≤◌, ◌+◌, ◌&&◌, ◌==◌, ◌^◌, ℕ, Bool, true, false, None, Some, IfOk, length, slice_get, get_or, is_some, List, Option};
+ghost use Rattle.std.specs.Prelude.{◌≡◌, ◌<◌, ◌≤◌, ◌+◌, ◌&&◌, ◌==◌, ◌^◌, ℕ, Bool, true, false, None, Some, IfOk, length, slice_get, get_or, is_some, option_map, List, Option};
+ghost use Rattle.otn_base.specs.Counts.{saturated};
 ghost use Rattle.otn_ports.specs.InPlace.{in_view};
 ghost use Rattle.otn_ports.specs.OutPlace.{out_view};
+ghost use Rattle.otn_ports.specs.Views.{InView};
+ghost use Rattle.odu_client.specs.ClientInput.{ClientInput, bad_line, emitted_before, is_spent, packets_begun};
 ghost use Rattle.plan_file.specs.Answer.{fault_in};
 ghost use Rattle.plan_file.specs.declared.connection.Connection.{Connection};
 ghost use Rattle.tributary_model.specs.Places.{Taken};
-ghost use Rattle.device_model.specs.Through.{OwnInput, state_in};
-ghost use Rattle.cross_matrix.specs.Parts.{turns_taken};
+ghost use Rattle.device_model.specs.Through.{OwnInput, of_client, state_in};
+ghost use Rattle.cross_matrix.specs.Parts.{ClientInStands, MayShow, turns_taken};
 ghost use Rattle.cross_matrix.specs.Pipes.{PipeStands};
 ghost use Rattle.node_core.specs.LineFrames.{PutsOwn};
-ghost use Rattle.node_core.specs.Links.{IsLinkOf, is_on, was_on, origin_of, target_of};
+ghost use Rattle.node_core.specs.Links.{IsLinkOf, is_later, is_on, was_on, origin_of, target_of};
 ghost use Rattle.node_core.specs.Moves.{TookFrame, GaveFrame, Fences, is_from_line, is_from_client, is_to_line, is_to_client, has_client_in, has_client_out, takes_line, takes_client, gives_line, gives_client};
 ghost use Rattle.node_core.specs.LinkMoves.{TookText, GaveText, EndsFrames, EndsPipe};
 ghost use Rattle.node_core.specs.NodeMoves.{Starts, whole_for, ends_here};
@@ -161,6 +164,27 @@ impl Link {
         if self.is_on(past) {
             end_pipe(self.from, &mut self.pipe, past, wholes);
         }
+    }
+
+    /// The numbers of its client input so far, in turn past + 1: none before its first turn, nor where it comes from no client.
+    pub(crate) fn text_counts(&self, past: u32) -> (u64, bool, Option<u64>)
+        ensures later { is_later past self.now ≡ true → result ≡ (0, false, None) }
+        ensures started { is_later past self.now ≡ false → (x : Connection) (first now : InView) (taken : List ℕ) (n : ℕ) (input : ClientInput) → ClientInStands x first now taken n self.now.pipe.taking
+            → MayShow self.now.pipe.taking taken (of_client input)
+            → result ≡ (saturated (packets_begun input.packets x.fcs (emitted_before x.pace n)), is_spent input x.fcs (emitted_before x.pace n), option_map saturated (bad_line input x.fcs (emitted_before x.pace n))) }
+    {
+        if self.is_later(past) {
+            (0, false, None)
+        } else {
+            self.pipe.text_counts()
+        }
+    }
+
+    // Whether its first turn comes after turn past + 1.
+    fn is_later(&self, past: u32) -> bool
+        ensures { result ≡ is_later past self.now }
+    {
+        past < self.start && 1 < self.start - past
     }
 
     /// What it comes from is after the last turn that is done, if it was active in that.

@@ -30,13 +30,13 @@ impl Node {
         self.lines_out[n as usize].frames()
     }
 
-    /// Of client input `n`: how many packets were begun, whether it is spent, and the number of its bad line, once that is seen. An
-    /// accepted plan has one connection from it, or none.
+    /// Of client input `n`: how many packets were begun so far, whether it is spent, and the number of its bad line, once that is seen.
+    /// An accepted plan has one connection from it, or none.
     pub fn client_in(&self, n: u8) -> (u64, bool, Option<u64>)
         ensures { IsClientInCount self.now n (record { packets = result.0; spent = result.1; bad = result.2 }) }
     {
         match link_from_client(n, &self.links) {
-            Some(i) => self.links[i].pipe.text_counts(),
+            Some(i) => self.links[i].text_counts(self.past),
             None => (0, false, None),
         }
     }

@@ -18,7 +18,7 @@ returns-in-Some c =
     let found : FirstOf (has_client_in c.args.n) links (Some i) = subst (λ (ls : List Link). FirstOf (has_client_in c.args.n) ls (Some i)) c.deref.ensures.value said in
     let known : slice_get links i ≡ Some link = slice_get_read links (length links) i link refl found.is.0 c.index.ensures in
     subst (λ (node : NodeView). IsClientInCount node c.args.n (record { packets = c.text_counts.result.0; spent = c.text_counts.result.1; bad = c.text_counts.result.2 })) c.self.view_is
-    (client_in_told _ c.args.n i link c.text_counts.result found known c.text_counts.ensures)
+    (client_in_told _ c.args.n i link c.text_counts.result found known c.text_counts.ensures.later c.text_counts.ensures.started)
 
 pub returns-in-None : goal.returns-in-None
 returns-in-None c =
