@@ -103,10 +103,10 @@ alive_short found.Lost ended n f = absurd (f refl)
 -- what was read in the search for the next line was needed
 pub reads_on : {c : Cut} {cnew : CutView} {taken came : List ℕ} {packets : List (List ℕ)} {old : LinesView} → (h : GoesOn taken packets old) → (r : Found) (new : LinesView) → new.ended ≡ cnew.ended
     → (r ≡ found.Lost → c ≡ cut.Lost) → (r ≢ found.Lost → c ≢ cut.Lost) → NoneRead c (start old) came cnew ⊎ LastRead c (start old) came cnew
-    → Rests r came old new ⊎ ReadAsNeeded (came_short new.ended (answer_of r new.number)) (taken ++ came)
+    → Rests r came old new ⊎ ReadAsNeeded (came_short new.ended (answer_of r new.number)) (length packets + 1) (taken ++ came)
 unfolding has_lf
 reads_on h r new ended lost alive (inl f) = inl (record { none = f.none; ended = ended ∙ f.ended; alive = λ e. f.alive (lost e) })
-reads_on {c = c} {cnew = cnew} {taken = taken} {old = old} h r new ended lost alive (inr l) = inr (record {
+reads_on {c = c} {cnew = cnew} {taken = taken} {packets = packets} {old = old} h r new ended lost alive (inr l) = inr (record {
   before = taken ++ l.before;
   last = l.last;
   parts = ap (λ b. taken ++ b) l.parts ∙ sym (append_assoc taken l.before l.last);
@@ -115,12 +115,27 @@ reads_on {c = c} {cnew = cnew} {taken = taken} {old = old} h r new ended lost al
   whole = λ e. (let f = not_short r new.ended new.number e in l.whole (alive f.0) (sym ended ∙ f.1));
   part = λ e. l.part (by_part (is_short r new.ended new.number e));
   needed = nothing_shown (behind_lines h l.still_open l.before (old.hand ++ l.before) refl (l.clean refl)) l.short;
+  fewer = inr (let same : length (packets_of (full_lines (taken ++ l.before))).packets ≡ length packets = ap (λ (p : Packets). length p.packets) (behind_lines h l.still_open l.before (old.hand ++ l.before) refl (l.clean refl)).packets_are in omega arith);
 })
   where
     by_part : (new.ended ≡ true) ⊎ (r ≡ found.Lost) → (cnew.ended ≡ true) ⊎ (c ≡ cut.Lost)
     by_part (inl e) = inl (sym ended ∙ e)
     by_part (inr e) = inr (lost e)
 
+-- as many packets were asked for, or more
+more_asked : (short : Bool) (asked more : ℕ) (taken : List ℕ) → asked ≤ more → ReadAsNeeded short asked taken → ReadAsNeeded short more taken
+more_asked short asked more taken le h = record {
+  before = h.before;
+  last = h.last;
+  parts = h.parts;
+  blocks = h.blocks;
+  most = h.most;
+  whole = h.whole;
+  part = h.part;
+  needed = h.needed;
+  fewer = elim h.fewer [ inl none ↦ inl none | inr less ↦ inr (omega arith) ];
+}
+
 -- nothing more was read
-pub rests_on : (short more : Bool) (taken came : List ℕ) → more ≡ short → came ≡ [] → ReadAsNeeded short taken → ReadAsNeeded more (taken ++ came)
-rests_on short more taken came e none h = rw (e, none, append-nil taken) h
+pub rests_on : (short more : Bool) (asked next : ℕ) (taken came : List ℕ) → more ≡ short → asked ≤ next → came ≡ [] → ReadAsNeeded short asked taken → ReadAsNeeded more next (taken ++ came)
+rests_on short more asked next taken came e le none h = rw (e, none, append-nil taken) (more_asked short asked next taken le h)

@@ -171,13 +171,13 @@ finds_none taken packets view place h = record {
 
 -- what was read in two searches was needed
 both_reads : (taken : List ℕ) (packets : List (List ℕ)) (r : Found) (a b c : LinesView) (p q s : InView) → (h : Finds found.Empty taken packets a p b q) → (k : Finds r (taken ++ h.came) packets b q c s)
-    → Rests found.Empty h.came a b ⊎ ReadAsNeeded (came_short b.ended (answer_of found.Empty b.number)) (taken ++ h.came)
-    → Rests r k.came b c ⊎ ReadAsNeeded (came_short c.ended (answer_of r c.number)) ((taken ++ h.came) ++ k.came)
-    → Rests r (h.came ++ k.came) a c ⊎ ReadAsNeeded (came_short c.ended (answer_of r c.number)) (taken ++ (h.came ++ k.came))
+    → Rests found.Empty h.came a b ⊎ ReadAsNeeded (came_short b.ended (answer_of found.Empty b.number)) (length packets + 1) (taken ++ h.came)
+    → Rests r k.came b c ⊎ ReadAsNeeded (came_short c.ended (answer_of r c.number)) (length packets + 1) ((taken ++ h.came) ++ k.came)
+    → Rests r (h.came ++ k.came) a c ⊎ ReadAsNeeded (came_short c.ended (answer_of r c.number)) (length packets + 1) (taken ++ (h.came ++ k.came))
 both_reads taken packets r a b c p q s h k (inl f) (inl g) = inl (record { none = rw (f.none, g.none) refl; ended = g.ended ∙ f.ended; alive = g.alive })
 both_reads taken packets r a b c p q s h k (inr l) (inl g) =
     let same : came_short c.ended (answer_of r c.number) ≡ b.ended = alive_short r c.ended c.number g.alive ∙ g.ended in
-    inr (rw (← append_assoc taken h.came k.came) (rests_on b.ended (came_short c.ended (answer_of r c.number)) (taken ++ h.came) k.came same g.none l))
+    inr (rw (← append_assoc taken h.came k.came) (rests_on b.ended (came_short c.ended (answer_of r c.number)) (length packets + 1) (length packets + 1) (taken ++ h.came) k.came same (omega arith) g.none l))
 both_reads taken packets r a b c p q s h k f (inr l) = inr (rw (← append_assoc taken h.came k.came) l)
 
 -- empty lines, and what was found behind them

@@ -1,10 +1,10 @@
 -- Where the lines of a place stand, from one answer to the next.
-use Rattle.std.proofs.Common.{◌≡◌, ◌≢◌, ◌%◌, ◌⊎◌, inl, inr, ℕ, Bool, true, false, if◌then◌else◌, List, [], ◌∷◌, ◌++◌, length, arith, refl, sym, ap, subst, ◌∙◌, append_assoc, append-nil}
+use Rattle.std.proofs.Common.{◌≡◌, ◌≢◌, ◌<◌, ◌≤◌, ◌+◌, ◌-◌, ◌%◌, ◌⊎◌, inl, inr, ℕ, Bool, true, false, if◌then◌else◌, List, [], ◌∷◌, ◌++◌, length, length-append, take, zero, suc, arith, refl, sym, ap, subst, ◌∙◌, append_assoc, append-nil}
 use Rattle.otn_ports.specs.Views.{InView}
 use Rattle.otn_ports.proofs.GivenLaws.{gave_none, gave_twice}
 use Rattle.packet_text.specs.TextLines.{lines_of, full_lines, text_of_dead}
 use Rattle.packet_text.specs.PacketText.{packets_of, packets_behind, empty_lines}
-use Rattle.packet_text.specs.LinesStand.{LinesView, Begins, GoesOnWith, may_be, GoesOn, came_short, ReadAsNeeded, LinesStand, TakeStands, fresh_lines, given_by, is_packet}
+use Rattle.packet_text.specs.LinesStand.{LinesView, Begins, GoesOnWith, may_be, GoesOn, came_short, asked_for, ReadAsNeeded, LinesStand, TakeStands, fresh_lines, given_by, is_packet}
 use Rattle.packet_text.specs.Finding.{Rests, Finds, answer_of, with_answer}
 use Rattle.packet_text.specs.declared.line.Line.{Line}
 use Rattle.packet_text.specs.declared.line.Line.TheVariants as line
@@ -44,9 +44,9 @@ goes_told taken packets view h text may = by_flag view.ended refl may
         let rest = full_lines view.hand ++ begins.rest in
         by_lines (lines_of rest) (ap lines_of (begins.parts ∙ ap (λ b. b ++ begins.rest) used ∙ append_assoc h.used (full_lines view.hand) begins.rest) ∙ h.split e rest)
 
-fresh_read : ReadAsNeeded false []
+fresh_read : ReadAsNeeded false 0 []
 unfolding lines_of full_lines packets_of packets_behind
-fresh_read = record { before = []; last = []; parts = refl; blocks = refl; most = omega arith; whole = λ _. refl; part = λ e. absurd (cc); needed = refl }
+fresh_read = record { before = []; last = []; parts = refl; blocks = refl; most = omega arith; whole = λ _. refl; part = λ e. absurd (cc); needed = refl; fewer = inl refl }
 
 pub fresh_stands : (first : InView) (view : LinesView) → view ≡ fresh_lines → LinesStand first first [] [] view
 fresh_stands first view e = rw e (record {
@@ -59,6 +59,7 @@ fresh_stands first view e = rw e (record {
   told = λ text may. goes_told [] [] fresh_lines fresh_goes text may;
   shown = λ n f still. absurd (cc);
   read = fresh_read;
+  near = λ _. omega arith;
 })
 
 -- the answer is no part of what goes on
@@ -108,11 +109,20 @@ before_open : (ended : Bool) (taken text : List ℕ) → (ended ≡ true → tex
 before_open true taken text f g = f refl
 before_open false taken text f g = g refl
 
+-- less than a block is in hand
+take_few : (n : ℕ) (xs : List ℕ) → length (take n xs) ≤ n
+take_few zero xs = omega arith
+take_few (suc n) [] = omega arith
+take_few (suc n) (x ∷ xs) = let h = take_few n xs in omega arith
+
+pub near_hand : (at end : ℕ) (bytes : List ℕ) → end < at + 4096 → length (take (end - at) bytes) < 4096
+near_hand at end bytes less = let few = take_few (end - at) bytes in omega arith
+
 -- what was found makes the answer
 pub found_stands : (r : Found) (first : InView) (taken : List ℕ) (packets : List (List ℕ)) (old mid : LinesView) (was is : InView) → r ≢ found.Empty → old.answer ≡ line.Packet
     → ((taken : List ℕ) (packets : List (List ℕ)) → GoesOn taken packets old → Finds r taken packets old was mid is)
-    → LinesStand first was taken packets old → TakeStands first taken packets old (with_answer r mid) is
-found_stands r first taken packets old mid was is counts going finds h = record {
+    → length mid.hand < 4096 → LinesStand first was taken packets old → TakeStands first taken packets old (with_answer r mid) is
+found_stands r first taken packets old mid was is counts going finds near h = record {
   came = came;
   stands = (let P : Line → Type 0 = λ a. LinesStand first is (taken ++ came) (packets ++ (if is_packet a then given_by (answer_of r mid.number) mid.packet else [])) (with_answer r mid) in subst P (sym going) (by_found r counts f));
   earlier = λ text may. (let Q : Line → Type 0 = λ a. may_be old.ended a taken text in subst Q (sym going) (before_open old.ended taken text
@@ -155,10 +165,14 @@ found_stands r first taken packets old mid was is counts going finds h = record 
     all_lost true t text e may = absurd (cc)
     all_lost false t text e may = may
 
-    as_needed : (q : Found) → (g : Finds q taken packets old was mid is) → Rests q g.came old mid ⊎ ReadAsNeeded (came_short mid.ended (answer_of q mid.number)) (taken ++ g.came)
-        → ReadAsNeeded (came_short mid.ended (answer_of q mid.number)) (taken ++ g.came)
-    as_needed q g (inl rests) = rests_on (came_short old.ended old.answer) (came_short mid.ended (answer_of q mid.number)) taken g.came (alive_short q mid.ended mid.number rests.alive ∙ rests.ended ∙ sym (ap (came_short old.ended) going)) rests.none h.read
-    as_needed q g (inr l) = l
+    given : asked_for old.answer (length packets) ≡ length packets
+    given = ap (λ a. asked_for a (length packets)) going
+
+    as_needed : (q : Found) (next : ℕ) → next ≡ length packets + 1 → (g : Finds q taken packets old was mid is) → Rests q g.came old mid ⊎ ReadAsNeeded (came_short mid.ended (answer_of q mid.number)) (length packets + 1) (taken ++ g.came)
+        → ReadAsNeeded (came_short mid.ended (answer_of q mid.number)) next (taken ++ g.came)
+    as_needed q next one g (inl rests) = rests_on (came_short old.ended old.answer) (came_short mid.ended (answer_of q mid.number)) (asked_for old.answer (length packets)) next taken g.came
+        (alive_short q mid.ended mid.number rests.alive ∙ rests.ended ∙ sym (ap (came_short old.ended) going)) (omega (arith, given, one)) rests.none h.read
+    as_needed q next one g (inr l) = subst (λ n. ReadAsNeeded (came_short mid.ended (answer_of q mid.number)) n (taken ++ g.came)) (sym one) l
 
     by_found : (q : Found) → q ≢ found.Empty → (g : Finds q taken packets old was mid is) → LinesStand first is (taken ++ g.came) (packets ++ given_by (answer_of q mid.number) mid.packet) (with_answer q mid)
     by_found found.Empty no_empty g = absurd (no_empty refl)
@@ -171,7 +185,8 @@ found_stands r first taken packets old mid was is counts going finds h = record 
       goes = λ _. same_goes (taken ++ g.came) (packets ++ mid.packet ∷ []) mid found.Packet (g.packet refl);
       told = λ text may. goes_told (taken ++ g.came) (packets ++ mid.packet ∷ []) mid (g.packet refl) text may;
       shown = λ n e still. absurd (cc);
-      read = as_needed found.Packet g g.reads;
+      read = as_needed found.Packet (length (packets ++ mid.packet ∷ [])) (length-append packets (mid.packet ∷ [])) g g.reads;
+      near = λ _. near;
     }
     by_found found.Bad no_empty g = rw (append-nil packets) (record {
       gave = gave_twice first was is taken g.came h.gave g.gave;
@@ -182,7 +197,8 @@ found_stands r first taken packets old mid was is counts going finds h = record 
       goes = λ e. absurd (cc);
       told = λ text may. g.bad refl text (whole mid.ended mid.number (taken ++ g.came) text may) (begins mid.ended mid.number (taken ++ g.came) text may);
       shown = λ n e still. g.shown refl still;
-      read = as_needed found.Bad g g.reads;
+      read = as_needed found.Bad (length packets + 1) refl g g.reads;
+      near = λ e. absurd (cc);
     })
     by_found found.End no_empty g = let end = g.end refl in rw (append-nil packets) (record {
       gave = gave_twice first was is taken g.came h.gave g.gave;
@@ -193,7 +209,8 @@ found_stands r first taken packets old mid was is counts going finds h = record 
       goes = λ e. absurd (cc);
       told = λ text may. ap packets_of (all_ended mid.ended (taken ++ g.came) text end.0 may) ∙ end.1;
       shown = λ n e still. absurd (cc);
-      read = as_needed found.End g g.reads;
+      read = as_needed found.End (length packets + 1) refl g g.reads;
+      near = λ e. absurd (cc);
     })
     by_found found.Lost no_empty g = let lost = g.lost refl in rw (append-nil packets) (record {
       gave = gave_twice first was is taken g.came h.gave g.gave;
@@ -204,7 +221,8 @@ found_stands r first taken packets old mid was is counts going finds h = record 
       goes = λ e. absurd (cc);
       told = λ text may. ap packets_of (all_lost mid.ended (taken ++ g.came) text lost.2 may) ∙ lost.3;
       shown = λ n e still. absurd (cc);
-      read = as_needed found.Lost g g.reads;
+      read = as_needed found.Lost (length packets + 1) refl g g.reads;
+      near = λ e. absurd (cc);
     })
 
 -- the last answer is given again

@@ -51,7 +51,7 @@ pub record Finds (result : Found) (taken : List ℕ) (packets : List (List ℕ))
   pub end : result ≡ End → (new.ended ≡ true) × (packets_of (taken ++ came) ≡ record { packets = packets; ending = Ended })
   pub lost : result ≡ Lost → (was.state ≡ Live) × (is.state ≡ Dead) × (new.ended ≡ false) × (packets_of (text_of_dead (taken ++ came)) ≡ record { packets = packets; ending = Ended })
   pub shown : result ≡ Bad → new.ended ≡ false → shows_bad (taken ++ came) ≡ true
-  pub reads : Rests result came old new ⊎ ReadAsNeeded (came_short new.ended (answer_of result new.number)) (taken ++ came)
+  pub reads : Rests result came old new ⊎ ReadAsNeeded (came_short new.ended (answer_of result new.number)) (length packets + 1) (taken ++ came)
 
 -- what is seen of the lines once what was found is their answer
 abbrev pub with_answer : Found → LinesView → LinesView

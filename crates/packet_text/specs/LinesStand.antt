@@ -1,5 +1,5 @@
 -- Where the lines of a place stand.
-use Rattle.std.specs.Prelude.{◌≡◌, ◌≢◌, ◌<◌, ◌≤◌, ◌%◌, ◌^◌, ◌-◌, if◌then◌else◌, min, ℕ, Bool, true, false, List, [], ◌∷◌, ◌++◌, length, take}
+use Rattle.std.specs.Prelude.{◌≡◌, ◌≢◌, ◌<◌, ◌≤◌, ◌%◌, ◌+◌, ◌-◌, ◌⊎◌, if◌then◌else◌, ℕ, Bool, true, false, List, [], ◌∷◌, ◌++◌, length, take}
 use Rattle.otn_base.specs.Counts.{saturated}
 use Rattle.otn_ports.specs.Views.{InView, Live, Dead}
 use Rattle.otn_ports.specs.Given.{Gave}
@@ -81,9 +81,16 @@ came_short ended End = ended
 came_short ended (Bad n) = ended
 came_short ended Lost = true
 
--- How these bytes were read: by blocks of 4,096 bytes, but for a last read that came short. The last read was needed: what was taken
--- before it shows no bad line.
-pub record ReadAsNeeded (short : Bool) (taken : List ℕ) : Type 0 where
+-- how many packets were asked for, when these were given: once there is no more packet, one more
+abbrev pub asked_for : Line → (given : ℕ) → ℕ
+asked_for Packet given = given
+asked_for End given = given + 1
+asked_for (Bad n) given = given + 1
+asked_for Lost given = given + 1
+
+-- How these bytes were read, when so many packets were asked for: by blocks of 4,096 bytes, but for a last read that came short. The last read
+-- was needed: what was taken before it shows no bad line, and its whole lines have fewer packets.
+pub record ReadAsNeeded (short : Bool) (asked : ℕ) (taken : List ℕ) : Type 0 where
   pub before : List ℕ
   pub last : List ℕ
   pub parts : taken ≡ before ++ last
@@ -92,10 +99,11 @@ pub record ReadAsNeeded (short : Bool) (taken : List ℕ) : Type 0 where
   pub whole : short ≡ false → length last % 4096 ≡ 0
   pub part : short ≡ true → length last < 4096
   pub needed : shows_bad before ≡ false
+  pub fewer : (taken ≡ []) ⊎ (length (packets_of (full_lines before)).packets < asked)
 
 -- `first` and `now` are views of a place, between which these bytes were taken, and these packets given: whatever text it may turn
 -- out to have, they are its first packets, and the last answer is right. Before the end is seen no line is found bad but where the bytes
--- that were taken show it, and then nothing more is read.
+-- that were taken show it, and then nothing more is read. While packets come less than a block is in hand.
 pub record LinesStand (first now : InView) (taken : List ℕ) (packets : List (List ℕ)) (view : LinesView) : Type 0 where
   pub gave : Gave first taken now
   pub over : view.ended ≡ true → now.state ≡ Live → HasEnded now.left now.ended
@@ -105,7 +113,8 @@ pub record LinesStand (first now : InView) (taken : List ℕ) (packets : List (L
   pub goes : view.answer ≡ Packet → GoesOn taken packets view
   pub told : (text : List ℕ) → MayBe view taken text → Told view.answer packets (packets_of text)
   pub shown : (n : ℕ) → view.answer ≡ Bad n → view.ended ≡ false → shows_bad taken ≡ true
-  pub read : ReadAsNeeded (came_short view.ended view.answer) taken
+  pub read : ReadAsNeeded (came_short view.ended view.answer) (asked_for view.answer (length packets)) taken
+  pub near : view.answer ≡ Packet → length view.hand < 4096
 
 -- what the lines of a place are before anything was read
 abbrev pub fresh_lines : LinesView
