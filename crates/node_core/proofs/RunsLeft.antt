@@ -42,5 +42,5 @@ run_left plan first last taken node outcome numbers settled same outputs are = r
   of_inputs = λ inputs may.
       let s = settled.of_inputs inputs may in
       let o = outputs inputs s.may in
-      record { took = s.took; went = o.went; outputs = o.outputs; numbers_are = are inputs o.went s.may o.outputs (subst (IsOutcome plan inputs last) (sym same) s.outcome_is) };
+      record { took = s.took; text = s.text; went = o.went; outputs = o.outputs; numbers_are = are inputs o.went s.may o.outputs (subst (IsOutcome plan inputs last) (sym same) s.outcome_is) };
 }

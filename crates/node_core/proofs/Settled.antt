@@ -10,7 +10,8 @@ use Rattle.otn_base.specs.declared.kind.PortName.TheVariants as port
 use Rattle.otn_base.specs.declared.limits.TheConstants.{LINES}
 use Rattle.otn_ports.specs.Views.{State, Empty, Live, Dead, BaysView, line_in_at, client_in_at, no_input, no_output}
 use Rattle.line_side.specs.LineStands.{LineView, LineStands}
-use Rattle.odu_client.specs.ClientInput.{is_spent, emitted_before, input_given}
+use Rattle.packet_text.specs.LinesStand.{ReadAsNeeded}
+use Rattle.odu_client.specs.ClientInput.{is_spent, emitted_before, input_given, packets_asked}
 use Rattle.plan_file.specs.declared.connection.Connection.{Connection}
 use Rattle.plan_file.specs.declared.connection.FromEnd.TheVariants as from_end
 use Rattle.plan_file.specs.declared.plan.Plan.{Plan}
@@ -39,7 +40,7 @@ use Rattle.node_core.proofs.PortNumbers.{line_in_index}
 use Rattle.node_core.proofs.Retired.{entry_at, from_as, is_client}
 use Rattle.node_core.proofs.UsedPorts.{used_within, used_pieces, from_client_used}
 use Rattle.device_model.proofs.SettledLines.{may_at_end, EndOfLine, end_of_line, line_left}
-use Rattle.node_core.proofs.SettledClients.{more_of, goes_on_of, text_left, text_may, all_done, retires_at_end, more_before, died_before}
+use Rattle.node_core.proofs.SettledClients.{more_of, goes_on_of, text_left, text_may, all_done, retires_at_end, more_before, died_before, text_read}
 
 -- ---- the plan
 
@@ -281,6 +282,13 @@ settled_is plan first was is taken node dead more unspent n over st lines cut op
   of_inputs = λ inputs may. record {
     may = may_before plan first was is taken node inputs over st lines.asked may;
     took = λ a used. (line_end_at plan first was is taken node inputs a lines.asked.came (line a used) may used).took ∙ ap (λ t. min (length (inputs.line a)) (suc (line_taken (form_in plan a) (inputs.line a) t 0))) turns;
+    text = λ x m has from.
+        let at = listed plan.connections x has in
+        let link = link_at plan node at.0 x st.plan_stands at.1 in
+        let u = used_client plan first was taken node at.0 m x link.0 over st at.1 link.1 from in
+        subst (λ k. (short : Bool) × ReadAsNeeded short (packets_asked (inputs.client m).packets x.fcs (emitted_before x.pace k)) (taken.client m)) u.done
+        (text_read x (client_in_at first m) u.at_end.was (taken.client m) (turns_done x node.past (done_at node (port.ClientIn m))) link.0.pipe.taking (inputs.client m) u.at_end.stands
+        (client_may_at plan first was is taken lines.asked.came node inputs at.0 m x link.0 over st lines.asked.client_in may at.1 link.1 from));
     outcome_is = is_outcome plan inputs is dead (more || unspent) (λ e. let d = cut.some e in some_dead plan node is d.0 st.plan_stands d.1) (λ e. none_dead plan node is st.plan_stands (cut.none e))
         (λ e. some_more inputs may (or_cases more unspent e)) (λ e h. let p = or_parts more unspent e in none_more inputs may p.0 p.1 h);
   };

@@ -1,17 +1,19 @@
 -- What the end of a run makes of a client input: what was taken of it, and what its text may turn out to be.
-use Rattle.std.proofs.Common.{◌≡◌, ◌≢◌, ◌⊎◌, inl, inr, ◌≤◌, ◌+◌, ◌-◌, ◌∙◌, ◌&&◌, min, ℕ, Bool, true, false, List, [], ◌++◌, Some, slice_get, refl, sym, ap, subst, append_assoc, append-nil, arith}
+use Rattle.std.proofs.Common.{◌≡◌, ◌≢◌, ◌⊎◌, inl, inr, ◌≤◌, ◌+◌, ◌-◌, ◌∙◌, ◌&&◌, min, ℕ, Bool, true, false, List, [], ◌++◌, Some, length, slice_get, refl, sym, ap, subst, append_assoc, append-nil, arith}
 use Rattle.std.specs.Prelude.{not, nat_le, if◌then◌else◌}
 use Rattle.std.proofs.lemmas.Bool.{eq-eqb}
 use Rattle.std.proofs.lemmas.Bool.Decides.{nat_tests}
 use Rattle.otn_ports.specs.Given.{Lives}
 use Rattle.otn_ports.specs.Views.{State, Empty, Live, Dead, InView}
 use Rattle.packet_text.specs.TextLines.{full_lines, text_of_dead}
-use Rattle.packet_text.specs.LinesStand.{LinesView, LinesStand, lines_view, may_be}
+use Rattle.packet_text.specs.LinesStand.{LinesView, LinesStand, ReadAsNeeded, came_short, lines_view, may_be}
+use Rattle.packet_text.specs.PacketText.{packets_of}
 use Rattle.packet_text.specs.declared.line.Line.{Line}
 use Rattle.packet_text.specs.declared.line.Line.TheVariants.{Packet, End, Bad, Lost}
 use Rattle.packet_text.proofs.Texts.{full_lines-front}
-use Rattle.odu_client.specs.ClientInput.{ClientInput, input_given}
+use Rattle.odu_client.specs.ClientInput.{ClientInput, emitted_before, input_given, packets_asked}
 use Rattle.odu_client.specs.Framing.{MayDie}
+use Rattle.odu_client.proofs.Totals.{read_as_asked}
 use Rattle.plan_file.specs.declared.connection.Connection.{Connection}
 use Rattle.plan_file.specs.declared.connection.FromEnd.TheVariants as from_end
 use Rattle.plan_file.specs.declared.plan.Plan.{Plan}
@@ -194,6 +196,19 @@ text_may x first was taken raw k (taking.Client client) more input h e may is =
     }
 text_may x first was taken raw k (taking.Line sink) more input h e may is = absurd h
 text_may x first was taken raw k (taking.Signal stream) more input h e may is = absurd h
+
+-- what was read of it was needed
+pub text_read : (x : Connection) (first was : InView) (taken : List ℕ) (k : ℕ) (part : TakingPart) (input : ClientInput) → ClientInStands x first was taken k part → MayShow part taken (of_client input)
+    → (short : Bool) × ReadAsNeeded short (packets_asked input.packets x.fcs (emitted_before x.pace k)) taken
+text_read x first was taken k (taking.Client client) input h m =
+    let view = lines_view client.lines in
+    let all = (packets_of m.text).packets in
+    let short = came_short view.ended view.answer in
+    let asked : packets_asked all client.framer.stream.fcs (length h.gone) ≡ packets_asked input.packets x.fcs (emitted_before x.pace k) =
+    ap (λ f. packets_asked all f (length h.gone)) h.fcs ∙ ap (packets_asked all x.fcs) h.count ∙ ap (λ (i : ClientInput). packets_asked i.packets x.fcs (emitted_before x.pace k)) (sym m.is) in
+    (short, subst (λ n. ReadAsNeeded short n taken) asked (read_as_asked first was taken h.gone view client.framer m.text h.stands m.may))
+text_read x first was taken k (taking.Line sink) input h m = absurd h
+text_read x first was taken k (taking.Signal stream) input h m = absurd h
 
 -- ---- the end of a connection
 

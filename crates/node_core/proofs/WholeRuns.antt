@@ -30,4 +30,4 @@ run_told plan first was last taken node outcome numbers lines_in lines_out h ove
         let s = settled.of_inputs inputs may in
         let rests : RestsLeft plan node last inputs = λ a line has used. rest_at_end plan first was last taken node inputs a line over h asked s.may used has in
         let o = outputs_told plan first taken node was last inputs numbers lines_in lines_out h over s.may told rests (subst (IsOutcome plan inputs last) (sym same) s.outcome_is) asked.line_out asked.client_out in
-        record { took = s.took; went = o.went; outputs = o.outputs; numbers_are = o.numbers_are }
+        record { took = s.took; text = s.text; went = o.went; outputs = o.outputs; numbers_are = o.numbers_are }

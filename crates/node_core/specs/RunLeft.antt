@@ -6,7 +6,8 @@ use Rattle.otn_base.specs.declared.kind.PortName.TheVariants as port
 use Rattle.otn_ports.specs.Given.{Gained}
 use Rattle.otn_ports.specs.Views.{Live, InView, OutView, BaysView, line_in_at, line_out_at, client_in_at, client_out_at}
 use Rattle.line_side.specs.LineForm.{through_mask}
-use Rattle.odu_client.specs.ClientInput.{input_given}
+use Rattle.packet_text.specs.LinesStand.{ReadAsNeeded}
+use Rattle.odu_client.specs.ClientInput.{ClientInput, input_given, packets_asked}
 use Rattle.plan_file.specs.declared.connection.Connection.{Connection}
 use Rattle.plan_file.specs.declared.connection.FromEnd.TheVariants as from_end
 use Rattle.plan_file.specs.declared.connection.ToEnd.TheVariants as to_end
@@ -16,6 +17,7 @@ use Rattle.device_model.specs.Inputs.{has_died}
 use Rattle.device_model.specs.LineAsked.{MayHave, InputLeft}
 use Rattle.device_model.specs.Moments.{uses, line_taken, client_due, LineDue}
 use Rattle.device_model.specs.Numbers.{Went, AreNumbers}
+use Rattle.device_model.specs.Outcomes.{emitted_in_all}
 use Rattle.device_model.specs.Report.{Numbers}
 use Rattle.device_model.specs.Through.{Inputs, own_input}
 use Rattle.node_core.specs.Stands.{after_retire, out_after_retire}
@@ -87,9 +89,15 @@ SamePlace (port.ClientOut n) first last = client_out_at last n ≡ client_out_at
 abbrev pub TookOf : Plan → Inputs → Takings → (a : ℕ) → Type 0
 TookOf plan inputs takings a = length (takings.line a) ≡ min (length (inputs.line a)) (suc (line_taken (form_in plan a) (inputs.line a) plan.turns 0))
 
+-- Of the text of a client no block of 4,096 bytes was read that was not needed: what was taken before the last one has fewer packets than are begun
+-- in all its turns, and shows no bad line.
+abbrev pub TookOfText : Connection → ClientInput → (taken : List ℕ) → Type 0
+TookOfText x input taken = (short : Bool) × ReadAsNeeded short (packets_asked input.packets x.fcs (emitted_in_all x)) taken
+
 -- what a run leaves, where its inputs are these
 pub record RunOf (plan : Plan) (first last : BaysView) (takings : Takings) (numbers : Numbers) (inputs : Inputs) : Type 0 where
   pub took : (a : ℕ) → uses plan (port.LineIn a) ≡ true → TookOf plan inputs takings a
+  pub text : (x : Connection) (n : ℕ) → Contains plan.connections x → x.from ≡ from_end.Client n → TookOfText x (inputs.client n) (takings.client n)
   pub went : Went
   pub outputs : OutputsLeft plan inputs first went last
   pub numbers_are : AreNumbers plan inputs went first last numbers

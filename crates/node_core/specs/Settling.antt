@@ -23,16 +23,17 @@ use Rattle.device_model.specs.declared.outcome.FromState.{FromState}
 use Rattle.device_model.specs.declared.outcome.Outcome.{Outcome}
 use Rattle.node_core.specs.NodeView.{NodeView, HasLineIn, HasLineOut, HasLink, done_at}
 use Rattle.device_model.specs.LineAsked.{InputLeft}
-use Rattle.node_core.specs.RunLeft.{Takings, MayBeInputs, ClientInLeft, SamePlace, TookOf, OutputsLeft}
+use Rattle.node_core.specs.RunLeft.{Takings, MayBeInputs, ClientInLeft, SamePlace, TookOf, TookOfText, OutputsLeft}
 use Rattle.node_core.specs.Stands.{InputBytes, MayGive, StandsAt}
 use Rattle.node_core.specs.declared.link.Link.{Link}
 
 -- ---- settling
 
--- where the inputs are these: how much was taken of the lines, and the outcome; what went to the outputs `OutputsStand` says
+-- where the inputs are these: how much was taken of the lines and of the texts, and the outcome; what went to the outputs `OutputsStand` says
 pub record SettledOf (plan : Plan) (first last : BaysView) (takings : Takings) (taken : InputBytes) (node : NodeView) (outcome : Outcome) (inputs : Inputs) : Type 0 where
   pub may : MayGive plan taken node inputs
   pub took : (a : ℕ) → uses plan (port.LineIn a) ≡ true → TookOf plan inputs takings a
+  pub text : (x : Connection) (n : ℕ) → Contains plan.connections x → x.from ≡ from_end.Client n → TookOfText x (inputs.client n) (takings.client n)
   pub outcome_is : IsOutcome plan inputs last outcome
 
 -- A node past its last turn, of whose inputs these bytes were taken, was settled: what was taken of its inputs in all, how their places

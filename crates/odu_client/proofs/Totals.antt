@@ -7,13 +7,13 @@ use Rattle.std.proofs.lemmas.Bool.Decides.{nat_tests}
 use Rattle.otn_ports.specs.Views.{InView}
 use Rattle.gfp_frames.specs.GfpText.{stream_frames, text_of, gfp_text}
 use Rattle.gfp_frames.proofs.Streams.{given_is_stream}
-use Rattle.packet_text.specs.LinesStand.{LinesView, MayBe, Told, GoesOnWith, HasBad}
+use Rattle.packet_text.specs.LinesStand.{LinesView, MayBe, Told, GoesOnWith, HasBad, asked_for, came_short, ReadAsNeeded}
 use Rattle.otn_base.specs.Counts.{saturated}
 use Rattle.packet_text.specs.PacketText.{Packets, Ended, packets_of}
 use Rattle.packet_text.specs.declared.line.Line.{Line}
 use Rattle.packet_text.specs.declared.line.Line.TheVariants as line
 use Rattle.odu_client.specs.ClientFrames.{client_frames, frames_begun, payload_begun, client_stream, stream_part}
-use Rattle.odu_client.specs.ClientInput.{input_of, input_ending, gfp_length, begun_within, packets_begun, is_end, is_spent, bad_at, bad_line}
+use Rattle.odu_client.specs.ClientInput.{input_of, input_ending, gfp_length, begun_within, packets_begun, packets_asked, ending_seen, is_end, is_spent, bad_at, bad_line}
 use Rattle.odu_client.specs.Framing.{StreamState, FramerState, StreamMade, TextStands, Framed, ClientStands, Fills, MayDie}
 use Rattle.odu_client.specs.FramerSteps.{FramedSome, Makes}
 use Rattle.odu_client.proofs.GfpTexts.{first_frames, no_idles, all_begun, all_begun_of, longer, text_of_more}
@@ -147,6 +147,54 @@ counts_of first now taken gone lines f text h may =
       fresh = λ other e. (let a = h.framed.fresh other e in let c = ap (λ ps. gfp_length ps f.stream.fcs) (w.over other) in omega arith);
       late = λ other e. (let a = h.framed.late other e in let c = ap (λ ps. gfp_length ps f.stream.fcs) (w.over other) in omega arith);
     }
+
+-- ---- what was read
+
+asked_going : (a : Line) (n : ℕ) → a ≡ line.Packet → asked_for a n ≡ n
+asked_going line.Packet n e = refl
+asked_going line.End n e = absurd (cc)
+asked_going (line.Bad k) n e = absurd (cc)
+asked_going line.Lost n e = absurd (cc)
+
+asked_over : (a : Line) (n : ℕ) → a ≢ line.Packet → asked_for a n ≡ n + 1
+asked_over line.Packet n other = absurd (other refl)
+asked_over line.End n other = refl
+asked_over (line.Bad k) n other = refl
+asked_over line.Lost n other = refl
+
+-- as many packets were asked of the lines as the whole input says
+asked_are : (first now : InView) (taken gone : List ℕ) (lines : LinesView) (f : FramerState) (text : List ℕ) → (h : ClientStands first now taken gone lines f) → MayBe lines taken text
+    → asked_for lines.answer (length h.packets) ≡ packets_asked (packets_of text).packets f.stream.fcs (length gone)
+asked_are first now taken gone lines f text h may = by_answer (is_packet_answer f.stream.answer)
+  where
+    all : List (List ℕ)
+    all = (packets_of text).packets
+
+    counts : Counts f gone all
+    counts = counts_of first now taken gone lines f text h may
+
+    begun : length h.packets ≡ packets_begun all f.stream.fcs (length gone)
+    begun = (let w = of_whole first now taken h.packets h.given lines f.stream text h.text h.framed.stream may in sym w.begun ∙ ap (λ n. begun_within n (stream_frames all f.stream.fcs 0)) h.framed.size)
+
+    none_more : (n : ℕ) → n ≡ n + 0
+    none_more n = omega arith
+
+    by_answer : (f.stream.answer ≡ line.Packet) ⊎ (f.stream.answer ≢ line.Packet) → asked_for lines.answer (length h.packets) ≡ packets_asked all f.stream.fcs (length gone)
+    by_answer (inl e) =
+        let unseen : ending_seen all f.stream.fcs (length gone) ≡ false = no_lt (gfp_length all f.stream.fcs) (15232 * frames_begun (length gone)) (counts.going e) in
+        asked_going lines.answer (length h.packets) (sym h.text.answer ∙ e) ∙ begun ∙ none_more (packets_begun all f.stream.fcs (length gone))
+        ∙ ap (λ t. packets_begun all f.stream.fcs (length gone) + (if t then 1 else 0)) (sym unseen)
+    by_answer (inr other) =
+        let seen : ending_seen all f.stream.fcs (length gone) ≡ true = yes_lt (gfp_length all f.stream.fcs) (15232 * frames_begun (length gone)) (counts.seen other) in
+        asked_over lines.answer (length h.packets) (λ e. other (h.text.answer ∙ e)) ∙ ap (λ n. n + 1) begun
+        ∙ ap (λ t. packets_begun all f.stream.fcs (length gone) + (if t then 1 else 0)) (sym seen)
+
+pub read_as_asked : (first now : InView) (taken gone : List ℕ) (lines : LinesView) (f : FramerState) (text : List ℕ) → ClientStands first now taken gone lines f → MayBe lines taken text
+    → ReadAsNeeded (came_short lines.ended lines.answer) (packets_asked (packets_of text).packets f.stream.fcs (length gone)) taken
+read_as_asked first now taken gone lines f text h may =
+    subst (λ n. ReadAsNeeded (came_short lines.ended lines.answer) n taken) (asked_are first now taken gone lines f text h may) h.text.stands.read
+
+-- ---- the frame in which the end is seen
 
 and_false : (b : Bool) → (b && false) ≡ false
 and_false true = refl

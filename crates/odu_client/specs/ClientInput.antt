@@ -51,6 +51,10 @@ packets_begun packets fcs emitted = begun_within (payload_begun emitted) (stream
 abbrev pub ending_seen : (packets : List (List ℕ)) → (fcs : Bool) → (emitted : ℕ) → Bool
 ending_seen packets fcs emitted = nat_lt (gfp_length packets fcs) (payload_begun emitted)
 
+-- how many packets are asked for: those that are begun, and one more where the ending is seen
+abbrev pub packets_asked : (packets : List (List ℕ)) → (fcs : Bool) → (emitted : ℕ) → ℕ
+packets_asked packets fcs emitted = packets_begun packets fcs emitted + (if ending_seen packets fcs emitted then 1 else 0)
+
 -- whether an input ends at the end of its text
 abbrev pub is_end : InputEnding → Bool
 is_end AtEnd = true
