@@ -10,7 +10,8 @@
 //! - `settle`: the end of a run; `reads`: what a node tells of its ports and its connections; `tally`: all of it together, as the
 //!   `numbers` of a run for its report.
 //! - `damage`: laws of what a run leaves on a connection whose line was damaged.
-//! - `laws`: what follows of what a run leaves, of runs of what was given, of two worlds, and of what a connection carries.
+//! - `laws`: what follows of what a run leaves, of runs of what was given, of two worlds, and of what a connection carries; also by what
+//!   is seen of the places alone.
 #![tactic(auto)]
 
 mod build;
