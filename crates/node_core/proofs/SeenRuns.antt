@@ -40,7 +40,8 @@ use Rattle.device_model.specs.TwoWorlds.{AgreeOnEnd, SameInput}
 use Rattle.device_model.specs.UpToTurn.{AgreeInTurn, BringAlike, AgreeUpTo}
 use Rattle.device_model.proofs.WorldInputs.{leaves_the_same}
 use Rattle.device_model.proofs.UpToTurn.{looks_not_ahead, shows_the_same_up_to}
-use Rattle.node_core.specs.RunLeft.{Takings, MayHave, MayBeInputs}
+use Rattle.device_model.specs.LineAsked.{MayHave}
+use Rattle.node_core.specs.RunLeft.{Takings, MayBeInputs}
 use Rattle.node_core.specs.RunsAlike.{World, IsWorld, went_out}
 use Rattle.node_core.specs.RunsThrough.{IsFrontOf, CarriedOn}
 use Rattle.node_core.specs.SeenRuns.{Run, IsRun, LineGave, ClientGave, AgreeOnInput, ShareInput, LineGot, ClientGot, LineLived, ClientLived, SameText, SameOnLine, SameOutput, AgreeOnInputUpTo, ShareInputUpTo, SameLineUpTo, Shows, Gave, GaveTo, FileGot, PutThrough, read_back, CarriesOver}
