@@ -1,0 +1,6 @@
+mod Answering
+mod Filling
+mod Handing
+mod Parts
+mod Said
+mod SlotBytes

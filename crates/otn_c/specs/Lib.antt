@@ -1,0 +1,5 @@
+pub mod Blocks
+pub mod Calls
+pub mod Growing
+pub mod Lent
+pub mod Places

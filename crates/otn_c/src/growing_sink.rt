@@ -1,0 +1,123 @@
+// A sink in memory that grows.
+ghost use Rattle.std.specs.Prelude.{◌≡◌, ◌≢◌, ◌≤◌, ◌++◌, [], true, Some, IfOk, OnErr, length, take};
+ghost use Rattle.otn_ports.specs.Bytes.{sent, faults_after, HasFailed};
+ghost use Rattle.otn_ports.specs.Writes.{IsWriting};
+
+use otn_ports::{Failed, Sink, Written};
+use std::alloc::Global;
+use std::cell::RefCell;
+use std::rc::Rc;
+
+/// Bytes that are found after the sink was dropped that put them there too.
+pub(crate) type Beside = Rc<RefCell<Vec<u8>>>;
+
+/// Keeps all bytes that it gets, in memory that grows as they come, and tells them. It fails where there is no memory.
+#[derive(Drop)]
+pub struct GrowingSink {
+    kept: Vec<u8>,
+    beside: Option<Beside>,
+    failed: u64,
+}
+
+impl GrowingSink {
+    ghost use Rattle.otn_c.specs.Growing.{growing_got, growing_faults};
+
+    /// One that got nothing yet.
+    pub fn new(alloc: Global) -> GrowingSink
+        ensures got { growing_got result ≡ [] }
+        ensures faults { growing_faults result ≡ 0 }
+    {
+        GrowingSink {
+            kept: Vec::new(alloc),
+            beside: None,
+            failed: 0,
+        }
+    }
+
+    /// One that got nothing yet, and puts what it gets there too.
+    pub(crate) fn with(alloc: Global, beside: Beside) -> GrowingSink
+        ensures got { growing_got result ≡ [] }
+        ensures faults { growing_faults result ≡ 0 }
+    {
+        GrowingSink {
+            kept: Vec::new(alloc),
+            beside: Some(beside),
+            failed: 0,
+        }
+    }
+
+    /// The bytes that it got.
+    pub fn bytes(&self) -> &[u8]
+        ensures { result.now ≡ growing_got self.now }
+    {
+        self.kept.as_slice()
+    }
+
+    // Takes all bytes, or none where there is no memory for them, and counts no failure.
+    fn take(&mut self, bytes: &[u8]) -> Result<usize, Failed>
+        ensures all { IfOk result (λ n. n ≡ length bytes.now) }
+        ensures got { growing_got self.new ≡ growing_got self.old ++ sent result bytes.now }
+        ensures faults { growing_faults self.new ≡ growing_faults self.old }
+    {
+        if let Some(beside) = &self.beside {
+            keep(beside, bytes)?;
+        }
+        match self.kept.extend_from_slice(bytes) {
+            Ok(()) => Ok(bytes.len()),
+            Err(_) => Err(Failed),
+        }
+    }
+}
+
+// Appends these bytes.
+fn keep(beside: &Beside, bytes: &[u8]) -> Result<(), Failed> {
+    let mut kept = beside.try_borrow_mut().map_err(|_| Failed)?;
+    kept.extend_from_slice(bytes).map_err(|_| Failed)
+}
+
+impl Sink for GrowingSink {
+    ghost use Rattle.otn_c.specs.Growing.{growing_got, growing_faults};
+
+    ghost got = { λ sink. Some (growing_got sink) };
+
+    ghost faults = { growing_faults };
+
+    ghost keeps = { λ _. true };
+
+    /// Takes all bytes, or none where there is no memory for them.
+    fn write(&mut self, bytes: &[u8]) -> Result<usize, Failed>
+        ensures all { IfOk result (λ n. n ≡ length bytes.now) }
+        ensures got { growing_got self.new ≡ growing_got self.old ++ sent result bytes.now }
+        ensures counts { growing_faults self.new ≡ faults_after (growing_faults self.old) result }
+        ensures later { growing_faults self.old ≤ growing_faults self.new }
+        ensures cause { OnErr result (HasFailed (growing_faults self.old) (growing_faults self.new)) }
+    {
+        let answer = self.take(bytes);
+        if answer.is_err() {
+            self.failed = self.failed.saturating_add(1);
+        }
+        answer
+    }
+
+    /// All lines at once.
+    fn write_lines(&mut self, lines: &[u8]) -> (Written, usize)
+        ensures within { result.1 ≤ length lines.now }
+        ensures got { growing_got self.new ≡ growing_got self.old ++ take result.1 lines.now }
+        ensures writing { IsWriting result.0 result.1 (length lines.now) }
+        ensures later { growing_faults self.old ≤ growing_faults self.new }
+        ensures cause { result.0 ≡ Written.Lost → HasFailed (growing_faults self.old) (growing_faults self.new) }
+        ensures well { result.0 ≢ Written.Lost → growing_faults self.new ≡ growing_faults self.old }
+    {
+        if lines.is_empty() {
+            return (Written::Whole, 0);
+        }
+        match self.write(lines) {
+            Ok(n) => (Written::Whole, n),
+            Err(Failed) => (Written::Lost, 0),
+        }
+    }
+
+    fn kept(&self) -> Option<&[u8]> {
+        Some(self.kept.as_slice())
+    }
+}
