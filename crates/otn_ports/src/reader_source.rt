@@ -81,7 +81,7 @@ impl<R: Read + Drop> Source for ReaderSource<R> {
             return Ok(0);
         }
         let answer = match &mut self.reader {
-            Some(reader) => read_some(reader, into),
+            Some(reader) => read_some(reader, into).map_err(|_| Failed),
             None => Err(Failed),
         };
         count(&mut self.failed, answer);

@@ -1,49 +1,62 @@
 // Calls of the system, each counted where it fails.
-ghost use Rattle.std.specs.Prelude.{◌≡◌, ◌<◌, ◌≤◌, IfOk, OnErr, length};
+ghost use Rattle.std.specs.Prelude.{◌≡◌, ◌≢◌, ◌<◌, ◌≤◌, false, true, IfErr, IfOk, OnErr, length};
 ghost use Rattle.std.specs.Io.KnownBytes.{ReadConsumes, WriteAppends};
 ghost use Rattle.otn_ports.specs.Bytes.{faults_after, HasFailed};
 
 use crate::Failed;
 use std::io::{ErrorKind, Read, Write};
 
-/// One read, tried again where a signal interrupts it, at most 2^64-1 times. What it answers is
-/// what the reader gave, as far as the reader tells.
-pub(crate) fn read_some<R: Read>(from: &mut R, into: &mut [u8]) -> Result<usize, Failed>
+/// Whether a call that the system refused so is made again: one that a signal interrupted is. Any other refusal is a fault,
+/// also that of a call that would have to wait, so that nothing is asked for ever.
+pub(crate) fn is_made_again(kind: ErrorKind) -> bool
+    ensures again { kind ≡ ErrorKind.Interrupted → result ≡ true }
+    ensures fault { kind ≢ ErrorKind.Interrupted → result ≡ false }
+{
+    kind == ErrorKind::Interrupted
+}
+
+/// One read, made again where a signal interrupts it, at most 2^64-1 times. What it answers is
+/// what the reader gave, as far as the reader tells; no interrupted read is a fault.
+pub(crate) fn read_some<R: Read>(from: &mut R, into: &mut [u8]) -> Result<usize, ErrorKind>
     ensures bound { IfOk result (λ n. n ≤ length into.old) }
+    ensures fault { IfErr result (λ kind. kind ≢ ErrorKind.Interrupted) }
     ensures bytes { ReadConsumes (R.remaining from.old) (R.remaining from.new) result into.new }
 {
     for _ in 0..u64::MAX {
         match from.read(into) {
             Ok(n) => return Ok(n),
             Err(e) => {
-                if e.kind() != ErrorKind::Interrupted {
-                    return Err(Failed);
+                let kind = e.kind();
+                if !is_made_again(kind) {
+                    return Err(kind);
                 }
             }
         }
     }
-    Err(Failed)
+    Err(ErrorKind::TimedOut)
 }
 
-/// One write, tried again where a signal interrupts it, at most 2^64-1 times. It failed where it
-/// took nothing. What it answers is what the writer took, as far as the writer tells.
-pub(crate) fn write_some<W: Write>(to: &mut W, bytes: &[u8]) -> Result<usize, Failed>
+/// One write, made again where a signal interrupts it, at most 2^64-1 times. It failed where it
+/// took nothing. What it answers is what the writer took, as far as the writer tells; no interrupted write is a fault.
+pub(crate) fn write_some<W: Write>(to: &mut W, bytes: &[u8]) -> Result<usize, ErrorKind>
     ensures bound { IfOk result (λ n. n ≤ length bytes.now) }
     ensures progress { IfOk result (λ n. 0 < n) }
+    ensures fault { IfErr result (λ kind. kind ≢ ErrorKind.Interrupted) }
     ensures bytes { WriteAppends (W.contents to.old) (W.contents to.new) result bytes.now }
 {
     for _ in 0..u64::MAX {
         match to.write(bytes) {
-            Ok(0) => return Err(Failed),
+            Ok(0) => return Err(ErrorKind::WriteZero),
             Ok(n) => return Ok(n),
             Err(e) => {
-                if e.kind() != ErrorKind::Interrupted {
-                    return Err(Failed);
+                let kind = e.kind();
+                if !is_made_again(kind) {
+                    return Err(kind);
                 }
             }
         }
     }
-    Err(Failed)
+    Err(ErrorKind::TimedOut)
 }
 
 /// Counts an answer that is a failure. The count stops at its end.

@@ -92,7 +92,7 @@ impl<W: Write + Drop> Sink for WriterSink<W> {
             return Ok(0);
         }
         let answer = match &mut self.writer {
-            Some(writer) => write_some(writer, bytes),
+            Some(writer) => write_some(writer, bytes).map_err(|_| Failed),
             None => Err(Failed),
         };
         count(&mut self.failed, answer);
