@@ -26,7 +26,7 @@ use Rattle.device_model.proofs.HeldBack.{front_after, emits_a_front}
 use Rattle.device_model.proofs.LineViews.{whole_at}
 
 -- what a connection gets of a line that carries bytes to it
-gets_a_front : (inputs : Inputs) (x : Connection) (a port s u n : ℕ) (slots : LineSlots) (bytes p : List ℕ) → x.from ≡ from_end.Line a port slots → first_turn x ≡ s
+pub gets_a_front : (inputs : Inputs) (x : Connection) (a port s u n : ℕ) (slots : LineSlots) (bytes p : List ℕ) → x.from ≡ from_end.Line a port slots → first_turn x ≡ s
     → Comes (tributary_of slots port) bytes p (view_at (tributary_of slots port) (inputs.line a)) s u → s + n ≤ u + 1
     → arrived_by x (own_input inputs x) (n + 1) ≡ take (front_after (length slots.list) p n) bytes
 gets_a_front inputs x a port s u n slots bytes p comes first carried within =

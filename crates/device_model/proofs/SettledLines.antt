@@ -21,7 +21,8 @@ use Rattle.line_side.proofs.Mfas.{length_mfas}
 use Rattle.multiframe.specs.LineTurns.{Lock, LineState, Hunting, Locked, Ended, Outcome, CutShort, Lost, Whole, lock_from, least_start, outcome_of, after_outcome, after_hunt, after_turn, line_state, wanted, wanted_in, wanted_from, wanted_so_far}
 use Rattle.device_model.specs.Moments.{line_taken}
 use Rattle.device_model.specs.Numbers.{ending_of, line_ending}
-use Rattle.device_model.specs.LineAsked.{ByteAsked, has_come, is_seen, MayHave, InputLeft}
+use Rattle.otn_ports.specs.Asked.{ByteAsked, has_come}
+use Rattle.device_model.specs.LineAsked.{is_seen, MayHave, InputLeft}
 
 -- ---- between turns nothing more is wanted than by the turns before
 

@@ -14,7 +14,7 @@ use Rattle.otn_ports.specs.declared.sink.Sink as sink
 use Rattle.otn_ports.specs.declared.source.Source as source
 use Rattle.otn_ports.proofs.BaysLaws.{line_in_seen, line_in_set, only_line_in}
 use Rattle.line_side.specs.LineStands.{LineView}
-use Rattle.device_model.specs.LineAsked.{has_come, ByteAsked, ByteAnswer}
+use Rattle.otn_ports.specs.Asked.{has_come, ByteAsked, ByteAnswer}
 use Rattle.node_core.specs.Asking.{LinesAnswer, asks_line, is_cut, CutAnswer, OpenAnswer, OpensAnswer, SaysSpent}
 use Rattle.node_core.specs.Pieces.{PiecesView}
 use Rattle.node_core.specs.Ports.{index_of, port_at}

@@ -23,7 +23,8 @@ use Rattle.device_model.specs.SoundPlans.{IsSoundEntry}
 use Rattle.device_model.proofs.SoundPlans.{sound_plan}
 use Rattle.cross_matrix.specs.Parts.{MayShow}
 use Rattle.cross_matrix.specs.Receiving.{is_dead}
-use Rattle.device_model.specs.LineAsked.{has_come, ByteAsked, is_seen}
+use Rattle.otn_ports.specs.Asked.{has_come, ByteAsked}
+use Rattle.device_model.specs.LineAsked.{is_seen}
 use Rattle.node_core.specs.Asking.{asks_line, LinesAsked, LinesAnswer, is_cut, CutAnswer, SaysSpent, OpenLink, OpensAnswer, outcome_by}
 use Rattle.node_core.specs.Links.{origin_of}
 use Rattle.node_core.specs.Moves.{is_from_client}

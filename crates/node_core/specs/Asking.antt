@@ -8,7 +8,8 @@ use Rattle.odu_client.specs.ClientInput.{ClientInput, is_spent, emitted_before}
 use Rattle.plan_file.specs.declared.connection.Connection.{Connection}
 use Rattle.cross_matrix.specs.Parts.{ClientInStands, MayShow}
 use Rattle.cross_matrix.specs.Receiving.{is_dead}
-use Rattle.device_model.specs.LineAsked.{ByteAsked, has_come, is_seen}
+use Rattle.otn_ports.specs.Asked.{ByteAsked, has_come}
+use Rattle.device_model.specs.LineAsked.{is_seen}
 use Rattle.device_model.specs.Outcomes.{place_state}
 use Rattle.device_model.specs.Through.{of_client}
 use Rattle.device_model.specs.declared.outcome.Outcome.{Outcome}

@@ -8,7 +8,7 @@ ghost use Rattle.otn_ports.specs.Views.{BaysView};
 ghost use Rattle.plan_file.specs.declared.plan.Plan.{Plan};
 ghost use Rattle.device_model.specs.Outcomes.{place_state};
 ghost use Rattle.cross_matrix.specs.Receiving.{is_dead};
-ghost use Rattle.device_model.specs.LineAsked.{ByteAnswer};
+ghost use Rattle.otn_ports.specs.Asked.{ByteAnswer};
 ghost use Rattle.node_core.specs.Asking.{LinesAsked, LinesAnswer, CutAnswer, OpenAnswer, OpensAnswer, asks_line, is_cut, outcome_by};
 ghost use Rattle.node_core.specs.Ports.{index_of, port_count};
 ghost use Rattle.node_core.specs.Settling.{Settled};
@@ -22,7 +22,7 @@ use device_model::Outcome;
 use line_side::LineIn;
 use otn_base::PortName;
 use otn_base::limits::LINES;
-use otn_ports::{InPlaceOf, OutPlaceOf, Rack, Reading, Sink, Source};
+use otn_ports::{InPlaceOf, OutPlaceOf, Rack, Sink, Source, ask_byte};
 
 impl Node {
     /// Asks each input line that is used, and whose end was not seen, for one byte more, in the order of the lines, and says how
@@ -72,17 +72,6 @@ fn ask_if<P: Source>(asks: bool, place: &mut InPlaceOf<P>) -> bool
         return false;
     }
     ask_byte(place)
-}
-
-fn ask_byte<P: Source>(place: &mut InPlaceOf<P>) -> bool
-    ensures { ByteAnswer true (in_view P.Source place.old) (in_view P.Source place.new) result }
-{
-    let mut byte = [0; 1];
-    match place.read_full(&mut byte) {
-        Reading::Full => true,
-        Reading::End(_) => false,
-        Reading::Lost => false,
-    }
 }
 
 // Whether the place of some port that is used is dead.

@@ -1,4 +1,5 @@
 pub mod Adapters
+pub mod Asked
 pub mod Bytes
 pub mod Choosing
 pub mod Given

@@ -7,9 +7,11 @@
 //! - `reader_source`, `writer_sink`: ports over the system's files and output.
 //! - `in_port`, `out_port`: a port behind a box, or one in memory.
 //! - `in_place`, `out_place`: a place with its port, which reads and writes whole slices; `sealed`: the port of a dead one.
+//! - `asking`: a place is asked for one byte more.
 //! - `fill`, `drain`: a whole read of a source, and a whole write to a sink, that stand in no place.
 //! - `bays`: all places of a device.
 //! - `chooser`: what settles a free choice.
+//! - `ended`: how a command over places ended.
 //!
 //! One event goes by these words. A call of a port *fails*: it answers `Failed`, and the port's
 //! count of faults rose in it, or stands at its end. A whole read or write in which a call failed is
@@ -17,9 +19,11 @@
 //! from then on, and its port, sealed, is asked nothing more.
 #![tactic(auto)]
 
+mod asking;
 mod bays;
 mod chooser;
 mod drain;
+mod ended;
 mod fill;
 mod in_place;
 mod in_port;
@@ -41,9 +45,11 @@ mod system;
 mod tests;
 mod writer_sink;
 
+pub use asking::ask_byte;
 pub use bays::{Bays, Rack};
 pub use chooser::{Chooser, FirstReady};
 pub use drain::{Written, write_whole};
+pub use ended::Ended;
 pub use fill::read_whole;
 pub use in_place::{InPlace, InPlaceOf, Reading};
 pub use in_port::InPort;

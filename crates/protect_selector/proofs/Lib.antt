@@ -4,3 +4,4 @@ pub mod OfLines
 pub mod ProtectTurns
 pub mod ProtectEnds
 pub mod Carried
+pub mod ReadsBack

@@ -98,7 +98,7 @@ given_total own n w p (suc t) =
     ∙ sum_by-append (λ x. x) (lengths_of (given_before own n w p t)) (length (given_on own n w p t) ∷ [])
     ∙ (let one : sum (length (given_on own n w p t) ∷ []) ≡ length (given_on own n w p t) = omega arith in omega arith))
 
-sent_all : (turns : List (List ℕ)) → sent (lengths_of turns) (length turns) ≡ sum (lengths_of turns)
+pub sent_all : (turns : List (List ℕ)) → sent (lengths_of turns) (length turns) ≡ sum (lengths_of turns)
 sent_all turns = ap sum (take_all (length turns) (lengths_of turns) (let many : length (lengths_of turns) ≡ length turns = rw length-map refl in omega arith))
 
 -- A turn that is given on completes at most 15,232 groups.

@@ -14,10 +14,11 @@ use Rattle.otn_ports.specs.declared.drain.Written.TheVariants as written
 use Rattle.tributary_line.specs.TapTurn.{TapView, TapStands}
 use Rattle.tributary_line.specs.TributaryFile.{AreTributaryFrames}
 use Rattle.tributary_line.specs.FeedTurn.{FeedView, FeedStands}
-use Rattle.device_model.specs.LineAsked.{ByteAnswer, has_come, is_seen, MayHave, InputLeft}
+use Rattle.otn_ports.specs.Asked.{ByteAnswer, has_come}
+use Rattle.device_model.specs.LineAsked.{is_seen, MayHave, InputLeft}
 use Rattle.device_model.proofs.SettledLines.{may_at_end, end_of_line, line_left, EndOfLine}
-use Rattle.protect_selector.specs.declared.ended.Ended.{Ended}
-use Rattle.protect_selector.specs.declared.ended.Ended.TheVariants.{Unfinished, Cut, ReportFault, Memory}
+use Rattle.otn_ports.specs.declared.ended.Ended.{Ended}
+use Rattle.otn_ports.specs.declared.ended.Ended.TheVariants.{Unfinished, Cut, ReportFault, Memory}
 use Rattle.protect_selector.specs.declared.protecting.Protecting.{Protecting}
 use Rattle.protect_selector.specs.Selector.{HasChosen}
 use Rattle.protect_selector.specs.OfLines.{turns_before, given_on, given_before, switch_text}

@@ -5,3 +5,4 @@ pub mod Protecting
 pub mod ProtectLeft
 pub mod Laws
 pub mod Carried
+pub mod ReadsBack

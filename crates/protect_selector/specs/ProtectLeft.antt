@@ -12,8 +12,8 @@ use Rattle.tributary_line.specs.TributaryFile.{IsTributaryFile}
 use Rattle.device_model.specs.LineAsked.{MayHave, InputLeft}
 use Rattle.protect_selector.specs.OfLines.{given_before, switch_text, switch_text_at}
 use Rattle.protect_selector.specs.Protecting.{Ends}
-use Rattle.protect_selector.specs.declared.ended.Ended.{Ended}
-use Rattle.protect_selector.specs.declared.ended.Ended.TheVariants.{Unfinished, Cut, ReportFault, Memory}
+use Rattle.otn_ports.specs.declared.ended.Ended.{Ended}
+use Rattle.otn_ports.specs.declared.ended.Ended.TheVariants.{Unfinished, Cut, ReportFault, Memory}
 
 -- a line that has more than so many turns want
 abbrev pub HasMore : (turns : ℕ) → (given : List ℕ) → Type 0

@@ -4,9 +4,10 @@ use Rattle.otn_base.specs.declared.line_kind.LineKind.TheVariants.{Otu2}
 use Rattle.otn_ports.specs.PortViews.{SinkView, SinkGot}
 use Rattle.otn_ports.specs.declared.drain.Written.{Written}
 use Rattle.otn_ports.specs.declared.drain.Written.TheVariants as written
-use Rattle.device_model.specs.LineAsked.{ByteAsked, has_come, is_seen}
-use Rattle.protect_selector.specs.declared.ended.Ended.{Ended}
-use Rattle.protect_selector.specs.declared.ended.Ended.TheVariants.{Done, Unfinished, Cut}
+use Rattle.otn_ports.specs.Asked.{ByteAsked, has_come}
+use Rattle.device_model.specs.LineAsked.{is_seen}
+use Rattle.otn_ports.specs.declared.ended.Ended.{Ended}
+use Rattle.otn_ports.specs.declared.ended.Ended.TheVariants.{Done, Unfinished, Cut}
 use Rattle.otn_ports.specs.Views.{State, Empty, Live, Dead, InView, OutView, BaysView, line_in_at, line_out_at}
 use Rattle.line_side.specs.MayBe.{MayBe}
 use Rattle.tributary_model.specs.Places.{Tributary}

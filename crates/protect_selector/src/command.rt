@@ -9,12 +9,11 @@ ghost use Rattle.tributary_model.specs.Places.{Tributary, tributary_of};
 ghost use Rattle.protect_selector.specs.Protecting.{AreReady, OnlyProtected, TurnsGone, ends_of};
 ghost use Rattle.protect_selector.specs.ProtectLeft.{ProtectRan};
 
-use crate::ended::Ended;
 use crate::protecting::Protecting;
 use crate::settling::settle;
 use otn_base::limits::GROUPS;
 use otn_base::{LineKind, Slots};
-use otn_ports::{Rack, Sink, Source, Written};
+use otn_ports::{Ended, Rack, Sink, Source, Written};
 use std::alloc::{AllocError, Global};
 
 /// Takes the tributary of these slots and this tributary port, 1 to 8, from line input 0, the working line, and from line input 1, the

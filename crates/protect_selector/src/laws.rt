@@ -1,5 +1,6 @@
 // The laws about the choices, each the contract of a function.
 ghost use Rattle.protect_selector.specs.Carried.{StaysWhileCarried, CarriesTwoLater, IsApart};
+ghost use Rattle.protect_selector.specs.ReadsBack.{GetsAFront};
 ghost use Rattle.protect_selector.specs.Laws.{HaveCauses, IsUpWhereOneIs, GivesAllOn, AreAligned, CompletesNoMore};
 
 /// Every switch has its cause: a defect, where the side was not Up and the other one is; or, in revertive operation, that
@@ -23,6 +24,12 @@ pub fn groups_stay_whole()
 pub fn protects_what_is_carried()
     ensures stays { StaysWhileCarried }
     ensures carries { CarriesTwoLater }
+{}
+
+/// Whatever both lines bring, a node behind the line output gets a front of what was given on: no byte of that is lost, doubled or out of
+/// order, and less than a group may be held back (`behind_a_gap` of `device_model`). The numbers that are given on need not be steady, as after a switch.
+pub fn protected_line_reads_back()
+    ensures { GetsAFront }
 {}
 
 /// Two worlds: what goes on and what is told is fixed by the MFAS bytes and the tributary's own places of both lines.

@@ -6,11 +6,9 @@
 //! - `laws`: what holds of every choice.
 //! - `command`: `protect`, the command over the places of a device.
 //! - `protecting`, `report_line`, `settling`: its turns, the lines of its report, and its end.
-//! - `ended`: how it ended.
 #![tactic(auto)]
 
 mod command;
-mod ended;
 mod laws;
 mod protecting;
 mod report_line;
@@ -21,9 +19,9 @@ mod side;
 mod tests;
 
 pub use command::protect;
-pub use ended::Ended;
 pub use laws::{
-    groups_stay_whole, protects_what_is_carried, selected_is_apart, switches_have_causes,
+    groups_stay_whole, protected_line_reads_back, protects_what_is_carried, selected_is_apart,
+    switches_have_causes,
 };
 pub use selector::Selector;
 pub use side::{Choice, Side, SwitchCause};

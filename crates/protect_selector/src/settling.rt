@@ -6,9 +6,8 @@ ghost use Rattle.otn_ports.specs.PortViews.{SinkView};
 ghost use Rattle.otn_ports.specs.Racks.{bays_view};
 ghost use Rattle.protect_selector.specs.Protecting.{OnlyProtected, SettledAs, ended_by, ends_of, has_dead, is_dead};
 
-use crate::ended::Ended;
 use crate::protecting::Protecting;
-use otn_ports::{InPlaceOf, OutPlaceOf, Rack, Sink, Source};
+use otn_ports::{Ended, InPlaceOf, OutPlaceOf, Rack, Sink, Source};
 
 /// Asks both lines for one byte more, each where its end was not seen, and says how the command ended.
 pub(crate) fn settle<I: Source, O: Sink>(parts: &Protecting, bays: &mut Rack<I, O>) -> Ended

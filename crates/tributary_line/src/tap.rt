@@ -5,14 +5,15 @@ ghost use Rattle.otn_ports.specs.Views.{InView};
 ghost use Rattle.tributary_model.specs.Places.{Tributary, tributary_of};
 ghost use Rattle.tributary_model.specs.Stretches.{state_after};
 ghost use Rattle.line_side.specs.MayBe.{MayBe};
-ghost use Rattle.device_model.specs.LineAsked.{ByteAnswer, is_seen};
+ghost use Rattle.otn_ports.specs.Asked.{ByteAnswer};
+ghost use Rattle.device_model.specs.LineAsked.{is_seen};
 ghost use Rattle.device_model.specs.LineViews.{views_until};
 ghost use Rattle.otn_base.specs.declared.limits.TheConstants.{GROUPS, OTU2_SLOTS};
 
 use line_side::UncountedLineIn;
 use otn_base::limits::OTU2_SLOTS;
 use otn_base::{LineKind, Memory, Slots};
-use otn_ports::{InPlaceOf, Reading, Source};
+use otn_ports::{InPlaceOf, Source, ask_byte};
 use std::alloc::Global;
 use std::marker::Model;
 use std::ops::Range;
@@ -126,16 +127,5 @@ impl Tap {
         ensures { result.now ≡ self.now.line }
     {
         &self.line
-    }
-}
-
-fn ask_byte<I: Source>(place: &mut InPlaceOf<I>) -> bool
-    ensures { ByteAnswer true (in_view I.Source place.old) (in_view I.Source place.new) result }
-{
-    let mut byte = [0; 1];
-    match place.read_full(&mut byte) {
-        Reading::Full => true,
-        Reading::End(_) => false,
-        Reading::Lost => false,
     }
 }

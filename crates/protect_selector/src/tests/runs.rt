@@ -1,11 +1,11 @@
 // Whole runs over ports in memory, with the check (as crc32 has it) of what an independent model writes.
 ghost use Rattle.std.specs.Prelude.{◌≡◌};
 
-use crate::{Ended, protect};
+use crate::protect;
 use crc_small::crc32;
 use otn_base::limits::{LINE_COLUMNS, LINE_FRAME_BYTES};
 use otn_base::{LineKind, Memory, Slots};
-use otn_ports::{InPlaceOf, ListedSink, ListedSource, OutPlaceOf, Rack, Sink};
+use otn_ports::{Ended, InPlaceOf, ListedSink, ListedSource, OutPlaceOf, Rack, Sink};
 use std::alloc::Global;
 use std::test::Fail;
 
@@ -63,11 +63,22 @@ fn input(alloc: Global, bytes: Vec<u8>, failing: u32) -> Result<InPlaceOf<Listed
     Ok(InPlaceOf::Live(ListedSource::new(bytes, failing, 1 << 20), 0))
 }
 
-// What a run came to: how it ended, what it reported, how many bytes it wrote and their check.
+// How many bytes were taken of a place.
+fn number<P: Drop>(place: &InPlaceOf<P>) -> u64 {
+    match place {
+        InPlaceOf::Live(_, number) => *number,
+        InPlaceOf::Dead(_, number) => *number,
+        InPlaceOf::Empty => 0,
+    }
+}
+
+// What a run came to: how it ended, what it reported, how many bytes it took of each line, how many it wrote and their check.
 #[derive(Drop)]
 struct Outcome {
     ended: Ended,
     report: Vec<u8>,
+    working: u64,
+    protection: u64,
     written: usize,
     check: u32,
 }
@@ -98,6 +109,8 @@ fn ran(
     Ok(Outcome {
         ended,
         report: text,
+        working: number(bays.line_in(0)),
+        protection: number(bays.line_in(1)),
         written: written.len(),
         check: crc32(written),
     })
@@ -167,5 +180,7 @@ fn a_report_that_fails_ends_it(rt: HostRuntime) -> Result<(), Fail> {
     let outcome = ran(alloc, &slots, working, protection, 0, 1)?;
     assert_eq!(rt; outcome.ended, Ended::ReportFault);
     assert_eq!(rt; outcome.written, 88 * LINE_FRAME_BYTES);
+    assert_eq!(rt; outcome.working, 96 * LINE_FRAME_BYTES as u64);
+    assert_eq!(rt; outcome.protection, 96 * LINE_FRAME_BYTES as u64);
     Ok(())
 }

@@ -1,0 +1,24 @@
+-- An input place that was asked for one byte more.
+use Rattle.std.specs.Prelude.{◌≡◌, ◌≤◌, ℕ, Bool, true, false, List, [], ◌∷◌, length}
+use Rattle.otn_ports.specs.Given.{Gave}
+use Rattle.otn_ports.specs.Reads.{HasEnded}
+use Rattle.otn_ports.specs.Views.{Live, InView}
+
+-- a byte came
+abbrev pub has_come : List ℕ → Bool
+has_come [] = false
+has_come (byte ∷ bytes) = true
+
+-- A place was asked for one byte, or was not to be asked. Where it was asked and none came, a live place has ended.
+pub record ByteAsked (asks : Bool) (was is : InView) (came : List ℕ) : Type 0 where
+  pub gave : Gave was came is
+  pub quiet : asks ≡ false → (is ≡ was) × (came ≡ [])
+  pub most : length came ≤ 1
+  pub lives : has_come came ≡ true → is.state ≡ Live
+  pub over : asks ≡ true → has_come came ≡ false → is.state ≡ Live → HasEnded is.left is.ended
+
+-- and this says whether it came
+pub record ByteAnswer (asks : Bool) (was is : InView) (answer : Bool) : Type 0 where
+  pub came : List ℕ
+  pub asked : ByteAsked asks was is came
+  pub tells : answer ≡ has_come came
