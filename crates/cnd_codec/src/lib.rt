@@ -5,7 +5,5 @@
 #![tactic(auto)]
 
 mod remainder;
-#[cfg(test)]
-mod tests;
 
 pub use remainder::{hear_d, say_d};

@@ -13,8 +13,6 @@ mod header_check;
 mod message_check;
 mod steps;
 mod tables;
-#[cfg(test)]
-mod tests;
 
 pub use frame_check::crc32;
 pub use header_check::{crc16, fix_one_bit};

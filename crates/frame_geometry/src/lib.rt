@@ -8,7 +8,5 @@
 mod frame;
 pub mod overhead;
 mod payload;
-#[cfg(test)]
-mod tests;
 
 pub use frame::Frame;

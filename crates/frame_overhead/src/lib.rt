@@ -11,8 +11,6 @@ mod check;
 mod delay;
 mod opu;
 mod runs;
-#[cfg(test)]
-mod tests;
 
 pub use check::ParityCheck;
 pub use delay::ParityDelay;

@@ -5,8 +5,6 @@
 
 mod rule;
 mod runner;
-#[cfg(test)]
-mod tests;
 
 use otn_base::limits::GROUPS;
 pub use rule::{data_groups, is_data};

@@ -8,8 +8,6 @@
 mod listener;
 mod patterns;
 mod sender;
-#[cfg(test)]
-mod tests;
 
 pub use listener::{Heard, Listener};
 pub use sender::say;

@@ -18,8 +18,6 @@ mod one_slot;
 mod several;
 mod slot_rows;
 mod spread;
-#[cfg(test)]
-mod tests;
 mod turn;
 
 pub use exclusive_or::{parity, xor_mask};

@@ -8,8 +8,6 @@
 mod runs;
 mod signal;
 mod stream;
-#[cfg(test)]
-mod tests;
 
 pub use signal::Signal;
 pub use stream::SignalBytes;

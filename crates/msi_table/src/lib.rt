@@ -5,8 +5,6 @@
 #![tactic(auto)]
 
 mod slot_map;
-#[cfg(test)]
-mod tests;
 mod watch;
 
 pub use slot_map::{SlotMap, psi_byte};

@@ -5,6 +5,3 @@
 mod phase;
 
 pub use phase::{Phase, starts};
-
-#[cfg(test)]
-mod tests;

@@ -22,8 +22,6 @@ mod slot;
 mod slot_frame;
 mod split_frame;
 mod take;
-#[cfg(test)]
-mod tests;
 
 pub use fill::FillFrame;
 pub use groups::{cycle_group, cycle_groups, group, row_groups};

@@ -5,8 +5,6 @@
 #![tactic(auto)]
 
 mod check;
-#[cfg(test)]
-mod tests;
 mod writer;
 
 pub use check::{PathCheck, stat};

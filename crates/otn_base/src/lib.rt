@@ -16,6 +16,3 @@ pub use line_kind::LineKind;
 pub use memory::Memory;
 pub use slots::Slots;
 pub use trace::Trace;
-
-#[cfg(test)]
-mod tests;

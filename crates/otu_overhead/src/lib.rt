@@ -8,8 +8,6 @@
 
 mod check;
 mod mask;
-#[cfg(test)]
-mod tests;
 mod writer;
 
 pub use check::OtuCheck;

@@ -1,5 +1,5 @@
 // Messages that were worked out by hand, and by two other programs.
-use crate::{hear_d, say_d};
+use cnd_codec::{hear_d, say_d};
 
 #[test]
 fn remainders_said(rt: HostRuntime) {

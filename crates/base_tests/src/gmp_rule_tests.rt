@@ -1,7 +1,11 @@
 // The data rule at numbers whose groups are known by hand.
 ghost use Rattle.std.specs.Prelude.{◌≡◌, ◌≤◌};
 
-use crate::{ALL, Runner, data_groups, is_data};
+use gmp_rule::{Runner, data_groups, is_data};
+use otn_base::limits::GROUPS;
+
+// The groups of a multiframe, in the type of the numbers here.
+const ALL: u32 = GROUPS as u32;
 
 // At each number: the stuff groups are those that leave this remainder by this divisor, or all others
 // do, and there are so many data groups.

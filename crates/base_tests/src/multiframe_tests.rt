@@ -1,7 +1,7 @@
 // Worked turns of the phase.
 ghost use Rattle.std.specs.Prelude.{◌≡◌};
 
-use crate::{Phase, starts};
+use multiframe::{Phase, starts};
 use otn_base::LineKind;
 
 // A turn of a new phase that locks on the first MFAS and takes these.

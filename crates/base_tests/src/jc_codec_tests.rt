@@ -1,5 +1,5 @@
 // Messages that were worked out by hand from the table of changes, and by two other programs.
-use crate::{Heard, Listener, say};
+use jc_codec::{Heard, Listener, say};
 
 #[test]
 fn numbers_said(rt: HostRuntime) {

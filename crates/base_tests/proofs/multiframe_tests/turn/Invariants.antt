@@ -1,6 +1,6 @@
 use Rattle.std.proofs.Common.{◌≡◌, length}
 use Rattle.std.specs.Prelude.{IsSomeAnd}
-use Rattle.multiframe.proofs.tests.turn.Given as goal
+use Rattle.base_tests.proofs.multiframe_tests.turn.Given as goal
 
 abbrev pub invariant-loop-mfas : goal.invariant-loop-mfas
 invariant-loop-mfas l = record {

@@ -2,7 +2,7 @@
 ghost use Rattle.std.specs.Prelude.{IfOk, vec_len, ◌≡◌};
 ghost use Rattle.lane_kernels.specs.SlotPlaces.{IsSlotCount};
 
-use super::{
+use lane_kernels::{
     SlotRows, join, join8, parity, put_slot, put_slots, split, split8, take_slot, take_slots,
     xor_mask,
 };

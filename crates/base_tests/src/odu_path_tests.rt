@@ -1,6 +1,6 @@
 // The path overhead of worked frames.
-use crate::{PathCheck, PathWriter, stat};
 use frame_geometry::Frame;
+use odu_path::{PathCheck, PathWriter, stat};
 use otn_base::Trace;
 use std::test::Fail;
 

@@ -1,5 +1,5 @@
 // Worked values of the streams.
-use super::{Signal, SignalBytes};
+use maintenance_signals::{Signal, SignalBytes};
 use std::test::Fail;
 
 // Goes on by this many pieces of 239 bytes, 64 of which are a frame, and gives the last of them.

@@ -1,5 +1,5 @@
 // Places of G.709 by their arithmetic, at both widths.
-use super::Frame;
+use frame_geometry::Frame;
 use std::test::Fail;
 
 fn byte_at(bytes: &[u8], place: usize) -> u8 {

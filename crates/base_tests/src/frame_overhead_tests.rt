@@ -1,6 +1,6 @@
 // Worked parities.
-use crate::{ParityCheck, ParityDelay, parity};
 use frame_geometry::Frame;
+use frame_overhead::{ParityCheck, ParityDelay, parity};
 use std::test::Fail;
 
 #[test]

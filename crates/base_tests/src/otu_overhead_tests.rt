@@ -1,7 +1,7 @@
 // The overhead of worked frames.
-use crate::{OtuCheck, OtuWriter, line_mask};
 use frame_geometry::Frame;
 use otn_base::Trace;
+use otu_overhead::{OtuCheck, OtuWriter, line_mask};
 use std::test::Fail;
 
 #[test]

@@ -1,6 +1,6 @@
 // Values from outside: the catalogue of CRC algorithms, the worked examples of the standards, and, for the
 // checks of 8 and 5 bits whose generators no catalogue lists, long division of whole numbers in Python.
-use crate::{crc5, crc8, crc16, crc32, fix_one_bit};
+use crc_small::{crc5, crc8, crc16, crc32, fix_one_bit};
 
 #[test]
 fn frame_checks(rt: HostRuntime) {

@@ -1,5 +1,5 @@
 // Lists of slots and trail traces, at worked values.
-use crate::{LineKind, Slots, Trace};
+use otn_base::{LineKind, Slots, Trace};
 use std::test::Fail;
 
 #[test]

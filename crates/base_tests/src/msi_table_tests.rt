@@ -1,5 +1,5 @@
 // Worked values of the marks and of the PSI.
-use super::{MsiWatch, SlotMap, psi_byte};
+use msi_table::{MsiWatch, SlotMap, psi_byte};
 use otn_base::{LineKind, Slots};
 use std::test::Fail;
 
