@@ -7,8 +7,6 @@ mod laws;
 mod maker;
 mod phase;
 mod reader;
-#[cfg(test)]
-mod tests;
 
 pub use core_header::{bytes_of_16, bytes_of_32};
 pub use laws::{

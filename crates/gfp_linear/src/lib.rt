@@ -7,8 +7,6 @@ mod arrival;
 mod laws;
 mod maker;
 mod reader;
-#[cfg(test)]
-mod tests;
 
 pub use arrival::Arrival;
 pub use laws::{arrivals_stay, channels_arrive, channels_take_turns, made_is_the_weave};

@@ -6,8 +6,6 @@ mod descrambler;
 mod laws;
 mod register;
 mod scrambler;
-#[cfg(test)]
-mod tests;
 mod words;
 
 pub use descrambler::Descrambler;

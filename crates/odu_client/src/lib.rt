@@ -10,8 +10,6 @@ mod frame_maker;
 mod framer;
 mod laws;
 mod packet_stream;
-#[cfg(test)]
-mod tests;
 
 pub use aligned::Aligned;
 pub use aligner::ClientAligner;

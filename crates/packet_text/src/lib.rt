@@ -10,8 +10,6 @@ mod line;
 mod line_feed;
 mod packet_lines;
 mod pairs;
-#[cfg(test)]
-mod tests;
 mod writing;
 
 pub use byte_digits::ByteDigits;

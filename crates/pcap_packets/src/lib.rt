@@ -20,8 +20,6 @@ mod order;
 mod record;
 mod sink;
 mod source;
-#[cfg(test)]
-mod tests;
 
 pub use laws::{byte_order_alike, written_gives_packets, written_reads_back};
 pub use sink::PcapSink;

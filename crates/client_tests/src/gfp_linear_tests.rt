@@ -1,5 +1,5 @@
 // Rows of the standard's numbers, both ways.
-use crate::{Arrival, ChannelMaker, ChannelReader};
+use gfp_linear::{Arrival, ChannelMaker, ChannelReader};
 use std::test::Fail;
 
 static LOST: [u8; 32] = [

@@ -1,5 +1,5 @@
 // Whole frames, byte by byte and at once, and frames out of texts.
-use crate::{Aligned, ClientAligner, ClientFramer, FrameMaker};
+use odu_client::{Aligned, ClientAligner, ClientFramer, FrameMaker};
 use otn_base::Trace;
 use otn_ports::{InPlaceOf, MemSource, Source};
 use packet_text::PacketLines;

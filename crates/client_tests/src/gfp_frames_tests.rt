@@ -1,5 +1,5 @@
 // Fixed streams both ways.
-use crate::{GfpMaker, GfpReader};
+use gfp_frames::{GfpMaker, GfpReader};
 use gfp_scrambler::Descrambler;
 use std::test::Fail;
 

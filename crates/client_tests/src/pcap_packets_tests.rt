@@ -1,6 +1,6 @@
 // Worked captures.
-use crate::{PcapSink, PcapSource};
 use otn_ports::{Failed, ListedSink, ListedSource, Sink, Source};
+use pcap_packets::{PcapSink, PcapSource};
 use std::alloc::{AllocError, Global};
 use std::test::Fail;
 

@@ -1,5 +1,5 @@
 // Fixed payload areas, both ways.
-use crate::{Descrambler, Scrambler};
+use gfp_scrambler::{Descrambler, Scrambler};
 
 // The plain areas of four packets of two bytes, and what a new scrambler sends for them. The pieces
 // are no whole areas: where a call begins makes no difference.

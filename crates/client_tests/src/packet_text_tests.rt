@@ -1,10 +1,9 @@
 // Whole texts, line by line.
 ghost use Rattle.std.specs.Prelude.{◌≤◌, length};
 
-use crate::pairs::DigitPairs;
-use crate::{ByteDigits, Line, PacketLines, write_packet};
 use hex::{decode_to_slice, encode};
 use otn_ports::{InPlaceOf, ListedSink, ListedSource, MemSource, OutPlaceOf, Source, Written};
+use packet_text::{ByteDigits, DigitPairs, Line, PacketLines, write_packet};
 use std::alloc::{AllocError, Global};
 use std::test::Fail;
 
