@@ -190,6 +190,28 @@ fn fill_one_by_one<F: FillFrame>(frame: &mut F, alloc: Global) -> Result<(), Fai
     fill_slots(frame, alloc, 3, &[2, 5], 9)
 }
 
+// A frame that is filled so.
+fn filled_frame(alloc: Global) -> Result<Frame<4080>, Fail> {
+    let mut frame = Frame::<4080>::new(alloc)?;
+    fill_one_by_one(&mut frame, alloc)?;
+    Ok(frame)
+}
+
+// A frame kept by slots that is filled so.
+fn filled_slots(alloc: Global) -> Result<SlotFrame, Fail> {
+    let mut by_slots = SlotFrame::new(alloc)?;
+    fill_one_by_one(&mut by_slots, alloc)?;
+    Ok(by_slots)
+}
+
+fn is_same(one: &Frame<4080>, other: &Frame<4080>) -> bool {
+    one.as_bytes() == other.as_bytes()
+}
+
+fn is_clear(frame: &Frame<4080>) -> bool {
+    frame.as_bytes().iter().all(|byte| *byte == 0)
+}
+
 const JOINED: [(u32, u32, u8); 5] = [
     (1, 17, 0x11),
     (4, 24, 0x84),
@@ -200,16 +222,14 @@ const JOINED: [(u32, u32, u8); 5] = [
 
 #[test]
 fn slots_one_after_another(rt: HostRuntime) -> Result<(), Fail> {
-    let mut by_slots = SlotFrame::new(rt.alloc())?;
-    let mut frame = Frame::<4080>::new(rt.alloc())?;
+    let frame = filled_frame(rt.alloc())?;
+    let mut by_slots = filled_slots(rt.alloc())?;
     let mut joined = Frame::<4080>::new(rt.alloc())?;
-    fill_one_by_one(&mut frame, rt.alloc())?;
-    fill_one_by_one(&mut by_slots, rt.alloc())?;
     by_slots.join_into(&mut joined);
-    assert_eq!(rt; joined.as_bytes() == frame.as_bytes(), true);
+    assert_eq!(rt; is_same(&joined, &frame), true);
     assert_eq!(rt; first_unlike_in(&joined, &JOINED), 0);
     by_slots.clear();
     by_slots.join_into(&mut joined);
-    assert_eq!(rt; joined.as_bytes().iter().all(|byte| *byte == 0), true);
+    assert_eq!(rt; is_clear(&joined), true);
     Ok(())
 }
