@@ -37,8 +37,6 @@ mod sink;
 mod source;
 mod spoiled_source;
 mod system;
-#[cfg(test)]
-mod tests;
 mod writer_sink;
 
 pub use bays::{Bays, Rack};
