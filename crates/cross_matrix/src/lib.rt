@@ -16,8 +16,6 @@ mod in_turn;
 mod pipe;
 mod receiver;
 mod taking;
-#[cfg(test)]
-mod tests;
 
 pub use device_model::FromState;
 pub use pipe::Pipe;

@@ -24,6 +24,3 @@ pub type LineIn = line_in::LineIn<1>;
 
 /// An input line that checks no overhead of its frames, for a caller that doesn't report them.
 pub type UncountedLineIn = line_in::LineIn<0>;
-
-#[cfg(test)]
-mod tests;

@@ -29,11 +29,7 @@ mod reads;
 mod retire;
 mod runs;
 mod settle;
-#[cfg(test)]
-mod settle_tests;
 mod tally;
-#[cfg(test)]
-mod tests;
 mod turn;
 
 pub use damage::{runs_agree_but_for_one, runs_hand_on_a_front, runs_heal};

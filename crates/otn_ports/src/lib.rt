@@ -41,8 +41,6 @@ mod sink;
 mod source;
 mod spoiled_source;
 mod system;
-#[cfg(test)]
-mod tests;
 mod writer_sink;
 
 pub use asking::ask_byte;

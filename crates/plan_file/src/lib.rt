@@ -30,6 +30,3 @@ pub use maintenance_signals::Signal;
 pub use name::Name;
 pub use pace::Pace;
 pub use plan::Plan;
-
-#[cfg(test)]
-mod tests;

@@ -1,5 +1,5 @@
 use Rattle.node_core.specs.Stands.{no_bytes}
-use Rattle.node_core.proofs.tests.run.Goals as goal
+use Rattle.node_tests.proofs.orders.run.Goals as goal
 
 pub state_of_first-requires : goal.state_of_first-requires
 state_of_first-requires c =

@@ -1,5 +1,5 @@
 // How runs of small plans end.
-use crate::{Node, Outcome, carry};
+use node_core::{Node, Outcome, carry};
 use otn_base::Memory;
 use otn_ports::{FirstReady, InPlaceOf, MemSink, MemSource, OutPlaceOf, Rack};
 use plan_file::Plan;

@@ -3,7 +3,7 @@ use Rattle.std.specs.Prelude.{slice_get}
 use Rattle.std.proofs.lemmas.Grind.{common_steps}
 use Rattle.std.proofs.lemmas.Option.{slice_get_read}
 use Rattle.plan_file.specs.declared.connection.Connection.{Connection}
-use Rattle.cross_matrix.proofs.tests.heard.Goals as goal
+use Rattle.node_tests.proofs.pipes.heard.Goals as goal
 
 pub listen-requires-clause-entry : goal.listen-requires-clause-entry
 listen-requires-clause-entry c =

@@ -7,7 +7,7 @@ ghost use Rattle.plan_file.specs.declared.connection.ToEnd.TheVariants as to_end
 ghost use Rattle.cross_matrix.specs.Parts.{IsBegun, frames_taken, frames_filled};
 ghost use Rattle.cross_matrix.specs.Pipes.{IsPipeOf};
 
-use crate::{FromState, Pipe};
+use cross_matrix::{FromState, Pipe};
 use frame_geometry::Frame;
 use otn_base::{Memory, Slots};
 use otn_ports::{InPlaceOf, MemSink, MemSource, OutPlaceOf};

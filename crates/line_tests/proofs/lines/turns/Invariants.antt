@@ -1,5 +1,5 @@
 use Rattle.std.proofs.Common.{◌≡◌}
-use Rattle.line_side.proofs.tests.turns.Given as goal
+use Rattle.line_tests.proofs.lines.turns.Given as goal
 
 abbrev pub invariant-loop-n : goal.invariant-loop-n
 invariant-loop-n g l = record { pieces : l.line.pieces ≡ l.n; kind : l.line.kind ≡ l.fn.kind }

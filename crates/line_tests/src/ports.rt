@@ -1,8 +1,11 @@
 // What proofs can't see: that calls succeed, and what the system does.
 ghost use Rattle.std.specs.Prelude.{◌≤◌, IfOk};
 
-use super::system::{read_some, write_some};
-use super::*;
+use otn_ports::{
+    Bays, Chooser, Failed, FileSink, FileSource, FirstReady, InPlace, InPlaceOf, InPort,
+    ListedSink, ListedSource, MemSink, MemSource, OutPlace, OutPlaceOf, OutPort, ReaderSource,
+    Reading, Sink, Source, SpoiledSource, StdoutSink, WriterSink, Written, write_whole,
+};
 use std::alloc::Global;
 use std::cell::Cell;
 use std::fs::File;
@@ -179,10 +182,10 @@ impl Write for Interrupting {
 #[test]
 fn an_interrupted_call_is_tried_again(rt: HostRuntime) {
     for (fails, answer) in [(false, Ok(1)), (true, Err(Failed))] {
-        let mut system = Interrupting { calls: 3, fails };
-        assert_eq!(rt; read_some(&mut system, &mut [0; 2]), answer);
-        let mut system = Interrupting { calls: 3, fails };
-        assert_eq!(rt; write_some(&mut system, &[1, 2]), answer);
+        let mut source = ReaderSource::over(Interrupting { calls: 3, fails });
+        assert_eq!(rt; source.read(&mut [0; 2]), answer);
+        let mut sink = WriterSink::over(Interrupting { calls: 3, fails });
+        assert_eq!(rt; sink.write(&[1, 2]), answer);
     }
 }
 

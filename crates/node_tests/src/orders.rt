@@ -3,7 +3,7 @@ ghost use Rattle.std.specs.Prelude.{◌≡◌, None, length};
 ghost use Rattle.otn_ports.specs.Bytes.{raised};
 ghost use Rattle.plan_file.specs.Answer.{fault_in};
 
-use crate::{FromState, Node, carry};
+use node_core::{FromState, Node, carry};
 use otn_base::{Memory, PortName};
 use otn_ports::{Chooser, InPlaceOf, MemSink, MemSource, OutPlaceOf, Rack};
 use plan_file::Plan;

@@ -2,7 +2,7 @@
 ghost use Rattle.std.specs.Prelude.{None};
 ghost use Rattle.otn_ports.specs.Memory.{memory_ended};
 
-use crate::{LineCounts, LineIn, LineOut};
+use line_side::{LineCounts, LineIn, LineOut};
 use msi_table::SlotMap;
 use otn_base::limits::LINE_FRAME_BYTES;
 use otn_base::{LineKind, Slots};

@@ -1,10 +1,10 @@
 // Plans that a person might write, with what is said of each: one for each part of each rule, and more
 // where rules meet. What is wanted is the rule that is broken first, by its number, and its place, or how
 // many connections are accepted.
-use crate::{
+use otn_base::{Kind, LineKind, Slots, Trace};
+use plan_file::{
     Connection, Connections, FromEnd, LineList, Name, NoPlan, Pace, Plan, PlanError, ToEnd,
 };
-use otn_base::{Kind, LineKind, Slots, Trace};
 use std::alloc::{AllocError, Global};
 use std::process::Abort;
 use std::test::Fail;
