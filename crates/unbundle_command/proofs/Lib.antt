@@ -1,0 +1,5 @@
+pub mod Holding
+pub mod Runs
+pub mod Turns
+pub mod Telling
+pub mod Ends
