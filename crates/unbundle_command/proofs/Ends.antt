@@ -1,8 +1,8 @@
 -- The end of the command.
-use Rattle.std.proofs.Common.{◌≡◌, ◌≢◌, ◌⊎◌, inl, inr, ◌↔◌, ◌<◌, ◌≤◌, ◌+◌, ◌-◌, ◌^◌, ℕ, zero, suc, min, Bool, true, false, List, [], ◌∷◌, ◌++◌, length, refl, sym, ap, subst, ◌∙◌, append-nil, arith}
+use Rattle.std.proofs.Common.{◌≡◌, ◌≢◌, ◌⊎◌, inl, inr, ◌↔◌, ◌<◌, ◌≤◌, ◌+◌, ◌-◌, ◌*◌, ◌^◌, ℕ, zero, suc, min, Bool, true, false, List, [], ◌∷◌, ◌++◌, length, refl, sym, ap, subst, ◌∙◌, append-nil, arith}
 use Rattle.std.specs.Prelude.{not}
 use Rattle.std.proofs.lemmas.Bool.{cases_lt}
-use Rattle.otn_base.specs.declared.limits.TheConstants.{CLIENTS}
+use Rattle.otn_base.specs.declared.limits.TheConstants.{CLIENTS, MOST_TURNS}
 use Rattle.otn_ports.specs.OnePlace.{OnlyLineIn}
 use Rattle.otn_ports.specs.PortViews.{SinkView, SinkWrites}
 use Rattle.otn_ports.specs.Sent.{IsSent}
@@ -21,6 +21,7 @@ use Rattle.unbundle_command.specs.UnbundleLeft.{HasMore, IsOutputDead, IsCut, Ou
 use Rattle.unbundle_command.specs.declared.ended.Ended.{Ended}
 use Rattle.unbundle_command.specs.declared.ended.Ended.TheVariants.{Done, Unfinished, Cut, ReportFault, Memory}
 use Rattle.unbundle_command.specs.declared.unbundling.Unbundling.{Unbundling}
+use Rattle.unbundle_command.proofs.Few.{client_few}
 use Rattle.unbundle_command.proofs.Turns.{outputs_on, line_same}
 
 -- ---- how the command ended
@@ -101,13 +102,16 @@ outputs_sent first last came outputs none held = record {
   quiet = λ cid low. (held.channels.each cid low).lines.quiet;
 }
 
-pub ended_so : (first was mid is : BaysView) (turns : ℕ) (parts : Unbundling) (x x' : InView) (answer : Bool) (outputs : OutputsView) (report report' : SinkView) (ended : Ended) → IsReady parts
+few_arrive : (given : List ℕ) (turns : ℕ) → turns ≤ MOST_TURNS → length (emitted_before given turns) ≤ 15233 * turns → length (arrived_before given turns) ≤ 2 ^ 64 - 1
+few_arrive given turns many few = let all = client_few (emitted_before given turns) in omega (arith, many, few, all)
+
+pub ended_so : (first was mid is : BaysView) (turns : ℕ) (parts : Unbundling) (x x' : InView) (answer : Bool) (outputs : OutputsView) (report report' : SinkView) (ended : Ended) → IsReady parts → turns ≤ MOST_TURNS
     → OnlyLineIn 0 was mid → line_in_at was 0 ≡ x → line_in_at mid 0 ≡ x' → OnlyClientsOut mid is → ByteAnswer (not (is_seen parts.tap.line.reader.ending)) x x' answer
     → ((came : List ChannelArrival) → OutputsStand first mid came parts.outputs → OutputsStand first is came outputs) → NoneHeld CLIENTS outputs.channels
-    → ((came : List ChannelArrival) → OutputsStand first is came outputs → SinkWrites (written_by ended) report (report_text came) report')
+    → ((came : List ChannelArrival) → OutputsStand first is came outputs → length came ≤ 2 ^ 64 - 1 → SinkWrites (written_by ended) report (report_text came) report')
     → ((came : List ChannelArrival) (given : List ℕ) → OutputsStand first is came outputs → (answer ≡ true → HasMore turns given) → (answer ≡ false → HasMore turns given → ⊥) → ended ≢ ReportFault
     → EndsAs ended (IsCut came is) (HasMore turns given)) → TurnsGone first was turns parts → UnbundleRan turns first is report report' ended
-ended_so first was mid is turns parts x x' answer outputs report report' ended ready only a b clients asked flushed none wrote ends gone =
+ended_so first was mid is turns parts x x' answer outputs report report' ended ready many only a b clients asked flushed none wrote ends gone =
     let line = parts.tap.line in
     let asks = not (is_seen line.reader.ending) in
     let now = line_same mid is x' clients b in
@@ -127,7 +131,7 @@ ended_so first was mid is turns parts x x' answer outputs report report' ended r
           let all = λ (e : answer ≡ false) (h : HasMore turns given). (let none = end.none (sym asked.tells ∙ e) in let f : ⊥ = omega arith in f) in
           record {
             outputs = outputs_sent first is came outputs none held;
-            report = wrote came held;
+            report = wrote came held (few_arrive given turns many (gone.stands.few given may'));
             took = end.took;
             cut = λ some. (ends came given held more all some).cut;
             unfinished = λ some. (ends came given held more all some).unfinished;

@@ -1,5 +1,5 @@
 -- The turns of the command.
-use Rattle.std.proofs.Common.{◌≡◌, ◌≢◌, ℕ, zero, suc, ◌+◌, List, [], ◌∷◌, ◌++◌, get_or, refl, sym, ap, subst, ◌∙◌, append-nil, add-one, arith}
+use Rattle.std.proofs.Common.{◌≡◌, ◌≢◌, ◌≤◌, ℕ, zero, suc, ◌+◌, ◌-◌, ◌*◌, List, [], ◌∷◌, ◌++◌, length, slice_range, get_or, refl, sym, ap, subst, ◌∙◌, append-nil, length-append, length-take, length-drop, add-one, arith}
 use Rattle.std.specs.List.{flat_map, range_with_len}
 use Rattle.std.proofs.lemmas.Grind.{flat_map-append}
 use Rattle.otn_ports.specs.OnePlace.{OnlyLineIn}
@@ -33,6 +33,17 @@ flat_more f n =
 
 emitted_more : (given : List ℕ) (t : ℕ) → emitted_before given (suc t) ≡ emitted_before given t ++ emitted_at first_slot given t
 emitted_more given t = flat_more (emitted_at first_slot given) t
+
+-- a turn emits no more than there is room for
+one_few : (given : List ℕ) (t : ℕ) (emitted : List ℕ) → emitted ≡ emitted_at first_slot given t → length emitted ≤ 15233 → length (emitted_before given t) ≤ 15233 * t → length (emitted_before given (suc t)) ≤ 15233 * suc t
+one_few given t emitted e room few =
+    let more = ap length (emitted_more given t) ∙ length-append (emitted_before given t) (emitted_at first_slot given t) in
+    let one : length (emitted_at first_slot given t) ≤ 15233 = subst (λ bytes. length bytes ≤ 15233) e room in
+    omega (arith, more, one, few)
+
+-- how many bytes stand from one place to another
+pub span : (bytes : List ℕ) (first last : ℕ) → first ≤ last → last ≤ length bytes → last - first ≡ length (slice_range bytes first last)
+span bytes first last ordered within = sym (simp (length-take, length-drop) (omega arith))
 
 -- ---- places
 
@@ -79,16 +90,17 @@ begins parts tap aligned read held first = record {
   stands = record {
     tap = tap (line_in_at first 0);
     holds = λ given may. holds_none first first (aligner_state parts.aligner) parts.reader parts.outputs aligned read (held first);
+    few = λ given may. omega arith;
   };
 }
 
 -- one turn, in which the sink emitted these bytes and they were read
 pub turn_gone : (first was mid is : BaysView) (taken : List ℕ) (t : ℕ) (x x' : InView) (old : Unbundling) (tap : TapView) (aligner : ClientAligner) (reader : ReaderState) (outputs : OutputsView) (emitted : List ℕ)
-    → OnlyLineIn 0 was mid → line_in_at was 0 ≡ x → line_in_at mid 0 ≡ x' → OnlyClientsOut mid is
+    → OnlyLineIn 0 was mid → line_in_at was 0 ≡ x → line_in_at mid 0 ≡ x' → OnlyClientsOut mid is → length emitted ≤ 15233
     → ((own : Tributary) (first : InView) (taken : List ℕ) (t : ℕ) → TapStands own first x taken t old.tap → TurnMoves own first x' taken t old.tap tap emitted)
     → ((first : BaysView) (taken : List ℕ) → HoldsAfter first mid taken (aligner_state old.aligner) old.reader old.outputs → HoldsAfter first is (taken ++ emitted) (aligner_state aligner) reader outputs)
     → Stands first was taken t old → TurnGone first is taken t (record { tap = tap; aligner = aligner; reader = reader; outputs = outputs })
-turn_gone first was mid is taken t x x' old tap aligner reader outputs emitted only a b clients moved read stood =
+turn_gone first was mid is taken t x x' old tap aligner reader outputs emitted only a b clients room moved read stood =
     let moves = moved first_slot (line_in_at first 0) taken t (subst (λ v. TapStands first_slot (line_in_at first 0) v taken t old.tap) a stood.tap) in
     let now = line_same mid is x' clients b in
     record {
@@ -101,6 +113,7 @@ turn_gone first was mid is taken t x x' old tap aligner reader outputs emitted o
             subst (λ bytes. HoldsAfter first is bytes (aligner_state aligner) reader outputs) (ap (λ bytes. emitted_before given t ++ bytes) (moves.emits given may) ∙ sym (emitted_more given t))
             (read first (emitted_before given t)
             (holds_on first was mid (emitted_before given t) (aligner_state old.aligner) old.reader old.outputs only.client_out (stood.holds given (moves.earlier given may))));
+        few = λ given may. one_few given t emitted (moves.emits given may) room (stood.few given (moves.earlier given may));
       };
     }
 

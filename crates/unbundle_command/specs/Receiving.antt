@@ -1,5 +1,6 @@
 -- What arrives on channels, within the bytes of a turn: their outputs, a reader of GFP frames and an aligner of client frames.
 use Rattle.std.specs.Prelude.{◌≡◌, ◌<◌, ◌+◌, ◌-◌, ◌^◌, ℕ, min, List, [], ◌∷◌, ◌++◌, flat_map, get_or}
+use Rattle.otn_base.specs.Counts.{saturated}
 use Rattle.otn_base.specs.declared.limits.TheConstants.{CLIENTS}
 use Rattle.otn_ports.specs.Sent.{IsSent}
 use Rattle.otn_ports.specs.Views.{OutView, BaysView, client_out_at}
@@ -32,8 +33,8 @@ pub record LinesHeld (first now : OutView) (packets : List (List ℕ)) (text : L
 -- what arrived on the channel of this CID is held for its place, and counted
 pub record ChannelStands (first now : OutView) (cid : ℕ) (came : List ChannelArrival) (channel : ChannelView) : Type 0 where
   pub lines : LinesHeld first now (packets_on cid came) channel.text
-  pub packets : channel.packets ≡ packet_count cid came
-  pub losses : channel.losses ≡ loss_count cid came
+  pub packets : channel.packets ≡ saturated (packet_count cid came)
+  pub losses : channel.losses ≡ saturated (loss_count cid came)
 
 -- what is seen of the outputs: the channels that have one, and how much arrived on others
 pub record OutputsView : Type 0 where
@@ -55,7 +56,7 @@ pub record NoneHeld (count : ℕ) (channels : List ChannelView) : Type 0 where
 -- what arrived is held and counted
 pub record OutputsStand (first now : BaysView) (came : List ChannelArrival) (outputs : OutputsView) : Type 0 where
   pub channels : ChannelsStand first now came outputs.channels
-  pub other : outputs.other ≡ other_count came
+  pub other : outputs.other ≡ saturated (other_count came)
 
 -- all places but the client outputs are as they were
 pub record OnlyClientsOut (first now : BaysView) : Type 0 where

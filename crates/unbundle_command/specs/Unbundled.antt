@@ -3,7 +3,6 @@
 use Rattle.std.specs.Prelude.{ℕ, ◌==◌, nat_lt, nat_le, ◌||◌, Bool, true, false, if◌then◌else◌, List, [], ◌∷◌, ◌++◌, length, codes}
 use Rattle.std.specs.Fmt.{decimal}
 use Rattle.std.specs.List.{filter, flat_map, range_with_len}
-use Rattle.otn_base.specs.Counts.{saturated}
 use Rattle.otn_base.specs.declared.limits.TheConstants.{CLIENTS}
 use Rattle.otn_base.specs.declared.line_kind.LineKind.TheVariants.{Otu2}
 use Rattle.tributary_model.specs.Places.{Tributary, tributary_of}
@@ -43,13 +42,13 @@ is_of_other (LossOn cid) = nat_le CLIENTS cid
 
 -- how many packets and how many losses arrive on a channel, and how many arrivals are of channels without a client output
 abbrev pub packet_count : (cid : ℕ) → List ChannelArrival → ℕ
-packet_count cid came = saturated (length (packets_on cid came))
+packet_count cid came = length (packets_on cid came)
 
 abbrev pub loss_count : (cid : ℕ) → List ChannelArrival → ℕ
-loss_count cid came = saturated (length (filter (is_loss_on cid) came))
+loss_count cid came = length (filter (is_loss_on cid) came)
 
 abbrev pub other_count : List ChannelArrival → ℕ
-other_count came = saturated (length (filter is_of_other came))
+other_count came = length (filter is_of_other came)
 
 -- ---- the report
 

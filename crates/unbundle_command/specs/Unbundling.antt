@@ -1,23 +1,24 @@
 -- The command within its turns: a sink, and what becomes of the bytes that it emits.
-use Rattle.std.specs.Prelude.{◌≡◌, ◌≢◌, ◌⊎◌, ◌<◌, ℕ, suc, Bool, true, false, not, List, [], ◌∷◌, ◌++◌}
-use Rattle.otn_base.specs.declared.limits.TheConstants.{CLIENTS}
+use Rattle.std.specs.Prelude.{◌≡◌, ◌≢◌, ◌⊎◌, ◌<◌, ◌≤◌, ◌+◌, ◌*◌, ℕ, suc, Bool, true, false, List, [], ◌∷◌, ◌++◌, length}
+use Rattle.otn_base.specs.declared.limits.TheConstants.{CLIENTS, GROUPS}
 use Rattle.otn_base.specs.declared.line_kind.LineKind.TheVariants.{Otu2}
 use Rattle.otn_ports.specs.Views.{State, Empty, Live, Dead, BaysView, line_in_at, client_out_at}
 use Rattle.line_side.specs.MayBe.{MayBe}
 use Rattle.tributary_line.specs.TapTurn.{TapStands, IsBetweenTurns}
 use Rattle.odu_client.specs.View.{aligner_state}
-use Rattle.device_model.specs.LineAsked.{ByteAsked, is_seen}
 use Rattle.unbundle_command.specs.Unbundled.{first_slot, emitted_before}
 use Rattle.unbundle_command.specs.Receiving.{ChannelView, channel_at, HoldsAfter}
 use Rattle.unbundle_command.specs.declared.ended.Ended.{Ended}
 use Rattle.unbundle_command.specs.declared.ended.Ended.TheVariants.{Done, Unfinished, Cut}
 use Rattle.unbundle_command.specs.declared.unbundling.Unbundling.{Unbundling}
 
--- The sink has seen t turns of the line, of which these bytes were taken: whatever else may come, all that it emitted was read.
+-- The sink has seen t turns of the line, of which these bytes were taken: whatever else may come, all that it emitted was read. In a turn it emits
+-- 15,233 bytes at most.
 pub record Stands (first now : BaysView) (taken : List ℕ) (t : ℕ) (parts : Unbundling) : Type 0 where
   pub tap : TapStands first_slot (line_in_at first 0) (line_in_at now 0) taken t parts.tap
   pub holds : (given : List ℕ) → MayBe false parts.tap.line.reader.ending taken given
       → HoldsAfter first now (emitted_before given t) (aligner_state parts.aligner) parts.reader parts.outputs
+  pub few : (given : List ℕ) → MayBe false parts.tap.line.reader.ending taken given → length (emitted_before given t) ≤ (GROUPS + 1) * t
 
 -- turn t + 1, with the bytes that were taken in it
 pub record TurnGone (first now : BaysView) (taken : List ℕ) (t : ℕ) (parts : Unbundling) : Type 0 where

@@ -1,5 +1,5 @@
 // The report of the command.
-ghost use Rattle.std.specs.Prelude.{◌≡◌, ◌≢◌, ◌≤◌, ◌<◌, ◌+◌, ◌++◌, List, [], length};
+ghost use Rattle.std.specs.Prelude.{◌≡◌, ◌≢◌, ◌≤◌, ◌+◌, ◌-◌, ◌^◌, ◌++◌, List, [], length};
 ghost use Rattle.std.specs.Fmt.{decimal};
 ghost use Rattle.arrayvec.specs.ArrayString.{array_string_len};
 ghost use Rattle.otn_base.specs.declared.limits.TheConstants.{CLIENTS};
@@ -22,7 +22,7 @@ const REPORT_BYTES: usize = 2048;
 
 /// Writes the report on what arrived.
 pub(crate) fn write_report<K: Sink>(outputs: &Outputs, report: &mut K) -> Written
-    ensures told { (first now : BaysView) (came : List ChannelArrival) → OutputsStand first now came outputs.now
+    ensures told { (first now : BaysView) (came : List ChannelArrival) → OutputsStand first now came outputs.now → length came ≤ 2 ^ 64 - 1
         → SinkWrites result (sink_view K.Sink report.old) (report_text came) (sink_view K.Sink report.new) }
     ensures cause { result ≡ Written.Lost → HasFailed (K.faults report.old) (K.faults report.new) }
     ensures well { result ≢ Written.Lost → K.faults report.new ≡ K.faults report.old }
@@ -35,7 +35,7 @@ pub(crate) fn write_report<K: Sink>(outputs: &Outputs, report: &mut K) -> Writte
 // Puts it into the empty text.
 fn put_report(text: &mut ArrayString<REPORT_BYTES>, outputs: &Outputs)
     requires empty { text.old.bytes ≡ [] }
-    ensures { (first now : BaysView) (came : List ChannelArrival) → OutputsStand first now came outputs.now → text.new.bytes ≡ report_text came }
+    ensures { (first now : BaysView) (came : List ChannelArrival) → OutputsStand first now came outputs.now → length came ≤ 2 ^ 64 - 1 → text.new.bytes ≡ report_text came }
 {
     put_channels(text, outputs);
     put_number(text, "other ", outputs.other());
@@ -45,7 +45,8 @@ fn put_report(text: &mut ArrayString<REPORT_BYTES>, outputs: &Outputs)
 // The lines of the channels with a client output.
 fn put_channels(text: &mut ArrayString<REPORT_BYTES>, outputs: &Outputs)
     requires room { array_string_len text.old + 1104 ≤ 2048 }
-    ensures text { (first now : BaysView) (came : List ChannelArrival) → OutputsStand first now came outputs.now → text.new.bytes ≡ text.old.bytes ++ channel_lines came CLIENTS }
+    ensures text { (first now : BaysView) (came : List ChannelArrival) → OutputsStand first now came outputs.now → length came ≤ 2 ^ 64 - 1
+        → text.new.bytes ≡ text.old.bytes ++ channel_lines came CLIENTS }
     ensures most { array_string_len text.new ≤ array_string_len text.old + 1104 }
 {
     for cid in 0..CLIENTS as u8 {

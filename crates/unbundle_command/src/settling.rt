@@ -1,6 +1,6 @@
 // The end of the command: whether the line has more than its turns want, the report, and whether a place is dead.
-ghost use Rattle.std.specs.Prelude.{◌≡◌, ◌≢◌, ◌<◌, ℕ, true, false, List};
-ghost use Rattle.otn_base.specs.declared.limits.TheConstants.{CLIENTS};
+ghost use Rattle.std.specs.Prelude.{◌≡◌, ◌≢◌, ◌<◌, ◌≤◌, ℕ, true, false};
+ghost use Rattle.otn_base.specs.declared.limits.TheConstants.{CLIENTS, MOST_TURNS};
 ghost use Rattle.otn_ports.specs.InPlace.{in_view};
 ghost use Rattle.otn_ports.specs.OutPlace.{out_view};
 ghost use Rattle.otn_ports.specs.PortViews.{sink_view};
@@ -26,7 +26,7 @@ pub(crate) fn settle<I: Source, O: Sink, K: Sink>(
     report: &mut K,
 ) -> Ended
     requires ready { IsReady parts.old }
-    ensures ran { (first : BaysView) (turns : ℕ) → TurnsGone first (bays_view I.Source O.Sink bays.old) turns parts.old
+    ensures ran { (first : BaysView) (turns : ℕ) → turns ≤ MOST_TURNS → TurnsGone first (bays_view I.Source O.Sink bays.old) turns parts.old
         → UnbundleRan turns first (bays_view I.Source O.Sink bays.new) (sink_view K.Sink report.old) (sink_view K.Sink report.new) result }
     ensures some { result ≢ Ended.Memory }
     ensures cause { result ≡ Ended.ReportFault → HasFailed (K.faults report.old) (K.faults report.new) }
