@@ -1,5 +1,5 @@
 -- The end of the command.
-use Rattle.std.proofs.Common.{◌≡◌, ◌≢◌, ◌⊎◌, inl, inr, ◌↔◌, ◌<◌, ◌≤◌, ◌+◌, ◌-◌, ◌*◌, ◌^◌, ℕ, zero, suc, min, Bool, true, false, List, [], ◌∷◌, ◌++◌, length, refl, sym, ap, subst, ◌∙◌, append-nil, arith}
+use Rattle.std.proofs.Common.{◌≡◌, ◌≢◌, inl, inr, ◌↔◌, ◌<◌, ◌≤◌, ◌+◌, ◌-◌, ◌*◌, ◌^◌, ℕ, Bool, true, false, List, [], ◌∷◌, ◌++◌, length, refl, sym, ap, subst, ◌∙◌, append-nil, arith}
 use Rattle.std.specs.Prelude.{not}
 use Rattle.std.proofs.lemmas.Bool.{cases_lt}
 use Rattle.otn_base.specs.declared.limits.TheConstants.{CLIENTS, MOST_TURNS}
@@ -8,18 +8,17 @@ use Rattle.otn_ports.specs.PortViews.{SinkView, SinkWrites}
 use Rattle.otn_ports.specs.Sent.{IsSent}
 use Rattle.otn_ports.specs.Views.{State, Empty, Live, Dead, InView, BaysView, line_in_at, client_out_at}
 use Rattle.otn_ports.specs.declared.drain.Written.TheVariants as written
-use Rattle.packet_text.specs.PacketText.{hex_text}
 use Rattle.line_side.specs.LineForm.{plain_otu2}
 use Rattle.gfp_linear.specs.ChannelArrivals.{ChannelArrival}
 use Rattle.gfp_linear.specs.Laws.{packets_on}
 use Rattle.device_model.specs.LineAsked.{ByteAsked, ByteAnswer, has_come, is_seen}
 use Rattle.device_model.proofs.SettledLines.{may_at_end, end_of_line, line_left}
-use Rattle.unbundle_command.specs.Unbundled.{emitted_before, arrived_before, client_arrivals, report_text}
-use Rattle.unbundle_command.specs.Receiving.{ChannelView, OutputsView, channel_at, NoneHeld, OutputsStand, OnlyClientsOut}
+use Rattle.unbundle_command.specs.Unbundled.{emitted_before, arrived_before, report_text}
+use Rattle.unbundle_command.specs.Receiving.{ChannelView, OutputsView, NoneHeld, OutputsStand, OnlyClientsOut}
 use Rattle.unbundle_command.specs.Unbundling.{TurnsGone, IsReady, IsDeadAt, DeadChannel, HasDead, is_dead, ended_by}
-use Rattle.unbundle_command.specs.UnbundleLeft.{HasMore, IsOutputDead, IsCut, OutputsSent, written_by, UnbundleOf, UnbundleRan}
+use Rattle.unbundle_command.specs.UnbundleLeft.{HasMore, IsCut, OutputsSent, written_by, UnbundleRan}
 use Rattle.unbundle_command.specs.declared.ended.Ended.{Ended}
-use Rattle.unbundle_command.specs.declared.ended.Ended.TheVariants.{Done, Unfinished, Cut, ReportFault, Memory}
+use Rattle.unbundle_command.specs.declared.ended.Ended.TheVariants.{Unfinished, Cut, ReportFault}
 use Rattle.unbundle_command.specs.declared.unbundling.Unbundling.{Unbundling}
 use Rattle.unbundle_command.proofs.Few.{client_few}
 use Rattle.unbundle_command.proofs.Turns.{outputs_on, line_same}

@@ -1,5 +1,5 @@
 -- How much can arrive: no more than the payload of a client frame for each byte that came.
-use Rattle.std.proofs.Common.{◌≡◌, ◌≤◌, ◌+◌, ◌*◌, ◌^◌, ◌-◌, ℕ, zero, suc, min, Bool, true, false, cond, List, [], ◌∷◌, ◌++◌, Option, Some, None, length, take, drop, refl, ap, ◌∙◌, length-append, arith}
+use Rattle.std.proofs.Common.{◌≡◌, ◌≤◌, ◌+◌, ◌*◌, ◌^◌, ◌-◌, ℕ, zero, suc, Bool, true, false, cond, List, [], ◌∷◌, ◌++◌, Option, Some, None, length, take, drop, refl, ap, length-append, arith}
 use Rattle.std.specs.Prelude.{nat_lt, ◌||◌, option_to_list}
 use Rattle.std.specs.List.{filter, flat_map}
 use Rattle.otn_base.specs.Counts.{saturated}

@@ -1,7 +1,7 @@
 -- What arrives on channels is held for their client outputs, and counted.
-use Rattle.std.proofs.Common.{◌≡◌, ◌≢◌, ◌<◌, ◌≤◌, ◌+◌, ◌-◌, ◌^◌, ℕ, zero, suc, min, Bool, true, false, cond, List, [], ◌∷◌, ◌++◌, Option, Some, length, replicate, get_or, set, refl, sym, ap, subst, ◌∙◌, inl, inr, append_assoc, append-nil, length-append, arith}
-use Rattle.std.specs.Prelude.{◌==◌, nat_le, slice_get}
-use Rattle.std.specs.List.{filter, flat_map}
+use Rattle.std.proofs.Common.{◌≡◌, ◌≢◌, ◌<◌, ◌≤◌, ◌+◌, ◌-◌, ◌^◌, ℕ, zero, suc, min, Bool, true, false, cond, List, [], ◌∷◌, ◌++◌, Some, length, replicate, set, refl, sym, ap, subst, ◌∙◌, inl, inr, append_assoc, append-nil, length-append, arith}
+use Rattle.std.specs.Prelude.{nat_le, slice_get}
+use Rattle.std.specs.List.{filter}
 use Rattle.std.proofs.lemmas.Option.{get_or_from_slice_get, slice_get_within}
 use Rattle.std.proofs.lemmas.Bool.{cases_lt, eq-eqb, ne_eqb}
 use Rattle.std.proofs.lemmas.Bool.Decides.{nat_tests}
@@ -17,7 +17,7 @@ use Rattle.otn_ports.proofs.SentLaws.{sent_none, sent_twice}
 use Rattle.packet_text.specs.PacketText.{packet_line, hex_text}
 use Rattle.gfp_linear.specs.ChannelArrivals.{ChannelArrival, PacketOn, LossOn}
 use Rattle.gfp_linear.specs.Laws.{packet_on, packets_on}
-use Rattle.unbundle_command.specs.Unbundled.{is_loss_on, is_of_other, packet_count, loss_count, other_count}
+use Rattle.unbundle_command.specs.Unbundled.{is_loss_on, is_of_other}
 use Rattle.unbundle_command.specs.Receiving.{ChannelView, no_channel, LinesHeld, ChannelStands, OutputsView, channel_at, ChannelsStand, NoneHeld, OutputsStand, OnlyClientsOut}
 
 -- ---- the lines of one channel

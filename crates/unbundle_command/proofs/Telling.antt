@@ -1,5 +1,5 @@
 -- The report of the command.
-use Rattle.std.proofs.Common.{◌≡◌, ◌<◌, ◌≤◌, ℕ, suc, ◌+◌, ◌-◌, ◌^◌, List, [], ◌∷◌, ◌++◌, length, sym, ap, ◌∙◌, append_assoc, add-one}
+use Rattle.std.proofs.Common.{◌≡◌, ◌<◌, ◌≤◌, ℕ, ◌+◌, ◌-◌, ◌^◌, List, [], ◌++◌, length, sym, ap, ◌∙◌, append_assoc, add-one}
 use Rattle.otn_base.specs.declared.limits.TheConstants.{CLIENTS}
 use Rattle.otn_ports.specs.Views.{BaysView}
 use Rattle.gfp_linear.specs.ChannelArrivals.{ChannelArrival}

@@ -1,5 +1,5 @@
 -- What arrives on channels, within the bytes of a turn: their outputs, a reader of GFP frames and an aligner of client frames.
-use Rattle.std.specs.Prelude.{◌≡◌, ◌<◌, ◌+◌, ◌-◌, ◌^◌, ℕ, min, List, [], ◌∷◌, ◌++◌, flat_map, get_or}
+use Rattle.std.specs.Prelude.{◌≡◌, ◌<◌, ℕ, List, [], ◌∷◌, ◌++◌, flat_map, get_or}
 use Rattle.otn_base.specs.Counts.{saturated}
 use Rattle.otn_base.specs.declared.limits.TheConstants.{CLIENTS}
 use Rattle.otn_ports.specs.Sent.{IsSent}

@@ -1,6 +1,6 @@
 -- What is taken apart of a line: the channels of an ODU0 in its tributary slot 1. Given is all bytes of the line; turns count from 0 here: turn t is the line's
 -- turn t + 1.
-use Rattle.std.specs.Prelude.{ℕ, ◌==◌, nat_lt, nat_le, ◌||◌, Bool, true, false, if◌then◌else◌, List, [], ◌∷◌, ◌++◌, length, codes}
+use Rattle.std.specs.Prelude.{ℕ, ◌==◌, nat_lt, nat_le, ◌||◌, Bool, false, if◌then◌else◌, List, [], ◌∷◌, ◌++◌, length, codes}
 use Rattle.std.specs.Fmt.{decimal}
 use Rattle.std.specs.List.{filter, flat_map, range_with_len}
 use Rattle.otn_base.specs.declared.limits.TheConstants.{CLIENTS}
