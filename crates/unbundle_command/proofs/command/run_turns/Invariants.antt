@@ -1,0 +1,15 @@
+use Rattle.std.proofs.Common.{◌≡◌, ◌+◌, vec_len}
+use Rattle.otn_base.specs.declared.limits.TheConstants.{GROUPS}
+use Rattle.otn_ports.specs.Racks.{bays_view}
+use Rattle.otn_ports.specs.Views.{BaysView}
+use Rattle.unbundle_command.specs.Unbundling.{IsReady, OnlyUnbundled, TurnsGone}
+use Rattle.unbundle_command.proofs.command.run_turns.Given as goal
+
+-- the turns so far
+abbrev pub invariant-loop : goal.invariant-loop
+invariant-loop g l = record {
+  ready : IsReady l.parts;
+  room : vec_len l.room ≡ GROUPS + 1;
+  gone : (first : BaysView) → TurnsGone first (bays_view g.I.Source g.O.Sink l.fn.bays) 0 l.fn.parts → TurnsGone first (bays_view g.I.Source g.O.Sink l.bays) l.counter l.parts;
+  alone : OnlyUnbundled (bays_view g.I.Source g.O.Sink l.fn.bays) (bays_view g.I.Source g.O.Sink l.bays);
+}

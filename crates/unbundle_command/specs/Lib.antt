@@ -1,0 +1,4 @@
+pub mod Unbundled
+pub mod Receiving
+pub mod Unbundling
+pub mod UnbundleLeft

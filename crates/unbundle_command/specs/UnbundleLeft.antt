@@ -1,0 +1,61 @@
+-- What the command leaves, from its places and the report as they were first to how they are last.
+use Rattle.std.specs.Prelude.{◌≡◌, ◌≢◌, ◌⊎◌, ◌↔◌, ◌<◌, ℕ, suc, min, Bool, List, [], length}
+use Rattle.otn_base.specs.declared.limits.TheConstants.{CLIENTS}
+use Rattle.otn_ports.specs.PortViews.{SinkView, SinkWrites}
+use Rattle.otn_ports.specs.Sent.{IsSent}
+use Rattle.otn_ports.specs.Views.{Dead, BaysView, line_in_at, client_out_at}
+use Rattle.otn_ports.specs.declared.drain.Written.{Written}
+use Rattle.otn_ports.specs.declared.drain.Written.TheVariants as written
+use Rattle.packet_text.specs.PacketText.{hex_text}
+use Rattle.line_side.specs.LineForm.{plain_otu2}
+use Rattle.gfp_linear.specs.ChannelArrivals.{ChannelArrival}
+use Rattle.gfp_linear.specs.Laws.{packets_on}
+use Rattle.device_model.specs.Moments.{line_taken}
+use Rattle.device_model.specs.LineAsked.{MayHave, InputLeft}
+use Rattle.unbundle_command.specs.Unbundled.{arrived_before, report_text}
+use Rattle.unbundle_command.specs.declared.ended.Ended.{Ended}
+use Rattle.unbundle_command.specs.declared.ended.Ended.TheVariants.{Done, Unfinished, Cut, ReportFault, Memory}
+
+-- the line has more than so many turns want
+abbrev pub HasMore : (turns : ℕ) → (given : List ℕ) → Type 0
+HasMore turns given = line_taken plain_otu2 given turns 0 < length given
+
+-- a client output is dead, and a packet of its channel arrived
+pub record IsOutputDead (came : List ChannelArrival) (last : BaysView) : Type 0 where
+  pub cid : ℕ
+  pub low : cid < CLIENTS
+  pub arrived : packets_on cid came ≢ []
+  pub dead : (client_out_at last cid).state ≡ Dead
+
+-- a place that the command used is dead
+abbrev pub IsCut : List ChannelArrival → BaysView → Type 0
+IsCut came last = ((line_in_at last 0).state ≡ Dead) ⊎ IsOutputDead came last
+
+-- To the client output of each channel the text of the packets that arrived on it was due; where none did it is as it was.
+pub record OutputsSent (came : List ChannelArrival) (first last : BaysView) : Type 0 where
+  pub sent : (cid : ℕ) → cid < CLIENTS → IsSent (client_out_at first cid) (hex_text (packets_on cid came)) (client_out_at last cid)
+  pub quiet : (cid : ℕ) → cid < CLIENTS → packets_on cid came ≡ [] → client_out_at last cid ≡ client_out_at first cid
+
+-- the report was written whole, unless it failed
+abbrev pub written_by : Ended → Written
+written_by ReportFault = written.Lost
+written_by Memory = written.Whole
+written_by Done = written.Whole
+written_by Unfinished = written.Whole
+written_by Cut = written.Whole
+
+-- With these bytes of the line, and where these arrived on channels: what went to the client outputs and the report, how much was taken of the line, and
+-- how the command ended.
+pub record UnbundleOf (turns : ℕ) (given taken : List ℕ) (came : List ChannelArrival) (first last : BaysView) (was is : SinkView) (ended : Ended) : Type 0 where
+  pub outputs : OutputsSent came first last
+  pub report : SinkWrites (written_by ended) was (report_text came) is
+  pub took : length taken ≡ min (length given) (suc (line_taken plain_otu2 given turns 0))
+  pub cut : ended ≢ ReportFault → (ended ≡ Cut) ↔ IsCut came last
+  pub unfinished : ended ≢ ReportFault → (ended ≡ Unfinished) ↔ ((IsCut came last → ⊥) × HasMore turns given)
+
+-- These bytes were taken of the line. More may stand behind them; whatever they all turn out to be, this is left.
+pub record UnbundleRan (turns : ℕ) (first last : BaysView) (was is : SinkView) (ended : Ended) : Type 0 where
+  pub taken : List ℕ
+  pub more : Bool
+  pub line : InputLeft (line_in_at first 0) (line_in_at last 0) taken more
+  pub left : (given : List ℕ) → MayHave more taken given → UnbundleOf turns given taken (arrived_before given turns) first last was is ended
