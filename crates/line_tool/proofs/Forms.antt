@@ -1,101 +1,104 @@
--- Words are the form of one command.
-use Rattle.std.proofs.Common.{◌≡◌, ◌+◌, ◌∙◌, ℕ, List, [], ◌∷◌, refl, sym, ap, arith, drop}
+-- Words are the form of one command: by the first word, and then by the others.
+use Rattle.std.proofs.Common.{◌≡◌, ◌+◌, ◌-◌, ◌∙◌, ◌&&◌, ℕ, Bool, true, false, nat_eq, if◌then◌else◌, List, [], ◌∷◌, Option, Some, None, codes, refl, sym, ap, arith}
 use Rattle.std.specs.Str.Parse.{digits_value}
 use Rattle.otn_base.specs.LineSlots.{LineSlots}
 use Rattle.otn_base.specs.declared.line_kind.LineKind.{LineKind}
-use Rattle.line_tool.specs.Words.{IsForm, slots_text}
+use Rattle.otn_base.specs.declared.line_kind.LineKind.TheVariants.{Otu2}
+use Rattle.line_tool.specs.Words.{IsForm, digit, slots_text}
 use Rattle.line_tool.specs.declared.words.Command.{Command}
-use Rattle.line_tool.specs.declared.words.Command.TheVariants.{Slot, Pull, Check, Run, RunOrdered, RunCaptures, Trial}
+use Rattle.line_tool.specs.declared.words.Command.TheVariants.{Slot, Pull, Check, Run, RunOrdered, RunCaptures, Trial, Protect}
 
--- a text is that of one list of slots
-same_slots : (a b : List ℕ) → slots_text a ≡ slots_text b → a ≡ b
-same_slots [] [] e = refl
-same_slots [] (x ∷ []) e = absurd (cc)
-same_slots [] (x ∷ y ∷ b) e = absurd (cc)
-same_slots (x ∷ []) [] e = absurd (cc)
-same_slots (x ∷ y ∷ a) [] e = absurd (cc)
-same_slots (x ∷ []) (y ∷ []) e = let d : 48 + x ≡ 48 + y = cc in let same : x ≡ y = omega arith in cc
-same_slots (x ∷ []) (y ∷ z ∷ b) e = absurd (cc)
-same_slots (x ∷ y ∷ a) (z ∷ []) e = absurd (cc)
-same_slots (x ∷ y ∷ a) (z ∷ w ∷ b) e =
-    let d : 48 + x ≡ 48 + z = cc in
-    let first : x ≡ z = omega arith in
-    let rest = same_slots (y ∷ a) (w ∷ b) (ap (drop 2) e) in
-    cc
+abbrev is_word : List ℕ → List ℕ → Bool
+is_word [] [] = true
+is_word [] (y ∷ ys) = false
+is_word (x ∷ xs) [] = false
+is_word (x ∷ xs) (y ∷ ys) = nat_eq x y && is_word xs ys
 
-same_line_slots : (a b : LineSlots) → a.kind ≡ b.kind → a.list ≡ b.list → a ≡ b
-same_line_slots a b kind list =
-    ap (λ k. made k a.list) kind ∙ ap (made b.kind) list
+-- ---- what words say, where they are a form
+
+-- a number of one digit
+abbrev digit_in : List ℕ → ℕ
+digit_in [] = 0
+digit_in (c ∷ rest) = c - 48
+
+-- the slots of a list of digits with commas between them
+abbrev list_in : List ℕ → List ℕ
+list_in [] = []
+list_in (c ∷ []) = (c - 48) ∷ []
+list_in (c ∷ comma ∷ rest) = (c - 48) ∷ list_in rest
+
+abbrev line_slots : List ℕ → LineSlots
+line_slots slots = record { kind = Otu2; list = slots }
+
+-- the command of these words behind its first word
+abbrev slot_in : List (List ℕ) → Option Command
+slot_in [] = None
+slot_in (slot ∷ rest) = Some (Slot (digit_in slot))
+
+abbrev pull_in : List (List ℕ) → Option Command
+pull_in [] = None
+pull_in (port ∷ []) = None
+pull_in (port ∷ slots ∷ rest) = Some (Pull (digit_in port) (line_slots (list_in slots)))
+
+abbrev run_in : List (List ℕ) → Option Command
+run_in [] = Some Run
+run_in (option ∷ []) = Some RunCaptures
+run_in (option ∷ number ∷ rest) = Some (RunOrdered (digits_value 10 number))
+
+abbrev trial_in : List (List ℕ) → Option Command
+trial_in [] = None
+trial_in (number ∷ rest) = Some (Trial (digits_value 10 number))
+
+abbrev protect_in : List (List ℕ) → Option Command
+protect_in [] = None
+protect_in (port ∷ []) = None
+protect_in (port ∷ slots ∷ []) = None
+protect_in (port ∷ slots ∷ turns ∷ []) = None
+protect_in (port ∷ slots ∷ turns ∷ wait ∷ rest) = Some (Protect (digit_in port) (line_slots (list_in slots)) (digits_value 10 turns) (digits_value 10 wait))
+
+-- the command that words say
+abbrev command_in : List (List ℕ) → Option Command
+command_in [] = None
+command_in (name ∷ rest) =
+    if is_word name (codes "slot") then slot_in rest
+    else if is_word name (codes "pull") then pull_in rest
+    else if is_word name (codes "check") then Some Check
+    else if is_word name (codes "run") then run_in rest
+    else if is_word name (codes "trial") then trial_in rest
+    else if is_word name (codes "protect") then protect_in rest
+    else None
+
+-- ---- they say the command whose form they are
+
+digit_back : (n : ℕ) → digit_in (digit n) ≡ n
+digit_back n = let e : (48 + n) - 48 ≡ n = omega arith in e
+
+list_back : (slots : List ℕ) → list_in (slots_text slots) ≡ slots
+list_back [] = refl
+list_back (slot ∷ []) = ap (λ n. n ∷ []) (digit_back slot)
+list_back (slot ∷ next ∷ slots) = ap (λ n. n ∷ list_in (slots_text (next ∷ slots))) (digit_back slot) ∙ ap (λ rest. slot ∷ rest) (list_back (next ∷ slots))
+
+slots_back : (slots : LineSlots) → slots.kind ≡ Otu2 → line_slots (list_in (slots_text slots.list)) ≡ slots
+slots_back slots kind = ap line_slots (list_back slots.list) ∙ ap (λ k. made k slots.list) (sym kind)
   where
     made : LineKind → List ℕ → LineSlots
     made k l = record { kind = k; list = l }
 
-same_slot : (words : List (List ℕ)) (a b : ℕ) → IsForm words (Slot a) → IsForm words (Slot b) → a ≡ b
-same_slot words a b h k =
-    let e : (48 + a) ≡ (48 + b) = cc (h.0, k.0) in
-    omega (arith, e)
-
-same_order : (words : List (List ℕ)) (a b : ℕ) → IsForm words (RunOrdered a) → IsForm words (RunOrdered b) → a ≡ b
-same_order words a b h k =
-    let text : h.0 ≡ k.0 = cc (h.1, k.1) in
-    sym h.2.2 ∙ ap (digits_value 10) text ∙ k.2.2
-
-same_trial : (words : List (List ℕ)) (a b : ℕ) → IsForm words (Trial a) → IsForm words (Trial b) → a ≡ b
-same_trial words a b h k =
-    let text : h.0 ≡ k.0 = cc (h.1, k.1) in
-    sym h.2.2 ∙ ap (digits_value 10) text ∙ k.2.2
+says : (words : List (List ℕ)) (command : Command) → IsForm words command → command_in words ≡ Some command
+says words (Slot slot) h = ap command_in h.0 ∙ ap (λ n. Some (Slot n)) (digit_back slot)
+says words (Pull port slots) h =
+    ap command_in h.0 ∙ ap (λ n. Some (Pull n (line_slots (list_in (slots_text slots.list))))) (digit_back port) ∙ ap (λ s. Some (Pull port s)) (slots_back slots h.3)
+says words Check h = ap command_in h
+says words Run h = ap command_in h
+says words (RunOrdered number) h = ap command_in h.1 ∙ ap (λ n. Some (RunOrdered n)) h.2.2
+says words RunCaptures h = ap command_in h
+says words (Trial number) h = ap command_in h.1 ∙ ap (λ n. Some (Trial n)) h.2.2
+says words (Protect port slots turns wait) h =
+    ap command_in h.2
+    ∙ ap (λ n. Some (Protect n (line_slots (list_in (slots_text slots.list))) (digits_value 10 h.0) (digits_value 10 h.1))) (digit_back port)
+    ∙ ap (λ s. Some (Protect port s (digits_value 10 h.0) (digits_value 10 h.1))) (slots_back slots h.5)
+    ∙ ap (λ n. Some (Protect port slots n (digits_value 10 h.1))) h.7.0.2
+    ∙ ap (λ n. Some (Protect port slots turns n)) h.8.2
 
 pub one_form : (words : List (List ℕ)) (a b : Command) → IsForm words a → IsForm words b → a ≡ b
-one_form words (Slot a) (Slot b) h k = ap Slot (same_slot words a b h k)
-one_form words (Slot a) (Pull n others) h k = absurd (cc (h.0, k.0))
-one_form words (Slot a) Check h k = absurd (cc (h.0, k))
-one_form words (Pull port slots) (Slot b) h k = absurd (cc (h.0, k.0))
-one_form words (Pull port slots) (Pull n others) h k =
-    let d : 48 + port ≡ 48 + n = cc (h.0, k.0) in
-    let ports : port ≡ n = omega (arith, d) in
-    let text : slots_text slots.list ≡ slots_text others.list = cc (h.0, k.0) in
-    ap (λ p. Pull p slots) ports ∙ ap (Pull n) (same_line_slots slots others (h.3 ∙ sym k.3) (same_slots slots.list others.list text))
-one_form words (Pull port slots) Check h k = absurd (cc (h.0, k))
-one_form words Check (Slot b) h k = absurd (cc (h, k.0))
-one_form words Check (Pull n others) h k = absurd (cc (h, k.0))
-one_form words Check Check h k = refl
-one_form words (Slot a) Run h k = absurd (cc (h.0, k))
-one_form words (Slot a) (RunOrdered n) h k = absurd (cc (h.0, k.1))
-one_form words (Pull port slots) Run h k = absurd (cc (h.0, k))
-one_form words (Pull port slots) (RunOrdered n) h k = absurd (cc (h.0, k.1))
-one_form words Check Run h k = absurd (cc (h, k))
-one_form words Check (RunOrdered n) h k = absurd (cc (h, k.1))
-one_form words Run (Slot b) h k = absurd (cc (h, k.0))
-one_form words Run (Pull n others) h k = absurd (cc (h, k.0))
-one_form words Run Check h k = absurd (cc (h, k))
-one_form words Run Run h k = refl
-one_form words Run (RunOrdered n) h k = absurd (cc (h, k.1))
-one_form words (RunOrdered a) (Slot b) h k = absurd (cc (h.1, k.0))
-one_form words (RunOrdered a) (Pull n others) h k = absurd (cc (h.1, k.0))
-one_form words (RunOrdered a) Check h k = absurd (cc (h.1, k))
-one_form words (RunOrdered a) Run h k = absurd (cc (h.1, k))
-one_form words (RunOrdered a) (RunOrdered b) h k = ap RunOrdered (same_order words a b h k)
-one_form words (Slot a) (Trial n) h k = absurd (cc (h.0, k.1))
-one_form words (Pull port slots) (Trial n) h k = absurd (cc (h.0, k.1))
-one_form words Check (Trial n) h k = absurd (cc (h, k.1))
-one_form words Run (Trial n) h k = absurd (cc (h, k.1))
-one_form words (RunOrdered a) (Trial n) h k = absurd (cc (h.1, k.1))
-one_form words (Trial a) (Slot b) h k = absurd (cc (h.1, k.0))
-one_form words (Trial a) (Pull n others) h k = absurd (cc (h.1, k.0))
-one_form words (Trial a) Check h k = absurd (cc (h.1, k))
-one_form words (Trial a) Run h k = absurd (cc (h.1, k))
-one_form words (Trial a) (RunOrdered b) h k = absurd (cc (h.1, k.1))
-one_form words (Trial a) (Trial b) h k = ap Trial (same_trial words a b h k)
-one_form words (Slot a) RunCaptures h k = absurd (cc (h.0, k))
-one_form words (Pull port slots) RunCaptures h k = absurd (cc (h.0, k))
-one_form words Check RunCaptures h k = absurd (cc (h, k))
-one_form words Run RunCaptures h k = absurd (cc (h, k))
-one_form words (RunOrdered a) RunCaptures h k = absurd (cc (h.1, k))
-one_form words (Trial a) RunCaptures h k = absurd (cc (h.1, k))
-one_form words RunCaptures (Slot b) h k = absurd (cc (h, k.0))
-one_form words RunCaptures (Pull n others) h k = absurd (cc (h, k.0))
-one_form words RunCaptures Check h k = absurd (cc (h, k))
-one_form words RunCaptures Run h k = absurd (cc (h, k))
-one_form words RunCaptures (RunOrdered b) h k = absurd (cc (h, k.1))
-one_form words RunCaptures (Trial b) h k = absurd (cc (h, k.1))
-one_form words RunCaptures RunCaptures h k = refl
+one_form words a b h k = let e : Some a ≡ Some b = sym (says words a h) ∙ says words b k in cc

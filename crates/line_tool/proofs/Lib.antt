@@ -6,7 +6,10 @@ pub mod Forms
 pub mod LineFrames
 pub mod Lives
 pub mod NumberOrder
+pub mod PlacesAnswered
 pub mod PlanChecks
+pub mod Protected
+pub mod ProtectTable
 pub mod PullCarried
 pub mod PullDamaged
 pub mod PullEnds
@@ -35,3 +38,4 @@ pub mod TrialReport
 pub mod TrialRuns
 pub mod TrialTold
 pub mod TwoWorlds
+pub mod WordLists

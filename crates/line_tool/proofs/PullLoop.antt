@@ -25,8 +25,8 @@ use Rattle.line_tool.specs.PullReport.{MayFollow}
 use Rattle.tributary_line.specs.TapTurn.{TapView, TapStands}
 use Rattle.line_tool.specs.declared.pull.After.{After}
 use Rattle.line_tool.specs.declared.pull.After.TheVariants as next
-use Rattle.line_tool.specs.declared.ended.Ended.{Ended}
-use Rattle.line_tool.specs.declared.ended.Ended.TheVariants.{Done, Unfinished, ReportFault, Cut}
+use Rattle.otn_ports.specs.declared.ended.Ended.{Ended}
+use Rattle.otn_ports.specs.declared.ended.Ended.TheVariants.{Done, Unfinished, Cut, ReportFault, Memory}
 use Rattle.line_tool.proofs.PullEnds.{took_so_far, TookWanted, took_wanted, frames_there}
 use Rattle.line_tool.proofs.PullTurns.{turn_count, written_first, written_all}
 use Rattle.line_tool.proofs.Rows.{flat_map-range_more}
@@ -354,6 +354,7 @@ turns_end Cut own first was now t tap old new h few last none a =
       stopped = λ e. absurd (cc);
     }
 turns_end ReportFault own first was now t tap old new h few last none a = absurd a.ends
+turns_end Memory own first was now t tap old new h few last none a = absurd a.ends
 
 -- ---- the report
 
@@ -363,3 +364,12 @@ never_written Done line was now old new a h = record { later = h.later; faults =
 never_written Unfinished line was now old new a h = record { later = h.later; faults = h.faults }
 never_written Cut line was now old new a h = record { later = h.later; faults = h.faults }
 never_written ReportFault line was now old new a h = absurd a.ends
+never_written Memory line was now old new a h = absurd a.ends
+
+-- nor does the command end for want of memory, once its turns are begun
+pub pull_has_memory : (ended : Ended) (own : Tributary) (first now : InView) (old new : Option (List ℕ)) → PullEnded own first now old new ended → ended ≢ Memory
+pull_has_memory Done own first now old new h = λ e. cc
+pull_has_memory Unfinished own first now old new h = λ e. cc
+pull_has_memory Cut own first now old new h = λ e. cc
+pull_has_memory ReportFault own first now old new h = λ e. cc
+pull_has_memory Memory own first now old new h = absurd h.ends

@@ -1,5 +1,5 @@
 -- The answers of `pull`, and what it wrote, by what its line gave.
-use Rattle.std.proofs.Common.{◌≡◌, ◌≢◌, ◌<◌, ◌-◌, ◌%◌, ◌^◌, ◌∙◌, ◌⊎◌, ◌↔◌, ℕ, Bool, true, false, List, [], ◌++◌, Option, Some, IfSome, Ok, length, sym, ap, subst, inl, inr, refl, arith, append-nil}
+use Rattle.std.proofs.Common.{◌≡◌, ◌≢◌, ◌<◌, ◌-◌, ◌%◌, ◌^◌, ◌∙◌, ◌⊎◌, ◌↔◌, ℕ, Bool, true, false, List, [], ◌++◌, Option, Some, IfSome, length, sym, ap, subst, inl, inr, refl, arith, append-nil}
 use Rattle.otn_ports.proofs.GivenLaws.{Beyond, given_of_gave, taken_counted}
 use Rattle.otn_ports.specs.Given.{Gave, HadToGive}
 use Rattle.otn_ports.specs.Reads.{HasEnded}
@@ -12,8 +12,8 @@ use Rattle.line_tool.specs.PullReport.{LeavesBytes, bytes_taken, pull_report}
 use Rattle.line_tool.specs.PullRuns.{PullEnded}
 use Rattle.line_tool.specs.PullReport.{MayFollow, StoppedInTurn}
 use Rattle.line_tool.specs.AnswerWords.{IsWell, Reports}
-use Rattle.line_tool.specs.declared.ended.Ended.{Ended}
-use Rattle.line_tool.specs.declared.ended.Ended.TheVariants.{Done, Unfinished, ReportFault, Cut}
+use Rattle.otn_ports.specs.declared.ended.Ended.{Ended}
+use Rattle.otn_ports.specs.declared.ended.Ended.TheVariants.{Done, Unfinished, Cut, ReportFault, Memory}
 use Rattle.line_tool.specs.declared.status.Status.{Status}
 use Rattle.line_tool.specs.declared.status.Status.TheVariants as status
 use Rattle.line_tool.proofs.Lives.{still_alive}
@@ -51,7 +51,7 @@ followed own old new answer given h is =
 
 -- ---- what `pull` answers for
 
-pub pull_ran : (ended : Ended) (own : Tributary) (old new : Device) → PullEnded own (line_zero old) (line_zero new) old.report.got new.report.got ended → PullRan own old new (line_status (Ok ended))
+pub pull_ran : (ended : Ended) (own : Tributary) (old new : Device) → PullEnded own (line_zero old) (line_zero new) old.report.got new.report.got ended → PullRan own old new (line_status ended)
 pull_ran Done own old new h = record {
   taken = h.taken;
   gave = h.gave;
@@ -100,6 +100,7 @@ pull_ran ReportFault own old new h = record {
   took = λ no. absurd (no refl);
   stopped = λ _. h.stopped refl;
 }
+pull_ran Memory own old new h = absurd h.ends
 
 -- ---- by Given
 
@@ -118,7 +119,7 @@ pull_unfinished own old new answer given h other is =
     subst (λ xs. (answer ≡ status.Unfinished) ↔ (((line_zero new).state ≢ Dead) × LeavesBytes xs)) (sym f.parts) (h.unfinished other f.rest f.follows)
 
 -- how many bytes were taken, by the place's number
-taken_by_number : (first now : InView) (taken : List ℕ) → Gave first taken now → now.number < 2 ^ 64 - 1 → now.number - first.number ≡ length taken
+pub taken_by_number : (first now : InView) (taken : List ℕ) → Gave first taken now → now.number < 2 ^ 64 - 1 → now.number - first.number ≡ length taken
 taken_by_number first now taken gave below = let n = taken_counted first now taken gave below in omega (arith, n)
 
 -- the same, by the place's number of bytes, also where the line does not tell them

@@ -4,8 +4,8 @@ use Rattle.otn_ports.proofs.PortLaws.{sink_later_none, sink_later_twice}
 use Rattle.otn_ports.specs.Bytes.{HasFailed}
 use Rattle.otn_ports.specs.PortViews.{SinkView}
 use Rattle.line_tool.specs.Ends.{FaultsBy, ReportAfter}
-use Rattle.line_tool.specs.declared.ended.Ended.{Ended}
-use Rattle.line_tool.specs.declared.ended.Ended.TheVariants.{Done, Unfinished, ReportFault, Cut}
+use Rattle.otn_ports.specs.declared.ended.Ended.{Ended}
+use Rattle.otn_ports.specs.declared.ended.Ended.TheVariants.{Done, Unfinished, Cut, ReportFault, Memory}
 
 pub report_same : (s : SinkView) → ReportAfter None s s
 report_same s = record { later = sink_later_none s; faults = refl }
@@ -16,6 +16,7 @@ faults_from None a b c same h = h ∙ same
 faults_from (Some Done) a b c same h = h ∙ same
 faults_from (Some Unfinished) a b c same h = h ∙ same
 faults_from (Some Cut) a b c same h = h ∙ same
+faults_from (Some Memory) a b c same h = h ∙ same
 faults_from (Some ReportFault) a b c same h = subst (λ n. HasFailed n c.faults) same h
 
 pub report_more : (answer : Option Ended) (a b c : SinkView) → ReportAfter None a b → ReportAfter answer b c → ReportAfter answer a c

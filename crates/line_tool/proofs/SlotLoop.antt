@@ -14,8 +14,8 @@ use Rattle.line_tool.specs.SlotRuns.{SlotEnded, SlotStep}
 use Rattle.line_tool.specs.SlotReport.{StoppedInFrame}
 use Rattle.line_tool.specs.Gains.{GainsPart}
 use Rattle.line_tool.specs.Beyond.{ByteRun}
-use Rattle.line_tool.specs.declared.ended.Ended.{Ended}
-use Rattle.line_tool.specs.declared.ended.Ended.TheVariants.{Done, Unfinished, ReportFault, Cut}
+use Rattle.otn_ports.specs.declared.ended.Ended.{Ended}
+use Rattle.otn_ports.specs.declared.ended.Ended.TheVariants.{Done, Unfinished, Cut, ReportFault, Memory}
 use Rattle.line_tool.proofs.LineFrames.{last_frame, slot_report-at, slot_report-whole, until-append, until-came, until-more, until-none, used-at}
 
 -- after i whole frames
@@ -129,6 +129,7 @@ ends_with ReportFault slot i first mid now old gained new alive few h step = rec
     omega (arith, length-append h.taken step.taken, h.size, step.ends.0, few),
   );
 }
+ends_with Memory slot i first mid now old gained new alive few h step = absurd step.ends
 
 -- how it ends once the most frames are written and a further byte was asked for
 pub ends_after : (ended : Ended) (slot : ℕ) (first mid now : InView) (old new : Option (List ℕ)) → first.state ≢ Dead
@@ -155,6 +156,7 @@ ends_after Cut slot first mid now old new alive h byte =
     let e = ended slot 131072 first mid now old new new byte.taken (lit≤ tt) h byte.gave (omega arith) refl in
     record { taken = e.taken ++ byte.taken; gave = e.gave; ends = (e.report, byte.ends.1, omega (arith, e.size, none)) }
 ends_after ReportFault slot first mid now old new alive h byte = absurd byte.ends
+ends_after Memory slot first mid now old new alive h byte = absurd byte.ends
 
 -- a line that is dead gives nothing
 pub dead_run : (slot : ℕ) (line : InView) (report : Option (List ℕ)) → line.state ≡ Dead → SlotEnded slot line line report report Cut
@@ -170,3 +172,12 @@ never_fault Done was now old new byte h = record { later = h.later; faults = h.f
 never_fault Unfinished was now old new byte h = record { later = h.later; faults = h.faults }
 never_fault Cut was now old new byte h = record { later = h.later; faults = h.faults }
 never_fault ReportFault was now old new byte h = absurd byte.ends
+never_fault Memory was now old new byte h = absurd byte.ends
+
+-- nor does the command end for want of memory, once its frames are read
+pub slot_has_memory : (ended : Ended) (slot : ℕ) (first now : InView) (old new : Option (List ℕ)) → SlotEnded slot first now old new ended → ended ≢ Memory
+slot_has_memory Done slot first now old new h = λ e. cc
+slot_has_memory Unfinished slot first now old new h = λ e. cc
+slot_has_memory Cut slot first now old new h = λ e. cc
+slot_has_memory ReportFault slot first now old new h = λ e. cc
+slot_has_memory Memory slot first now old new h = absurd h.ends

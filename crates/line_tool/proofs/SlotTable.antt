@@ -1,5 +1,5 @@
 -- The answers of `slot`, and what it wrote, by what its line gave.
-use Rattle.std.proofs.Common.{◌≡◌, ◌≢◌, ◌<◌, ◌≤◌, ◌+◌, ◌-◌, ◌*◌, ◌^◌, ◌∙◌, ◌⊎◌, ◌↔◌, ℕ, Bool, zero, suc, List, [], ◌++◌, Option, Some, IfSome, Ok, length, min, take, refl, sym, ap, subst, inl, inr, arith, append-nil, append_assoc, length-append}
+use Rattle.std.proofs.Common.{◌≡◌, ◌≢◌, ◌<◌, ◌≤◌, ◌+◌, ◌-◌, ◌*◌, ◌^◌, ◌∙◌, ◌⊎◌, ◌↔◌, ℕ, Bool, zero, suc, List, [], ◌++◌, Option, Some, IfSome, length, min, take, refl, sym, ap, subst, inl, inr, arith, append-nil, append_assoc, length-append}
 use Rattle.std.proofs.lemmas.List.{take-append-le}
 use Rattle.otn_ports.proofs.GivenLaws.{Beyond, given_of_gave}
 use Rattle.otn_ports.specs.Bytes.{after, raised}
@@ -16,8 +16,8 @@ use Rattle.line_tool.specs.SlotReport.{slot_bytes, slot_bytes_until, slot_report
 use Rattle.line_tool.specs.SlotRuns.{SlotEnded}
 use Rattle.line_tool.specs.SlotReport.{StoppedInFrame}
 use Rattle.line_tool.specs.Gains.{GainsPart}
-use Rattle.line_tool.specs.declared.ended.Ended.{Ended}
-use Rattle.line_tool.specs.declared.ended.Ended.TheVariants.{Done, Unfinished, ReportFault, Cut}
+use Rattle.otn_ports.specs.declared.ended.Ended.{Ended}
+use Rattle.otn_ports.specs.declared.ended.Ended.TheVariants.{Done, Unfinished, Cut, ReportFault, Memory}
 use Rattle.line_tool.specs.declared.status.Status.{Status}
 use Rattle.line_tool.specs.declared.status.Status.TheVariants as status
 use Rattle.line_tool.proofs.Lives.{is_dead, is_report_fault, still_alive}
@@ -107,7 +107,7 @@ fault_alive slot first now old new h dead =
 
 -- ---- what `slot` answers for
 
-pub slot_ran : (ended : Ended) (slot : ℕ) (old new : Device) → SlotEnded slot (line_zero old) (line_zero new) old.report.got new.report.got ended → SlotRan slot old new (line_status (Ok ended))
+pub slot_ran : (ended : Ended) (slot : ℕ) (old new : Device) → SlotEnded slot (line_zero old) (line_zero new) old.report.got new.report.got ended → SlotRan slot old new (line_status ended)
 slot_ran Done slot old new h = record {
   taken = h.taken;
   gave = h.gave;
@@ -148,6 +148,7 @@ slot_ran ReportFault slot old new h = record {
   most = h.ends.2;
   all = λ no. absurd (no refl);
 }
+slot_ran Memory slot old new h = absurd h.ends
 
 -- ---- by Given
 

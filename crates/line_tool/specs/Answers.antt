@@ -3,9 +3,14 @@ use Rattle.std.specs.Prelude.{◌≡◌, ◌≢◌, ◌<◌, ◌≤◌, ◌%◌,
 use Rattle.otn_base.specs.declared.limits.TheConstants.{LINE_FRAME_BYTES}
 use Rattle.otn_ports.specs.Given.{Gave}
 use Rattle.otn_ports.specs.Reads.{HasEnded}
-use Rattle.otn_ports.specs.Views.{Live, Dead}
+use Rattle.otn_ports.specs.Views.{Live, Dead, BaysView}
+use Rattle.otn_ports.specs.declared.ended.Ended.{Ended}
+use Rattle.otn_ports.specs.declared.ended.Ended.TheVariants as ending
+use Rattle.protect_selector.specs.ProtectLeft.{ProtectRan}
+use Rattle.protect_selector.specs.Protecting.{OnlyProtected, ends_of}
 use Rattle.tributary_model.specs.Places.{Tributary}
 use Rattle.line_tool.specs.Device.{Device, OnlyLine, line_zero}
+use Rattle.line_tool.specs.Ends.{line_status}
 use Rattle.line_tool.specs.PlanCheck.{CheckRun}
 use Rattle.line_tool.specs.PullReport.{LeavesBytes, bytes_taken, pull_report, tributary}
 use Rattle.line_tool.specs.PullReport.{MayFollow, StoppedInTurn}
@@ -18,7 +23,7 @@ use Rattle.line_tool.specs.TrialAnswers.{TrialAnswers}
 use Rattle.line_tool.specs.declared.status.Status.{Status}
 use Rattle.line_tool.specs.declared.status.Status.TheVariants.{Unfinished, ReportFault, Cut, Memory}
 use Rattle.line_tool.specs.declared.words.Command.{Command}
-use Rattle.line_tool.specs.declared.words.Command.TheVariants.{Slot, Pull, Check, Run, RunOrdered, RunCaptures, Trial}
+use Rattle.line_tool.specs.declared.words.Command.TheVariants.{Slot, Pull, Check, Run, RunOrdered, RunCaptures, Trial, Protect}
 
 -- ---- a command over line input 0, by what it is to have done once there was memory
 
@@ -76,6 +81,23 @@ pub record PullRan (own : Tributary) (old new : Device) (status : Status) : Type
   pub stopped : status ≡ ReportFault
       → (t : ℕ) × ((rest : List ℕ) → MayFollow more rest → StoppedInTurn own (taken ++ rest) (length taken) t old.report.got new.report.got)
 
+-- ---- a command over some of the places, turn by turn: which of them it may change, and what it is to have done once there was memory
+
+pub record PlacesAnswers (Only : (old new : BaysView) → Type 0) (Ran : (old new : Device) → Ended → Type 0) (old new : Device) (status : Status) : Type 0 where
+  -- how it ended, which is the answer
+  pub ended : Ended
+  pub answer : status ≡ line_status ended
+  -- the report's count of faults rose or stands at its end where the answer is ReportFault, and else it is as it was
+  pub counts : CountsBy ReportFault status old.report.faults new.report.faults
+  pub memory : ended ≡ ending.Memory → new ≡ old
+  pub alone : Only old.bays new.bays
+  pub ran : ended ≢ ending.Memory → Ran old new ended
+
+-- ---- `protect PORT K,K T N`: the better one of line inputs 0 and 1 goes to line output 0
+
+abbrev pub Protects : (own : Tributary) → (turns wait : ℕ) → (old new : Device) → Ended → Type 0
+Protects own turns wait old new ended = ProtectRan own turns wait (ends_of old.bays old.report) (ends_of new.bays new.report) ended
+
 -- ---- `check`: whether the plan is one
 
 abbrev pub CheckAnswers : (old new : Device) → Status → Type 0
@@ -91,6 +113,7 @@ Answers Run old new asked asked_now status = RunAnswers old new asked asked_now 
 Answers (RunOrdered number) old new asked asked_now status = RunAnswers old new asked asked_now status
 Answers RunCaptures old new asked asked_now status = RunAnswers old new asked asked_now status
 Answers (Trial number) old new asked asked_now status = TrialAnswers number old.report new.report asked asked_now status
+Answers (Protect port slots turns wait) old new asked asked_now status = PlacesAnswers OnlyProtected (Protects (tributary port slots.list) turns wait) old new status
 
 -- the commands that leave the plan's source alone, those that leave the places alone, and those that leave the chooser alone
 abbrev pub LeavesPlan : Command → Type 0
@@ -101,6 +124,7 @@ LeavesPlan Run = ⊥
 LeavesPlan (RunOrdered number) = ⊥
 LeavesPlan RunCaptures = ⊥
 LeavesPlan (Trial number) = Unit {0}
+LeavesPlan (Protect port slots turns wait) = Unit {0}
 
 abbrev pub LeavesBays : Command → Type 0
 LeavesBays (Slot slot) = ⊥
@@ -110,6 +134,7 @@ LeavesBays Run = ⊥
 LeavesBays (RunOrdered number) = ⊥
 LeavesBays RunCaptures = ⊥
 LeavesBays (Trial number) = Unit {0}
+LeavesBays (Protect port slots turns wait) = ⊥
 
 abbrev pub LeavesChooser : Command → Type 0
 LeavesChooser (Slot slot) = Unit {0}
@@ -119,3 +144,4 @@ LeavesChooser Run = ⊥
 LeavesChooser (RunOrdered number) = ⊥
 LeavesChooser RunCaptures = ⊥
 LeavesChooser (Trial number) = ⊥
+LeavesChooser (Protect port slots turns wait) = Unit {0}

@@ -7,18 +7,18 @@ use Rattle.otn_ports.specs.declared.drain.Written.TheVariants as written
 use Rattle.otn_ports.specs.PortViews.{SinkView, SinkLater}
 use Rattle.line_tool.specs.declared.check.Checked.{Checked}
 use Rattle.line_tool.specs.declared.check.Checked.TheVariants as checked
-use Rattle.line_tool.specs.declared.ended.Ended.{Ended}
-use Rattle.line_tool.specs.declared.ended.Ended.TheVariants.{Done, Unfinished, ReportFault, Cut}
+use Rattle.otn_ports.specs.declared.ended.Ended.{Ended}
+use Rattle.otn_ports.specs.declared.ended.Ended.TheVariants.{Done, Unfinished, Cut, ReportFault, Memory}
 use Rattle.line_tool.specs.declared.status.Status.{Status}
 use Rattle.line_tool.specs.declared.status.Status.TheVariants as status
 
--- the answer of each ending, and of want of memory
-abbrev pub line_status : Result Ended NoMemory → Status
-line_status (Ok Done) = status.Done
-line_status (Ok Unfinished) = status.Unfinished
-line_status (Ok ReportFault) = status.ReportFault
-line_status (Ok Cut) = status.Cut
-line_status (Err memory) = status.Memory
+-- the answer of each ending
+abbrev pub line_status : Ended → Status
+line_status Done = status.Done
+line_status Unfinished = status.Unfinished
+line_status Cut = status.Cut
+line_status ReportFault = status.ReportFault
+line_status Memory = status.Memory
 
 -- the same of `check`
 abbrev pub check_status : Result Checked NoMemory → Status

@@ -13,6 +13,7 @@ pub mod NumberOrder
 pub mod PlanCheck
 pub mod PlanReading
 pub mod PlanRuns
+pub mod ProtectLaws
 pub mod PullCarried
 pub mod PullDamaged
 pub mod PullReport

@@ -1,5 +1,5 @@
 -- How `pull` goes: what it took of its line, what its report gained, and why it ended.
-use Rattle.std.specs.Prelude.{◌≡◌, ◌≢◌, ◌<◌, ◌⊎◌, ◌+◌, ◌%◌, ℕ, Bool, true, false, List, [], ◌++◌, Option, Some, None, Ok, length}
+use Rattle.std.specs.Prelude.{◌≡◌, ◌≢◌, ◌<◌, ◌⊎◌, ◌+◌, ◌%◌, ℕ, Bool, true, false, List, [], ◌++◌, Option, Some, None, length}
 use Rattle.otn_base.specs.declared.limits.TheConstants.{LINE_FRAME_BYTES}
 use Rattle.otn_ports.specs.Bytes.{after}
 use Rattle.otn_ports.specs.Given.{Gave}
@@ -15,8 +15,8 @@ use Rattle.tributary_line.specs.TapTurn.{TapView, TurnMoves}
 use Rattle.line_tool.specs.AnswerWords.{Reports}
 use Rattle.line_tool.specs.declared.pull.After.{After}
 use Rattle.line_tool.specs.declared.pull.After.TheVariants as next
-use Rattle.line_tool.specs.declared.ended.Ended.{Ended}
-use Rattle.line_tool.specs.declared.ended.Ended.TheVariants.{Done, Unfinished, ReportFault, Cut}
+use Rattle.otn_ports.specs.declared.ended.Ended.{Ended}
+use Rattle.otn_ports.specs.declared.ended.Ended.TheVariants.{Done, Unfinished, Cut, ReportFault, Memory}
 
 -- what an answer says of the bytes taken, and of all that may stand behind them
 abbrev pub PullEnds : Ended → (more : Bool) → (taken : List ℕ) → (now : InView) → Type 0
@@ -24,6 +24,7 @@ PullEnds Done more taken now = (now.state ≢ Dead) × (more ≡ false) × (Leav
 PullEnds Unfinished more taken now = (now.state ≢ Dead) × ((rest : List ℕ) → MayFollow more rest → LeavesBytes (taken ++ rest)) × (0 < length taken % LINE_FRAME_BYTES)
 PullEnds Cut more taken now = now.state ≡ Dead
 PullEnds ReportFault more taken now = Unit {0}
+PullEnds Memory more taken now = ⊥
 
 -- A command from the line and the report as they were to how they are. Where no more bytes may follow, a live line has answered
 -- its end.
@@ -32,7 +33,7 @@ pub record PullEnded (own : Tributary) (first now : InView) (old new : Option (L
   pub gave : Gave first taken now
   pub more : Bool
   pub over : more ≡ false → now.state ≡ Live → HasEnded now.left now.ended
-  pub report : (rest : List ℕ) → MayFollow more rest → Reports (line_status (Ok ended)) old new (pull_report own (taken ++ rest))
+  pub report : (rest : List ℕ) → MayFollow more rest → Reports (line_status ended) old new (pull_report own (taken ++ rest))
   pub ends : PullEnds ended more taken now
   pub took : ended ≢ ReportFault → (rest : List ℕ) → MayFollow more rest → length taken ≡ bytes_taken (taken ++ rest)
   pub stopped : ended ≡ ReportFault → (t : ℕ) × ((rest : List ℕ) → MayFollow more rest → StoppedInTurn own (taken ++ rest) (length taken) t old new)
@@ -57,6 +58,7 @@ AnswerEnds Unfinished line came was now =
     (now.state ≢ Dead) × (((line.reader.ending ≡ Seen) × (0 < line.reader.rest) × (came ≡ []) × (now ≡ was)) ⊎ ((line.reader.ending ≢ Seen) × (length came ≡ 1)))
 AnswerEnds Cut line came was now = (now.state ≡ Dead) × (came ≡ [])
 AnswerEnds ReportFault line came was now = ⊥
+AnswerEnds Memory line came was now = ⊥
 
 -- how the command ends: the bytes that came after the last turn, one at most, and the answer
 pub record AnswerRun (line : LineView) (was now : InView) (ended : Ended) : Type 0 where

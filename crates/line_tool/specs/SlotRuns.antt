@@ -9,8 +9,8 @@ use Rattle.otn_ports.specs.declared.drain.Written.{Written}
 use Rattle.otn_ports.specs.declared.drain.Written.TheVariants as written
 use Rattle.line_tool.specs.Gains.{GainsPart}
 use Rattle.line_tool.specs.SlotReport.{slot_bytes, slot_report, whole_frames_used, most_taken, StoppedInFrame}
-use Rattle.line_tool.specs.declared.ended.Ended.{Ended}
-use Rattle.line_tool.specs.declared.ended.Ended.TheVariants.{Done, Unfinished, ReportFault, Cut}
+use Rattle.otn_ports.specs.declared.ended.Ended.{Ended}
+use Rattle.otn_ports.specs.declared.ended.Ended.TheVariants.{Done, Unfinished, Cut, ReportFault, Memory}
 
 -- the answer of a command that took these bytes of its line, of the most frames and one byte more at most
 abbrev pub SlotEnds : Ended → (slot : ℕ) → (taken : List ℕ) → (first now : InView) → (old new : Option (List ℕ)) → Type 0
@@ -22,6 +22,7 @@ SlotEnds Unfinished slot taken first now old new =
     × (HasEnded now.left now.ended ⊎ (length taken ≡ most_taken)) × (length taken ≤ most_taken)
 SlotEnds Cut slot taken first now old new = (new ≡ after old (slot_report slot taken)) × (now.state ≡ Dead) × (length taken ≤ most_taken)
 SlotEnds ReportFault slot taken first now old new = StoppedInFrame slot taken (length taken) old new × (now.state ≡ first.state) × (length taken ≤ most_taken)
+SlotEnds Memory slot taken first now old new = ⊥
 
 -- a command from the line and the report as they were to how they are
 pub record SlotEnded (slot : ℕ) (first now : InView) (old new : Option (List ℕ)) (ended : Ended) : Type 0 where
@@ -38,6 +39,7 @@ StepEnds (Some Done) slot taken first now old new = (taken ≡ []) × (now.state
 StepEnds (Some Unfinished) slot taken first now old new =
     (0 < length taken) × (length taken < LINE_FRAME_BYTES) × (now.state ≡ first.state) × HasEnded now.left now.ended × (new ≡ old)
 StepEnds (Some Cut) slot taken first now old new = (length taken < LINE_FRAME_BYTES) × (now.state ≡ Dead) × (new ≡ old)
+StepEnds (Some Memory) slot taken first now old new = ⊥
 
 -- a step: a frame was asked for, and where it came whole its slot's bytes were written
 pub record SlotStep (slot : ℕ) (first now : InView) (old new : Option (List ℕ)) (answer : Option Ended) : Type 0 where

@@ -1,13 +1,13 @@
 -- The words of the commands.
-use Rattle.std.specs.Prelude.{◌≡◌, ◌+◌, ◌<◌, ◌≤◌, ◌^◌, ℕ, List, [], ◌∷◌, length, map, codes, string_bytes, String}
+use Rattle.std.specs.Prelude.{◌≡◌, ◌+◌, ◌<◌, ◌≤◌, ◌^◌, ℕ, Bool, true, false, List, [], ◌∷◌, length, map, codes, string_bytes, String}
 use Rattle.std.specs.Str.Parse.{IsNumeral, digits_value}
 use Rattle.std.specs.declared.alloc.Global.{Global}
 use Rattle.otn_base.specs.SlotList.{IsSlotList}
-use Rattle.otn_base.specs.declared.limits.TheConstants.{OTU2_SLOTS}
+use Rattle.otn_base.specs.declared.limits.TheConstants.{MOST_TURNS, OTU2_SLOTS}
 use Rattle.otn_base.specs.declared.line_kind.LineKind.TheVariants.{Otu2}
-use Rattle.line_tool.specs.declared.words.TheConstants.{NUMBER_DIGITS}
+use Rattle.line_tool.specs.declared.words.TheConstants.{NUMBER_DIGITS, TURN_DIGITS}
 use Rattle.line_tool.specs.declared.words.Command.{Command}
-use Rattle.line_tool.specs.declared.words.Command.TheVariants.{Slot, Pull, Check, Run, RunOrdered, RunCaptures, Trial}
+use Rattle.line_tool.specs.declared.words.Command.TheVariants.{Slot, Pull, Check, Run, RunOrdered, RunCaptures, Trial, Protect}
 
 -- the bytes of each word
 abbrev pub texts : List (String Global) → List (List ℕ)
@@ -27,6 +27,14 @@ slots_text (slot ∷ next ∷ slots) = (48 + slot) ∷ 44 ∷ slots_text (next �
 abbrev pub IsNumberText : List ℕ → ℕ → Type 0
 IsNumberText text number = IsNumeral 10 text × (length text ≤ NUMBER_DIGITS) × (digits_value 10 text ≡ number) × (number < 2 ^ 64)
 
+-- the text of a number of turns to wait: its value in decimal digits, of which there are 1 to 5, with zeros in front allowed; 16,384 at most
+abbrev pub IsWaitText : List ℕ → ℕ → Type 0
+IsWaitText text number = IsNumeral 10 text × (length text ≤ TURN_DIGITS) × (digits_value 10 text ≡ number) × (number ≤ MOST_TURNS)
+
+-- the text of a number of turns, likewise, of which there is one at least
+abbrev pub IsTurnsText : List ℕ → ℕ → Type 0
+IsTurnsText text number = IsWaitText text number × (1 ≤ number)
+
 -- the form of the words of each command; lines are OTU2 lines
 abbrev pub IsForm : List (List ℕ) → Command → Type 0
 IsForm words (Slot slot) = (words ≡ codes "slot" ∷ digit slot ∷ []) × (1 ≤ slot) × (slot ≤ OTU2_SLOTS)
@@ -37,6 +45,20 @@ IsForm words Run = words ≡ codes "run" ∷ []
 IsForm words (RunOrdered number) = (text : List ℕ) × (words ≡ codes "run" ∷ codes "--order" ∷ text ∷ []) × IsNumberText text number
 IsForm words RunCaptures = words ≡ codes "run" ∷ codes "--pcap" ∷ []
 IsForm words (Trial number) = (text : List ℕ) × (words ≡ codes "trial" ∷ text ∷ []) × IsNumberText text number
+IsForm words (Protect port slots turns wait) =
+    (turns_text : List ℕ) × (wait_text : List ℕ) × (words ≡ codes "protect" ∷ digit port ∷ slots_text slots.list ∷ turns_text ∷ wait_text ∷ [])
+    × (1 ≤ port) × (port ≤ OTU2_SLOTS) × (slots.kind ≡ Otu2) × IsSlotList OTU2_SLOTS slots.list × IsTurnsText turns_text turns × IsWaitText wait_text wait
+
+-- the commands that write to output places
+abbrev pub writes_outputs : Command → Bool
+writes_outputs (Slot slot) = false
+writes_outputs (Pull port slots) = false
+writes_outputs Check = false
+writes_outputs Run = true
+writes_outputs (RunOrdered number) = true
+writes_outputs RunCaptures = true
+writes_outputs (Trial number) = false
+writes_outputs (Protect port slots turns wait) = true
 
 -- words that are the form of no command
 abbrev pub IsNoForm : List (List ℕ) → Type 0

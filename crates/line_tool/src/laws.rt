@@ -10,6 +10,7 @@ ghost use Rattle.line_tool.specs.Answers.{CheckAnswers, LineAnswers, PullRan, Sl
 ghost use Rattle.line_tool.specs.Device.{Device, line_zero};
 ghost use Rattle.line_tool.specs.Headline.{IsCarried, IsIsolated, IsOfAPlan, IsThrough, LeavesOthers, LooksNotAhead};
 ghost use Rattle.line_tool.specs.PlanCheck.{CheckEnds};
+ghost use Rattle.line_tool.specs.ProtectLaws.{ProtectIsComplete, ProtectsWhatWasGiven};
 ghost use Rattle.line_tool.specs.PullCarried.{BeginsWithWhatIsCarried, IsTheWholeGroups, HasWhatIsCarriedAfterDamage};
 ghost use Rattle.line_tool.specs.PullDamaged.{WritesAsIfRepeated};
 ghost use Rattle.line_tool.specs.PullReport.{LeavesBytes, bytes_taken, pull_report, tributary};
@@ -69,6 +70,12 @@ pub fn pull_of_given()
         → (t : ℕ) × StoppedInTurn own given ((line_zero new).number - (line_zero old).number) t old.report.got new.report.got }
 {}
 
+/// `protect`, by all bytes that line inputs 0 and 1 had to give, where they tell them: what was due to line output 0, what the report got, how the
+/// command ended, and how many bytes of each line were taken.
+pub fn protect_of_given()
+    ensures { ProtectsWhatWasGiven }
+{}
+
 /// `check`, by the whole text of a source that tells it.
 pub fn check_of_text()
     ensures { (text : List ℕ) (old new : Device) (answer : Status) → CheckAnswers old new answer → old.plan.left ≡ Some text
@@ -77,7 +84,7 @@ pub fn check_of_text()
 
 /// Where no count of faults rose or stands at its end, and the line was not dead, a command is Done or Unfinished, `check` Done or
 /// Plan; or there was no memory. So is `run`, of the places that its plan uses, or Plan (`run`): Unfinished exactly where a line has more
-/// than its turns want, or a client is not spent (`ends`).
+/// than its turns want, or a client is not spent (`ends`); and `protect`, of its three places.
 pub fn without_faults()
     ensures slot { (slot : ℕ) (old new : Device) (answer : Status) → LineAnswers (SlotRan slot) old new answer
         → IsWell old.report.faults new.report.faults → IsWell (line_zero old).faults (line_zero new).faults → (line_zero old).state ≢ Dead
@@ -90,6 +97,7 @@ pub fn without_faults()
         → (answer ≡ Status.Done) ⊎ ((error : PlanError) × (place : ℕ) × (answer ≡ Status.Plan error place)) ⊎ (answer ≡ Status.Memory) }
     ensures run { RunIsComplete }
     ensures ends { RunEndsByInputs }
+    ensures protect { ProtectIsComplete }
 {}
 
 /// `run`, by the whole text of a source that tells it.

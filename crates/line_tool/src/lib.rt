@@ -37,15 +37,15 @@ mod words;
 
 pub use damage::damaged_lines;
 pub use laws::{
-    check_of_text, forms_are_apart, headline, headline_of_any_inputs, pull_of_carried,
-    pull_of_given, pull_of_one_damaged, pull_two_worlds, run_of_text, slot_of_given,
-    slot_two_worlds, without_faults,
+    check_of_text, forms_are_apart, headline, headline_of_any_inputs, protect_of_given,
+    pull_of_carried, pull_of_given, pull_of_one_damaged, pull_two_worlds, run_of_text,
+    slot_of_given, slot_two_worlds, without_faults,
 };
 pub use number_chooser::NumberChooser;
 pub use status::Status;
 pub use top::run;
 pub use trial::{all_packets_come_back, come_back, drawn_as_said};
-pub use words::{Command, command_of, order_of, takes_captures};
+pub use words::{Command, command_of, order_of, takes_captures, writes_outputs};
 
 #[cfg(test)]
 mod tests;

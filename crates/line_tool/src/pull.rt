@@ -1,5 +1,5 @@
 // The command `pull`: what the sink of a tributary on a line emits, turn by turn.
-ghost use Rattle.std.specs.Prelude.{◌≡◌, ◌+◌, ◌*◌, ◌≤◌, ℕ, List, [], IfErr, IfOk, Some, length, vec_len};
+ghost use Rattle.std.specs.Prelude.{◌≡◌, ◌≢◌, ◌+◌, ◌*◌, ◌≤◌, ℕ, List, [], IfOk, Some, length, vec_len};
 ghost use Rattle.otn_ports.specs.InPlace.{in_view};
 ghost use Rattle.otn_ports.specs.Views.{InView};
 ghost use Rattle.tributary_model.specs.Places.{Tributary};
@@ -10,11 +10,10 @@ ghost use Rattle.line_tool.specs.PullReport.{tributary};
 ghost use Rattle.tributary_line.specs.TapTurn.{TapStands, IsBetweenTurns};
 
 use crate::beyond::ask_for_more;
-use crate::ended::Ended;
 use line_side::UncountedLineIn;
 use otn_base::limits::{GROUPS, MOST_TURNS};
-use otn_base::{LineKind, Memory, Slots};
-use otn_ports::{InPlaceOf, Sink, Source, Written, write_whole};
+use otn_base::{LineKind, Slots};
+use otn_ports::{Ended, InPlaceOf, Sink, Source, Written, write_whole};
 use std::alloc::{AllocError, Global};
 use tributary_line::Tap;
 
@@ -36,17 +35,21 @@ pub(crate) fn write_pull<I: Source, K: Sink>(
     slots: &Slots,
     line: &mut InPlaceOf<I>,
     report: &mut K,
-) -> Result<Ended, Memory>
+) -> Ended
     requires low { 1 ≤ port }
     requires high { port ≤ OTU2_SLOTS }
     requires plain { slots.now.kind ≡ LineKind.Otu2 }
-    ensures memory { IfErr result (λ _. (line.new ≡ line.old) × (report.new ≡ report.old)) }
-    ensures run { IfOk result (λ ended. PullEnded (tributary port slots.now.list) (in_view I.Source line.old) (in_view I.Source line.new) (K.got report.old) (K.got report.new) ended) }
-    ensures report { IfOk result (λ ended. ReportAfter (Some ended) (sink_view K.Sink report.old) (sink_view K.Sink report.new)) }
+    ensures memory { result ≡ Ended.Memory → (line.new ≡ line.old) × (report.new ≡ report.old) }
+    ensures run { result ≢ Ended.Memory → PullEnded (tributary port slots.now.list) (in_view I.Source line.old) (in_view I.Source line.new) (K.got report.old) (K.got report.new) result }
+    ensures report { ReportAfter (Some result) (sink_view K.Sink report.old) (sink_view K.Sink report.new) }
 {
-    let mut tap = Tap::new(alloc, port, slots)?;
-    let mut room = turn_room(alloc, slots)?;
-    Ok(write_turns(&mut tap, line, report, &mut room))
+    let Ok(mut tap) = Tap::new(alloc, port, slots) else {
+        return Ended::Memory;
+    };
+    let Ok(mut room) = turn_room(alloc, slots) else {
+        return Ended::Memory;
+    };
+    write_turns(&mut tap, line, report, &mut room)
 }
 
 // Takes room for what a turn emits: 15,233 bytes a slot.

@@ -1,5 +1,5 @@
 // The command `slot`: the payload bytes of one tributary slot of each whole frame of a line.
-ghost use Rattle.std.specs.Prelude.{◌≡◌, ◌≢◌, ◌/◌, ◌≤◌, IfErr, IfOk, Some, length};
+ghost use Rattle.std.specs.Prelude.{◌≡◌, ◌≢◌, ◌/◌, ◌≤◌, Some, length};
 ghost use Rattle.otn_base.specs.declared.limits.TheConstants.{GROUPS, OTU2_SLOTS};
 ghost use Rattle.otn_ports.specs.InPlace.{in_view};
 ghost use Rattle.otn_ports.specs.Views.{Dead};
@@ -9,12 +9,11 @@ ghost use Rattle.line_tool.specs.SlotReport.{slot_bytes};
 ghost use Rattle.line_tool.specs.SlotRuns.{SlotEnded, SlotStep, SlotWritten};
 
 use crate::beyond::ask_for_more;
-use crate::ended::Ended;
 use frame_geometry::Frame;
 use odtu_columns::slot_row;
+use otn_base::LineKind;
 use otn_base::limits::{GROUPS, LINE_COLUMNS, MOST_FRAMES, OTU2_SLOTS, PAYLOAD_COLUMNS};
-use otn_base::{LineKind, Memory};
-use otn_ports::{InPlaceOf, Reading, Sink, Source, Written, write_whole};
+use otn_ports::{Ended, InPlaceOf, Reading, Sink, Source, Written, write_whole};
 use std::alloc::Global;
 
 // Bytes of a slot in a row of an OTU2 frame.
@@ -31,18 +30,20 @@ pub(crate) fn write_slot<I: Source, K: Sink>(
     slot: u8,
     line: &mut InPlaceOf<I>,
     report: &mut K,
-) -> Result<Ended, Memory>
+) -> Ended
     requires low { 1 ≤ slot }
     requires high { slot ≤ OTU2_SLOTS }
-    ensures memory { IfErr result (λ _. (line.new ≡ line.old) × (report.new ≡ report.old)) }
-    ensures run { IfOk result (λ ended. SlotEnded slot (in_view I.Source line.old) (in_view I.Source line.new) (K.got report.old) (K.got report.new) ended) }
-    ensures report { IfOk result (λ ended. ReportAfter (Some ended) (sink_view K.Sink report.old) (sink_view K.Sink report.new)) }
+    ensures memory { result ≡ Ended.Memory → (line.new ≡ line.old) × (report.new ≡ report.old) }
+    ensures run { result ≢ Ended.Memory → SlotEnded slot (in_view I.Source line.old) (in_view I.Source line.new) (K.got report.old) (K.got report.new) result }
+    ensures report { ReportAfter (Some result) (sink_view K.Sink report.old) (sink_view K.Sink report.new) }
 {
-    let mut frame = Frame::new(alloc)?;
+    let Ok(mut frame) = Frame::new(alloc) else {
+        return Ended::Memory;
+    };
     if let InPlaceOf::Dead(..) = line {
-        return Ok(Ended::Cut);
+        return Ended::Cut;
     }
-    Ok(write_frames(&mut frame, slot, line, report))
+    write_frames(&mut frame, slot, line, report)
 }
 
 // The same, with a frame to read into and a line that is not dead.

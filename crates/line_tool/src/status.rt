@@ -14,7 +14,8 @@ pub enum Status {
     /// were done. For `trial`: its report was written whole.
     Done,
     /// The line had bytes after its last whole frame, or more of them than the command reads; after `run`, a line
-    /// that the plan uses has more than its turns want, or a client is not spent.
+    /// that the plan uses has more than its turns want, or a client is not spent; after `protect`, a line has more than
+    /// its turns want.
     Unfinished,
     /// The words are no command.
     Words,
@@ -25,8 +26,8 @@ pub enum Status {
     PlanFault,
     /// A write of the report failed, and ended the command. `run` and `trial` have carried their plans by then.
     ReportFault,
-    /// The line input, or after `run` a place that the plan uses, is dead: a call of its port failed, or it was
-    /// handed in dead.
+    /// The line input, or after `run` a place that the plan uses, or after `protect` one of its three, is dead: a call
+    /// of its port failed, or it was handed in dead.
     Cut,
     /// There was no memory, or a place of the trial had no room: all places and the report are as they were. `check` and `run` may have read the plan,
     /// and `trial` may have asked the chooser.

@@ -15,6 +15,7 @@ use crate::trial::{run_trial, status_of_trial};
 use crate::words::command_of;
 use crate::{Command, Status};
 use otn_ports::{Chooser, Rack, Sink, Source};
+use protect_selector::protect;
 use std::alloc::Global;
 
 /// Does all that the program does: the command that the words say, over these places, with its output
@@ -34,6 +35,9 @@ use std::alloc::Global;
 /// answer is Cut where a place that the plan uses is dead, Unfinished where a line has more or a client is not spent, and Done.
 /// `trial N` draws packets for eight clients by the number, carries them through four nodes in a row over ports in memory, and writes the
 /// check of each line file and what came back. It leaves all places as they were.
+/// `protect PORT K,K T N` takes the tributary of these slots and this port of line inputs 0 and 1, working and protection, and puts the
+/// better one on line output 0, in each of T turns; it writes a line for each switch. A write of the report that fails ends it at once; else the
+/// answer is Cut where one of the three places is dead, Unfinished where a line has more than T turns want, and Done.
 ///
 /// `Answers` says, of each command, what it took, what it wrote and why it ended, of all that it was
 /// handed: `device` before and after. What follows from it is said by the laws beside this call: of what ports gave that
@@ -52,7 +56,7 @@ pub fn run<P: Source, K: Sink, C: Chooser, I: Source, O: Sink>(
     ensures form { result ≢ Status.Words → (command : Command) × IsForm (texts words.now) command }
     ensures idle { result ≡ Status.Words → (plan.new ≡ plan.old) × (bays.new ≡ bays.old) × (report.new ≡ report.old) × (chooser.new ≡ chooser.old) }
 
-    // The command is answered for, by LineAnswers, CheckAnswers, RunAnswers or TrialAnswers, over all that was handed in, before and after.
+    // The command is answered for, by LineAnswers, CheckAnswers, RunAnswers, TrialAnswers or PlacesAnswers, over all that was handed in, before and after.
     ensures answers { (command : Command) → IsForm (texts words.now) command
         → Answers command (device P.Source K.Sink I.Source O.Sink plan.old bays.old report.old)
         (device P.Source K.Sink I.Source O.Sink plan.new bays.new report.new) (C.asked chooser.old) (C.asked chooser.new) result }
@@ -83,6 +87,9 @@ pub fn run<P: Source, K: Sink, C: Chooser, I: Source, O: Sink>(
         }
         Some(Command::RunCaptures) => status_of_run(run_plan(alloc, plan, bays, chooser, report)),
         Some(Command::Trial(seed)) => status_of_trial(run_trial(alloc, seed, chooser, report)),
+        Some(Command::Protect(port, slots, turns, wait)) => {
+            status_of(protect(alloc, port, &slots, turns, wait, bays, report))
+        }
         None => Status::Words,
     }
 }

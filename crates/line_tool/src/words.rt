@@ -2,10 +2,10 @@
 ghost use Rattle.std.specs.Prelude.{◌≡◌, ◌↔◌, true, ℕ, List, ◌+◌, ◌≤◌, ◌∷◌, [], ◌++◌, IfSome, IfNone, codes, length};
 ghost use Rattle.otn_base.specs.SlotList.{IsSlotList};
 ghost use Rattle.otn_base.specs.declared.limits.TheConstants.{OTU2_SLOTS};
-ghost use Rattle.line_tool.specs.Words.{IsForm, IsNoForm, IsNumberText, texts, digit, slots_text};
+ghost use Rattle.line_tool.specs.Words.{IsForm, IsNoForm, IsNumberText, IsTurnsText, IsWaitText, texts, digit, slots_text, writes_outputs};
 
 use arrayvec::ArrayVec;
-use otn_base::limits::OTU2_SLOTS;
+use otn_base::limits::{MOST_TURNS, OTU2_SLOTS};
 use otn_base::{LineKind, Slots};
 
 /// A command of the program.
@@ -25,10 +25,16 @@ pub enum Command {
     RunCaptures,
     /// `trial N`: packets drawn by the number N, of 64 bits, carried through four nodes in a row.
     Trial(u64),
+    /// `protect PORT K,K T N`: the tributary of this port, 1 to 8, and these slots of line inputs 0 and 1, of which the better one goes to
+    /// line output 0, for T turns, 1 to 16,384; N turns of a working line that is Up again bring it back, 0 to 16,384, and 0 never does.
+    Protect(u8, Slots, u32, u32),
 }
 
 /// The most digits of a number among the words.
 const NUMBER_DIGITS: usize = 20;
+
+/// The most digits of a number of turns among the words.
+const TURN_DIGITS: usize = 5;
 
 /// The digit of the last slot and the last tributary port of an OTU2.
 const LAST_DIGIT: u8 = b'0' + OTU2_SLOTS as u8;
@@ -42,6 +48,13 @@ pub fn command_of(words: &[String]) -> Option<Command>
         [name] => command_alone(name.as_str()),
         [name, word] => command_with_one(name.as_str(), word.as_str()),
         [name, word, other] => command_with_two(name.as_str(), word.as_str(), other.as_str()),
+        [name, port, slots, turns, wait] => command_with_four(
+            name.as_str(),
+            port.as_str(),
+            slots.as_str(),
+            turns.as_str(),
+            wait.as_str(),
+        ),
         _ => None,
     }
 }
@@ -64,6 +77,31 @@ pub fn takes_captures(words: &[String]) -> bool
     match command_of(words) {
         Some(command) => is_of_captures(&command),
         None => false,
+    }
+}
+
+/// Whether the words are the form of a command that writes to output places, so that its caller makes the outputs.
+pub fn writes_outputs(words: &[String]) -> bool
+    ensures { result ≡ true ↔ ((command : Command) × IsForm (texts words.now) command × (writes_outputs command ≡ true)) }
+{
+    match command_of(words) {
+        Some(command) => has_outputs(&command),
+        None => false,
+    }
+}
+
+fn has_outputs(command: &Command) -> bool
+    ensures { result ≡ writes_outputs command.now }
+{
+    match command {
+        Command::Run => true,
+        Command::RunOrdered(_) => true,
+        Command::RunCaptures => true,
+        Command::Protect(..) => true,
+        Command::Slot(_) => false,
+        Command::Pull(..) => false,
+        Command::Check => false,
+        Command::Trial(_) => false,
     }
 }
 
@@ -106,6 +144,23 @@ fn command_with_two(name: &str, word: &str, other: &str) -> Option<Command>
     match name {
         "pull" => pull_command(word, other),
         "run" => run_command(word, other),
+        _ => None,
+    }
+}
+
+// The command of a name and four words.
+fn command_with_four(
+    name: &str,
+    port: &str,
+    slots: &str,
+    turns: &str,
+    wait: &str,
+) -> Option<Command>
+    ensures form { IfSome result (IsForm (name.now ∷ port.now ∷ slots.now ∷ turns.now ∷ wait.now ∷ [])) }
+    ensures no_form { IfNone result (IsNoForm (name.now ∷ port.now ∷ slots.now ∷ turns.now ∷ wait.now ∷ [])) }
+{
+    match name {
+        "protect" => protect_command(port, slots, turns, wait),
         _ => None,
     }
 }
@@ -155,6 +210,43 @@ fn run_command(option: &str, number: &str) -> Option<Command>
         "--order" => Some(Command::RunOrdered(number_of_digits(number)?)),
         _ => None,
     }
+}
+
+// The command `protect` with these words after it.
+fn protect_command(port: &str, slots: &str, turns: &str, wait: &str) -> Option<Command>
+    ensures form { IfSome result (IsForm (codes "protect" ∷ port.now ∷ slots.now ∷ turns.now ∷ wait.now ∷ [])) }
+    ensures no_form { IfNone result (IsNoForm (codes "protect" ∷ port.now ∷ slots.now ∷ turns.now ∷ wait.now ∷ [])) }
+{
+    let port = one_digit(port.as_bytes())?;
+    let slots = slot_digits(slots.as_bytes())?;
+    let turns = turns_of_digits(turns)?;
+    Some(Command::Protect(port, slots, turns, wait_of_digits(wait)?))
+}
+
+// The number of turns, 1 to 16,384, that these digits write: 1 to 5 of them, with no sign.
+fn turns_of_digits(text: &str) -> Option<u32>
+    ensures number { IfSome result (IsTurnsText text.now) }
+    ensures none { IfNone result ((number : ℕ) → IsTurnsText text.now number → ⊥) }
+{
+    match wait_of_digits(text)? {
+        0 => None,
+        number => Some(number),
+    }
+}
+
+// The same, where it may be 0.
+fn wait_of_digits(text: &str) -> Option<u32>
+    ensures number { IfSome result (IsWaitText text.now) }
+    ensures none { IfNone result ((number : ℕ) → IsWaitText text.now number → ⊥) }
+{
+    if text.len() > TURN_DIGITS {
+        return None;
+    }
+    let number = number_of_digits(text)?;
+    if number > MOST_TURNS as u64 {
+        return None;
+    }
+    Some(number as u32)
 }
 
 // The number that these digits write, of `run --order` and of `trial`: 1 to 20 of them, with no sign, and a value of 64 bits.

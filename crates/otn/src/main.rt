@@ -4,7 +4,7 @@
 
 ghost use Rattle.std.specs.Prelude.{◌≤◌, IfSome, length};
 
-use line_tool::{NumberChooser, Status, order_of, run, takes_captures};
+use line_tool::{NumberChooser, Status, order_of, run, takes_captures, writes_outputs};
 use otn_base::Memory;
 use otn_base::limits::{CLIENTS, LINES};
 use otn_ports::{
@@ -33,6 +33,10 @@ usage: otn slot K           the payload bytes of tributary slot K, 1 to 8, of ea
        otn run --order N    the same, with the ports taken in an order drawn from the number N
        otn run --pcap       the same as run, with captures for clients: client-00.pcap to client-15.pcap where there
                             is no file with .in, and client-00.pcap.out to client-15.pcap.out
+       otn protect PORT K,K T N
+                            puts the better one of line-0.in, working, and line-1.in, protection, on line-0.out, of the
+                            tributary of PORT and K,K, in each of T turns; N turns of a working line that is up again
+                            bring it back, 0 never does
        otn trial N          carries packets drawn from the number N through four nodes in a row, in memory
        otn --help
        otn --version
@@ -68,7 +72,7 @@ fn serve(rt: &HostRuntime) -> Result<Status, Memory> {
     over_files(rt, &words)
 }
 
-// Opens the inputs of the current folder, makes its outputs where the words are those of a run, and answers the words
+// Opens the inputs of the current folder, makes its outputs where the words are the form of a command that writes them, and answers the words
 // over them. Each box is made here, where no port is in the signature.
 fn over_files(rt: &HostRuntime, words: &[String]) -> Result<Status, Memory> {
     let alloc = rt.alloc();
@@ -91,7 +95,7 @@ fn over_files(rt: &HostRuntime, words: &[String]) -> Result<Status, Memory> {
             }
         }
     }
-    if makes_outputs(words) {
+    if writes_outputs(words) {
         for n in 0..LINES as u8 {
             let sink = output_file(rt, &format!(in alloc; "line-{n}.out")?);
             let port: Box<dyn Sink> = Box::new(alloc, sink)?;
@@ -139,11 +143,6 @@ fn input_file(rt: &HostRuntime, path: &String) -> Option<FileSource> {
 // The file of an output, made empty. One that cannot be made fails at its first write.
 fn output_file(rt: &HostRuntime, path: &String) -> FileSink {
     FileSink::of(fs::create(rt, path.as_str()).ok())
-}
-
-// Whether the words are those of a run, or begin as they do: then the outputs are made.
-fn makes_outputs(words: &[String]) -> bool {
-    matches!(words.first(), Some(word) if word.as_str() == "run")
 }
 
 // The pages that are no command.

@@ -5,7 +5,7 @@ use Rattle.std.specs.List.{concat}
 use Rattle.std.proofs.lemmas.Bool.{cases_lt}
 use Rattle.std.proofs.lemmas.List.{map-append, length-map, take_all, take-append-le}
 use Rattle.std.proofs.lemmas.List.Sums.{sum_by-append}
-use Rattle.otn_base.specs.LineSlots.{LineSlots, slots_of}
+use Rattle.otn_base.specs.LineSlots.{slots_of}
 use Rattle.tributary_model.specs.Carries.{sent, number_in}
 use Rattle.tributary_model.specs.Laws.{IsTributary}
 use Rattle.tributary_model.specs.Places.{Tributary, tributary_of}

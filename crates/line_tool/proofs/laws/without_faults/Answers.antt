@@ -1,4 +1,5 @@
 use Rattle.line_tool.proofs.PlanChecks.{check_complete}
+use Rattle.line_tool.proofs.ProtectTable.{protect_complete}
 use Rattle.line_tool.proofs.PullTable.{pull_complete}
 use Rattle.line_tool.proofs.RunLaws.{run_complete, run_ends}
 use Rattle.line_tool.proofs.SlotTable.{slot_complete}
@@ -18,3 +19,6 @@ returns-clause-run c = λ old new asked now reply. run_complete reply old new as
 
 pub returns-clause-ends : goal.returns-clause-ends
 returns-clause-ends c = run_ends
+
+pub returns-clause-protect : goal.returns-clause-protect
+returns-clause-protect c = protect_complete

@@ -4,7 +4,7 @@ use Rattle.line_side.specs.LineStands.{LineView}
 use Rattle.otn_ports.specs.PortViews.{sink_view}
 use Rattle.line_tool.specs.PullRuns.{AnswerRun}
 use Rattle.line_tool.specs.declared.pull.After.TheVariants as next
-use Rattle.line_tool.specs.declared.ended.Ended.TheVariants.{ReportFault}
+use Rattle.otn_ports.specs.declared.ended.Ended.TheVariants.{ReportFault}
 use Rattle.line_tool.proofs.PullLoop.{turns_none, turns_more, turns_lost, turns_end, never_written}
 use Rattle.line_tool.proofs.Reports.{report_same, report_more}
 use Rattle.line_tool.proofs.pull.write_turns.Goals as goal

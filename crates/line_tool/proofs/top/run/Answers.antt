@@ -1,17 +1,22 @@
 use Rattle.std.proofs.Common.{refl, sym, subst, ◌∙◌}
 use Rattle.otn_ports.proofs.PortLaws.{source_later_none}
-use Rattle.otn_ports.specs.PortViews.{sink_view, source_view}
-use Rattle.otn_ports.specs.Racks.{with_line_in}
-use Rattle.line_tool.specs.Answers.{Answers}
+use Rattle.otn_ports.specs.PortViews.{SinkLater, sink_view, source_view}
+use Rattle.otn_ports.specs.Racks.{bays_view, with_line_in}
+use Rattle.tributary_model.specs.Places.{tributary_of}
+use Rattle.protect_selector.specs.Protecting.{ends_of, OnlyProtected}
+use Rattle.protect_selector.specs.ProtectLeft.{ProtectRan}
+use Rattle.line_tool.specs.Answers.{Answers, PlacesAnswers, Protects}
 use Rattle.line_tool.specs.Device.{device}
 use Rattle.line_tool.specs.Ends.{check_status, trial_status}
 use Rattle.line_tool.specs.PullReport.{tributary}
 use Rattle.line_tool.specs.RunAnswers.{RunAnswers}
 use Rattle.line_tool.specs.AnswerWords.{IsRefusal}
 use Rattle.line_tool.specs.Words.{texts}
-use Rattle.line_tool.specs.declared.words.Command.TheVariants.{Slot, Pull, Run, RunOrdered, RunCaptures, Trial}
-use Rattle.line_tool.proofs.Answered.{check_stays, line_stays, nothing_stays, pull_answered, refused_line, slot_answered}
+use Rattle.line_tool.specs.declared.words.Command.TheVariants.{Slot, Pull, Run, RunOrdered, RunCaptures, Trial, Protect}
+use Rattle.line_tool.proofs.Answered.{check_stays, line_stays, never_words, nothing_stays, pull_answered, refused_line, slot_answered}
 use Rattle.line_tool.proofs.Forms.{one_form}
+use Rattle.line_tool.proofs.PlacesAnswered.{by_memory, places_answered, places_refused, places_stay, report_stays, same_places}
+use Rattle.line_tool.proofs.Protected.{of_otu2, protect_later}
 use Rattle.line_tool.proofs.TrialTold.{trial_answered, trial_later, trial_refused, trial_told}
 use Rattle.line_tool.proofs.top.run.Goals as goal
 
@@ -33,8 +38,8 @@ returns-in-Some-Slot-clause-refused g c = λ refusal.
 
 pub returns-in-Some-Slot-clause-stays : goal.returns-in-Some-Slot-clause-stays
 returns-in-Some-Slot-clause-stays g c =
-    line_stays g.P.Source g.K.Sink g.I.Source g.O.Sink c.args.plan.now c.args.bays.now c.line_in_mut-line.result.now c.write_slot.new.line c.args.report.now c.write_slot.new.report
-    c.write_slot.result c.write_slot.ensures.memory c.write_slot.ensures.report
+    line_stays g.P.Source g.K.Sink g.I.Source g.O.Sink c.args.plan.now c.args.bays.now c.write_slot.new.line c.args.report.now c.write_slot.new.report
+    c.write_slot.result c.write_slot.ensures.report
 
 -- ---- `pull`
 
@@ -54,8 +59,8 @@ returns-in-Some-Pull-clause-refused g c = λ refusal.
 
 pub returns-in-Some-Pull-clause-stays : goal.returns-in-Some-Pull-clause-stays
 returns-in-Some-Pull-clause-stays g c =
-    line_stays g.P.Source g.K.Sink g.I.Source g.O.Sink c.args.plan.now c.args.bays.now c.line_in_mut-tapped.result.now c.write_pull.new.line c.args.report.now c.write_pull.new.report
-    c.write_pull.result c.write_pull.ensures.memory c.write_pull.ensures.report
+    line_stays g.P.Source g.K.Sink g.I.Source g.O.Sink c.args.plan.now c.args.bays.now c.write_pull.new.line c.args.report.now c.write_pull.new.report
+    c.write_pull.result c.write_pull.ensures.report
 
 -- ---- `check`, and no command
 
@@ -149,3 +154,39 @@ returns-in-Some-Trial-clause-stays g c = record {
       (trial_told (sink_view g.K.Sink) c.run_trial.result c.in-Some-Trial.seed c.args.report.now c.run_trial.new.report (g.C.Chooser.asked c.args.chooser.now) (g.C.Chooser.asked c.run_trial.new.chooser)
       c.run_trial.ensures.memory c.run_trial.ensures.ran);
 }
+
+-- ---- `protect`
+
+pub returns-in-Some-Protect-clause-answers : goal.returns-in-Some-Protect-clause-answers
+returns-in-Some-Protect-clause-answers g c = λ command form.
+    let mine = rw c.in-Some-Protect.field-0-is at c.in-Some-Protect.ensures.form in
+    let old = device g.P.Source g.K.Sink g.I.Source g.O.Sink c.args.plan.now c.args.bays.now c.args.report.now in
+    let new = device g.P.Source g.K.Sink g.I.Source g.O.Sink c.args.plan.now c.protect.new.bays c.protect.new.report in
+    let own = of_otu2 c.in-Some-Protect.slots c.in-Some-Protect.port mine.5 in
+    let run = places_answered OnlyProtected (Protects (tributary c.in-Some-Protect.port c.in-Some-Protect.slots.list) c.in-Some-Protect.turns c.in-Some-Protect.wait) c.protect.result old new
+    (λ none. same_places g.P.Source g.K.Sink g.I.Source g.O.Sink c.args.plan.now c.args.bays.now c.protect.new.bays c.args.report.now c.protect.new.report (c.protect.ensures.memory none))
+    (λ some. subst (λ t. ProtectRan t c.in-Some-Protect.turns c.in-Some-Protect.wait (ends_of old.bays old.report) (ends_of new.bays new.report) c.protect.result) own (c.protect.ensures.ran some))
+    c.protect.ensures.cause c.protect.ensures.well c.protect.ensures.alone in
+    subst (λ k. Answers k old new (g.C.Chooser.asked c.args.chooser.now) (g.C.Chooser.asked c.args.chooser.now) c.status_of-in-Some-Protect.result)
+    (one_form (texts c.args.words.now) (Protect c.in-Some-Protect.port c.in-Some-Protect.slots c.in-Some-Protect.turns c.in-Some-Protect.wait) command mine form)
+    (subst (λ answer. PlacesAnswers OnlyProtected (Protects (tributary c.in-Some-Protect.port c.in-Some-Protect.slots.list) c.in-Some-Protect.turns c.in-Some-Protect.wait) old new answer)
+    (sym c.status_of-in-Some-Protect.ensures) run)
+
+pub returns-in-Some-Protect-clause-words : goal.returns-in-Some-Protect-clause-words
+returns-in-Some-Protect-clause-words g c = (
+  λ e. absurd (never_words c.protect.result (sym c.status_of-in-Some-Protect.ensures ∙ e)),
+  λ none. absurd (none (Protect c.in-Some-Protect.port c.in-Some-Protect.slots c.in-Some-Protect.turns c.in-Some-Protect.wait) (rw c.in-Some-Protect.field-0-is at c.in-Some-Protect.ensures.form)),
+)
+
+pub returns-in-Some-Protect-clause-refused : goal.returns-in-Some-Protect-clause-refused
+returns-in-Some-Protect-clause-refused g c = λ refusal.
+    places_refused c.args.bays.now c.protect.new.bays c.args.report.now c.protect.new.report c.protect.result c.protect.ensures.memory (subst IsRefusal c.status_of-in-Some-Protect.ensures refusal)
+
+pub returns-in-Some-Protect-clause-stays : goal.returns-in-Some-Protect-clause-stays
+returns-in-Some-Protect-clause-stays g c =
+    places_stay g.P.Source g.K.Sink g.I.Source g.O.Sink c.args.plan.now c.args.bays.now c.protect.new.bays c.args.report.now c.protect.new.report
+    (by_memory c.protect.result (SinkLater (sink_view g.K.Sink c.args.report.now) (sink_view g.K.Sink c.protect.new.report))
+    (λ none. report_stays g.K.Sink c.args.report.now c.protect.new.report (c.protect.ensures.memory none).1)
+    (λ some. protect_later c.protect.result (tributary_of c.in-Some-Protect.slots c.in-Some-Protect.port) c.in-Some-Protect.turns c.in-Some-Protect.wait
+    (ends_of (bays_view g.I.Source g.O.Sink c.args.bays.now) (sink_view g.K.Sink c.args.report.now)) (ends_of (bays_view g.I.Source g.O.Sink c.protect.new.bays) (sink_view g.K.Sink c.protect.new.report))
+    (c.protect.ensures.ran some)))
