@@ -13,7 +13,6 @@ mod outcome;
 mod places;
 mod ports;
 mod traces;
-mod words;
 
 use line_tool::{NumberChooser, Status, order_of, run};
 use listing::{Fate, Port, fate_of, fates};
@@ -21,11 +20,11 @@ use otn_ports::{Chooser, FirstReady, ListedSource, StdoutSink, write_whole};
 use outcome::{states, write_outputs};
 use places::{MOST_TEXT, Places, fill, sink, source};
 use ports::{Got, OutputPort};
+use program_words::{exit_code, given_words};
 use std::io::ErrorKind;
 use std::process::ExitCode;
 use std::{fs, io};
 use traces::{Traces, no_bytes};
-use words::words;
 
 // The status of a run that could not be carried out.
 const NO_TRIAL: u8 = 8;
@@ -36,7 +35,7 @@ fn main(rt: HostRuntime) -> ExitCode {
             if status != Status::Done {
                 let _ = eprintln!(rt; "otn: {status}");
             }
-            ExitCode::from(status.code())
+            exit_code(&status)
         }
         Err(error) => {
             let _ = eprintln!(rt; "hostile_ports: {error}");
@@ -48,7 +47,7 @@ fn main(rt: HostRuntime) -> ExitCode {
 // Carries a run out, and writes what it left.
 fn serve(rt: &HostRuntime) -> io::Result<Status> {
     let alloc = rt.alloc();
-    let words = words(rt)?;
+    let words = given_words(rt, alloc)?;
     let fates = listed(rt)?;
     let (mut lines, mut clients) = (Traces::new(alloc), Traces::new(alloc));
     let mut places = fill(rt, &fates, &mut lines, &mut clients)?;

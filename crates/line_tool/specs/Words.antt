@@ -49,17 +49,6 @@ IsForm words (Protect port slots turns wait) =
     (turns_text : List ℕ) × (wait_text : List ℕ) × (words ≡ codes "protect" ∷ digit port ∷ slots_text slots.list ∷ turns_text ∷ wait_text ∷ [])
     × (1 ≤ port) × (port ≤ OTU2_SLOTS) × (slots.kind ≡ Otu2) × IsSlotList OTU2_SLOTS slots.list × IsTurnsText turns_text turns × IsWaitText wait_text wait
 
--- the commands that write to output places
-abbrev pub writes_outputs : Command → Bool
-writes_outputs (Slot slot) = false
-writes_outputs (Pull port slots) = false
-writes_outputs Check = false
-writes_outputs Run = true
-writes_outputs (RunOrdered number) = true
-writes_outputs RunCaptures = true
-writes_outputs (Trial number) = false
-writes_outputs (Protect port slots turns wait) = true
-
 -- words that are the form of no command
 abbrev pub IsNoForm : List (List ℕ) → Type 0
 IsNoForm words = (command : Command) → IsForm words command → ⊥

@@ -45,7 +45,7 @@ pub use number_chooser::NumberChooser;
 pub use status::Status;
 pub use top::run;
 pub use trial::{all_packets_come_back, come_back, drawn_as_said};
-pub use words::{Command, command_of, order_of, takes_captures, writes_outputs};
+pub use words::{Command, command_of, order_of, takes_captures};
 
 #[cfg(test)]
 mod tests;

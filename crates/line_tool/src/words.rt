@@ -2,7 +2,7 @@
 ghost use Rattle.std.specs.Prelude.{◌≡◌, ◌↔◌, true, ℕ, List, ◌+◌, ◌≤◌, ◌∷◌, [], ◌++◌, IfSome, IfNone, codes, length};
 ghost use Rattle.otn_base.specs.SlotList.{IsSlotList};
 ghost use Rattle.otn_base.specs.declared.limits.TheConstants.{OTU2_SLOTS};
-ghost use Rattle.line_tool.specs.Words.{IsForm, IsNoForm, IsNumberText, IsTurnsText, IsWaitText, texts, digit, slots_text, writes_outputs};
+ghost use Rattle.line_tool.specs.Words.{IsForm, IsNoForm, IsNumberText, IsTurnsText, IsWaitText, texts, digit, slots_text};
 
 use arrayvec::ArrayVec;
 use otn_base::limits::{MOST_TURNS, OTU2_SLOTS};
@@ -77,31 +77,6 @@ pub fn takes_captures(words: &[String]) -> bool
     match command_of(words) {
         Some(command) => is_of_captures(&command),
         None => false,
-    }
-}
-
-/// Whether the words are the form of a command that writes to output places, so that its caller makes the outputs.
-pub fn writes_outputs(words: &[String]) -> bool
-    ensures { result ≡ true ↔ ((command : Command) × IsForm (texts words.now) command × (writes_outputs command ≡ true)) }
-{
-    match command_of(words) {
-        Some(command) => has_outputs(&command),
-        None => false,
-    }
-}
-
-fn has_outputs(command: &Command) -> bool
-    ensures { result ≡ writes_outputs command.now }
-{
-    match command {
-        Command::Run => true,
-        Command::RunOrdered(_) => true,
-        Command::RunCaptures => true,
-        Command::Protect(..) => true,
-        Command::Slot(_) => false,
-        Command::Pull(..) => false,
-        Command::Check => false,
-        Command::Trial(_) => false,
     }
 }
 

@@ -1,0 +1,4 @@
+pub mod Files
+pub mod Given
+pub mod Opened
+pub mod Pages
