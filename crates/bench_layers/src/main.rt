@@ -9,8 +9,6 @@ mod lanes;
 mod line;
 mod sink;
 mod source;
-#[cfg(test)]
-mod tests;
 mod words;
 
 use otn_base::{LineKind, Memory};

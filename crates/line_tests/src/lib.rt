@@ -1,9 +1,7 @@
-//! Tests of ports, of the sides of a line and of plans, over the libraries `otn_ports`, `line_side` and `plan_file`.
+//! Tests of ports and of the sides of a line, over the libraries `otn_ports` and `line_side`.
 #![tactic(auto)]
 
 #[cfg(test)]
 mod lines;
-#[cfg(test)]
-mod plans;
 #[cfg(test)]
 mod ports;

@@ -14,8 +14,6 @@ mod hear;
 mod payload;
 mod said;
 mod sink;
-#[cfg(test)]
-mod tests;
 mod turn;
 mod watching;
 

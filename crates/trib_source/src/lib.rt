@@ -13,7 +13,5 @@ mod lay;
 mod message;
 mod rows;
 mod source;
-#[cfg(test)]
-mod tests;
 
 pub use source::TribSource;

@@ -1,8 +1,0 @@
-use Rattle.std.proofs.Common.{◌≡◌, ◌<◌, length}
-use Rattle.bench_layers.proofs.tests.line_of.Given as goal
-
-abbrev pub invariant-loop-turn : goal.invariant-loop-turn
-invariant-loop-turn l = record {
-  rest : l.source.rest < length l.source.slots.list;
-  slots : l.source.slots ≡ l.fn.slots;
-}
