@@ -11,14 +11,15 @@ use Rattle.otn_ports.specs.declared.drain.Written.TheVariants as written
 use Rattle.line_side.specs.LineForm.{plain_otu2}
 use Rattle.gfp_linear.specs.ChannelArrivals.{ChannelArrival}
 use Rattle.gfp_linear.specs.Laws.{packets_on}
-use Rattle.device_model.specs.LineAsked.{ByteAsked, ByteAnswer, has_come, is_seen}
+use Rattle.otn_ports.specs.Asked.{ByteAsked, ByteAnswer, has_come}
+use Rattle.device_model.specs.LineAsked.{is_seen}
 use Rattle.device_model.proofs.SettledLines.{may_at_end, end_of_line, line_left}
 use Rattle.unbundle_command.specs.Unbundled.{emitted_before, arrived_before, report_text}
 use Rattle.unbundle_command.specs.Receiving.{ChannelView, OutputsView, NoneHeld, OutputsStand, OnlyClientsOut}
 use Rattle.unbundle_command.specs.Unbundling.{TurnsGone, IsReady, IsDeadAt, DeadChannel, HasDead, is_dead, ended_by}
 use Rattle.unbundle_command.specs.UnbundleLeft.{HasMore, IsCut, OutputsSent, written_by, UnbundleRan}
-use Rattle.unbundle_command.specs.declared.ended.Ended.{Ended}
-use Rattle.unbundle_command.specs.declared.ended.Ended.TheVariants.{Unfinished, Cut, ReportFault}
+use Rattle.otn_ports.specs.declared.ended.Ended.{Ended}
+use Rattle.otn_ports.specs.declared.ended.Ended.TheVariants.{Unfinished, Cut, ReportFault}
 use Rattle.unbundle_command.specs.declared.unbundling.Unbundling.{Unbundling}
 use Rattle.unbundle_command.proofs.Few.{client_few}
 use Rattle.unbundle_command.proofs.Turns.{outputs_on, line_same}

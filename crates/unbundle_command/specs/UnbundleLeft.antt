@@ -13,8 +13,8 @@ use Rattle.gfp_linear.specs.Laws.{packets_on}
 use Rattle.device_model.specs.Moments.{line_taken}
 use Rattle.device_model.specs.LineAsked.{MayHave, InputLeft}
 use Rattle.unbundle_command.specs.Unbundled.{arrived_before, report_text}
-use Rattle.unbundle_command.specs.declared.ended.Ended.{Ended}
-use Rattle.unbundle_command.specs.declared.ended.Ended.TheVariants.{Done, Unfinished, Cut, ReportFault, Memory}
+use Rattle.otn_ports.specs.declared.ended.Ended.{Ended}
+use Rattle.otn_ports.specs.declared.ended.Ended.TheVariants.{Done, Unfinished, Cut, ReportFault, Memory}
 
 -- the line has more than so many turns want
 abbrev pub HasMore : (turns : ℕ) → (given : List ℕ) → Type 0

@@ -8,8 +8,8 @@ use Rattle.tributary_line.specs.TapTurn.{TapStands, IsBetweenTurns}
 use Rattle.odu_client.specs.View.{aligner_state}
 use Rattle.unbundle_command.specs.Unbundled.{first_slot, emitted_before}
 use Rattle.unbundle_command.specs.Receiving.{ChannelView, channel_at, HoldsAfter}
-use Rattle.unbundle_command.specs.declared.ended.Ended.{Ended}
-use Rattle.unbundle_command.specs.declared.ended.Ended.TheVariants.{Done, Unfinished, Cut}
+use Rattle.otn_ports.specs.declared.ended.Ended.{Ended}
+use Rattle.otn_ports.specs.declared.ended.Ended.TheVariants.{Done, Unfinished, Cut}
 use Rattle.unbundle_command.specs.declared.unbundling.Unbundling.{Unbundling}
 
 -- The sink has seen t turns of the line, of which these bytes were taken: whatever else may come, all that it emitted was read. In a turn it emits

@@ -8,11 +8,10 @@ ghost use Rattle.otn_ports.specs.Views.{BaysView};
 ghost use Rattle.unbundle_command.specs.Unbundling.{IsReady, OnlyUnbundled, TurnsGone};
 ghost use Rattle.unbundle_command.specs.UnbundleLeft.{UnbundleRan};
 
-use crate::ended::Ended;
 use crate::settling::settle;
 use crate::unbundling::Unbundling;
 use otn_base::limits::GROUPS;
-use otn_ports::{Rack, Sink, Source};
+use otn_ports::{Ended, Rack, Sink, Source};
 use std::alloc::{AllocError, Global};
 
 /// Takes the ODU0 of slot 1 and port 1 from line input 0, a plain OTU2, in each of so many turns, 1 to 16,384, and finds the linear GFP frames

@@ -6,12 +6,10 @@
 //! - `receiving`: what arrives in these bytes.
 //! - `outputs`, `channel`: the packets of each channel, as lines for its client output, and how many arrived.
 //! - `settling`, `report`: the end of the command, and its report.
-//! - `ended`: how it ended.
 #![tactic(auto)]
 
 mod channel;
 mod command;
-mod ended;
 mod outputs;
 mod receiving;
 mod report;
@@ -21,4 +19,3 @@ mod tests;
 mod unbundling;
 
 pub use command::unbundle;
-pub use ended::Ended;

@@ -11,12 +11,11 @@ ghost use Rattle.unbundle_command.specs.Receiving.{channel_at};
 ghost use Rattle.unbundle_command.specs.Unbundling.{OnlyUnbundled, TurnsGone, IsReady, DeadChannel, HasDead, IsDeadAt, ended_by, is_dead};
 ghost use Rattle.unbundle_command.specs.UnbundleLeft.{UnbundleRan};
 
-use crate::ended::Ended;
 use crate::outputs::Outputs;
 use crate::report::write_report;
 use crate::unbundling::Unbundling;
 use otn_base::limits::CLIENTS;
-use otn_ports::{InPlaceOf, OutPlaceOf, Rack, Sink, Source, Written};
+use otn_ports::{Ended, InPlaceOf, OutPlaceOf, Rack, Sink, Source, Written};
 
 /// After the last turn: the line is asked for one byte more, where its end was not seen; all lines of packets leave, and the report is
 /// written. Says how the command ended.

@@ -2,11 +2,11 @@
 ghost use Rattle.std.specs.Prelude.{◌≡◌, ◌+◌, ◌*◌, length, vec_len};
 ghost use Rattle.otn_base.specs.declared.limits.TheConstants.{GROUPS};
 
-use crate::{Ended, unbundle};
+use crate::unbundle;
 use odu_client::FrameMaker;
 use otn_base::limits::{CLIENT_PAYLOAD_BYTES, GROUPS, LINE_FRAME_BYTES, MOST_TURNS, NOMINAL};
 use otn_base::{LineKind, Memory, Slots, Trace};
-use otn_ports::{InPlaceOf, MemSink, MemSource, OutPlaceOf, Rack, Sink};
+use otn_ports::{Ended, InPlaceOf, MemSink, MemSource, OutPlaceOf, Rack, Sink};
 use std::alloc::Global;
 use std::test::Fail;
 use tributary_line::Feed;

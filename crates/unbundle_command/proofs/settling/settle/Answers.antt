@@ -7,7 +7,7 @@ use Rattle.otn_ports.specs.declared.drain.Written.TheVariants as written
 use Rattle.unbundle_command.specs.Unbundled.{report_text}
 use Rattle.unbundle_command.specs.Unbundling.{ended_by}
 use Rattle.unbundle_command.specs.UnbundleLeft.{UnbundleRan}
-use Rattle.unbundle_command.specs.declared.ended.Ended.TheVariants.{ReportFault}
+use Rattle.otn_ports.specs.declared.ended.Ended.TheVariants.{ReportFault}
 use Rattle.unbundle_command.proofs.Ends.{ended_so, ends_lost, ends_whole, whole_by}
 use Rattle.unbundle_command.proofs.Turns.{only_all}
 use Rattle.unbundle_command.proofs.settling.settle.Goals as goal
