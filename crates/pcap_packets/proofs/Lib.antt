@@ -3,6 +3,8 @@ pub mod Records
 pub mod Fronts
 pub mod Digits
 pub mod Writings
+pub mod ManyLines
 pub mod Standing
+pub mod ManyStand
 pub mod ReadingBack
 pub mod Turning

@@ -3,7 +3,7 @@ ghost use Rattle.std.specs.Prelude.{◌≡◌, ◌≢◌, ◌↔◌, ◌<◌, �
 ghost use Rattle.otn_ports.specs.Bytes.{before, taken, HasFailed};
 ghost use Rattle.otn_ports.specs.Reads.{HasEnded};
 ghost use Rattle.packet_text.specs.PacketText.{packet_line};
-ghost use Rattle.pcap_packets.specs.Written.{all_lower, packet_of};
+ghost use Rattle.pcap_packets.specs.Written.{all_lower, packet_of, record_of};
 ghost use Rattle.pcap_packets.specs.Writing.{Went};
 
 use otn_base::Memory;
@@ -11,8 +11,11 @@ use otn_ports::{Failed, Sink, Source};
 use packet_text::{ByteDigits, DigitPairs};
 use std::alloc::Global;
 
-// Bytes of a buffer: the longest line, and the longest record twice.
-const ROOM: usize = 131_072;
+/// Bytes of a buffer: the longest line, and the longest record twice.
+pub(crate) const ROOM: usize = 131_072;
+
+// The time of a packet: none.
+const TIME: [u8; 8] = [0; 8];
 
 /// Bytes that wait: they come at the end and go from the front.
 #[derive(Drop)]
@@ -126,6 +129,23 @@ impl Held {
         let size = digits.len() / 2;
         decode_at(pairs, digits, self.end, &mut self.bytes);
         self.end += size;
+    }
+
+    /// Puts the record of the packet that digits say behind them, where none went since they were cleared.
+    pub(crate) fn push_record(&mut self, pairs: &DigitPairs, digits: &[u8])
+        requires front { self.old.at ≡ 0 }
+        requires room { length (held self.old) + (16 + length digits.now / 2) ≤ 131072 }
+        requires even { length digits.now % 2 ≡ 0 }
+        requires digits { all_lower digits.now ≡ true }
+        ensures bytes { held self.new ≡ held self.old ++ record_of (packet_of digits.now) }
+        ensures front { self.new.at ≡ 0 }
+    {
+        self.push(&TIME);
+        let size = (digits.len() / 2) as u32;
+        let size_bytes = size.to_le_bytes();
+        self.push(&size_bytes);
+        self.push(&size_bytes);
+        self.push_packet(pairs, digits);
     }
 
     /// Writes them to a sink, from the front, until none is left or a call fails. Failed as the sink does, and then some are left.

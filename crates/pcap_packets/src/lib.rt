@@ -3,10 +3,11 @@
 //!
 //! - `order`: the two byte orders of a capture's numbers.
 //! - `header`, `front`: what the bytes at the front of a capture, or of its records, are.
+//! - `leading`: the digits in front of a line.
 //! - `held`: bytes that wait in a buffer.
 //! - `lines`: the lines of a capture whose bytes come piece by piece.
 //! - `source`: the port that gives them.
-//! - `record`: the line in hand of a sink, and its record.
+//! - `record`: the line in hand of a sink, its record, and the records of many lines.
 //! - `sink`: the port that takes lines.
 //! - `laws`: either byte order gives one text, and what was written reads back.
 #![tactic(auto)]
@@ -15,6 +16,7 @@ mod front;
 mod header;
 mod held;
 mod laws;
+mod leading;
 mod lines;
 mod order;
 mod record;

@@ -1,26 +1,24 @@
 // The line in hand of a sink that writes a capture, and its record.
-ghost use Rattle.std.specs.Prelude.{◌≡◌, ◌≢◌, ◌<◌, ◌≤◌, ◌-◌, ◌+◌, ◌*◌, ◌%◌, ◌∷◌, ◌++◌, [], true, false, IfOk, OnOk, OnErr, length, take, min, if◌then◌else◌};
+ghost use Rattle.std.specs.Prelude.{◌≡◌, ◌≢◌, ◌<◌, ◌≤◌, ◌-◌, ◌+◌, ◌*◌, ◌%◌, ◌∷◌, ◌++◌, List, ℕ, [], true, false, IfOk, OnOk, OnErr, length, take, drop, min, if◌then◌else◌};
 ghost use Rattle.otn_ports.specs.Bytes.{HasFailed};
+ghost use Rattle.otn_ports.specs.declared.drain.Written.TheVariants as written;
 ghost use Rattle.pcap_packets.specs.HeldBytes.{held};
-ghost use Rattle.pcap_packets.specs.Written.{is_lower_digit, all_lower, digits_in_front, is_line, packet_of, header_written, record_of};
+ghost use Rattle.pcap_packets.specs.Written.{all_lower, is_line, digits_in_front, packet_of, header_written, record_of};
 ghost use Rattle.pcap_packets.specs.Writing.{Went};
+ghost use Rattle.pcap_packets.specs.Gathering.{lines_records, is_whole_line, Gathered, OneMore, IsCut, HasCut, PartWent, StopsAt, WentLines};
 
-use crate::held::Held;
+use crate::front::RECORD_HEADER;
+use crate::held::{Held, ROOM};
+use crate::leading::{MOST_DIGITS, leading_digits, whole_line};
 use otn_base::Memory;
-use otn_ports::{Failed, Sink};
+use otn_ports::{Failed, Sink, Written};
 use packet_text::DigitPairs;
 use std::alloc::Global;
-
-// Digits of a line at most: those of 65,531 bytes.
-const MOST_DIGITS: usize = 131_062;
 
 // The header of a capture, low byte first: version 2.4, packets of 65,535 bytes at most, Ethernet.
 const HEADER: [u8; 24] = [
     0xd4, 0xc3, 0xb2, 0xa1, 2, 0, 4, 0, 0, 0, 0, 0, 0, 0, 0, 0, 0xff, 0xff, 0, 0, 1, 0, 0, 0,
 ];
-
-// The time of a packet: none.
-const TIME: [u8; 8] = [0; 8];
 
 /// The digits of a line that has begun, and, once it has ended, what is not written yet of its record.
 #[derive(Drop)]
@@ -87,23 +85,19 @@ impl LineRecord {
         if count == 0 || count % 2 != 0 {
             return false;
         }
-        self.make_record(count / 2);
+        self.make_record();
         true
     }
 
-    // Makes the record of the line in hand, which has digits of so many bytes.
-    fn make_record(&mut self, size: usize)
-        requires { length (held self.old.line) ≡ 2 * size }
+    // Makes the record of the line in hand.
+    fn make_record(&mut self)
+        requires { length (held self.old.line) % 2 ≡ 0 }
         ensures line { self.new.line ≡ self.old.line }
         ensures rest { held self.new.rest ≡ (if self.old.begun then [] else header_written) ++ record_of (packet_of (held self.old.line)) }
         ensures begun { self.new.begun ≡ true }
     {
         self.begin_record();
-        self.rest.push(&TIME);
-        let size_bytes = (size as u32).to_le_bytes();
-        self.rest.push(&size_bytes);
-        self.rest.push(&size_bytes);
-        self.rest.push_packet(&self.pairs, self.line.bytes());
+        self.rest.push_record(&self.pairs, self.line.bytes());
     }
 
     // Begins a record: the capture's header is in front of the first.
@@ -135,23 +129,123 @@ impl LineRecord {
         self.line.clear();
         Ok(())
     }
-}
 
-// How many digits, 0 to 9 and a to f, are in front.
-fn leading_digits(bytes: &[u8]) -> usize
-    ensures bound { result ≤ length bytes.now }
-    ensures count { result ≡ digits_in_front bytes.now }
-    ensures digits { all_lower (take result bytes.now) ≡ true }
-{
-    let mut count = 0;
-    while count < bytes.len() && is_digit(bytes[count]) {
-        count += 1;
+    /// Whether a record was made before, no line has begun, and no rest of a record is left.
+    pub(crate) fn is_between(&self) -> bool
+        ensures begun { result ≡ true → self.now.begun ≡ true }
+        ensures line { result ≡ true → held self.now.line ≡ [] }
+        ensures rest { result ≡ true → held self.now.rest ≡ [] }
+    {
+        self.begun && self.line.is_empty() && self.rest.is_empty()
     }
-    count
+
+    /// Writes the records of the whole lines at the front together, as many as there is room for, and says how many bytes of the
+    /// lines went. After Lost the line in which the sink stopped is in hand, and what is left of its record.
+    pub(crate) fn write_lines<S: Sink>(&mut self, sink: &mut S, lines: &[u8]) -> (Written, usize)
+        requires line { held self.old.line ≡ [] }
+        ensures within { result.1 ≤ length lines.now }
+        ensures went { WentLines result.0 (take result.1 lines.now) (S.got sink.old) (held self.new.line) (held self.new.rest) (S.got sink.new) }
+        ensures part { result.0 ≡ Written.Lost → (0 < result.1) × (result.1 < length lines.now) }
+        ensures rest { result.0 ≡ Written.Lost → held self.new.rest ≢ [] }
+        ensures begun { self.new.begun ≡ self.old.begun }
+        ensures later { S.faults sink.old ≤ S.faults sink.new }
+        ensures cause { result.0 ≡ Written.Lost → HasFailed (S.faults sink.old) (S.faults sink.new) }
+        ensures well { result.0 ≢ Written.Lost → S.faults sink.new ≡ S.faults sink.old }
+    {
+        let count = self.gather(lines);
+        let size = self.rest.bytes().len();
+        match self.rest.drain(sink) {
+            Ok(()) => (Written::Whole, count),
+            Err(Failed) => {
+                let went = size - self.rest.bytes().len();
+                (Written::Lost, self.stop(&lines[..count], went))
+            }
+        }
+    }
+
+    // Makes the records of the whole lines at the front, as many as there is room for, and says how many bytes these lines have.
+    fn gather(&mut self, bytes: &[u8]) -> usize
+        requires { held self.old.line ≡ [] }
+        ensures within { result ≤ length bytes.now }
+        ensures gathered { Gathered (take result bytes.now) (held self.new.rest) }
+        ensures line { held self.new.line ≡ [] }
+        ensures begun { self.new.begun ≡ self.old.begun }
+    {
+        self.rest.clear();
+        let mut done = 0;
+        let mut more = self.add_record(bytes);
+        while more > 0 {
+            done += more;
+            more = self.add_record(&bytes[done..]);
+        }
+        done
+    }
+
+    // Puts the record of the line at the front behind the others, where that line is whole and there is room, and says how many
+    // bytes the line has with its LF: none where there is no such line or no room.
+    fn add_record(&mut self, bytes: &[u8]) -> usize
+        requires line { held self.old.line ≡ [] }
+        requires front { self.old.rest.at ≡ 0 }
+        ensures within { result ≤ length bytes.now }
+        ensures none { result ≡ 0 → held self.new.rest ≡ held self.old.rest }
+        ensures some { 0 < result → OneMore (take result bytes.now) (held self.old.rest) (held self.new.rest) }
+        ensures line { held self.new.line ≡ [] }
+        ensures front { self.new.rest.at ≡ 0 }
+        ensures begun { self.new.begun ≡ self.old.begun }
+    {
+        let count = whole_line(bytes);
+        if count == 0 || self.rest.bytes().len() + (RECORD_HEADER + count / 2) > ROOM {
+            return 0;
+        }
+        self.rest.push_record(&self.pairs, &bytes[..count]);
+        count + 1
+    }
+
+    // So many bytes of these lines' records went: the line in which they end is in hand, and what is left of its record. Says
+    // how many bytes of the lines are written or in hand.
+    fn stop(&mut self, lines: &[u8], went: usize) -> usize
+        requires { HasCut lines.now went }
+        ensures within { (0 < result) × (result < length lines.now) }
+        ensures stopped { (all : List (List ℕ)) → IsCut all lines.now went → PartWent (take result lines.now) (take went (lines_records all)) (held self.new.line) (held self.new.rest) }
+        ensures rest { held self.new.rest ≢ [] }
+        ensures begun { self.new.begun ≡ self.old.begun }
+    {
+        let (done, count, left) = stopped_line(lines, went);
+        self.hold_part(&lines[done..done + count], left);
+        done + count
+    }
+
+    // Holds this line, of whose record so many bytes went.
+    fn hold_part(&mut self, digits: &[u8], went: usize)
+        requires line { is_whole_line digits.now ≡ true }
+        requires part { went < length (record_of (packet_of digits.now)) }
+        ensures line { held self.new.line ≡ digits.now }
+        ensures rest { held self.new.rest ≡ drop went (record_of (packet_of digits.now)) }
+        ensures begun { self.new.begun ≡ self.old.begun }
+    {
+        self.line.clear();
+        self.line.push(digits);
+        self.rest.clear();
+        self.rest.push_record(&self.pairs, digits);
+        self.rest.pass(went);
+    }
 }
 
-fn is_digit(byte: u8) -> bool
-    ensures { result ≡ is_lower_digit byte }
+// Where so many bytes of lines' records end: how many bytes the lines have whose records are within, how many digits the next one
+// has, and how many bytes of its record are within.
+fn stopped_line(lines: &[u8], went: usize) -> (usize, usize, usize)
+    requires { HasCut lines.now went }
+    ensures room { (0 < result.1) × (result.0 + (result.1 + 1) ≤ length lines.now) }
+    ensures next { result.1 ≡ digits_in_front (drop result.0 lines.now) }
+    ensures stops { (all : List (List ℕ)) → IsCut all lines.now went → StopsAt all lines.now went result.0 result.2 }
 {
-    matches!(byte, b'0'..=b'9' | b'a'..=b'f')
+    let mut done = 0;
+    let mut left = went;
+    let mut count = leading_digits(lines);
+    while left >= RECORD_HEADER + count / 2 {
+        left -= RECORD_HEADER + count / 2;
+        done += count + 1;
+        count = leading_digits(&lines[done..]);
+    }
+    (done, count, left)
 }

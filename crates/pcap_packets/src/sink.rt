@@ -1,14 +1,16 @@
 // A sink that writes lines of hex digits as the records of a capture.
-ghost use Rattle.std.specs.Prelude.{false, ◌≡◌, ◌≢◌, ◌<◌, ◌≤◌, ◌-◌, ◌^◌, min, ℕ, List, [], ◌∷◌, Some, IfSome, IfOk, IsErr, OnOk, OnErr, length, slice_index, ◌⊎◌};
+ghost use Rattle.std.specs.Prelude.{false, ◌≡◌, ◌≢◌, ◌<◌, ◌≤◌, ◌-◌, ◌^◌, min, ℕ, List, [], ◌∷◌, Some, IfSome, IfOk, IsErr, OnOk, OnErr, length, take, drop, slice_index, ◌⊎◌};
 ghost use Rattle.std.specs.Option.{option_map};
 ghost use Rattle.std.proofs.Props.{props};
 ghost use Rattle.otn_ports.specs.Bytes.{after, sent, HasFailed};
+ghost use Rattle.otn_ports.specs.Writes.{IsWriting};
+ghost use Rattle.otn_ports.specs.declared.drain.Written.TheVariants as written;
 ghost use Rattle.pcap_packets.specs.HeldBytes.{held};
 ghost use Rattle.pcap_packets.specs.Writing.{Stands};
 
 use crate::record::LineRecord;
 use otn_base::Memory;
-use otn_ports::{Failed, Sink};
+use otn_ports::{Failed, Sink, Written};
 use std::alloc::Global;
 
 const LF: u8 = b'\n';
@@ -58,6 +60,7 @@ impl<S: Sink> PcapSink<S> {
     // A write that fails by itself.
     fn refuse(&mut self) -> Result<usize, Failed>
         ensures refused { IsErr result }
+        ensures lines { self.new.lines ≡ self.old.lines }
         ensures got { written_got S.got self.new ≡ written_got S.got self.old }
         ensures later { written_faults S.faults self.old ≤ written_faults S.faults self.new }
         ensures cause { HasFailed (written_faults S.faults self.old) (written_faults S.faults self.new) }
@@ -70,6 +73,8 @@ impl<S: Sink> PcapSink<S> {
     fn end_line(&mut self) -> Result<usize, Failed>
         ensures taken { (more : List ℕ) → IfOk result (λ n. n ≡ takes self.old (10 ∷ more)) }
         ensures fails { (more : List ℕ) → OnErr result ((takes self.old (10 ∷ more) ≡ 0) ⊎ HasFailed (S.faults (written_to self.old)) (S.faults (written_to self.new))) }
+        ensures refused { (more : List ℕ) → OnErr result ((takes self.new (10 ∷ more) ≡ 0) ⊎ HasFailed (S.faults (written_to self.old)) (S.faults (written_to self.new))) }
+        ensures still { OnOk result (S.faults (written_to self.new) ≡ S.faults (written_to self.old)) }
         ensures one { IfOk result (λ n. n ≡ 1) }
         ensures got { written_got S.got self.new ≡ after (written_got S.got self.old) (sent result (10 ∷ [])) }
         ensures later { written_faults S.faults self.old ≤ written_faults S.faults self.new }
@@ -90,6 +95,7 @@ impl<S: Sink> PcapSink<S> {
         requires { held self.old.lines.rest ≢ [] }
         ensures taken { IfOk result (λ n. n ≡ 1) }
         ensures fails { OnErr result (HasFailed (S.faults (written_to self.old)) (S.faults (written_to self.new))) }
+        ensures still { OnOk result (S.faults (written_to self.new) ≡ S.faults (written_to self.old)) }
         ensures got { written_got S.got self.new ≡ after (written_got S.got self.old) (sent result (10 ∷ [])) }
         ensures later { written_faults S.faults self.old ≤ written_faults S.faults self.new }
         ensures cause { OnErr result (HasFailed (written_faults S.faults self.old) (written_faults S.faults self.new)) }
@@ -106,6 +112,8 @@ impl<S: Sink> PcapSink<S> {
         requires { slice_index bytes.now 0 ≢ 10 }
         ensures taken { IfOk result (λ n. n ≡ takes self.old bytes.now) }
         ensures fails { OnErr result (takes self.old bytes.now ≡ 0) }
+        ensures refused { OnErr result (takes self.new bytes.now ≡ 0) }
+        ensures still { OnOk result (S.faults (written_to self.new) ≡ S.faults (written_to self.old)) }
         ensures bound { IfOk result (λ n. n ≤ length bytes.now) }
         ensures progress { IfOk result (λ n. 0 < n) }
         ensures got { written_got S.got self.new ≡ after (written_got S.got self.old) (sent result bytes.now) }
@@ -120,6 +128,63 @@ impl<S: Sink> PcapSink<S> {
             0 => self.refuse(),
             count => Ok(count),
         }
+    }
+
+    // Writes from the front: whole lines together, or else what one write takes.
+    fn write_some(&mut self, lines: &[u8]) -> (Written, usize)
+        requires { 0 < length lines.now }
+        ensures within { result.1 ≤ length lines.now }
+        ensures progress { result.0 ≢ Written.Lost → 0 < result.1 }
+        ensures part { result.0 ≡ Written.Lost → result.1 < length lines.now }
+        ensures got { written_got S.got self.new ≡ after (written_got S.got self.old) (take result.1 lines.now) }
+        ensures fails { result.0 ≡ Written.Lost → (takes self.new (drop result.1 lines.now) ≡ 0) ⊎ HasFailed (S.faults (written_to self.old)) (S.faults (written_to self.new)) }
+        ensures still { result.0 ≢ Written.Lost → S.faults (written_to self.new) ≡ S.faults (written_to self.old) }
+        ensures later { written_faults S.faults self.old ≤ written_faults S.faults self.new }
+        ensures cause { result.0 ≡ Written.Lost → HasFailed (written_faults S.faults self.old) (written_faults S.faults self.new) }
+        ensures well { result.0 ≢ Written.Lost → written_faults S.faults self.new ≡ written_faults S.faults self.old }
+    {
+        let (answer, went) = self.write_together(lines);
+        if went > 0 {
+            return (answer, went);
+        }
+        self.write_one(lines)
+    }
+
+    // Writes what one write takes.
+    fn write_one(&mut self, lines: &[u8]) -> (Written, usize)
+        requires { 0 < length lines.now }
+        ensures within { result.1 ≤ length lines.now }
+        ensures progress { result.0 ≢ Written.Lost → 0 < result.1 }
+        ensures part { result.0 ≡ Written.Lost → result.1 ≡ 0 }
+        ensures got { written_got S.got self.new ≡ after (written_got S.got self.old) (take result.1 lines.now) }
+        ensures fails { result.0 ≡ Written.Lost → (takes self.new lines.now ≡ 0) ⊎ HasFailed (S.faults (written_to self.old)) (S.faults (written_to self.new)) }
+        ensures still { result.0 ≢ Written.Lost → S.faults (written_to self.new) ≡ S.faults (written_to self.old) }
+        ensures later { written_faults S.faults self.old ≤ written_faults S.faults self.new }
+        ensures cause { result.0 ≡ Written.Lost → HasFailed (written_faults S.faults self.old) (written_faults S.faults self.new) }
+        ensures well { result.0 ≢ Written.Lost → written_faults S.faults self.new ≡ written_faults S.faults self.old }
+    {
+        match self.write(lines) {
+            Ok(n) => (Written::Whole, n),
+            Err(Failed) => (Written::Lost, 0),
+        }
+    }
+
+    // Writes the records of the whole lines at the front together, and says how many bytes of the lines went: none where no record
+    // was made before, a line is in hand, or the first line is not whole.
+    fn write_together(&mut self, lines: &[u8]) -> (Written, usize)
+        ensures within { result.1 ≤ length lines.now }
+        ensures part { result.0 ≡ Written.Lost → (0 < result.1) × (result.1 < length lines.now) }
+        ensures got { written_got S.got self.new ≡ after (written_got S.got self.old) (take result.1 lines.now) }
+        ensures fails { result.0 ≡ Written.Lost → HasFailed (S.faults (written_to self.old)) (S.faults (written_to self.new)) }
+        ensures still { result.0 ≢ Written.Lost → S.faults (written_to self.new) ≡ S.faults (written_to self.old) }
+        ensures later { written_faults S.faults self.old ≤ written_faults S.faults self.new }
+        ensures cause { result.0 ≡ Written.Lost → HasFailed (written_faults S.faults self.old) (written_faults S.faults self.new) }
+        ensures well { result.0 ≢ Written.Lost → written_faults S.faults self.new ≡ written_faults S.faults self.old }
+    {
+        if !self.lines.is_between() {
+            return (Written::Whole, 0);
+        }
+        self.lines.write_lines(&mut self.inner, lines)
     }
 }
 
@@ -137,6 +202,8 @@ impl<S: Sink> Sink for PcapSink<S> {
     fn write(&mut self, bytes: &[u8]) -> Result<usize, Failed>
         ensures taken { IfOk result (λ n. n ≡ takes self.old bytes.now) }
         ensures fails { OnErr result ((takes self.old bytes.now ≡ 0) ⊎ HasFailed (S.faults (written_to self.old)) (S.faults (written_to self.new))) }
+        ensures refused { OnErr result ((takes self.new bytes.now ≡ 0) ⊎ HasFailed (S.faults (written_to self.old)) (S.faults (written_to self.new))) }
+        ensures still { OnOk result (S.faults (written_to self.new) ≡ S.faults (written_to self.old)) }
         ensures bound { IfOk result (λ n. n ≤ length bytes.now) }
         ensures progress { IfOk result (λ n. 0 < length bytes.now → 0 < n) }
         ensures bytes { written_got S.got self.new ≡ after (written_got S.got self.old) (sent result bytes.now) }
@@ -152,6 +219,29 @@ impl<S: Sink> Sink for PcapSink<S> {
         } else {
             self.take_digits(bytes)
         }
+    }
+
+    /// Writes whole lines together, as many as the buffer has room for, so that many records leave in one write of the sink below;
+    /// what is no whole line goes as `write` has it. Lost where what comes next is nothing to take, or where the sink below failed:
+    /// then the line in which it stopped is in hand, and the lines behind it are not taken.
+    fn write_lines(&mut self, lines: &[u8]) -> (Written, usize)
+        ensures within { result.1 ≤ length lines.now }
+        ensures bytes { written_got S.got self.new ≡ after (written_got S.got self.old) (take result.1 lines.now) }
+        ensures writing { IsWriting result.0 result.1 (length lines.now) }
+        ensures fails { result.0 ≡ Written.Lost → (takes self.new (drop result.1 lines.now) ≡ 0) ⊎ HasFailed (S.faults (written_to self.old)) (S.faults (written_to self.new)) }
+        ensures later { written_faults S.faults self.old ≤ written_faults S.faults self.new }
+        ensures cause { result.0 ≡ Written.Lost → HasFailed (written_faults S.faults self.old) (written_faults S.faults self.new) }
+        ensures well { result.0 ≢ Written.Lost → written_faults S.faults self.new ≡ written_faults S.faults self.old }
+    {
+        let mut done = 0;
+        while done < lines.len() {
+            let (answer, went) = self.write_some(&lines[done..]);
+            done += went;
+            if answer == Written::Lost {
+                return (Written::Lost, done);
+            }
+        }
+        (Written::Whole, done)
     }
 
     fn kept(&self) -> Option<&[u8]> {

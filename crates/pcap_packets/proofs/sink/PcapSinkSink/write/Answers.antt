@@ -10,3 +10,8 @@ pub returns-then-first-eq-LF-clause-fails : goal.returns-then-first-eq-LF-clause
 returns-then-first-eq-LF-clause-fails g c =
     let f = lf_first c.args.bytes.now c.in-Some.first.now c.in-Some.ensures.value c.if-first-eq-LF.true in
     rw f.is (c.end_line.ensures.fails f.more)
+
+pub returns-then-first-eq-LF-clause-refused : goal.returns-then-first-eq-LF-clause-refused
+returns-then-first-eq-LF-clause-refused g c =
+    let f = lf_first c.args.bytes.now c.in-Some.first.now c.in-Some.ensures.value c.if-first-eq-LF.true in
+    rw f.is (c.end_line.ensures.refused f.more)

@@ -1,6 +1,6 @@
 use Rattle.std.proofs.Common.{◌≡◌, ◌≤◌, ◌-◌, length, take, true}
 use Rattle.pcap_packets.specs.Written.{all_lower}
-use Rattle.pcap_packets.proofs.record.leading_digits.Given as goal
+use Rattle.pcap_packets.proofs.leading.leading_blocks.Given as goal
 
 abbrev pub invariant-loop-count : goal.invariant-loop-count
 invariant-loop-count l = record {

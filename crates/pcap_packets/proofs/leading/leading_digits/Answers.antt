@@ -1,9 +1,9 @@
 use Rattle.std.proofs.Common.{sym, arith}
-use Rattle.pcap_packets.proofs.Digits.{all_lower-more, all_lower-none, digits_end, digits_all}
-use Rattle.pcap_packets.proofs.record.leading_digits.Goals as goal
+use Rattle.pcap_packets.proofs.Digits.{all_lower-more, digits_end, digits_all}
+use Rattle.pcap_packets.proofs.leading.leading_digits.Goals as goal
 
 pub loop-count-init : goal.loop-count-init
-loop-count-init c = record { within = omega arith; digits = all_lower-none }
+loop-count-init c = record { within = c.leading_blocks-count.ensures.bound; digits = c.leading_blocks-count.ensures.digits }
 
 pub loop-count-preserved : goal.loop-count-preserved
 loop-count-preserved c =
