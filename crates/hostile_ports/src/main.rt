@@ -14,12 +14,12 @@ mod places;
 mod ports;
 mod traces;
 
-use line_tool::{NumberChooser, Status, order_of, run};
+use line_tool::{NumberChooser, Status, order_of, run, takes_captures};
 use listing::{Fate, Port, fate_of, fates};
 use otn_ports::{Chooser, FirstReady, ListedSource, StdoutSink, write_whole};
 use outcome::{states, write_outputs};
 use places::{MOST_TEXT, Places, fill, sink, source};
-use ports::{Got, OutputPort};
+use ports::{Got, OutputFile};
 use program_words::{exit_code, given_words};
 use std::io::ErrorKind;
 use std::process::ExitCode;
@@ -49,11 +49,12 @@ fn serve(rt: &HostRuntime) -> io::Result<Status> {
     let alloc = rt.alloc();
     let words = given_words(rt, alloc)?;
     let fates = listed(rt)?;
+    let captures = takes_captures(&words);
     let (mut lines, mut clients) = (Traces::new(alloc), Traces::new(alloc));
-    let mut places = fill(rt, &fates, &mut lines, &mut clients)?;
+    let mut places = fill(rt, &fates, captures, &mut lines, &mut clients)?;
     let written = no_bytes(alloc)?;
     let sink = sink(alloc, fate_of(&fates, Port::Report), MOST_TEXT)?;
-    let mut report = OutputPort::new(sink, written.clone()?);
+    let mut report = OutputFile::new(sink, written.clone()?);
     let status = match order_of(&words) {
         Some(number) => {
             let mut chooser = NumberChooser::new(number);
@@ -66,7 +67,7 @@ fn serve(rt: &HostRuntime) -> io::Result<Status> {
     };
     let states = states(alloc, &places, &lines, &clients)?;
     fs::write(rt, "places.txt", states.as_str())?;
-    write_outputs(rt, &lines, &clients)?;
+    write_outputs(rt, captures, &lines, &clients)?;
     print(rt, &written)?;
     Ok(status)
 }
@@ -78,7 +79,7 @@ fn answer<C: Chooser>(
     fates: &[Fate],
     places: &mut Places,
     chooser: &mut C,
-    report: &mut OutputPort,
+    report: &mut OutputFile,
 ) -> io::Result<Status> {
     let mut plan = plan(rt, fate_of(fates, Port::Plan))?;
     Ok(run(rt.alloc(), words, &mut plan, places, chooser, report))

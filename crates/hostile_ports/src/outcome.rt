@@ -8,14 +8,20 @@ use std::alloc::{AllocError, Global};
 use std::io::ErrorKind;
 use std::{fs, io};
 
-/// Writes what each output got to its file.
-pub fn write_outputs(rt: &HostRuntime, lines: &Traces, clients: &Traces) -> io::Result<()> {
+/// Writes what each output got to its file: those of clients are captures, or not.
+pub fn write_outputs(
+    rt: &HostRuntime,
+    captures: bool,
+    lines: &Traces,
+    clients: &Traces,
+) -> io::Result<()> {
     let alloc = rt.alloc();
     for (n, got) in lines.got.iter().enumerate() {
         write_output(rt, &format!(in alloc; "line-{n}.out")?, got)?;
     }
     for (n, got) in clients.got.iter().enumerate() {
-        write_output(rt, &format!(in alloc; "client-{n:02}.out")?, got)?;
+        let kind = if captures { "pcap.out" } else { "out" };
+        write_output(rt, &format!(in alloc; "client-{n:02}.{kind}")?, got)?;
     }
     Ok(())
 }

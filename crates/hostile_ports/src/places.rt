@@ -1,10 +1,11 @@
 // The places of a run, filled with what the files of the folder say.
 use crate::listing::{Fate, Port, fate_of};
-use crate::ports::{InputPort, OutputPort};
+use crate::ports::{InputPort, InputSource, OutputFile, OutputPort, OutputSink};
 use crate::traces::Traces;
 use otn_base::Memory;
 use otn_base::limits::{CLIENTS, LINE_FRAME_BYTES, LINES, MOST_DELIVERED};
 use otn_ports::{InPlaceOf, ListedSink, ListedSource, OutPlaceOf, Rack};
+use pcap_packets::{PcapSink, PcapSource};
 use std::alloc::{AllocError, Global};
 use std::io::ErrorKind;
 use std::{fs, io};
@@ -15,10 +16,12 @@ pub type Places = Rack<InputPort, OutputPort>;
 /// Bytes of text that are written at once at most: a packet in hex, and its line's end.
 pub const MOST_TEXT: usize = 2 * MOST_DELIVERED + 1;
 
-/// All places. An input is empty where it has no file; each output is live.
+/// All places. An input is empty where it has no file; each output is live. With captures a client's input is one where it has
+/// no file of lines, and each client's output is one.
 pub fn fill(
     rt: &HostRuntime,
     fates: &[Fate],
+    captures: bool,
     lines: &mut Traces,
     clients: &mut Traces,
 ) -> io::Result<Places> {
@@ -27,48 +30,93 @@ pub fn fill(
     for n in 0..LINES as u8 {
         let path = format!(in alloc; "line-{n}.in")?;
         let fate = fate_of(fates, Port::LineIn(n));
-        places.set_line_in(n, input(rt, &path, fate, lines)?);
+        let source = plain_file(rt, &path, fate)?;
+        places.set_line_in(n, input(alloc, source, lines)?);
         let fate = fate_of(fates, Port::LineOut(n));
-        places.set_line_out(n, output(alloc, fate, LINE_FRAME_BYTES, lines)?);
+        places.set_line_out(n, output(alloc, fate, LINE_FRAME_BYTES, false, lines)?);
     }
     for n in 0..CLIENTS as u8 {
-        let path = format!(in alloc; "client-{n:02}.in")?;
         let fate = fate_of(fates, Port::ClientIn(n));
-        places.set_client_in(n, input(rt, &path, fate, clients)?);
+        let source = client_file(rt, n, fate, captures)?;
+        places.set_client_in(n, input(alloc, source, clients)?);
         let fate = fate_of(fates, Port::ClientOut(n));
-        places.set_client_out(n, output(alloc, fate, MOST_TEXT, clients)?);
+        places.set_client_out(n, output(alloc, fate, MOST_TEXT, captures, clients)?);
     }
     Ok(places)
 }
 
-// The next input, with this file.
+// The next input, which gives what this source gives. It is empty where there is none.
 fn input(
+    alloc: Global,
+    source: Option<InputSource>,
+    traces: &mut Traces,
+) -> io::Result<InPlaceOf<InputPort>> {
+    let given = traces.next_given(alloc)?;
+    Ok(match source {
+        Some(source) => InPlaceOf::Live(InputPort::new(source, given), 0),
+        None => InPlaceOf::Empty,
+    })
+}
+
+// What a client's input reads: its lines, or else its capture.
+fn client_file(
+    rt: &HostRuntime,
+    n: u8,
+    fate: Option<&Fate>,
+    captures: bool,
+) -> io::Result<Option<InputSource>> {
+    let alloc = rt.alloc();
+    let lines = plain_file(rt, &format!(in alloc; "client-{n:02}.in")?, fate)?;
+    if lines.is_some() || !captures {
+        return Ok(lines);
+    }
+    match listed_file(rt, &format!(in alloc; "client-{n:02}.pcap")?, fate)? {
+        Some(file) => {
+            let capture = PcapSource::new(alloc, file).map_err(no_memory)?;
+            Ok(Some(InputSource::Capture(capture)))
+        }
+        None => Ok(None),
+    }
+}
+
+// What an input reads that has this file, if that is there.
+fn plain_file(
     rt: &HostRuntime,
     path: &String,
     fate: Option<&Fate>,
-    traces: &mut Traces,
-) -> io::Result<InPlaceOf<InputPort>> {
-    let alloc = rt.alloc();
-    let given = traces.next_given(alloc)?;
+) -> io::Result<Option<InputSource>> {
+    Ok(listed_file(rt, path, fate)?.map(InputSource::Plain))
+}
+
+// A source of the bytes of a file, with this fate, if it is there.
+fn listed_file(
+    rt: &HostRuntime,
+    path: &String,
+    fate: Option<&Fate>,
+) -> io::Result<Option<ListedSource>> {
     match fs::read(rt, path.as_str()) {
-        Ok(bytes) => {
-            let source = source(alloc, bytes, fate)?;
-            Ok(InPlaceOf::Live(InputPort::new(source, given), 0))
-        }
-        Err(error) if error.kind() == ErrorKind::NotFound => Ok(InPlaceOf::Empty),
+        Ok(bytes) => Ok(Some(source(rt.alloc(), bytes, fate)?)),
+        Err(error) if error.kind() == ErrorKind::NotFound => Ok(None),
         Err(error) => Err(error),
     }
 }
 
-// The next output, to which so many bytes are written at once at most.
+// The next output, to which so many bytes are written at once at most. Its file is a capture, or not.
 fn output(
     alloc: Global,
     fate: Option<&Fate>,
     most: usize,
+    capture: bool,
     traces: &mut Traces,
 ) -> io::Result<OutPlaceOf<OutputPort>> {
     let sink = sink(alloc, fate, most)?;
-    Ok(OutPlaceOf::Live(OutputPort::new(sink, traces.next_got(alloc)?), 0))
+    let file = OutputFile::new(sink, traces.next_got(alloc)?);
+    let sink = if capture {
+        OutputSink::Capture(PcapSink::new(alloc, file).map_err(no_memory)?)
+    } else {
+        OutputSink::Plain(file)
+    };
+    Ok(OutPlaceOf::Live(OutputPort::new(sink, traces.next_sent(alloc)?), 0))
 }
 
 /// A source of these bytes, with this fate.

@@ -1,28 +1,51 @@
 // The ports of a run: they are in memory, fail as they are told to, and leave what they gave or got where it is found
 // after their place was emptied too.
 ghost use Rattle.std.specs.Prelude.{◌≡◌, ◌≤◌, ◌<◌, false, None, IfOk, length};
-ghost use Rattle.hostile_ports.specs.Ports.{input_ended, input_faults, output_faults};
+ghost use Rattle.hostile_ports.specs.Ports.{source_ended, source_faults, input_ended, input_faults, file_faults};
 
-use otn_ports::{Failed, ListedSink, ListedSource, Sink, Source};
+use otn_ports::{Failed, ListedSink, ListedSource, Sink, Source, Written};
+use pcap_packets::{PcapSink, PcapSource};
 use std::cell::{Cell, RefCell};
 use std::rc::Rc;
 
-/// How many bytes an input gave.
-pub type Given = Rc<Cell<u64>>;
+/// How many bytes an input gave, or an output took.
+pub type Count = Rc<Cell<u64>>;
 
-/// What an output got.
+/// What the file of an output got.
 pub type Got = Rc<RefCell<Vec<u8>>>;
+
+/// Bytes as they stand in a file, or the text of a capture in it.
+#[derive(Drop)]
+pub enum InputSource {
+    Plain(ListedSource),
+    Capture(PcapSource<ListedSource>),
+}
+
+impl Source for InputSource {
+    ghost left = { λ _. None };
+
+    ghost faults = { source_faults };
+
+    ghost ended = { source_ended };
+
+    fn read(&mut self, into: &mut [u8]) -> Result<usize, Failed> {
+        match self {
+            InputSource::Plain(source) => source.read(into),
+            InputSource::Capture(source) => source.read(into),
+        }
+    }
+}
 
 /// An input.
 #[derive(Drop)]
 pub struct InputPort {
-    source: ListedSource,
-    given: Given,
+    source: InputSource,
+    given: Count,
 }
 
 impl InputPort {
     /// Gives what this source gives, and counts it there.
-    pub fn new(source: ListedSource, given: Given) -> InputPort {
+    pub fn new(source: InputSource, given: Count) -> InputPort {
         InputPort { source, given }
     }
 }
@@ -37,24 +60,24 @@ impl Source for InputPort {
     fn read(&mut self, into: &mut [u8]) -> Result<usize, Failed> {
         let answer = self.source.read(into);
         if let Ok(n) = answer {
-            self.given.set(self.given.get().saturating_add(n as u64));
+            count(&self.given, n);
         }
         answer
     }
 }
 
-/// An output. It takes what its sink takes, or all there is where it has none, and fails where there is no memory.
+/// The file of an output. It takes what its sink takes, or all there is where it has none, and fails where there is no memory.
 #[derive(Drop)]
-pub struct OutputPort {
+pub struct OutputFile {
     sink: Option<ListedSink>,
     got: Got,
     failed: u64,
 }
 
-impl OutputPort {
+impl OutputFile {
     /// Takes what this sink takes, or all there is, and keeps it there.
-    pub fn new(sink: Option<ListedSink>, got: Got) -> OutputPort {
-        OutputPort {
+    pub fn new(sink: Option<ListedSink>, got: Got) -> OutputFile {
+        OutputFile {
             sink,
             got,
             failed: 0,
@@ -65,7 +88,7 @@ impl OutputPort {
     fn take(&mut self, bytes: &[u8]) -> Result<usize, Failed>
         ensures bound { IfOk result (λ n. n ≤ length bytes.now) }
         ensures progress { IfOk result (λ n. 0 < length bytes.now → 0 < n) }
-        ensures faults { output_faults self.new ≡ output_faults self.old }
+        ensures faults { file_faults self.new ≡ file_faults self.old }
     {
         let n = match &mut self.sink {
             Some(sink) => sink.write(bytes)?,
@@ -76,10 +99,10 @@ impl OutputPort {
     }
 }
 
-impl Sink for OutputPort {
+impl Sink for OutputFile {
     ghost got = { λ _. None };
 
-    ghost faults = { output_faults };
+    ghost faults = { file_faults };
 
     ghost keeps = { λ _. false };
 
@@ -94,6 +117,88 @@ impl Sink for OutputPort {
     fn kept(&self) -> Option<&[u8]> {
         None
     }
+}
+
+/// Bytes as they come, or the capture that they are the text of.
+#[derive(Drop)]
+pub enum OutputSink {
+    Plain(OutputFile),
+    Capture(PcapSink<OutputFile>),
+}
+
+impl Sink for OutputSink {
+    ghost use Rattle.hostile_ports.specs.Outputs.{sink_faults};
+
+    ghost got = { λ _. None };
+
+    ghost faults = { sink_faults };
+
+    ghost keeps = { λ _. false };
+
+    fn write(&mut self, bytes: &[u8]) -> Result<usize, Failed> {
+        match self {
+            OutputSink::Plain(sink) => sink.write(bytes),
+            OutputSink::Capture(sink) => sink.write(bytes),
+        }
+    }
+
+    fn write_lines(&mut self, lines: &[u8]) -> (Written, usize) {
+        match self {
+            OutputSink::Plain(sink) => sink.write_lines(lines),
+            OutputSink::Capture(sink) => sink.write_lines(lines),
+        }
+    }
+
+    fn kept(&self) -> Option<&[u8]> {
+        None
+    }
+}
+
+/// An output.
+#[derive(Drop)]
+pub struct OutputPort {
+    sink: OutputSink,
+    sent: Count,
+}
+
+impl OutputPort {
+    /// Takes what this sink takes, and counts it there.
+    pub fn new(sink: OutputSink, sent: Count) -> OutputPort {
+        OutputPort { sink, sent }
+    }
+}
+
+impl Sink for OutputPort {
+    ghost use Rattle.hostile_ports.specs.Outputs.{output_faults};
+
+    ghost got = { λ _. None };
+
+    ghost faults = { output_faults };
+
+    ghost keeps = { λ _. false };
+
+    fn write(&mut self, bytes: &[u8]) -> Result<usize, Failed> {
+        let answer = self.sink.write(bytes);
+        if let Ok(n) = answer {
+            count(&self.sent, n);
+        }
+        answer
+    }
+
+    fn write_lines(&mut self, lines: &[u8]) -> (Written, usize) {
+        let (answer, went) = self.sink.write_lines(lines);
+        count(&self.sent, went);
+        (answer, went)
+    }
+
+    fn kept(&self) -> Option<&[u8]> {
+        None
+    }
+}
+
+// Counts so many bytes more.
+fn count(number: &Count, more: usize) {
+    number.set(number.get().saturating_add(more as u64));
 }
 
 // Appends these bytes.
