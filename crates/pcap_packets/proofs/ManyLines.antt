@@ -1,13 +1,13 @@
 -- Lines whose records leave together.
-use Rattle.std.proofs.Common.{◌≡◌, ◌≢◌, ◌<◌, ◌≤◌, ◌+◌, ◌-◌, ◌*◌, ◌/◌, ◌%◌, ◌==◌, ◌&&◌, not, nat_le, ℕ, zero, suc, Bool, true, false, if◌then◌else◌, List, [], ◌∷◌, ◌++◌, length, take, drop, slice_index, Option, add-one, arith, refl, sym, ap, ◌∙◌, length-drop, length-append, append_assoc, append-nil}
+use Rattle.std.proofs.Common.{◌≡◌, ◌≢◌, ◌<◌, ◌≤◌, ◌+◌, ◌-◌, ◌/◌, ◌%◌, ◌==◌, ◌&&◌, not, nat_le, ℕ, zero, suc, Bool, true, false, List, [], ◌∷◌, ◌++◌, length, take, drop, slice_index, add-one, arith, refl, sym, ap, ◌∙◌, length-drop, length-append, append_assoc, append-nil}
 use Rattle.std.proofs.lemmas.Bool.{and_parts, and_from, eqb-true}
 use Rattle.std.proofs.lemmas.Bool.Decides.{nat_tests}
-use Rattle.std.proofs.lemmas.List.{take_all, take_at, drop_at, drop-drop, take-append-drop, take-append-le, length-take-le, take-take}
+use Rattle.std.proofs.lemmas.List.{take_all, take_at, drop_at, drop-drop, take-append-drop, take-append-le}
 use Rattle.std.proofs.Math.Seq.{take-add, take-append-add}
 use Rattle.packet_text.specs.PacketText.{is_nothing}
 use Rattle.pcap_packets.specs.Written.{is_lower_digit, all_lower, digits_in_front, is_line, packet_of, record_of}
-use Rattle.pcap_packets.specs.Gathering.{is_whole_line, are_lines, lines_text, lines_records, AreLines, Gathered, OneMore, IsCut, HasCut, StopsAt, PartWent}
-use Rattle.pcap_packets.proofs.Digits.{all_lower-append, length-packet_of, digits_end}
+use Rattle.pcap_packets.specs.Gathering.{is_whole_line, are_lines, lines_text, lines_records, Gathered, OneMore, IsCut, StopsAt, PartWent}
+use Rattle.pcap_packets.proofs.Digits.{all_lower-append, length-packet_of}
 use Rattle.pcap_packets.proofs.Writings.{length-record_of}
 
 -- a part up to the end

@@ -1,5 +1,4 @@
-use Rattle.std.proofs.Common.{◌≡◌, ◌∙◌, ◌&&◌, ◌<◌, length, arith, sym, ap, take, true}
-use Rattle.pcap_packets.specs.Written.{all_lower}
+use Rattle.std.proofs.Common.{◌<◌, length, sym}
 use Rattle.pcap_packets.proofs.Digits.{all_lower-none}
 use Rattle.pcap_packets.proofs.ManyLines.{lower_next}
 use Rattle.pcap_packets.proofs.leading.all_digits.Goals as goal

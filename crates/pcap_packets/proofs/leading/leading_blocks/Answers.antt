@@ -1,4 +1,4 @@
-use Rattle.std.proofs.Common.{◌≡◌, ◌≤◌, ◌+◌, ◌-◌, ◌∙◌, length, arith, sym, ap, take, drop, true}
+use Rattle.std.proofs.Common.{◌≡◌, ◌+◌, ◌-◌, ◌∙◌, arith, sym, ap, take, drop, true}
 use Rattle.pcap_packets.specs.Written.{all_lower}
 use Rattle.pcap_packets.proofs.Digits.{all_lower-none}
 use Rattle.pcap_packets.proofs.ManyLines.{lower_block}

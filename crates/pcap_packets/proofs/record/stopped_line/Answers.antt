@@ -1,4 +1,4 @@
-use Rattle.std.proofs.Common.{◌≡◌, ◌≤◌, ◌+◌, ◌-◌, ◌*◌, ◌/◌, ◌∙◌, ℕ, List, length, arith, ap, take, drop}
+use Rattle.std.proofs.Common.{◌+◌, ◌-◌, ◌/◌, ◌∙◌, ℕ, List, ap}
 use Rattle.pcap_packets.specs.Written.{digits_in_front}
 use Rattle.pcap_packets.specs.Gathering.{IsCut}
 use Rattle.pcap_packets.proofs.ManyLines.{Within, rest_all, within_start, next_room, walk_on, walk_end}

@@ -1,7 +1,7 @@
 use Rattle.std.proofs.Common.{◌≡◌, ◌/◌, ◌++◌, ◌∙◌, ap, length, arith}
 use Rattle.std.specs.Int.{to_le_bytes, w32}
 use Rattle.pcap_packets.specs.HeldBytes.{held}
-use Rattle.pcap_packets.specs.Written.{packet_of, record_of}
+use Rattle.pcap_packets.specs.Written.{packet_of}
 use Rattle.pcap_packets.proofs.Digits.{length-packet_of}
 use Rattle.pcap_packets.proofs.Writings.{record_joined}
 use Rattle.pcap_packets.proofs.held.Held.push_record.Goals as goal

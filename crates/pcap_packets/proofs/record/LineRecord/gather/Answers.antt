@@ -1,6 +1,5 @@
-use Rattle.std.proofs.Common.{◌≡◌, ◌≤◌, ◌+◌, ◌-◌, ◌∙◌, [], length, arith, take, drop, length-drop, ap, refl}
+use Rattle.std.proofs.Common.{◌+◌, ◌∙◌, [], length, arith, length-drop, ap, refl}
 use Rattle.pcap_packets.specs.HeldBytes.{held}
-use Rattle.pcap_packets.specs.Gathering.{Gathered}
 use Rattle.pcap_packets.proofs.ManyLines.{rest_all, gathered_none, gathered_next}
 use Rattle.pcap_packets.proofs.record.LineRecord.gather.Goals as goal
 

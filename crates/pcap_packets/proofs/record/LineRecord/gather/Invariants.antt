@@ -1,4 +1,4 @@
-use Rattle.std.proofs.Common.{◌≡◌, ◌≤◌, ◌<◌, ◌+◌, ◌-◌, [], length, take, drop}
+use Rattle.std.proofs.Common.{◌≡◌, ◌≤◌, ◌+◌, ◌-◌, [], length, take}
 use Rattle.pcap_packets.specs.HeldBytes.{held}
 use Rattle.pcap_packets.specs.Gathering.{Gathered}
 use Rattle.pcap_packets.proofs.record.LineRecord.gather.Given as goal

@@ -1,5 +1,4 @@
-use Rattle.std.proofs.Common.{◌≡◌, ◌+◌, ◌%◌, ◌++◌, ◌∙◌, arith, ap, length}
-use Rattle.pcap_packets.specs.HeldBytes.{held}
+use Rattle.std.proofs.Common.{◌%◌, ◌++◌, ◌∙◌, arith, ap, length}
 use Rattle.pcap_packets.specs.Written.{all_lower, packet_of, record_of}
 use Rattle.pcap_packets.proofs.ManyLines.{whole_line-is}
 use Rattle.pcap_packets.proofs.record.LineRecord.hold_part.Goals as goal
