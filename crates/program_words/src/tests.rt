@@ -10,6 +10,7 @@ use std::rt::Env;
 use std::test::Fail;
 
 // A program that was called with these words after its name. One of more than five bytes is too long.
+#[derive(Drop)]
 struct Called {
     words: [&'static [u8]; 4],
 }
