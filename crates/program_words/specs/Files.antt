@@ -1,5 +1,5 @@
 -- The files of the current folder, and which of them each command reads and writes.
-use Rattle.std.specs.Prelude.{◌≡◌, ◌++◌, ◌⊎◌, ◌<◌, ◌/◌, ◌%◌, nat_lt, ℕ, zero, suc, Bool, true, false, List, [], ◌∷◌, codes, filter}
+use Rattle.std.specs.Prelude.{◌≡◌, ◌++◌, ◌⊎◌, ◌<◌, ◌/◌, ◌%◌, nat_lt, ◌==◌, ℕ, zero, suc, Bool, true, false, List, [], ◌∷◌, codes, filter}
 use Rattle.std.specs.Fmt.{decimal}
 use Rattle.otn_base.specs.declared.limits.TheConstants.{LINES, CLIENTS}
 use Rattle.line_tool.specs.Words.{IsForm, IsNoForm}
@@ -79,7 +79,14 @@ is_captured_out (line-out n) = true
 is_captured_out (text-out n) = false
 is_captured_out (capture-out n) = true
 
--- whether a command reads this file: `slot` and `pull` line input 0, `protect` line inputs 0 and 1, a run all inputs, and all others none
+-- whether it is the file of line output 0
+abbrev pub is_first_line_out : OutputFile → Bool
+is_first_line_out (line-out n) = n == 0
+is_first_line_out (text-out n) = false
+is_first_line_out (capture-out n) = false
+
+-- whether a command reads this file: `slot` and `pull` line input 0, `protect` line inputs 0 and 1, a run all inputs,
+-- and all others none
 abbrev pub is_read : Command → InputFile → Bool
 is_read (Slot slot) file = is_line_below 1 file
 is_read (Pull port slots) file = is_line_below 1 file
@@ -90,7 +97,7 @@ is_read RunCaptures file = true
 is_read (Trial number) file = false
 is_read (Protect port slots turns wait) file = is_line_below 2 file
 
--- whether a command writes this file: a run and `protect` all outputs, and all others none
+-- whether a command writes this file: a run all outputs, `protect` line output 0, and all others none
 abbrev pub is_written : Command → OutputFile → Bool
 is_written (Slot slot) file = false
 is_written (Pull port slots) file = false
@@ -99,7 +106,7 @@ is_written Run file = is_plain_out file
 is_written (RunOrdered number) file = is_plain_out file
 is_written RunCaptures file = is_captured_out file
 is_written (Trial number) file = false
-is_written (Protect port slots turns wait) file = is_plain_out file
+is_written (Protect port slots turns wait) file = is_first_line_out file
 
 -- the commands that read the plan
 abbrev pub IsOfPlan : Command → Type 0

@@ -189,10 +189,9 @@ fn writes(command: &Command, file: OutputFile) -> bool
     ensures { result ≡ is_written command.now file }
 {
     match command {
-        Command::Run | Command::RunOrdered(_) | Command::Protect(..) => {
-            !matches!(file, OutputFile::Capture(_))
-        }
+        Command::Run | Command::RunOrdered(_) => !matches!(file, OutputFile::Capture(_)),
         Command::RunCaptures => !matches!(file, OutputFile::Text(_)),
+        Command::Protect(..) => matches!(file, OutputFile::Line(0)),
         Command::Slot(_) | Command::Pull(..) | Command::Check | Command::Trial(_) => false,
     }
 }
