@@ -1,4 +1,4 @@
-//! Tests of the commands, over the library `line_tool`: their words, commands over a line, the report of a run, and the trial.
+//! Tests of the commands, over `line_tool`: their words, commands over a line, the report of a run, and the trial.
 #![tactic(auto)]
 
 #[cfg(test)]
