@@ -42,10 +42,9 @@ pub use laws::{
     slot_of_given, slot_two_worlds, without_faults,
 };
 pub use number_chooser::NumberChooser;
+pub use report::put_report;
+pub use report_lines::REPORT_BYTES;
 pub use status::Status;
 pub use top::run;
 pub use trial::{all_packets_come_back, come_back, drawn_as_said};
 pub use words::{Command, command_of, order_of, takes_captures};
-
-#[cfg(test)]
-mod tests;

@@ -24,7 +24,7 @@ use plan_file::Plan;
 /// Puts the report of a run over an accepted plan into the empty text: the turns, a line for each port that
 /// the plan uses, one for each of its connections, and how the run ended. There is room for it whatever the
 /// numbers are.
-pub(crate) fn put_report<I: Source, O: Sink>(
+pub fn put_report<I: Source, O: Sink>(
     text: &mut ArrayString<REPORT_BYTES>,
     plan: &Plan,
     numbers: &RunNumbers,

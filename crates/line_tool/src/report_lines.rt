@@ -15,7 +15,7 @@ use node_core::{ClientInCounts, ClientOutCounts, FromState, Outcome};
 use otn_ports::{InPlaceOf, OutPlaceOf, Sink, Source};
 
 /// Room for a report: a report has fewer bytes than this.
-pub(crate) const REPORT_BYTES: usize = 8192;
+pub const REPORT_BYTES: usize = 8192;
 
 /// The line of line input a, of 217 bytes at most.
 pub(crate) fn put_line_in<I: Source>(

@@ -1,4 +1,4 @@
-//! Tests of the sink and of the source of a tributary, each alone and over a line, over the libraries `trib_sink` and `trib_source`.
+//! Tests of a tributary's sink and source, each alone and both over a line: of `trib_sink` and `trib_source`.
 #![tactic(auto)]
 
 #[cfg(test)]

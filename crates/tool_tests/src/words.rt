@@ -1,5 +1,5 @@
 // The words of the commands, and of no command.
-use crate::{Command, command_of, order_of, takes_captures};
+use line_tool::{Command, command_of, order_of, takes_captures};
 use otn_base::Memory;
 use std::alloc::Global;
 use std::test::Fail;

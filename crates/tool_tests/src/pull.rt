@@ -1,6 +1,6 @@
 // The command `pull`.
-use super::{FailsAt, ran};
-use crate::Status;
+use crate::line_runs::{FailsAt, ran};
+use line_tool::Status;
 use otn_base::Memory;
 use otn_ports::{MemSource, Source};
 use std::alloc::Global;

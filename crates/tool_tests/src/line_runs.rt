@@ -1,18 +1,5 @@
-// Whole runs over ports in memory.
-mod check;
-mod damage;
-mod number_chooser;
-mod plan_faults;
-mod plan_ports;
-mod plan_rows;
-mod plan_runs;
-mod pull;
-mod report;
-mod slot;
-mod trial;
-mod words;
-
-use crate::{Status, run};
+// Whole runs over ports in memory, with one line.
+use line_tool::{Status, run};
 use otn_base::Memory;
 use otn_ports::{Failed, FirstReady, InPlaceOf, MemSink, MemSource, OutPlaceOf, Rack, Source};
 use plan_file::PlanError;
@@ -20,7 +7,7 @@ use std::alloc::Global;
 
 /// A source in memory that fails at one of its calls, counted from 1.
 #[derive(Drop)]
-struct FailsAt {
+pub struct FailsAt {
     inner: MemSource,
     call: u32,
     calls: u32,
@@ -28,7 +15,8 @@ struct FailsAt {
 }
 
 impl FailsAt {
-    fn new(bytes: Vec<u8>, call: u32) -> FailsAt {
+    /// These bytes, and the call that fails.
+    pub fn new(bytes: Vec<u8>, call: u32) -> FailsAt {
         FailsAt {
             inner: MemSource::new(bytes),
             call,
@@ -58,17 +46,22 @@ impl Source for FailsAt {
     }
 }
 
-// What a run answered, what it wrote, how many bytes it took of its line, and whether the line died.
+/// What a run answered, what it wrote, how many bytes it took of its line, and whether the line died.
 #[derive(Drop)]
-struct Outcome {
-    status: Status,
-    written: Vec<u8>,
-    taken: u64,
-    dead: bool,
+pub struct Outcome {
+    pub status: Status,
+    pub written: Vec<u8>,
+    pub taken: u64,
+    pub dead: bool,
 }
 
-// A run with this line as line input 0, and room for so many bytes of the report.
-fn ran<S: Source>(alloc: Global, words: &[&str], line: S, room: usize) -> Result<Outcome, Memory> {
+/// A run with this line as line input 0, and room for so many bytes of the report.
+pub fn ran<S: Source>(
+    alloc: Global,
+    words: &[&str],
+    line: S,
+    room: usize,
+) -> Result<Outcome, Memory> {
     let mut texts = Vec::new(alloc);
     for word in words {
         texts.push(String::from_str(alloc, word)?)?;

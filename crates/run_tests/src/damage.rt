@@ -1,52 +1,15 @@
-// Damage to a line, over whole runs: listed bytes of it are spoiled.
+// Damage to a line of a run: listed bytes of it are spoiled.
 ghost use Rattle.std.specs.Prelude.{◌≡◌, true};
 ghost use Rattle.otn_ports.specs.Spoiling.{rises_from};
 
-use super::plan_runs::{
+use crate::plan_runs::{
     FROM_LINE, LINE_ROOM, REPORT_ROOM, TO_LINE, carried, input, kept, output, packets, plan_of,
     text_of, to_line,
 };
-use super::pull::{DATA_GROUPS, ais_byte, line};
-use super::ran;
-use crate::Status;
 use otn_base::Memory;
 use otn_ports::{InPlaceOf, ListedSink, MemSource, Rack, SpoiledSource};
 use std::alloc::Global;
 use std::test::Fail;
-
-// A part of what a sink emits, 15,168 bytes a turn: the payload of the turns from one to another, or so many turns of AIS from its first
-// byte on.
-#[derive(Clone, Copy)]
-enum Part {
-    Payload(u8, u8),
-    Ais(u8),
-}
-
-fn push_part(bytes: &mut Vec<u8>, part: Part) -> Result<(), Memory> {
-    match part {
-        Part::Payload(first, last) => {
-            for turn in first..=last {
-                for _ in 0..DATA_GROUPS {
-                    bytes.push(turn)?;
-                }
-            }
-        }
-        Part::Ais(turns) => {
-            for place in 0..DATA_GROUPS * turns as usize {
-                bytes.push(ais_byte(place))?;
-            }
-        }
-    }
-    Ok(())
-}
-
-fn emitted(alloc: Global, parts: &[Part]) -> Result<Vec<u8>, Memory> {
-    let mut bytes = Vec::new(alloc);
-    for part in parts {
-        push_part(&mut bytes, *part)?;
-    }
-    Ok(bytes)
-}
 
 // These bytes, of which those at the listed places are spoiled.
 fn spoiled(
@@ -59,19 +22,6 @@ fn spoiled(
     Ok(SpoiledSource::new(MemSource::new(bytes), places.to_vec(alloc)?))
 }
 
-// Whether `pull` of so many frames of the line of `pull`'s tests, with bytes spoiled at these places, writes exactly these parts.
-fn pulls(alloc: Global, frames: u32, places: &[(u64, u8)], parts: &[Part]) -> Result<bool, Memory>
-    requires { rises_from 0 places.now ≡ true }
-{
-    let source = spoiled(alloc, line(alloc, None, &[], frames, 0)?, places)?;
-    let outcome = ran(alloc, &["pull", "1", "3"], source, 1_000_000)?;
-    let wanted = emitted(alloc, parts)?;
-    Ok(outcome.status == Status::Done && outcome.written.as_slice() == wanted.as_slice())
-}
-
-// The MSI byte of slot 3, in row 4, column 15 of the fifth frame of turn 1: it comes every 32 turns.
-const MSI: u64 = 77_534;
-
 // JC3 of slot 3, in row 3, column 16 of the third frame of turn 1.
 const JC3: u64 = 40_815;
 
@@ -82,56 +32,6 @@ const MFAS: u64 = 6;
 const FRAME: u64 = 16_320;
 
 const TURN: u64 = 130_560;
-
-#[test]
-fn a_marked_slot_is_down_until_its_msi_byte_is_right(rt: HostRuntime) -> Result<(), Fail> {
-    let alloc = rt.alloc();
-    let wrong = [(MSI, 1), (MSI + 32 * TURN, 1)];
-    let parts = [Part::Payload(2, 32), Part::Ais(31), Part::Payload(66, 67)];
-    assert!(rt; pulls(alloc, 8 * 67, &wrong, &parts)?);
-    Ok(())
-}
-
-#[test]
-fn three_damaged_messages_are_one_too_many(rt: HostRuntime) -> Result<(), Fail> {
-    let alloc = rt.alloc();
-    let turn_10 = JC3 + 9 * TURN;
-    assert!(rt; pulls(alloc, 8 * 18, &[(turn_10, 1)], &[Part::Payload(2, 18)])?);
-    let six = [
-        (turn_10, 1),
-        (turn_10 + TURN, 1),
-        (turn_10 + 2 * TURN, 1),
-        (turn_10 + 3 * TURN, 1),
-        (turn_10 + 4 * TURN, 1),
-        (turn_10 + 5 * TURN, 1),
-    ];
-    let parts = [Part::Payload(2, 11), Part::Ais(3), Part::Payload(17, 18)];
-    assert!(rt; pulls(alloc, 8 * 18, &six, &parts)?);
-    Ok(())
-}
-
-#[test]
-fn five_wrong_mfas_bytes_are_one_too_many(rt: HostRuntime) -> Result<(), Fail> {
-    let alloc = rt.alloc();
-    let first = MFAS + 9 * TURN;
-    let four = [
-        (first, 0x80),
-        (first + FRAME, 0x80),
-        (first + 2 * FRAME, 0x80),
-        (first + 3 * FRAME, 0x80),
-    ];
-    assert!(rt; pulls(alloc, 8 * 18, &four, &[Part::Payload(2, 18)])?);
-    let five = [
-        (first, 0x80),
-        (first + FRAME, 0x80),
-        (first + 2 * FRAME, 0x80),
-        (first + 3 * FRAME, 0x80),
-        (first + 4 * FRAME, 0x80),
-    ];
-    let parts = [Part::Payload(2, 9), Part::Payload(12, 18)];
-    assert!(rt; pulls(alloc, 8 * 18, &five, &parts)?);
-    Ok(())
-}
 
 // Reports of a run from slot 3 of a line to a client, after `run` wrote one packet there: two parities are wrong; one is; none is; and a
 // multiframe was lost, behind which the sink began anew.

@@ -1,6 +1,6 @@
 // The command `check`.
-use super::FailsAt;
-use crate::{Status, run};
+use crate::line_runs::FailsAt;
+use line_tool::{Status, run};
 use otn_base::Memory;
 use otn_ports::{FirstReady, MemSink, MemSource, Rack, Source};
 use plan_file::PlanError;

@@ -1,6 +1,6 @@
 // Which port a run calls first, and which it lets go.
-use super::plan_runs::{REPORT_ROOM, THERE, TO_LINE, carried, packets, plan_of, text_of};
-use crate::Status;
+use crate::plan_runs::{REPORT_ROOM, THERE, TO_LINE, carried, packets, plan_of, text_of};
+use line_tool::Status;
 use otn_base::Memory;
 use otn_ports::{Bays, Failed, InPlace, InPort, MemSource, OutPlace, OutPort, Rack, Sink, Source};
 use std::alloc::Global;

@@ -1,8 +1,7 @@
 // The report of a run, from numbers made by hand.
-use crate::report::put_report;
-use crate::report_lines::REPORT_BYTES;
 use arrayvec::ArrayString;
 use line_side::LineCounts;
+use line_tool::{REPORT_BYTES, put_report};
 use node_core::{ClientInCounts, ClientOutCounts, FromState, Outcome, RunNumbers};
 use otn_base::Memory;
 use otn_ports::{InPlaceOf, MemSink, MemSource, OutPlaceOf, Rack};

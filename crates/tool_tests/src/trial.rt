@@ -1,8 +1,7 @@
 // The command `trial`.
-use crate::Status;
-use crate::trial::{run_trial, status_of_trial};
+use line_tool::{Status, run};
 use otn_base::Memory;
-use otn_ports::{Chooser, MemSink};
+use otn_ports::{Chooser, MemSink, MemSource, Rack};
 use std::alloc::Global;
 use std::test::Fail;
 
@@ -23,9 +22,22 @@ impl Chooser for LastReady {
 
 // What `trial 7` answers where the report has room for so many bytes, what it writes, and how often it asks.
 fn tried(alloc: Global, room: usize) -> Result<(Status, Vec<u8>, u64), Memory> {
+    let words = vec![in alloc;
+        String::from_str(alloc, "trial")?,
+        String::from_str(alloc, "7")?,
+    ]?;
+    let mut plan = MemSource::new(Vec::new(alloc));
+    let mut bays: Rack<MemSource, MemSink> = Rack::new(alloc)?;
     let mut report = MemSink::with_room(alloc, room)?;
     let mut chooser = LastReady { asked: 0 };
-    let status = status_of_trial(run_trial(alloc, 7, &mut chooser, &mut report));
+    let status = run(
+        alloc,
+        &words,
+        &mut plan,
+        &mut bays,
+        &mut chooser,
+        &mut report,
+    );
     Ok((status, report.into_bytes(), chooser.asked))
 }
 

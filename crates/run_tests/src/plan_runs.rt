@@ -1,5 +1,5 @@
 // The command `run`: whole runs of plans, there and back.
-use crate::{Status, run};
+use line_tool::{Status, run};
 use otn_base::Memory;
 use otn_ports::{
     Chooser, InPlaceOf, ListedSink, ListedSource, MemSink, MemSource, OutPlaceOf, Rack, Sink,

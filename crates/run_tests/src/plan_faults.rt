@@ -1,12 +1,11 @@
 // The command `run`, where a port fails, a client's text is bad or too long, or a report has no room.
-use super::FailsAt;
-use super::plan_runs::{
+use crate::plan_runs::{
     FRAME, FROM_LINE, LINE_ROOM, Places, REPORT_ROOM, THERE, TO_LINE, carried, from_line, input,
     kept, output, packets, plan_of, text_of, to_line,
 };
-use crate::Status;
+use line_tool::Status;
 use otn_base::Memory;
-use otn_ports::{InPlaceOf, OutPlaceOf, Rack};
+use otn_ports::{InPlaceOf, ListedSource, OutPlaceOf, Rack};
 use std::alloc::Global;
 use std::test::Fail;
 
@@ -75,7 +74,8 @@ fn a_plan_that_fails_touches_no_place(rt: HostRuntime) -> Result<(), Fail> {
     let mut places: Places = Rack::new(alloc)?;
     places.set_client_in(0, input(alloc, packets(alloc, 1, 60)?, 4096, 1)?);
     places.set_line_out(0, output(alloc, LINE_ROOM, 1)?);
-    let plan = FailsAt::new(Vec::from_slice(alloc, TO_LINE.as_bytes())?, 1);
+    let text = Vec::from_slice(alloc, TO_LINE.as_bytes())?;
+    let plan = ListedSource::new(text, vec![in alloc; 1_u32]?, 4096);
     let ran = carried(alloc, plan, &mut places, REPORT_ROOM, false)?;
     assert_eq!(rt; ran.status, Status::PlanFault);
     assert_eq!(rt; (ran.report.len(), ran.asked), (0, 0));

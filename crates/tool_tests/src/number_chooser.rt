@@ -1,5 +1,5 @@
 // The chooser drawn from a number.
-use crate::NumberChooser;
+use line_tool::NumberChooser;
 use otn_ports::Chooser;
 
 #[test]
