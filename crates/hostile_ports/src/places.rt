@@ -85,7 +85,7 @@ fn plain_file(
     path: &String,
     fate: Option<&Fate>,
 ) -> io::Result<Option<InputSource>> {
-    Ok(listed_file(rt, path, fate)?.map(InputSource::Plain))
+    Ok(listed_file(rt, path, fate)?.map(|file| InputSource::Plain(file)))
 }
 
 // A source of the bytes of a file, with this fate, if it is there.
