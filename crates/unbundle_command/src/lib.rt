@@ -5,11 +5,13 @@
 //! - `unbundling`: its turns: a sink of the line, and what becomes of the bytes that it emits.
 //! - `receiving`: what arrives in these bytes.
 //! - `outputs`, `channel`: the packets of each channel, as lines for its client output, and how many arrived.
+//! - `laws`: what no call shows by itself: that nothing else on the line changes what arrives.
 //! - `settling`, `report`: the end of the command, and its report.
 #![tactic(auto)]
 
 mod channel;
 mod command;
+mod laws;
 mod outputs;
 mod receiving;
 mod report;
@@ -19,3 +21,4 @@ mod tests;
 mod unbundling;
 
 pub use command::unbundle;
+pub use laws::unbundled_is_apart;
