@@ -1,16 +1,14 @@
 -- What the top call answers for, of `unbundle`, and what follows of it.
-use Rattle.std.proofs.Common.{◌≡◌, ◌≢◌, ◌∙◌, ◌⊎◌, inl, inr, ◌<◌, ◌-◌, ◌^◌, ℕ, Bool, List, refl, sym, ap, subst, arith}
+use Rattle.std.proofs.Common.{◌≡◌, ◌≢◌, ◌∙◌, ◌⊎◌, inl, inr, ℕ, refl, sym, ap, subst}
 use Rattle.otn_ports.proofs.PortLaws.{sink_written_later}
 use Rattle.otn_ports.specs.PortViews.{SinkView, SinkLater}
-use Rattle.otn_ports.specs.Views.{BaysView, InView, line_in_at, client_out_at}
+use Rattle.otn_ports.specs.Views.{BaysView, line_in_at, client_out_at}
 use Rattle.otn_ports.specs.declared.ended.Ended.{Ended}
 use Rattle.otn_ports.specs.declared.ended.Ended.TheVariants.{Done, Unfinished, Cut, ReportFault, Memory}
-use Rattle.device_model.specs.LineAsked.{InputLeft}
 use Rattle.node_core.proofs.GivenRuns.{follows}
 use Rattle.unbundle_command.specs.Unbundled.{arrived_before, report_text}
 use Rattle.unbundle_command.specs.UnbundleLeft.{IsCut, written_by, UnbundleOf, UnbundleRan}
 use Rattle.line_tool.specs.Ends.{line_status}
-use Rattle.line_tool.specs.ProtectLaws.{taken_of}
 use Rattle.line_tool.specs.UnbundleLaws.{AreOutputsWell, UnbundlesWhatWasGiven, UnbundleIsComplete}
 use Rattle.line_tool.specs.declared.status.Status.TheVariants as status
 use Rattle.line_tool.proofs.Protected.{may_be_itself}
