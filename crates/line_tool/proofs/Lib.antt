@@ -10,6 +10,7 @@ pub mod PlacesAnswered
 pub mod PlanChecks
 pub mod Protected
 pub mod ProtectTable
+pub mod UnbundleTable
 pub mod PullCarried
 pub mod PullDamaged
 pub mod PullEnds

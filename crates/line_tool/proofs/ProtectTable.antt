@@ -19,7 +19,7 @@ use Rattle.line_tool.proofs.PullTable.{taken_by_number}
 -- ---- by Given
 
 -- how many bytes were taken, by the place's number
-took_by_number : (first last : InView) (taken : List ℕ) (more : Bool) (turns : ℕ) (given : List ℕ) → InputLeft first last taken more → TookOf turns given taken → last.number < 2 ^ 64 - 1
+pub took_by_number : (first last : InView) (taken : List ℕ) (more : Bool) (turns : ℕ) (given : List ℕ) → InputLeft first last taken more → TookOf turns given taken → last.number < 2 ^ 64 - 1
     → last.number - first.number ≡ taken_of turns given
 took_by_number first last taken more turns given left took below = let n = taken_by_number first last taken left.gave below in omega (arith, n, took)
 
@@ -61,7 +61,7 @@ what_was_given own turns wait old new ended w p ran had_w had_p =
 
 -- ---- without faults
 
-still : (first now : State) (old new : ℕ) → Lives first now old new → IsWell old new → first ≢ Dead → now ≢ Dead
+pub still : (first now : State) (old new : ℕ) → Lives first now old new → IsWell old new → first ≢ Dead → now ≢ Dead
 still first now old new (inl same) well alive = λ dead. alive (sym same.0 ∙ dead)
 still first now old new (inr died) well alive = absurd (well died.2)
 

@@ -1,5 +1,5 @@
 -- How `pull` goes: what it took of its line, what its report gained, and why it ended.
-use Rattle.std.specs.Prelude.{◌≡◌, ◌≢◌, ◌<◌, ◌⊎◌, ◌+◌, ◌%◌, ℕ, Bool, true, false, List, [], ◌++◌, Option, Some, None, length}
+use Rattle.std.specs.Prelude.{◌≡◌, ◌≢◌, ◌<◌, ◌⊎◌, ◌%◌, ℕ, Bool, true, false, List, [], ◌++◌, Option, Some, None, length}
 use Rattle.otn_base.specs.declared.limits.TheConstants.{LINE_FRAME_BYTES}
 use Rattle.otn_ports.specs.Bytes.{after}
 use Rattle.otn_ports.specs.Given.{Gave}

@@ -11,6 +11,7 @@ ghost use Rattle.line_tool.specs.Device.{Device, line_zero};
 ghost use Rattle.line_tool.specs.Headline.{IsCarried, IsIsolated, IsOfAPlan, IsThrough, LeavesOthers, LooksNotAhead};
 ghost use Rattle.line_tool.specs.PlanCheck.{CheckEnds};
 ghost use Rattle.line_tool.specs.ProtectLaws.{ProtectIsComplete, ProtectsWhatWasGiven};
+ghost use Rattle.line_tool.specs.UnbundleLaws.{UnbundleIsComplete, UnbundlesWhatWasGiven};
 ghost use Rattle.line_tool.specs.PullCarried.{BeginsWithWhatIsCarried, IsTheWholeGroups, HasWhatIsCarriedAfterDamage};
 ghost use Rattle.line_tool.specs.PullDamaged.{WritesAsIfRepeated};
 ghost use Rattle.line_tool.specs.PullReport.{LeavesBytes, bytes_taken, pull_report, tributary};
@@ -76,6 +77,12 @@ pub fn protect_of_given()
     ensures { ProtectsWhatWasGiven }
 {}
 
+/// `unbundle`, by all bytes that line input 0 had to give, where it tells them: what was due to each client output, what the report got, how the
+/// command ended, and how many bytes were taken.
+pub fn unbundle_of_given()
+    ensures { UnbundlesWhatWasGiven }
+{}
+
 /// `check`, by the whole text of a source that tells it.
 pub fn check_of_text()
     ensures { (text : List ℕ) (old new : Device) (answer : Status) → CheckAnswers old new answer → old.plan.left ≡ Some text
@@ -84,7 +91,8 @@ pub fn check_of_text()
 
 /// Where no count of faults rose or stands at its end, and the line was not dead, a command is Done or Unfinished, `check` Done or
 /// Plan; or there was no memory. So is `run`, of the places that its plan uses, or Plan (`run`): Unfinished exactly where a line has more
-/// than its turns want, or a client is not spent (`ends`); and `protect`, of its three places.
+/// than its turns want, or a client is not spent (`ends`); and `protect`, of its three places, and `unbundle`, of its line and
+/// all client outputs.
 pub fn without_faults()
     ensures slot { (slot : ℕ) (old new : Device) (answer : Status) → LineAnswers (SlotRan slot) old new answer
         → IsWell old.report.faults new.report.faults → IsWell (line_zero old).faults (line_zero new).faults → (line_zero old).state ≢ Dead
@@ -98,6 +106,7 @@ pub fn without_faults()
     ensures run { RunIsComplete }
     ensures ends { RunEndsByInputs }
     ensures protect { ProtectIsComplete }
+    ensures unbundle { UnbundleIsComplete }
 {}
 
 /// `run`, by the whole text of a source that tells it.

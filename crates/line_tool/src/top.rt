@@ -17,6 +17,7 @@ use crate::{Command, Status};
 use otn_ports::{Chooser, Rack, Sink, Source};
 use protect_selector::protect;
 use std::alloc::Global;
+use unbundle_command::unbundle;
 
 /// Does all that the program does: the command that the words say, over these places, with its output
 /// to the report.
@@ -38,6 +39,10 @@ use std::alloc::Global;
 /// `protect PORT K,K T N` takes the tributary of these slots and this port of line inputs 0 and 1, working and protection, and puts the
 /// better one on line output 0, in each of T turns; it writes a line for each switch. A write of the report that fails ends it at once; else the
 /// answer is Cut where one of the three places is dead, Unfinished where a line has more than T turns want, and Done.
+/// `unbundle T` takes the tributary of slot 1 and port 1 of line input 0 in each of T turns, and writes the packets that arrive on its channels 0 to 15 to
+/// the client outputs of these numbers; then it writes how many packets and losses arrived on each, with ReportFault where that fails. Else the
+/// answer is Cut where the line is dead, or a client output of whose channel a packet arrived, Unfinished where the line has more than T turns
+/// want, and Done.
 ///
 /// `Answers` says, of each command, what it took, what it wrote and why it ended, of all that it was
 /// handed: `device` before and after. What follows from it is said by the laws beside this call: of what ports gave that
@@ -90,6 +95,7 @@ pub fn run<P: Source, K: Sink, C: Chooser, I: Source, O: Sink>(
         Some(Command::Protect(port, slots, turns, wait)) => {
             status_of(protect(alloc, port, &slots, turns, wait, bays, report))
         }
+        Some(Command::Unbundle(turns)) => status_of(unbundle(alloc, turns, bays, report)),
         None => Status::Words,
     }
 }

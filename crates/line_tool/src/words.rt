@@ -28,6 +28,8 @@ pub enum Command {
     /// `protect PORT K,K T N`: the tributary of this port, 1 to 8, and these slots of line inputs 0 and 1, of which the better one goes to
     /// line output 0, for T turns, 1 to 16,384; N turns of a working line that is Up again bring it back, 0 to 16,384, and 0 never does.
     Protect(u8, Slots, u32, u32),
+    /// `unbundle T`: the channels of the tributary of port 1 and slot 1 of line input 0, which go to client outputs, for T turns, 1 to 16,384.
+    Unbundle(u32),
 }
 
 /// The most digits of a number among the words.
@@ -107,6 +109,7 @@ fn command_with_one(name: &str, word: &str) -> Option<Command>
         "slot" => slot_command(word),
         "run" => captures_command(word),
         "trial" => trial_command(word),
+        "unbundle" => unbundle_command(word),
         _ => None,
     }
 }
@@ -165,6 +168,14 @@ fn trial_command(number: &str) -> Option<Command>
     ensures no_form { IfNone result (IsNoForm (codes "trial" ∷ number.now ∷ [])) }
 {
     Some(Command::Trial(number_of_digits(number)?))
+}
+
+// The command `unbundle` with this word after it.
+fn unbundle_command(turns: &str) -> Option<Command>
+    ensures form { IfSome result (IsForm (codes "unbundle" ∷ turns.now ∷ [])) }
+    ensures no_form { IfNone result (IsNoForm (codes "unbundle" ∷ turns.now ∷ [])) }
+{
+    Some(Command::Unbundle(turns_of_digits(turns)?))
 }
 
 // The command `pull` with these words after it.

@@ -4,7 +4,7 @@ use Rattle.std.specs.Fmt.{decimal}
 use Rattle.otn_base.specs.declared.limits.TheConstants.{LINES, CLIENTS}
 use Rattle.line_tool.specs.Words.{IsForm, IsNoForm}
 use Rattle.line_tool.specs.declared.words.Command.{Command}
-use Rattle.line_tool.specs.declared.words.Command.TheVariants.{Slot, Pull, Check, Run, RunOrdered, RunCaptures, Trial, Protect}
+use Rattle.line_tool.specs.declared.words.Command.TheVariants.{Slot, Pull, Check, Run, RunOrdered, RunCaptures, Trial, Protect, Unbundle}
 use Rattle.program_words.specs.declared.files.InputFile.{InputFile}
 use Rattle.program_words.specs.declared.files.InputFile.TheVariants.{Line as line-in, Text as text-in, Capture as capture-in}
 use Rattle.program_words.specs.declared.files.OutputFile.{OutputFile}
@@ -79,13 +79,19 @@ is_captured_out (line-out n) = true
 is_captured_out (text-out n) = false
 is_captured_out (capture-out n) = true
 
+-- whether it is the file of a packet text
+abbrev pub is_text_out : OutputFile → Bool
+is_text_out (line-out n) = false
+is_text_out (text-out n) = true
+is_text_out (capture-out n) = false
+
 -- whether it is the file of line output 0
 abbrev pub is_first_line_out : OutputFile → Bool
 is_first_line_out (line-out n) = n == 0
 is_first_line_out (text-out n) = false
 is_first_line_out (capture-out n) = false
 
--- whether a command reads this file: `slot` and `pull` line input 0, `protect` line inputs 0 and 1, a run all inputs,
+-- whether a command reads this file: `slot`, `pull` and `unbundle` line input 0, `protect` line inputs 0 and 1, a run all inputs,
 -- and all others none
 abbrev pub is_read : Command → InputFile → Bool
 is_read (Slot slot) file = is_line_below 1 file
@@ -96,8 +102,9 @@ is_read (RunOrdered number) file = is_plain_in file
 is_read RunCaptures file = true
 is_read (Trial number) file = false
 is_read (Protect port slots turns wait) file = is_line_below 2 file
+is_read (Unbundle turns) file = is_line_below 1 file
 
--- whether a command writes this file: a run all outputs, `protect` line output 0, and all others none
+-- whether a command writes this file: a run all outputs, `protect` line output 0, `unbundle` the packet texts, and all others none
 abbrev pub is_written : Command → OutputFile → Bool
 is_written (Slot slot) file = false
 is_written (Pull port slots) file = false
@@ -107,6 +114,7 @@ is_written (RunOrdered number) file = is_plain_out file
 is_written RunCaptures file = is_captured_out file
 is_written (Trial number) file = false
 is_written (Protect port slots turns wait) file = is_first_line_out file
+is_written (Unbundle turns) file = is_text_out file
 
 -- the commands that read the plan
 abbrev pub IsOfPlan : Command → Type 0
@@ -118,6 +126,7 @@ IsOfPlan (RunOrdered number) = Unit {0}
 IsOfPlan RunCaptures = Unit {0}
 IsOfPlan (Trial number) = ⊥
 IsOfPlan (Protect port slots turns wait) = ⊥
+IsOfPlan (Unbundle turns) = ⊥
 
 -- the files that a command reads, in the order in which they are opened, and those that it writes
 abbrev pub files_read : Command → List InputFile

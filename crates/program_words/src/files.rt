@@ -166,7 +166,7 @@ fn reads(command: &Command, file: InputFile) -> bool
     ensures { result ≡ is_read command.now file }
 {
     match command {
-        Command::Slot(_) | Command::Pull(..) => is_line_below(file, 1),
+        Command::Slot(_) | Command::Pull(..) | Command::Unbundle(_) => is_line_below(file, 1),
         Command::Run | Command::RunOrdered(_) => !matches!(file, InputFile::Capture(_)),
         Command::RunCaptures => true,
         Command::Protect(..) => is_line_below(file, 2),
@@ -192,6 +192,7 @@ fn writes(command: &Command, file: OutputFile) -> bool
         Command::Run | Command::RunOrdered(_) => !matches!(file, OutputFile::Capture(_)),
         Command::RunCaptures => !matches!(file, OutputFile::Text(_)),
         Command::Protect(..) => matches!(file, OutputFile::Line(0)),
+        Command::Unbundle(_) => matches!(file, OutputFile::Text(_)),
         Command::Slot(_) | Command::Pull(..) | Command::Check | Command::Trial(_) => false,
     }
 }
@@ -204,5 +205,6 @@ fn is_of_plan(command: &Command) -> bool
     match command {
         Command::Check | Command::Run | Command::RunOrdered(_) | Command::RunCaptures => true,
         Command::Slot(_) | Command::Pull(..) | Command::Protect(..) | Command::Trial(_) => false,
+        Command::Unbundle(_) => false,
     }
 }

@@ -4,3 +4,4 @@ pub mod Few
 pub mod Turns
 pub mod Telling
 pub mod Ends
+pub mod Apart

@@ -30,7 +30,7 @@ flat_more f n =
     let last : 0 + n ≡ n = omega arith in
     ap (flat_map f) (range_more 0 n) ∙ flat_map-append f (range_with_len 0 n) ((0 + n) ∷ []) ∙ ap (λ xs. flat_map f (range_with_len 0 n) ++ xs) (append-nil (f (0 + n)) ∙ ap f last)
 
-emitted_more : (given : List ℕ) (t : ℕ) → emitted_before given (suc t) ≡ emitted_before given t ++ emitted_at first_slot given t
+pub emitted_more : (given : List ℕ) (t : ℕ) → emitted_before given (suc t) ≡ emitted_before given t ++ emitted_at first_slot given t
 emitted_more given t = flat_more (emitted_at first_slot given) t
 
 -- a turn emits no more than there is room for

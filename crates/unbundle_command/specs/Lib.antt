@@ -2,3 +2,4 @@ pub mod Unbundled
 pub mod Receiving
 pub mod Unbundling
 pub mod UnbundleLeft
+pub mod Laws

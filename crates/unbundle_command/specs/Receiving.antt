@@ -1,4 +1,5 @@
--- What arrives on channels, within the bytes of a turn: their outputs, a reader of GFP frames and an aligner of client frames.
+-- What arrives on channels, within the bytes of a turn: their outputs, a reader of GFP frames and an aligner of client
+-- frames.
 use Rattle.std.specs.Prelude.{◌≡◌, ◌<◌, ℕ, List, [], ◌∷◌, ◌++◌, flat_map, get_or}
 use Rattle.otn_base.specs.Counts.{saturated}
 use Rattle.otn_base.specs.declared.limits.TheConstants.{CLIENTS}
@@ -23,7 +24,8 @@ pub record ChannelView : Type 0 where
 abbrev pub no_channel : ChannelView
 no_channel = record { text = []; packets = 0; losses = 0 }
 
--- Of the text of these packets the first part was due to a place, and the rest is held. Without packets the place is as it was.
+-- Of the text of these packets the first part was due to a place, and the rest is held. Without packets the place is as
+-- it was.
 pub record LinesHeld (first now : OutView) (packets : List (List ℕ)) (text : List ℕ) : Type 0 where
   pub gone : List ℕ
   pub sent : IsSent first gone now

@@ -31,7 +31,8 @@ pub record IsOutputDead (came : List ChannelArrival) (last : BaysView) : Type 0 
 abbrev pub IsCut : List ChannelArrival → BaysView → Type 0
 IsCut came last = ((line_in_at last 0).state ≡ Dead) ⊎ IsOutputDead came last
 
--- To the client output of each channel the text of the packets that arrived on it was due; where none did it is as it was.
+-- To the client output of each channel the text of the packets that arrived on it was due; where none did it is as it
+-- was.
 pub record OutputsSent (came : List ChannelArrival) (first last : BaysView) : Type 0 where
   pub sent : (cid : ℕ) → cid < CLIENTS → IsSent (client_out_at first cid) (hex_text (packets_on cid came)) (client_out_at last cid)
   pub quiet : (cid : ℕ) → cid < CLIENTS → packets_on cid came ≡ [] → client_out_at last cid ≡ client_out_at first cid
@@ -44,8 +45,8 @@ written_by Done = written.Whole
 written_by Unfinished = written.Whole
 written_by Cut = written.Whole
 
--- With these bytes of the line, and where these arrived on channels: what went to the client outputs and the report, how much was taken of the line, and
--- how the command ended.
+-- With these bytes of the line, and where these arrived on channels: what went to the client outputs and the report,
+-- how much was taken of the line, and how the command ended.
 pub record UnbundleOf (turns : ℕ) (given taken : List ℕ) (came : List ChannelArrival) (first last : BaysView) (was is : SinkView) (ended : Ended) : Type 0 where
   pub outputs : OutputsSent came first last
   pub report : SinkWrites (written_by ended) was (report_text came) is

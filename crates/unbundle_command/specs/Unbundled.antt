@@ -1,5 +1,5 @@
--- What is taken apart of a line: the channels of an ODU0 in its tributary slot 1. Given is all bytes of the line; turns count from 0 here: turn t is the line's
--- turn t + 1.
+-- What is taken apart of a line: the channels of an ODU0 in its tributary slot 1. Given is all bytes of the line; turns
+-- count from 0 here: turn t is the line's turn t + 1.
 use Rattle.std.specs.Prelude.{ℕ, ◌==◌, nat_lt, nat_le, ◌||◌, Bool, false, if◌then◌else◌, List, [], ◌∷◌, ◌++◌, length, codes}
 use Rattle.std.specs.Fmt.{decimal}
 use Rattle.std.specs.List.{filter, flat_map, range_with_len}
@@ -20,7 +20,8 @@ first_slot = tributary_of (record { kind = Otu2; list = 1 ∷ [] }) 1
 abbrev pub emitted_before : (given : List ℕ) → (t : ℕ) → List ℕ
 emitted_before given t = flat_map (emitted_at first_slot given) (range_with_len 0 t)
 
--- what arrives on channels in the bytes of an ODU0: each run of payload bytes between breaks is a stream of GFP frames of its own
+-- what arrives on channels in the bytes of an ODU0: each run of payload bytes between breaks is a stream of GFP frames
+-- of its own
 unfoldable pub client_arrivals : List ℕ → List ChannelArrival
 client_arrivals bytes = flat_map channel_arrivals (runs_of (arrivals bytes))
 
@@ -40,7 +41,8 @@ abbrev pub is_of_other : ChannelArrival → Bool
 is_of_other (PacketOn cid packet) = nat_le CLIENTS cid
 is_of_other (LossOn cid) = nat_le CLIENTS cid
 
--- how many packets and how many losses arrive on a channel, and how many arrivals are of channels without a client output
+-- how many packets and how many losses arrive on a channel, and how many arrivals are of channels without a client
+-- output
 abbrev pub packet_count : (cid : ℕ) → List ChannelArrival → ℕ
 packet_count cid came = length (packets_on cid came)
 
@@ -68,6 +70,7 @@ channel_lines came count = flat_map (λ cid. channel_line cid (packet_count cid 
 unfoldable pub other_text : (count : ℕ) → List ℕ
 other_text count = line_of (codes "other " ∷ decimal count ∷ [])
 
--- the report on what arrived: a line for each channel with a client output on which something did, and how much arrived on others
+-- the report on what arrived: a line for each channel with a client output on which something did, and how much arrived
+-- on others
 unfoldable pub report_text : List ChannelArrival → List ℕ
 report_text came = channel_lines came CLIENTS ++ other_text (other_count came)

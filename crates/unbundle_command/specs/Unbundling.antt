@@ -12,8 +12,8 @@ use Rattle.otn_ports.specs.declared.ended.Ended.{Ended}
 use Rattle.otn_ports.specs.declared.ended.Ended.TheVariants.{Done, Unfinished, Cut}
 use Rattle.unbundle_command.specs.declared.unbundling.Unbundling.{Unbundling}
 
--- The sink has seen t turns of the line, of which these bytes were taken: whatever else may come, all that it emitted was read. In a turn it emits
--- 15,233 bytes at most.
+-- The sink has seen t turns of the line, of which these bytes were taken: whatever else may come, all that it emitted
+-- was read. In a turn it emits 15,233 bytes at most.
 pub record Stands (first now : BaysView) (taken : List ℕ) (t : ℕ) (parts : Unbundling) : Type 0 where
   pub tap : TapStands first_slot (line_in_at first 0) (line_in_at now 0) taken t parts.tap
   pub holds : (given : List ℕ) → MayBe false parts.tap.line.reader.ending taken given

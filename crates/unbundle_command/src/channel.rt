@@ -1,4 +1,5 @@
-// A channel: its packets as lines for its client output, held until many of them leave at once, and how many packets and losses arrived on it.
+// A channel: its packets as lines for its client output, held until many of them leave at once, and how many packets
+// and losses arrived on it.
 ghost use Rattle.std.specs.Prelude.{◌≡◌, ◌+◌, ◌*◌, ◌-◌, ◌^◌, ◌≤◌, ◌∷◌, ◌++◌, min, ℕ, List, [], length, take, IfOk};
 ghost use Rattle.otn_base.specs.declared.limits.TheConstants.{MOST_DELIVERED};
 ghost use Rattle.otn_ports.specs.OutPlace.{out_view};

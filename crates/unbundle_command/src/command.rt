@@ -14,11 +14,12 @@ use otn_base::limits::GROUPS;
 use otn_ports::{Ended, Rack, Sink, Source};
 use std::alloc::{AllocError, Global};
 
-/// Takes the ODU0 of slot 1 and port 1 from line input 0, a plain OTU2, in each of so many turns, 1 to 16,384, and finds the linear GFP frames
-/// in its client frames. The packets of channels 0 to 15 are written, a line of hex digits each, to the client outputs of these numbers. After
-/// the last turn the line is asked for one byte more. The report then has a line for each of these channels on which something arrived,
-/// with the numbers of its packets and of its losses, whatever its client output is; the last line tells how much arrived on other channels.
-/// A line or an output that is dead, or has ended, stops nothing.
+/// Takes the ODU0 of slot 1 and port 1 from line input 0, a plain OTU2, in each of so many turns, 1 to 16,384, and
+/// finds the linear GFP frames in its client frames. The packets of channels 0 to 15 are written, a line of hex digits
+/// each, to the client outputs of these numbers. After the last turn the line is asked for one byte more. The report
+/// then has a line for each of these channels on which something arrived, with the numbers of its packets and of its
+/// losses, whatever its client output is; the last line tells how much arrived on other channels. A line or an output
+/// that is dead, or has ended, stops nothing.
 pub fn unbundle<I: Source, O: Sink, K: Sink>(
     alloc: Global,
     turns: u32,
@@ -30,8 +31,8 @@ pub fn unbundle<I: Source, O: Sink, K: Sink>(
     ensures ran { result ≢ Ended.Memory → UnbundleRan turns (bays_view I.Source O.Sink bays.old) (bays_view I.Source O.Sink bays.new)
         (sink_view K.Sink report.old) (sink_view K.Sink report.new) result }
 
-    // the report's count of faults rose or stands at its end where its write failed, and else it is as it was; all places but line input 0
-    // and the client outputs are as they were
+    // the report's count of faults rose or stands at its end where its write failed, and else it is as it was; all
+    // places but line input 0 and the client outputs are as they were
     ensures cause { result ≡ Ended.ReportFault → HasFailed (K.faults report.old) (K.faults report.new) }
     ensures well { result ≢ Ended.ReportFault → K.faults report.new ≡ K.faults report.old }
     ensures alone { OnlyUnbundled (bays_view I.Source O.Sink bays.old) (bays_view I.Source O.Sink bays.new) }

@@ -17,8 +17,8 @@ use crate::unbundling::Unbundling;
 use otn_base::limits::CLIENTS;
 use otn_ports::{Ended, InPlaceOf, OutPlaceOf, Rack, Sink, Source, Written};
 
-/// After the last turn: the line is asked for one byte more, where its end was not seen; all lines of packets leave, and the report is
-/// written. Says how the command ended.
+/// After the last turn: the line is asked for one byte more, where its end was not seen; all lines of packets leave,
+/// and the report is written. Says how the command ended.
 pub(crate) fn settle<I: Source, O: Sink, K: Sink>(
     parts: &mut Unbundling,
     bays: &mut Rack<I, O>,

@@ -37,10 +37,12 @@ fn part(bytes: &[u8], from: usize, count: usize) -> &[u8] {
 
 // The payload of eight client frames: these bytes, and idle frames behind them.
 fn stream_of(alloc: Global, front: &[u8]) -> Result<Vec<u8>, Memory> {
-    let mut stream = Vec::new(alloc);
-    stream.extend_from_slice(front)?;
-    while stream.len() < TURNS * CLIENT_PAYLOAD_BYTES {
-        stream.extend_from_slice(&IDLE)?;
+    let mut stream = vec![in alloc; 0u8; TURNS * CLIENT_PAYLOAD_BYTES]?;
+    for (i, byte) in stream.iter_mut().enumerate() {
+        *byte = match front.get(i) {
+            Some(byte) => *byte,
+            None => IDLE[i.saturating_sub(front.len()) % 4],
+        };
     }
     Ok(stream)
 }

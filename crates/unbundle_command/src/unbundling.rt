@@ -13,8 +13,8 @@ use otn_ports::{Rack, Sink, Source};
 use std::alloc::Global;
 use tributary_line::Tap;
 
-/// The sink of the tributary in slot 1 with port 1, what finds the client frames in the bytes that it emits, the reader of the linear
-/// GFP frames in these, and the outputs of the channels.
+/// The sink of the tributary in slot 1 with port 1, what finds the client frames in the bytes that it emits, the reader
+/// of the linear GFP frames in these, and the outputs of the channels.
 #[derive(Drop)]
 pub(crate) struct Unbundling {
     pub(crate) tap: Tap,
@@ -26,7 +26,8 @@ pub(crate) struct Unbundling {
 ghost use Rattle.unbundle_command.specs.Unbundling.{IsReady, OnlyUnbundled, Stands, TurnGone, TurnsGone};
 
 impl Unbundling {
-    /// The parts before the first turn. Takes all memory that they will ever need; answers `Memory` where there is none.
+    /// The parts before the first turn. Takes all memory that they will ever need; answers `Memory` where there is
+    /// none.
     pub(crate) fn new(alloc: Global) -> Result<Unbundling, Memory>
         ensures gone { IfOk result (λ parts. (first : BaysView) → TurnsGone first first 0 parts) }
         ensures ready { IfOk result IsReady }
@@ -43,7 +44,8 @@ impl Unbundling {
         })
     }
 
-    /// Turn t + 1: the sink sees a turn of the line, and what arrives on channels with the bytes that it emits is due to their client outputs.
+    /// Turn t + 1: the sink sees a turn of the line, and what arrives on channels with the bytes that it emits is due
+    /// to their client outputs.
     pub(crate) fn turn<I: Source, O: Sink>(&mut self, room: &mut Vec<u8>, bays: &mut Rack<I, O>)
         requires ready { IsReady self.old }
         requires room { vec_len room.old ≡ GROUPS + 1 }

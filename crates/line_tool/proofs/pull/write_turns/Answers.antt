@@ -1,4 +1,4 @@
-use Rattle.std.proofs.Common.{◌≡◌, ◌+◌, ◌++◌, ◌∙◌, refl, subst, inl, inr, Some, None, arith, true, false}
+use Rattle.std.proofs.Common.{◌≡◌, ◌+◌, ◌∙◌, refl, subst, inl, inr, Some, None, arith, true, false}
 use Rattle.otn_ports.specs.InPlace.{in_view}
 use Rattle.line_side.specs.LineStands.{LineView}
 use Rattle.otn_ports.specs.PortViews.{sink_view}

@@ -5,19 +5,21 @@ use Rattle.otn_ports.specs.Racks.{bays_view, with_line_in}
 use Rattle.tributary_model.specs.Places.{tributary_of}
 use Rattle.protect_selector.specs.Protecting.{ends_of, OnlyProtected}
 use Rattle.protect_selector.specs.ProtectLeft.{ProtectRan}
-use Rattle.line_tool.specs.Answers.{Answers, PlacesAnswers, Protects}
+use Rattle.unbundle_command.specs.Unbundling.{OnlyUnbundled}
+use Rattle.line_tool.specs.Answers.{Answers, PlacesAnswers, Protects, Unbundles}
 use Rattle.line_tool.specs.Device.{device}
 use Rattle.line_tool.specs.Ends.{check_status, trial_status}
 use Rattle.line_tool.specs.PullReport.{tributary}
 use Rattle.line_tool.specs.RunAnswers.{RunAnswers}
 use Rattle.line_tool.specs.AnswerWords.{IsRefusal}
 use Rattle.line_tool.specs.Words.{texts}
-use Rattle.line_tool.specs.declared.words.Command.TheVariants.{Slot, Pull, Run, RunOrdered, RunCaptures, Trial, Protect}
+use Rattle.line_tool.specs.declared.words.Command.TheVariants.{Slot, Pull, Run, RunOrdered, RunCaptures, Trial, Protect, Unbundle}
 use Rattle.line_tool.proofs.Answered.{check_stays, line_stays, never_words, nothing_stays, pull_answered, refused_line, slot_answered}
 use Rattle.line_tool.proofs.Forms.{one_form}
 use Rattle.line_tool.proofs.PlacesAnswered.{by_memory, places_answered, places_refused, places_stay, report_stays, same_places}
 use Rattle.line_tool.proofs.Protected.{of_otu2, protect_later}
 use Rattle.line_tool.proofs.TrialTold.{trial_answered, trial_later, trial_refused, trial_told}
+use Rattle.line_tool.proofs.UnbundleTable.{unbundle_later}
 use Rattle.line_tool.proofs.top.run.Goals as goal
 
 -- ---- `slot`
@@ -190,3 +192,35 @@ returns-in-Some-Protect-clause-stays g c =
     (λ some. protect_later c.protect.result (tributary_of c.in-Some-Protect.slots c.in-Some-Protect.port) c.in-Some-Protect.turns c.in-Some-Protect.wait
     (ends_of (bays_view g.I.Source g.O.Sink c.args.bays.now) (sink_view g.K.Sink c.args.report.now)) (ends_of (bays_view g.I.Source g.O.Sink c.protect.new.bays) (sink_view g.K.Sink c.protect.new.report))
     (c.protect.ensures.ran some)))
+
+-- ---- `unbundle`
+
+pub returns-in-Some-Unbundle-clause-answers : goal.returns-in-Some-Unbundle-clause-answers
+returns-in-Some-Unbundle-clause-answers g c = λ command form.
+    let mine = rw c.in-Some-Unbundle.field-0-is at c.in-Some-Unbundle.ensures.form in
+    let old = device g.P.Source g.K.Sink g.I.Source g.O.Sink c.args.plan.now c.args.bays.now c.args.report.now in
+    let new = device g.P.Source g.K.Sink g.I.Source g.O.Sink c.args.plan.now c.unbundle.new.bays c.unbundle.new.report in
+    let run = places_answered OnlyUnbundled (Unbundles c.in-Some-Unbundle.turns) c.unbundle.result old new
+    (λ none. same_places g.P.Source g.K.Sink g.I.Source g.O.Sink c.args.plan.now c.args.bays.now c.unbundle.new.bays c.args.report.now c.unbundle.new.report (c.unbundle.ensures.memory none))
+    c.unbundle.ensures.ran c.unbundle.ensures.cause c.unbundle.ensures.well c.unbundle.ensures.alone in
+    subst (λ k. Answers k old new (g.C.Chooser.asked c.args.chooser.now) (g.C.Chooser.asked c.args.chooser.now) c.status_of-in-Some-Unbundle.result)
+    (one_form (texts c.args.words.now) (Unbundle c.in-Some-Unbundle.turns) command mine form)
+    (subst (λ answer. PlacesAnswers OnlyUnbundled (Unbundles c.in-Some-Unbundle.turns) old new answer) (sym c.status_of-in-Some-Unbundle.ensures) run)
+
+pub returns-in-Some-Unbundle-clause-words : goal.returns-in-Some-Unbundle-clause-words
+returns-in-Some-Unbundle-clause-words g c = (
+  λ e. absurd (never_words c.unbundle.result (sym c.status_of-in-Some-Unbundle.ensures ∙ e)),
+  λ none. absurd (none (Unbundle c.in-Some-Unbundle.turns) (rw c.in-Some-Unbundle.field-0-is at c.in-Some-Unbundle.ensures.form)),
+)
+
+pub returns-in-Some-Unbundle-clause-refused : goal.returns-in-Some-Unbundle-clause-refused
+returns-in-Some-Unbundle-clause-refused g c = λ refusal.
+    places_refused c.args.bays.now c.unbundle.new.bays c.args.report.now c.unbundle.new.report c.unbundle.result c.unbundle.ensures.memory (subst IsRefusal c.status_of-in-Some-Unbundle.ensures refusal)
+
+pub returns-in-Some-Unbundle-clause-stays : goal.returns-in-Some-Unbundle-clause-stays
+returns-in-Some-Unbundle-clause-stays g c =
+    places_stay g.P.Source g.K.Sink g.I.Source g.O.Sink c.args.plan.now c.args.bays.now c.unbundle.new.bays c.args.report.now c.unbundle.new.report
+    (by_memory c.unbundle.result (SinkLater (sink_view g.K.Sink c.args.report.now) (sink_view g.K.Sink c.unbundle.new.report))
+    (λ none. report_stays g.K.Sink c.args.report.now c.unbundle.new.report (c.unbundle.ensures.memory none).1)
+    (λ some. unbundle_later c.unbundle.result c.in-Some-Unbundle.turns (bays_view g.I.Source g.O.Sink c.args.bays.now) (bays_view g.I.Source g.O.Sink c.unbundle.new.bays)
+    (sink_view g.K.Sink c.args.report.now) (sink_view g.K.Sink c.unbundle.new.report) (c.unbundle.ensures.ran some)))

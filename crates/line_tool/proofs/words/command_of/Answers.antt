@@ -1,4 +1,4 @@
-use Rattle.std.proofs.Common.{◌≡◌, ◌∙◌, [], ◌∷◌, IfNone, subst, sym, arith}
+use Rattle.std.proofs.Common.{◌≡◌, [], ◌∷◌, IfNone, subst, sym, arith}
 use Rattle.line_tool.specs.Words.{IsNoForm, texts}
 use Rattle.line_tool.proofs.WordLists.{five_texts}
 use Rattle.line_tool.proofs.words.command_of.Goals as goal

@@ -1,4 +1,3 @@
-use Rattle.std.proofs.Common.{false, true}
 use Rattle.line_tool.specs.Words.{IsForm, texts}
 use Rattle.line_tool.specs.declared.words.Command.TheVariants.{RunCaptures}
 use Rattle.line_tool.proofs.Forms.{one_form}
