@@ -1,0 +1,15 @@
+pub mod Texts
+pub mod Sizes
+pub mod Channels
+pub mod Asked
+pub mod Given
+pub mod Frames
+pub mod Within
+pub mod AtEnd
+pub mod Places
+pub mod Lists
+pub mod Ends
+pub mod Finish
+pub mod BundleEnds
+pub mod Ran
+pub mod Turning

@@ -1,0 +1,23 @@
+use Rattle.std.proofs.Common.{refl}
+use Rattle.otn_ports.specs.Racks.{bays_view}
+use Rattle.odu_client.specs.AlignedRuns.{payload_of}
+use Rattle.bundle_command.proofs.Frames.{frame_made}
+use Rattle.bundle_command.proofs.Given.{stands_ready}
+use Rattle.bundle_command.proofs.framing.Framing.make_frame.Goals as goal
+
+pub fill_payload-requires : goal.fill_payload-requires
+fill_payload-requires g c =
+    let r = c.requires.ready in
+    record {
+      ready = record {
+        clients = r.clients;
+        first = r.first;
+        given = r.ready.given;
+        ready = stands_ready r.clients r.first (bays_view g.I.Source g.O.Sink c.args.bays.now) r.ready.given c.args.self.now.weaving r.ready.weaving;
+      };
+    }
+
+pub returns-clause-stands : goal.returns-clause-stands
+returns-clause-stands g c = λ clients first gone h.
+    frame_made clients first (bays_view g.I.Source g.O.Sink c.args.bays.now) (bays_view g.I.Source g.O.Sink c.fill_payload.new.bays) gone (payload_of c.fill_payload.new.frame) c.args.self.now _
+    c.requires.gone c.args.self.now.size refl refl c.fill_payload.ensures.size (λ given w. c.fill_payload.ensures.stands clients first given w) (λ count given m. c.write.ensures.made count given m c.fill_payload.ensures.size) h

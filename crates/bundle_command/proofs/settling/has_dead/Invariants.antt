@@ -1,0 +1,11 @@
+use Rattle.std.proofs.Common.{◌≡◌, ◌<◌, ℕ, false}
+use Rattle.otn_ports.specs.Racks.{bays_view}
+use Rattle.otn_ports.specs.Views.{client_in_at}
+use Rattle.bundle_command.specs.Channels.{HasChannel}
+use Rattle.bundle_command.specs.Settled.{is_dead}
+use Rattle.bundle_command.specs.declared.channel.Channel.{Channel}
+use Rattle.bundle_command.proofs.settling.has_dead.Given as goal
+
+abbrev pub invariant-loop-channel : goal.invariant-loop-channel
+invariant-loop-channel g l = (k : ℕ) (channel : Channel) → k < l.channel-index → HasChannel l.channels k channel
+    → is_dead (client_in_at (bays_view g.I.Source g.O.Sink l.bays) channel.client).state ≡ false

@@ -1,0 +1,15 @@
+use Rattle.std.proofs.Common.{◌≡◌, ℕ, List, length, vec_len}
+use Rattle.otn_ports.specs.Racks.{bays_view}
+use Rattle.otn_ports.specs.Views.{BaysView}
+use Rattle.bundle_command.specs.Channels.{WeavingStands}
+use Rattle.bundle_command.specs.Framed.{OnlyInputs}
+use Rattle.bundle_command.specs.Settled.{IsSettled}
+use Rattle.bundle_command.proofs.settling.settle.Given as goal
+
+abbrev pub invariant-loop-i : goal.invariant-loop-i
+invariant-loop-i g l = record {
+  many : vec_len l.weaving.channels ≡ vec_len l.fn.weaving.channels;
+  settled : (clients : List ℕ) (first : BaysView) (given : List ℕ) → WeavingStands clients first (bays_view g.I.Source g.O.Sink l.fn.bays) given l.fn.weaving
+      → IsSettled l.i clients first (bays_view g.I.Source g.O.Sink l.bays) given l.weaving;
+  alone : OnlyInputs (bays_view g.I.Source g.O.Sink l.fn.bays) (bays_view g.I.Source g.O.Sink l.bays);
+}

@@ -1,0 +1,72 @@
+-- What the command leaves, from its places and the report as they were first to how they are last.
+use Rattle.std.specs.Prelude.{◌≡◌, ◌≢◌, ◌⊎◌, ◌↔◌, ◌<◌, ◌≤◌, ◌*◌, ◌+◌, ℕ, Bool, List, ◌++◌, All, length, take, slice_index}
+use Rattle.std.specs.List.{Contains, concat}
+use Rattle.otn_base.specs.declared.limits.TheConstants.{CLIENTS, OTU2_SLOTS}
+use Rattle.otn_ports.specs.PortViews.{SinkView, SinkGot}
+use Rattle.otn_ports.specs.Sent.{IsSent}
+use Rattle.otn_ports.specs.Views.{Dead, InView, OutView, BaysView, line_in_at, line_out_at, client_in_at}
+use Rattle.packet_text.specs.LinesStand.{ReadAsNeeded}
+use Rattle.gfp_linear.specs.ChannelFrames.{IsCidList}
+use Rattle.odu_client.specs.ClientInput.{ClientInput, input_given}
+use Rattle.device_model.specs.Inputs.{has_died}
+use Rattle.device_model.specs.LineAsked.{MayHave, InputLeft}
+use Rattle.tributary_line.specs.TributaryFile.{IsTributaryFile}
+use Rattle.bundle_command.specs.ChannelInput.{texts_of}
+use Rattle.bundle_command.specs.BundleStream.{IsFinished, begun_of, channel_turns, first_slot, lines_told}
+use Rattle.otn_ports.specs.declared.ended.Ended.{Ended}
+use Rattle.otn_ports.specs.declared.ended.Ended.TheVariants.{Unfinished, Cut, ReportFault, Memory}
+
+-- the numbers of some clients: one at least, rising, each that of a place
+pub record IsClientList (clients : List ℕ) : Type 0 where
+  pub cids : IsCidList clients
+  pub places : (c : ℕ) → c < length clients → slice_index clients c < CLIENTS
+
+-- the place of a channel's client
+abbrev pub place_of : (clients : List ℕ) → BaysView → (c : ℕ) → InView
+place_of clients bays c = client_in_at bays (slice_index clients c)
+
+-- a place of the command is dead
+abbrev pub IsCut : (clients : List ℕ) → BaysView → Type 0
+IsCut clients last = ((c : ℕ) × (c < length clients) × ((place_of clients last c).state ≡ Dead)) ⊎ ((line_out_at last 0).state ≡ Dead)
+
+-- what a client's input may turn out to be, of which these bytes were taken
+pub record MayBeInput (first last : InView) (taken : List ℕ) (more : Bool) (input : ClientInput) : Type 0 where
+  pub given : List ℕ
+  pub may : MayHave more taken given
+  pub is : input ≡ input_given (has_died first.state last.state) given
+
+-- all frames of these turns were due to the line output
+pub record OutputDue (own : List (List ℕ)) (count : ℕ) (first last : OutView) : Type 0 where
+  pub frames : List (List ℕ)
+  pub file : IsTributaryFile 0 first_slot own (OTU2_SLOTS * count) frames
+  pub sent : IsSent first (concat frames) last
+
+-- the report got this text; where it failed a part of it, from the front, and not all
+abbrev pub Tells : Ended → SinkView → List ℕ → SinkView → Type 0
+Tells ReportFault first text last = (went : ℕ) × (went < length text) × SinkGot first (take went text) last
+Tells Memory first text last = ⊥
+Tells ended first text last = SinkGot first text last
+
+-- what is left where the clients' inputs are these
+pub record LeftOf (clients : List ℕ) (turns : ℕ) (first last : BaysView) (report told : SinkView) (ended : Ended) (taken : ℕ → List ℕ) (inputs : ℕ → ClientInput) : Type 0 where
+  pub output : OutputDue (channel_turns clients (texts_of (length clients) inputs) turns) turns (line_out_at first 0) (line_out_at last 0)
+  pub tells : Tells ended report (lines_told clients (texts_of (length clients) inputs) turns (λ c. (place_of clients last c).state) (length clients)) told
+  -- of each text no block was read that was not needed for one packet more than are begun
+  pub read : (c : ℕ) → c < length clients → (short : Bool) × ReadAsNeeded short (length (begun_of clients (texts_of (length clients) inputs) turns c) + 1) (taken c)
+  pub cut : ended ≢ ReportFault → (ended ≡ Cut) ↔ IsCut clients last
+  pub unfinished : ended ≢ ReportFault → (ended ≡ Unfinished) ↔ ((IsCut clients last → ⊥) × (IsFinished clients turns inputs → ⊥))
+
+-- These bytes were taken of the clients. More may stand behind them; whatever their inputs turn out to be, this is left.
+pub record BundleRan (clients : List ℕ) (turns : ℕ) (first last : BaysView) (report told : SinkView) (ended : Ended) : Type 0 where
+  pub taken : ℕ → List ℕ
+  pub more : ℕ → Bool
+  pub client_in : (c : ℕ) → c < length clients → InputLeft (place_of clients first c) (place_of clients last c) (taken c) (more c)
+  pub left : (inputs : ℕ → ClientInput) → ((c : ℕ) → c < length clients → MayBeInput (place_of clients first c) (place_of clients last c) (taken c) (more c) (inputs c))
+      → LeftOf clients turns first last report told ended taken inputs
+
+-- all other places are as they were
+pub record OnlyBundled (clients : List ℕ) (first last : BaysView) : Type 0 where
+  pub line_in : last.line_in ≡ first.line_in
+  pub line_out : (b : ℕ) → b ≢ 0 → line_out_at last b ≡ line_out_at first b
+  pub client_in : (n : ℕ) → (Contains clients n → ⊥) → client_in_at last n ≡ client_in_at first n
+  pub client_out : last.client_out ≡ first.client_out

@@ -1,0 +1,134 @@
+// The end of the command: clients that may have more are asked once more, and how it ended.
+ghost use Rattle.std.specs.Prelude.{◌≡◌, ◌≢◌, ◌<◌, ◌≤◌, ◌*◌, ◌/◌, ◌&&◌, ◌||◌, ℕ, List, length, nat_le, vec_len};
+ghost use Rattle.otn_base.specs.declared.limits.TheConstants.{CLIENT_FRAME_BYTES, CLIENT_PAYLOAD_BYTES, MOST_TURNS, NOMINAL};
+ghost use Rattle.otn_ports.specs.InPlace.{in_view};
+ghost use Rattle.otn_ports.specs.OutPlace.{out_view};
+ghost use Rattle.otn_ports.specs.Racks.{bays_view};
+ghost use Rattle.otn_ports.specs.Views.{BaysView, line_out_at};
+ghost use Rattle.bundle_command.specs.BundleStream.{payload_whole};
+ghost use Rattle.bundle_command.specs.Channels.{HasChannel, IsStanding, WeavingStands};
+ghost use Rattle.bundle_command.specs.Framed.{OnlyInputs};
+ghost use Rattle.bundle_command.specs.Settled.{AllEnded, ChannelSettled, DeadClients, IsEnded, IsSettled, ended_by, is_dead};
+
+use crate::channel::{Channel, Standing};
+use crate::weaving::Weaving;
+use otn_base::limits::{CLIENT_FRAME_BYTES, CLIENT_PAYLOAD_BYTES, NOMINAL};
+use otn_ports::{Ended, InPlaceOf, OutPlaceOf, Rack, Sink, Source};
+
+/// Asks each channel once more whose last answer was a packet, in the order of the channels.
+pub(crate) fn settle<I: Source, O: Sink>(weaving: &mut Weaving, bays: &mut Rack<I, O>)
+    requires stands { IsStanding (bays_view I.Source O.Sink bays.old) weaving.old }
+    ensures settled { (clients : List ℕ) (first : BaysView) (given : List ℕ) → WeavingStands clients first (bays_view I.Source O.Sink bays.old) given weaving.old
+        → IsSettled (length clients) clients first (bays_view I.Source O.Sink bays.new) given weaving.new }
+    ensures alone { OnlyInputs (bays_view I.Source O.Sink bays.old) (bays_view I.Source O.Sink bays.new) }
+{
+    for i in 0..weaving.channels.len() {
+        settle_one(&mut weaving.channels, i, bays);
+    }
+}
+
+// The same of one channel.
+fn settle_one<I: Source, O: Sink>(channels: &mut Vec<Channel>, index: usize, bays: &mut Rack<I, O>)
+    requires within { index < vec_len channels.old }
+    requires place { (channel : Channel) → HasChannel channels.old.items index channel → channel.client < 16 }
+    ensures settled { ChannelSettled index (bays_view I.Source O.Sink bays.old) channels.old.items (bays_view I.Source O.Sink bays.new) channels.new.items }
+    ensures alone { OnlyInputs (bays_view I.Source O.Sink bays.old) (bays_view I.Source O.Sink bays.new) }
+    ensures many { vec_len channels.new ≡ vec_len channels.old }
+{
+    let client = channels[index].client;
+    channels[index].settle(bays.client_in_mut(client));
+}
+
+/// How the command ended after so many turns, where the report did not fail.
+pub(crate) fn ended<I: Source, O: Sink>(weaving: &Weaving, turns: u32, bays: &Rack<I, O>) -> Ended
+    requires turns { turns ≤ MOST_TURNS }
+    requires places { (c : ℕ) (channel : Channel) → HasChannel weaving.now.channels.items c channel → channel.client < 16 }
+    ensures { IsEnded weaving.now turns (bays_view I.Source O.Sink bays.now) result }
+{
+    let dead = either(
+        has_dead(&weaving.channels, bays),
+        is_dead_out(bays.line_out(0)),
+    );
+    let finished = both(
+        are_ended(&weaving.channels),
+        weaving.end <= payload_whole(turns),
+    );
+    ended_by(dead, finished)
+}
+
+// Payload bytes of the client frames that are whole in so many turns.
+fn payload_whole(turns: u32) -> u64
+    requires { turns ≤ MOST_TURNS }
+    ensures { result ≡ payload_whole turns }
+{
+    (CLIENT_PAYLOAD_BYTES * (NOMINAL * turns as usize / CLIENT_FRAME_BYTES)) as u64
+}
+
+// Whether the text of each channel has ended.
+fn are_ended(channels: &[Channel]) -> bool
+    ensures { AllEnded channels.now result }
+{
+    for channel in channels {
+        if channel.standing != Standing::Ended {
+            return false;
+        }
+    }
+    true
+}
+
+// Whether the place of some channel's client is dead.
+fn has_dead<I: Source, O: Sink>(channels: &[Channel], bays: &Rack<I, O>) -> bool
+    requires places { (c : ℕ) (channel : Channel) → HasChannel channels.now c channel → channel.client < 16 }
+    ensures { DeadClients channels.now (bays_view I.Source O.Sink bays.now) result }
+{
+    for channel in channels {
+        if is_dead_in(bays.client_in(channel.client)) {
+            return true;
+        }
+    }
+    false
+}
+
+fn is_dead_in<I: Source>(place: &InPlaceOf<I>) -> bool
+    ensures { result ≡ is_dead (in_view I.Source place.now).state }
+{
+    match place {
+        InPlaceOf::Dead(..) => true,
+        InPlaceOf::Live(..) => false,
+        InPlaceOf::Empty => false,
+    }
+}
+
+fn is_dead_out<O: Sink>(place: &OutPlaceOf<O>) -> bool
+    ensures { result ≡ is_dead (out_view O.Sink place.now).state }
+{
+    match place {
+        OutPlaceOf::Dead(..) => true,
+        OutPlaceOf::Live(..) => false,
+        OutPlaceOf::Empty => false,
+    }
+}
+
+fn ended_by(dead: bool, finished: bool) -> Ended
+    ensures { result ≡ ended_by dead finished }
+{
+    if dead {
+        Ended::Cut
+    } else if finished {
+        Ended::Done
+    } else {
+        Ended::Unfinished
+    }
+}
+
+fn either(one: bool, other: bool) -> bool
+    ensures { result ≡ (one || other) }
+{
+    one || other
+}
+
+fn both(one: bool, other: bool) -> bool
+    ensures { result ≡ (one && other) }
+{
+    one && other
+}
