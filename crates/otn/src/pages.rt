@@ -25,7 +25,8 @@ usage: otn check            whether plan.toml is a plan, and of how many connect
 
 All files stand in the current folder. A run reads plan.toml, line-0.in to line-3.in, and client-00.in to client-15.in
 (packets, one a line, in hex). It writes the same names with .out, all twenty of which it makes empty first. An input
-file that is not there has no bytes. Reports, and what slot and pull find, go to standard output.
+file that is not there has no bytes. Reports, and what slot and pull find, go to standard output. A capture is a
+classic pcap file of Ethernet; editcap -F pcap makes one of a pcapng file.
 
 A plan of one connection:
     turns = 16

@@ -1,6 +1,5 @@
 // The answer of the system to the opening of an input.
-ghost use Rattle.std.specs.Prelude.{◌≡◌};
-ghost use Rattle.program_words.specs.Opened.{opened_as};
+ghost use Rattle.program_words.specs.Opened.{IsOpened};
 
 use std::io;
 use std::io::ErrorKind;
@@ -18,7 +17,7 @@ pub enum Opened<F> {
 
 /// What the place of an input becomes by this answer: empty where there is no such file, and for no other error.
 pub fn opened_input<F>(answer: io::Result<F>) -> Opened<F>
-    ensures { result ≡ opened_as answer }
+    ensures { IsOpened answer result }
 {
     match answer {
         Ok(file) => Opened::File(file),
