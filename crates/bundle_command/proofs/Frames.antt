@@ -4,7 +4,6 @@ use Rattle.std.specs.List.{concat}
 use Rattle.std.proofs.Math.Seq.{take-append_seam, take-length, drop-append_seam, drop-length}
 use Rattle.std.proofs.lemmas.List.{take-append-le, drop-append-le}
 use Rattle.std.proofs.lemmas.Nat.{div-mul-add}
-use Rattle.frame_overhead.specs.TwoBefore.{HasSent}
 use Rattle.otn_ports.specs.Views.{BaysView}
 use Rattle.gfp_linear.specs.Weave.{ChannelText, weave_text}
 use Rattle.odu_client.specs.ClientFrames.{client_frames, frames_begun, payload_begun}

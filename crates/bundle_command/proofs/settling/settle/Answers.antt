@@ -1,4 +1,4 @@
-use Rattle.std.proofs.Common.{◌≡◌, ◌+◌, ◌∙◌, length, refl, sym, ap, subst, add-one, arith, rules}
+use Rattle.std.proofs.Common.{◌≡◌, ◌∙◌, length, refl, sym, subst, add-one, arith, rules}
 use Rattle.otn_ports.specs.Racks.{bays_view}
 use Rattle.bundle_command.specs.Settled.{IsSettled}
 use Rattle.bundle_command.proofs.AtEnd.{none_settled, place_low, settles}

@@ -1,4 +1,4 @@
-use Rattle.std.proofs.Common.{◌≡◌, ℕ, List, length, vec_len}
+use Rattle.std.proofs.Common.{◌≡◌, ℕ, List, vec_len}
 use Rattle.otn_ports.specs.Racks.{bays_view}
 use Rattle.otn_ports.specs.Views.{BaysView}
 use Rattle.bundle_command.specs.Channels.{WeavingStands}

@@ -1,8 +1,6 @@
-use Rattle.std.proofs.Common.{◌≡◌, ◌∙◌, ◌<◌, Some, length, rules, refl, slice_get, subst, sym, ap}
+use Rattle.std.proofs.Common.{◌≡◌, ◌∙◌, ◌<◌, length, rules, refl, subst, sym}
 use Rattle.std.proofs.lemmas.Option.{same_Some, slice_get_read}
-use Rattle.otn_ports.specs.Racks.{client_ins}
 use Rattle.bundle_command.specs.Channels.{HasChannel}
-use Rattle.bundle_command.specs.declared.channel.Channel.{Channel}
 use Rattle.bundle_command.proofs.Places.{asked_at}
 use Rattle.bundle_command.proofs.weaving.ask_channel.Goals as goal
 

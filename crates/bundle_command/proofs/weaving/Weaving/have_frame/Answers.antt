@@ -1,6 +1,5 @@
-use Rattle.std.proofs.Common.{refl}
 use Rattle.otn_ports.specs.Racks.{bays_view}
-use Rattle.bundle_command.proofs.Given.{goes_round, only_none, only_twice, ready_on}
+use Rattle.bundle_command.proofs.Given.{only_none, only_twice, ready_on}
 use Rattle.bundle_command.proofs.weaving.Weaving.have_frame.Goals as goal
 
 pub loop-index-init : goal.loop-index-init

@@ -1,4 +1,4 @@
-use Rattle.std.proofs.Common.{◌≡◌, ℕ, List, length}
+use Rattle.std.proofs.Common.{ℕ, List, length}
 use Rattle.otn_ports.specs.Racks.{bays_view}
 use Rattle.otn_ports.specs.Views.{BaysView}
 use Rattle.bundle_command.specs.Channels.{IsReady, WeavingReady, left_to_ask}

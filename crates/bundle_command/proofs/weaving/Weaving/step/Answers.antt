@@ -1,6 +1,4 @@
-use Rattle.std.proofs.Common.{◌≡◌, ◌≤◌, ◌++◌, take, length, refl, sym, ap, ◌∙◌, arith, rules}
-use Rattle.std.proofs.lemmas.List.{length-take-le}
-use Rattle.gfp_frames.proofs.Lists.{some_length}
+use Rattle.std.proofs.Common.{◌≡◌, ◌++◌, take, length, refl, rules}
 use Rattle.otn_ports.specs.Racks.{bays_view}
 use Rattle.bundle_command.specs.declared.weaving.Weaving.{Weaving}
 use Rattle.bundle_command.proofs.Given.{gives, stands_ready, given_some, given_long}
