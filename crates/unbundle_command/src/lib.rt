@@ -16,8 +16,6 @@ mod outputs;
 mod receiving;
 mod report;
 mod settling;
-#[cfg(test)]
-mod tests;
 mod unbundling;
 
 pub use command::unbundle;
