@@ -58,7 +58,7 @@ class Layout:
     def __init__(self, net):
         self.net = net
         many = len(net.plans) > 6
-        self.strand, self.gap, self.box_width, self.space, self.port = (5, 22, 130, 190, 22) if many else \
+        self.strand, self.gap, self.box_width, self.space, self.port = (5, 22, 130, 224, 22) if many else \
             (9, 26, 250, 210, 24)
         self.depth, self.box, self.place, self.arc = depths(net), {}, {}, {}
         y = 90
@@ -168,7 +168,7 @@ def fibre(p, lay, f):
             p.path(path, colour(x) if own else BAD, max(2, one[1] - 3), title, **more)
     taken = len({k for x in puts for k in x.to['slots']})
     words = f'line {m} → line {n}, {taken} of {one[2]} slots'
-    p.text((x1 + x2) // 2, ((one[0] + two[0]) // 2 if top is None else top) - 8, words,
+    p.text((x1 + x2) // 2, (min(one[0], two[0]) if top is None else top) - 8, words,
            11 if lay.strand > 5 else 9, DIM, anchor='middle')
 
 
