@@ -3,7 +3,7 @@
 Nodes stand in columns, each to the right of those whose fibres it takes; parts of the network that no fibre joins stand
 below one another. A fibre that passes over columns goes above its part. What does not meet is dashed, and in words.
 """
-from drawing import BAD, DIM, INK, Drawing
+from drawing import BAD, DIM, INK, Drawing, count
 from networks import end_words
 
 COLOURS = ['#4878b0', '#e8892b', '#4f9d57', '#9a6fb0', '#3aa6a0', '#d9b12e', '#96705b', '#e27fae', '#5b6bc0', '#8aa03a',
@@ -217,8 +217,9 @@ def picture(net):
     p, lay = Drawing(), Layout(net)
     trouble = [f'{x.node}: {x.name}: {t}' for x in net.all for t in x.trouble]
     trouble += [t for f in net.fibres for t in net.fibre_trouble(*f)]
-    p.text(20, 36, f'{len(net.plans)} nodes', 20, INK, 'bold')
-    p.text(20, 58, f'{len(net.chains)} customers, {len(net.all)} connections, {len(net.fibres)} fibres'
+    p.text(20, 36, count(len(net.plans), 'node'), 20, INK, 'bold')
+    counts = (net.chains, 'customer'), (net.all, 'connection'), (net.fibres, 'fibre')
+    p.text(20, 58, ', '.join(count(len(n), thing) for n, thing in counts)
            + (f', {len(trouble)} do not meet' if trouble else ''), 13, DIM)
     for f in net.fibres:
         fibre(p, lay, f)
