@@ -7,7 +7,9 @@ Frames and bytes are counted from 0, turns, slots, ports, rows and columns from 
     line.turns[t - 1]        a Turn: alignment, counts, MSI bytes, messages
     line.tributaries         a list of Tributary, each with a list `turns` of Heard
 """
+import argparse
 import binascii
+import signal
 import tomllib
 from functools import lru_cache
 
@@ -206,6 +208,7 @@ class Client:
                 self.misses = 0 if t[i:i + 6] == FAS else self.misses + 1
                 if self.misses == 5:
                     self.framed, i, breaks, self.gfp = False, i + 6, breaks + 1, Gfp()
+                    self.recent, self.shown = [], ''
                     continue
             if len(t) - i < ODU:
                 break
@@ -549,3 +552,25 @@ def from_plan(path, side, number):
             out.append(Tributary(end['port'], end['slots'], c.get('start', 1), c.get('stop', plan['turns']), c['name']))
     s = 32 if number in plan.get(f'otu3-{side}', []) else 8
     return s, number in plan.get(f'scrambled-{side}', []), out
+
+
+def from_words(words, *switches):
+    """The line that the words of a command name, and which of the switches stand in them."""
+    signal.signal(signal.SIGPIPE, signal.SIG_DFL)     # as where `head` has seen enough
+    a = argparse.ArgumentParser(usage=words.split('\n')[2].strip(), description=words.split('\n')[0])
+    a.add_argument('line')
+    a.add_argument('--plan')
+    a.add_argument('--in', dest='side_in', type=int)
+    a.add_argument('--out', dest='side_out', type=int)
+    for name in switches:
+        a.add_argument(f'--{name}', action='store_true')
+    a = a.parse_args()
+    given = (None, None, None)
+    if a.plan:
+        side = 'out' if a.side_in is None else 'in'
+        given = from_plan(a.plan, side, a.side_in if side == 'in' else a.side_out or 0)
+    try:
+        line = Line.read(a.line, *given)
+    except OSError as fault:
+        raise SystemExit(f'{a.line}: {fault.strerror}')
+    return line, [getattr(a, name) for name in switches]
