@@ -1,7 +1,7 @@
 /* Times calls over the files of the current folder, which are read beforehand: library RUNS WORDS
  *
- * Prints processor time in ms, of the user and the system, of the best of RUNS: a call with room made before; a call with
- * fresh room, as a first call has it; and copying the inputs and what was handed out, once each. */
+ * Prints processor time in ms, of the user and the system, of the best of RUNS: a call with room made before; a call
+ * with fresh room, as a first call has it; and copying the inputs and what was handed out, once each. */
 #define _DEFAULT_SOURCE
 #include "otn.h"
 #include <stdio.h>
@@ -102,7 +102,7 @@ int main(int count, char **said)
     }
     struct rusage used;
     getrusage(RUSAGE_SELF, &used);
-    printf("code %u in %zu out %zu call %.1f fresh %.1f copy-in %.1f copy-out %.1f peak-MB %ld\n", (unsigned)code, length,
-           room + report_room, warm, cold, copy_in, copy_out, used.ru_maxrss / 1024);
+    printf("code %u in %zu out %zu call %.1f fresh %.1f copy-in %.1f copy-out %.1f peak-MB %ld\n", (unsigned)code,
+           length, room + report_room, warm, cold, copy_in, copy_out, used.ru_maxrss / 1024);
     return 0;
 }

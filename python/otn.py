@@ -22,7 +22,7 @@ slots of lines, across from line to line, and out to clients again. A plan says 
 ... '''
 >>> first = otn.run(there, clients={0: [b"hello", b"world"]})
 >>> first
-Result(DONE, report: 125 bytes, lines: {0: 1566720 bytes}, clients: {})
+Result(DONE, report: 106 bytes, lines: {0: 1566720 bytes}, clients: {})
 >>> second = otn.run(back, lines={0: first.lines[0]})
 >>> second.clients
 {4: [b'hello', b'world']}
@@ -360,6 +360,8 @@ def call(
     ['line', '0', 'check', '1c2b80b1']
     >>> otn.call(["slot", "9"]).status
     <Status.WORDS: 2>
+    >>> otn.call("unbundle 20", lines={0: bytes(otn.MULTIFRAME)}).words     # the channels of slot 1, each to its client
+    [['other', '0']]
 
     `room` is how many bytes there is room for at first; where it is too little, the command is carried out once more.
     """

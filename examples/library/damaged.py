@@ -10,6 +10,7 @@ each copy damaged in one of four ways. Node B gets each copy as its line, and th
 import pathlib
 import random
 import sys
+from typing import List, Tuple
 
 top = pathlib.Path(__file__).resolve().parent.parent.parent
 sys.path.insert(0, str(top / "python"))
@@ -43,7 +44,7 @@ def end(line: bytearray, draw: random.Random) -> None:
     del line[draw.randrange(len(line)) :]
 
 
-def came(sent: list, got: list) -> tuple:
+def came(sent: List[bytes], got: List[bytes]) -> Tuple[int, int]:
     """How many of these packets came, in the order in which they were sent, and how many came that nobody sent."""
     left = iter(sent)
     whole = [packet for packet in got if packet in sent]

@@ -222,7 +222,7 @@ def main(cases: int) -> None:
         how(given(strategies.randoms(use_true_random=False))(isolated))()
         by = "drawn by hypothesis"
     print(f"{Seen.cases} cases {by}: what left was the same in both worlds of each")
-    print(f"the worlds differed elsewhere in {Seen.worlds}; another input of its own changed what left in {Seen.inputs}")
+    print(f"the worlds differed elsewhere in {Seen.worlds}; another own input changed what left in {Seen.inputs}")
     assert Seen.worlds * 2 > Seen.cases and Seen.inputs * 4 > Seen.cases, "the cases say too little"
 
 
