@@ -1,13 +1,56 @@
 /* otn: an ODU2 multiplexer and cross-connect (ITU-T G.709), in the process that calls it, over bytes in memory.
  *
- * One call does all that the program `otn` does. It reads and writes only the memory that it is handed, calls the system for
- * nothing but memory (malloc, realloc, free), keeps nothing from one call to the next, and starts no thread. Calls from several threads
- * at once are fine, each with memory of its own. Call it from no signal handler.
+ * Clients bring packets. Connections take them into tributary slots of lines, across from line to line, and out to
+ * clients again; a plan says which connections there are. One call, `otn_run`, carries a plan over inputs in memory
+ * and hands out what the outputs got.
  *
- * Link with libotn.a or libotn.so (library/build makes both).
+ * WHAT IS PROMISED. What a connection sends depends on its own entry of the plan, its own bytes, and the MFAS bytes of
+ * the line that brings them, and on nothing else: no other connection, slot or input, no want of memory of another
+ * output, no order of service. The program says this of bytes that a file gave; the library says it of the very bytes
+ * that stand in `inputs` and `outputs`. In full: where two calls of "run" each answer OTN_DONE, OTN_UNFINISHED, OTN_CUT
+ * or OTN_REPORT_FAULT, both plans have the connection's entry, and its input agrees, then what it sends agrees: its
+ * client's text, or its own places on its line. Of a client input that is its packets and how they end; of a line it is
+ * the number of whole frames, their MFAS bytes, and the bytes at the connection's own places. Where its output was cut
+ * for want of memory the promise goes up to there.
  *
- * What is proved of it: crates/otn_c, `otn_run`: `called`, `none`, `codes`. No check looks at the C that calls it: each pointer must be
- * one to as many bytes or numbers as its length says, and never null, not for a length of 0 either. What is written to must overlap nothing else.
+ * This is proved of the library's code as it was before compilation (docs/PROMISES.md, "The library"). NOT PROVED, and
+ * tested only: the bytes that are handed out of a client output whose connection says `retire = true` in the plan. Nor
+ * does any proof speak of the program that calls: it has to keep the rules below.
+ *
+ * HOW IT IS CALLED. It takes bytes with their length, and calls the system for nothing but memory (malloc, realloc,
+ * free), all of which it gives back. It keeps nothing from one call to the next, has no global state and starts no
+ * thread: threads may call it side by side, each with memory of its own to be written to. Call it from no signal
+ * handler.
+ *
+ * - Each pointer points to as many bytes or numbers as the length behind it says, aligned for its type.
+ * - No pointer is null, not for a length of 0 either: point to anything then.
+ * - `outputs`, `output_ends`, `report` and `told` overlap nothing else that is handed in.
+ *
+ * Link with libotn.a, or with libotn.so; library/build makes both. C99 and C++.
+ *
+ *     static const uint8_t words[] = "check", plan[] = "turns = 64\n", none[1];
+ *     size_t ends[OTN_PORTS] = {0}, output_ends[OTN_PORTS];
+ *     uint8_t present[OTN_PORTS] = {0}, outputs[1], report[1000];
+ *     struct otn_answer told;
+ *     uint32_t code = otn_run(words, 5, plan, 11, none, 0, ends, OTN_PORTS, present, OTN_PORTS,
+ *                             outputs, 0, output_ends, OTN_PORTS, report, sizeof report, &told);
+ *     // code is OTN_DONE, and the first told.report bytes of report are "plan connections 0 turns 64\n"
+ *
+ * examples/library/two_nodes.c carries packets through two nodes. python/otn.py is a layer over this for Python.
+ *
+ * WHAT STANDS IN THE BYTES (docs/FORMATS.md has all of it)
+ *
+ * plan     TOML, as `turns = 12` and for each connection a table such as
+ *              [[connection]]
+ *              name = "letters"
+ *              kind = "odu0"
+ *              from = { client = 0 }
+ *              to = { line = 0, port = 1, slots = [3] }
+ *          A turn is a multiframe of each line.
+ * line     frames of 16,320 bytes, one after another, from the start of a frame. An output line has 8 frames a turn, so
+ *          130,560 bytes, and 32 frames a turn where the plan says that it is an OTU3.
+ * client   a text: for each packet a line of hex digits, two a byte, and a line feed.
+ * report   of "slot" and "pull" bytes, of other commands a text in ASCII. No zero byte is put behind it.
  */
 #ifndef OTN_H
 #define OTN_H
@@ -19,48 +62,65 @@
 extern "C" {
 #endif
 
-/* How many inputs a call has, and how many outputs: lines 0 to 3, then clients 0 to 15. */
+/* How many inputs a call has, and how many outputs: lines 0 to 3 first, then clients 0 to 15. */
 #define OTN_PORTS 20
+/* The number, among the inputs or the outputs, of line n and of client n. */
 #define OTN_LINE(n) (n)
 #define OTN_CLIENT(n) (4 + (n))
 
 /* What a call answers. 0 to 7 are the statuses of the program. */
 enum otn_code {
-    OTN_DONE = 0,
-    OTN_UNFINISHED = 1,   /* a line has more bytes than were wanted, or a client is not spent */
-    OTN_WORDS = 2,        /* the words are no command */
-    OTN_PLAN = 3,         /* the plan is refused: `rule` and `place` say why */
-    OTN_PLAN_FAULT = 4,   /* no answer of this library: a plan in memory can be read */
-    OTN_REPORT_FAULT = 5, /* there was no memory for the report */
-    OTN_CUT = 6,          /* there was no memory for an output */
-    OTN_MEMORY = 7,       /* there was no memory for the command: what was handed out is open */
-    OTN_NO_ROOM = 8,      /* `outputs` or `report` is too short: `told` and `output_ends` say how much is wanted */
-    OTN_NO_CALL = 9       /* what was handed in is no call: see `otn_run` */
+    OTN_DONE = 0,         /* nothing was left over */
+    OTN_UNFINISHED = 1,   /* a line has more bytes than were wanted, or a client has packets left */
+    OTN_WORDS = 2,        /* the words are no command: nothing came out */
+    OTN_PLAN = 3,         /* the plan is refused: `rule` and `place` say why, and nothing came out */
+    OTN_PLAN_FAULT = 4,   /* never answered: a plan in memory can be read */
+    OTN_REPORT_FAULT = 5, /* there was no memory for the report: a part of it came out; "run" has carried its plan */
+    OTN_CUT = 6,          /* there was no memory for an output: a part of it came out; the others are as ever */
+    OTN_MEMORY = 7,       /* there was no memory for the call: what all that is written to holds then is open */
+    OTN_NO_ROOM = 8,      /* `outputs` or `report` is too short; `told` and `output_ends` say how much is wanted */
+    OTN_NO_CALL = 9       /* what was handed in is no call, see `otn_run`: nothing was done */
 };
 
-/* What a call tells beside the bytes; written at all codes but OTN_MEMORY and OTN_NO_CALL. */
+/* What a call tells beside the bytes. It is written at all codes but OTN_MEMORY and OTN_NO_CALL. */
 struct otn_answer {
-    uint32_t status; /* the status of the command, 0 to 7; at OTN_NO_ROOM too */
-    uint32_t rule;   /* at OTN_PLAN the rule that the plan breaks, 1 to 15 (docs/FORMATS.md); else 0 */
+    uint32_t status; /* how the command ended, 0 to 6; at OTN_NO_ROOM too. At other codes it is the code */
+    uint32_t rule;   /* at OTN_PLAN the rule that the plan breaks, 1 to 15 (docs/FORMATS.md, "Plan file"); else 0 */
     uint64_t place;  /* at OTN_PLAN where: 0 for the top, else the number of the connection, from 1; else 0 */
     size_t report;   /* how many bytes the report has */
     size_t outputs;  /* how many bytes all outputs have together */
 };
 
-/* Answers a command.
+/* Carries out a command, and answers one of `enum otn_code`.
  *
- * words         the words of the command with one blank between each two: "run", "run --order 7", "slot 3", "pull 1 1,2", "check",
- *               "trial 5" (UTF-8; no zero byte at the end is counted)
- * plan          the text of the plan (TOML); `run` and `check` read it
- * inputs        the bytes of the 20 inputs, one behind the other
- * ends          where each input ends in `inputs`: input n is from ends[n - 1] (or 0) up to, and not with, ends[n]; 20 numbers
- * present       20 flags: 0 where there is no input n (as where the program finds no file), and else 1
- * outputs       room for what the 20 outputs get, one behind the other
- * output_ends   20 numbers, which are written: where each output ends in `outputs`
- * report        room for the report
+ * Read:
+ * words         the command in UTF-8, with one blank between each two of its words: "run", "run --order 7", "check",
+ *               "slot 3", "pull 1 1,2", "protect 1 3 20 4", "unbundle 20", "trial 5" (docs/FORMATS.md, "Words"). The
+ *               length counts no zero byte behind them
+ * plan          the plan; only "run" and "check" look at it
+ * inputs        the bytes of the 20 inputs, one behind the other: lines 0 to 3, then clients 0 to 15
+ * ends          20 numbers, where each input ends in `inputs`: input n is from ends[n - 1], or 0 for n = 0, up to and
+ *               not with ends[n]. An input of no bytes ends where the one before it does
+ * present       20 flags: not 0 where there is an input n. Where it is 0 the place is empty, as where the program finds
+ *               no file; bytes that `inputs` has for it are not looked at. An input of no bytes is not an empty place:
+ *               the report tells them apart
  *
- * OTN_NO_CALL is the answer where one of the three lists has not 20 members, `words` are no UTF-8, or an input ends before it begins or
- * behind `inputs`. At OTN_NO_ROOM call again, with as much room as `told` says; what `outputs` and `report` hold then is open. */
+ * Written:
+ * outputs       what the 20 outputs got, one behind the other, in the order of the inputs
+ * output_ends   20 numbers, where each output ends in `outputs`, as `ends` has it of the inputs
+ * report        the report, from its first byte on; `told->report` says how long it is
+ * told          the rest of the answer
+ *
+ * What stands in `outputs` and `report` behind what was handed out is open.
+ *
+ * `outputs_length` and `report_length` say how many bytes there is room for. Where one of them is too little the code
+ * is OTN_NO_ROOM, and what the two hold then is open. `told->outputs` and `told->report` say how much is wanted, and
+ * output_ends[n] less output_ends[n - 1] how much output n has. Call again, with as much room. Each call carries out
+ * the whole command, so room that suffices at once saves half the time: a line output has as many bytes as the plan's
+ * turns say, and a client output about twice as many as its packets.
+ *
+ * The code is OTN_NO_CALL where one of the three lists has not 20 members, `words` is no UTF-8, or an input ends before
+ * it begins or behind `inputs_length`. */
 uint32_t otn_run(const uint8_t *words, size_t words_length,
                  const uint8_t *plan, size_t plan_length,
                  const uint8_t *inputs, size_t inputs_length,

@@ -1,4 +1,4 @@
-/* Two nodes in a row in one process: what node A writes to line 0 is line 0 of node B, and the packets come out at its clients.
+/* Two nodes in a row in one process: what node A writes to line 0 is line 0 of node B, and the packets come out there.
  *
  *     library/build out && cc -I include examples/library/two_nodes.c out/libotn.a -o out/two_nodes && out/two_nodes
  */
@@ -39,8 +39,9 @@ static struct made carry(const char *plan, int input, const uint8_t *bytes, size
         report = realloc(report, told.report + 1);
         if (!made.outputs || !report)
             exit(1);
-        made.code = otn_run(words, sizeof words - 1, (const uint8_t *)plan, strlen(plan), bytes, length, ends, OTN_PORTS,
-                            present, OTN_PORTS, made.outputs, told.outputs, made.ends, OTN_PORTS, report, told.report, &told);
+        made.code = otn_run(words, sizeof words - 1, (const uint8_t *)plan, strlen(plan), bytes, length, ends,
+                            OTN_PORTS, present, OTN_PORTS, made.outputs, told.outputs, made.ends, OTN_PORTS, report,
+                            told.report, &told);
     }
     printf("%.*s", (int)told.report, (const char *)report);
     free(report);
@@ -65,7 +66,8 @@ int main(void)
     struct made b = carry(node_b, OTN_LINE(0), line, length);
     const uint8_t *text = output(&b, OTN_CLIENT(4), &length);
     printf("client 4:\n%.*s", (int)length, (const char *)text);
-    int same = a.code == OTN_DONE && b.code == OTN_DONE && length == sizeof packets - 1 && !memcmp(text, packets, length);
+    int same = a.code == OTN_DONE && b.code == OTN_DONE && length == sizeof packets - 1
+        && !memcmp(text, packets, length);
     free(a.outputs);
     free(b.outputs);
     return same ? 0 : 1;

@@ -1,0 +1,56 @@
+/* Calls from several threads at once give what each gives alone: threads THREADS CALLS WORDS PLAN [NUMBER FILE]..
+ *
+ * Each thread has inputs of its own: those that are named, with other bytes damaged in each. Its stack has 256 KiB. */
+#include "call.h"
+#include <pthread.h>
+
+struct part {
+    struct given in;
+    struct got alone;
+    long calls, wrong;
+};
+
+static void *again(void *at)
+{
+    struct part *own = at;
+    for (long i = 0; i < own->calls; i++) {
+        struct got it = answered(&own->in);
+        own->wrong += !are_same(&it, &own->alone);
+        let_go(&it);
+    }
+    return NULL;
+}
+
+int main(int count, char **said)
+{
+    int threads = atoi(said[1]), differ = 0;
+    long wrong = 0;
+    struct part *parts = memory((size_t)threads * sizeof *parts);
+    pthread_t *ids = memory((size_t)threads * sizeof *ids);
+    pthread_attr_t how;
+    pthread_attr_init(&how);
+    pthread_attr_setstacksize(&how, 1 << 18);
+    for (int i = 0; i < threads; i++) {
+        parts[i] = (struct part){ given_by(count - 3, said + 3), { 0 }, atol(said[2]), 0 };
+        size_t length = parts[i].in.ends[OTN_PORTS - 1];
+        for (size_t at = (size_t)i * 977; i && at < length; at += 9973)
+            parts[i].in.inputs[at] ^= 0x55;
+        parts[i].alone = answered(&parts[i].in);
+        differ += i && !are_same(&parts[i].alone, &parts[0].alone);
+    }
+    for (int i = 0; i < threads; i++)
+        if (pthread_create(&ids[i], &how, again, &parts[i]))
+            return 2;
+    for (int i = 0; i < threads; i++) {
+        pthread_join(ids[i], NULL);
+        wrong += parts[i].wrong;
+        let_go(&parts[i].alone);
+        free(parts[i].in.inputs);
+        free(parts[i].in.plan);
+    }
+    printf("%d threads of %s calls each, %d of them with another answer than the first: %ld wrong\n", threads, said[2],
+           differ, wrong);
+    free(parts);
+    free(ids);
+    return wrong || differ < threads / 2;
+}
