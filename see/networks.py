@@ -3,6 +3,9 @@
 A fibre is an output line of one node that is an input line of another: (node, line, node, line). A connection goes on
 where the other node takes the same port and slots from the fibre while it lasts. Nothing of this is proved.
 """
+import os
+import re
+import sys
 import tomllib
 
 
@@ -88,12 +91,31 @@ class Network:
         return 3 * sum('line' in x.source for x in chain) + ('line' not in chain[0].source)
 
 
+def read_plan(path):
+    """A plan as its tables say; whether it is a plan of `otn` is for `otn check` to say."""
+    try:
+        with open(path, 'rb') as file:
+            plan = tomllib.load(file)
+        for table in [plan, *plan.get('connection', [])]:
+            for key in ('turns',) if table is plan else ('name', 'kind', 'from', 'to'):
+                table[key]
+        return plan
+    except OSError as fault:
+        sys.exit(f'{path}: {fault.strerror}')
+    except (tomllib.TOMLDecodeError, UnicodeDecodeError, KeyError, TypeError):
+        sys.exit(f'{path}: no plan, see `otn check`')
+
+
 def read_words(plans, fibres):
     """A network from words: NAME=plan.toml, or a path whose folder is the name; A:0=B:0 for a fibre."""
     out = {}
     for word in plans:
         name, _, path = word.rpartition('=')
-        with open(path, 'rb') as file:
-            out[name or path.rsplit('/', 2)[-2]] = tomllib.load(file)
-    ends = [[end.rpartition(':') for end in word.split('=')] for word in fibres]
-    return Network(out, [(a, int(m), b, int(n)) for (a, _, m), (b, _, n) in ends])
+        out[name or os.path.basename(os.path.dirname(os.path.abspath(path)))] = read_plan(path)
+    ends = []
+    for word in fibres:
+        found = re.fullmatch(r'(.+):(\d)=(.+):(\d)', word)
+        if not found or found[1] not in out or found[3] not in out:
+            sys.exit(f'{word}: no fibre between two of the nodes, as A:0=B:0')
+        ends.append((found[1], int(found[2]), found[3], int(found[4])))
+    return Network(out, ends)

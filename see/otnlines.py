@@ -10,8 +10,9 @@ Frames and bytes are counted from 0, turns, slots, ports, rows and columns from 
 import argparse
 import binascii
 import signal
-import tomllib
 from functools import lru_cache
+
+from networks import read_plan
 
 FRAME, ROW, P, ODU = 16320, 4080, 15232, 15296
 FAS = bytes.fromhex('f6f6f6282828')
@@ -544,9 +545,9 @@ class Line:
 
 def from_plan(path, side, number):
     """The tributaries that a plan has on its line: side 'in' or 'out'."""
-    plan = tomllib.load(open(path, 'rb'))
+    plan = read_plan(path)
     out = []
-    for c in plan['connection']:
+    for c in plan.get('connection', []):
         end = c['from' if side == 'in' else 'to']
         if end.get('line') == number:
             out.append(Tributary(end['port'], end['slots'], c.get('start', 1), c.get('stop', plan['turns']), c['name']))

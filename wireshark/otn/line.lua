@@ -88,13 +88,14 @@ local function client_trace(sink, events)
     end
 end
 
--- A turn is over: what its sinks make of it
+-- A turn is over: what its sinks make of it. `ended` is its number: a frame at which a hunt ends is of no turn itself
 local function end_turn(info, whole)
     local line = kept.line
     if whole then
         for k, b in pairs(line.came) do line.settled[k] = b end
     end
     line.came = {}
+    info.ended = line.turn
     if otn.prefs.tributaries == "auto" then
         line.sinks = sinks_by_msi(line)
     elseif not line.sinks then

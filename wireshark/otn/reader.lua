@@ -123,7 +123,7 @@ local function make_rows(read_by, info, time)
             for _, g in ipairs(e.gfp or {}) do
                 local n = #read_by.made + 1
                 read_by.made[n] = { bytes = g.bytes, time = time }
-                read_by.about[n] = { port = t.port, slots = t.slots, turn = info.turn, frame = info.frame,
+                read_by.about[n] = { port = t.port, slots = t.slots, turn = info.ended, frame = info.frame,
                     good = g.packet ~= nil }
                 read_by.due[#read_by.due + 1] = n
                 g.bytes, g.packet = nil, g.packet ~= nil
@@ -147,7 +147,7 @@ local function end_line(read_by, number)
     kept.line = line
     if read_by.ended or otn.prefs.rows == 2 or line.frame == 0 then return false end
     read_by.ended = true
-    local info = { frame = line.frame, turn = line.turn }
+    local info = { frame = line.frame }
     line_part.end_turn(info, false)
     make_rows(read_by, info, number * read_by.step)
     return true
