@@ -33,7 +33,7 @@ int main(int count, char **said)
     for (int i = 0; i < threads; i++) {
         parts[i] = (struct part){ given_by(count - 3, said + 3), { 0 }, atol(said[2]), 0 };
         size_t length = parts[i].in.ends[OTN_PORTS - 1];
-        for (size_t at = (size_t)i * 977; i && at < length; at += 9973)
+        for (size_t at = i && length ? (size_t)i * 977 % length : length; at < length; at += 9973)
             parts[i].in.inputs[at] ^= 0x55;
         parts[i].alone = answered(&parts[i].in);
         differ += i && !are_same(&parts[i].alone, &parts[0].alone);
