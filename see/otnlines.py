@@ -428,16 +428,25 @@ class Line:
         return line
 
     def guess(self, data, s, scrambled):
-        """Scrambled where more MFAS bytes go on as masked ones do; OTU3 where a slot above 8 has an MSI byte."""
-        heads = [data[FRAME * i + 6] for i in range(self.count)]
-        up = sum((a + 1) % 256 == b for a, b in zip(heads, heads[1:]))
-        down = sum(((a ^ 255) + 1) % 256 == b ^ 255 for a, b in zip(heads, heads[1:]))
+        """The form, and the MSI bytes that the slots first have, by the first 320 frames. Scrambled where more MFAS
+        bytes go on as masked ones do; OTU3 where most PSI bytes for slots above 8 are MSI bytes."""
+        places = [FRAME * i for i in range(min(self.count, 320))]
+        mfas, psi = ([data[x + y] for x in places] for y in (6, at(4, 15)))
+        up = sum((a + 1) % 256 == b for a, b in zip(mfas, mfas[1:]))
+        down = sum((a - 1) % 256 == b for a, b in zip(mfas, mfas[1:]))
         self.scrambled = down > up if scrambled is None else scrambled
-        x = mask() >> 8 * (FRAME - 1 - at(4, 15)) & 255 if self.scrambled else 0
-        seen = {}
-        for i, h in enumerate(heads):
-            seen.setdefault(h ^ (255 if self.scrambled else 0), data[FRAME * i + at(4, 15)] ^ x)
-        self.s = s or (32 if any(seen.get(k + 1, 0) >= 0x80 for k in range(9, 33)) else 8)
+        if self.scrambled:
+            x = mask() >> 8 * (FRAME - 1 - at(4, 15)) & 255
+            mfas, psi = [a ^ 255 for a in mfas], [a ^ x for a in psi]
+        wide, self.first = 0, {}
+        for i, (a, b) in enumerate(zip(mfas, psi)):
+            # whether its MFAS goes on from the one before, or to the next one: else it may be damaged
+            near = [mfas[j] for j in (i - 1, i + 1) if 0 <= j < len(mfas) and mfas[j] == (a + j - i) % 256]
+            if near and 2 <= a <= 33:
+                wide += (1 if b >= 0x80 else -1) if a >= 10 else 0
+                if b >= 0x80:
+                    self.first.setdefault(a - 1, b)
+        self.s = s or (32 if wide > 0 else 8)
         self.kind = 'OTU3' if self.s == 32 else 'OTU2'
 
     def align(self, frames):
@@ -507,15 +516,11 @@ class Line:
                 turn.c[n + 1] = (message, c, d, how)
 
     def msi_of(self):
-        """Per turn the MSI byte of each slot: the last that came, before the first one that one; None: none came."""
+        """Per turn the MSI byte of each slot: the last that came, before the first one what `guess` saw, or None."""
         out, now = [], {}
-        first = {}
-        for turn in self.turns:
-            for k, b in turn.msi.items():
-                first.setdefault(k, b)
         for turn in self.turns:
             now.update(turn.msi)
-            out.append([now.get(k, first.get(k)) for k in range(1, self.s + 1)])
+            out.append([now.get(k, self.first.get(k)) for k in range(1, self.s + 1)])
         return out
 
     def follow(self, tributaries):

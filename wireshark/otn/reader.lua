@@ -48,24 +48,32 @@ local function looks_scrambled(frames)
     return masked > plain
 end
 
+-- Whether the MFAS of a frame goes on from the one before, or to the next one: else it may be damaged
+local function in_step(frames, i)
+    local before, behind = frames[i - 1], frames[i + 1]
+    return before and frames[i][1] == (before[1] + 1) % 256 or behind and behind[1] == (frames[i][1] + 1) % 256
+end
+
 -- The form of a line file: 0 OTU2, 1 OTU3, and 2 more where it is scrambled; and the MSI bytes that its slots first
--- have. Where the preference does not say it, a line is OTU3 where the MSI of a slot above 8 is there.
+-- have. Where the preference does not say it, a line is OTU3 where most PSI bytes for slots above 8 are MSI bytes.
 local function form_of(file)
     local frames = first_frames(file)
     local given, scrambled = otn.prefs.form, nil
     if given == 1 then scrambled = looks_scrambled(frames) else scrambled = given >= 4 end
-    local otu3, msi = false, {}
     local m = scrambled and bytes.line_mask()
-    for _, f in ipairs(frames) do
+    for _, f in ipairs(scrambled and frames or {}) do
+        f[1], f[2] = bxor(f[1], 255), bxor(f[2], m[at(4, 15)])
+    end
+    local wide, msi = 0, {}
+    for i, f in ipairs(frames) do
         local mfas, psi = f[1], f[2]
-        if scrambled then mfas, psi = bxor(mfas, 255), bxor(psi, m[at(4, 15)]) end
-        if mfas >= 2 and mfas <= 33 and psi >= 128 then
-            if mfas >= 10 then otu3 = true end
-            if not msi[mfas - 1] then msi[mfas - 1] = psi end
+        if mfas >= 2 and mfas <= 33 and in_step(frames, i) then
+            if mfas >= 10 then wide = wide + (psi >= 128 and 1 or -1) end
+            if psi >= 128 and not msi[mfas - 1] then msi[mfas - 1] = psi end
         end
     end
     if given > 1 then return given - 2, msi end
-    return (otu3 and 1 or 0) + (scrambled and 2 or 0), msi
+    return (wide > 0 and 1 or 0) + (scrambled and 2 or 0), msi
 end
 
 local handler = FileHandler.new("OTN line file", "otn-line", "A line of OTU2 or OTU3 frames, plain or scrambled", "rms")
