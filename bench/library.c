@@ -100,9 +100,7 @@ int main(int count, char **said)
         end = now();
         copy_out = end - start < copy_out ? end - start : copy_out;
     }
-    struct rusage used;
-    getrusage(RUSAGE_SELF, &used);
-    printf("code %u in %zu out %zu call %.1f fresh %.1f copy-in %.1f copy-out %.1f peak-MB %ld\n", (unsigned)code,
-           length, room + report_room, warm, cold, copy_in, copy_out, used.ru_maxrss / 1024);
+    printf("code %u in %zu out %zu call %.1f fresh %.1f copy-in %.1f copy-out %.1f\n", (unsigned)code, length,
+           room + report_room, warm, cold, copy_in, copy_out);
     return 0;
 }
