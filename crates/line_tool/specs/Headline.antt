@@ -33,7 +33,7 @@ abbrev pub IsOfAPlan : Type 0
 IsOfAPlan = (old new : Device) (asked now : ℕ) (reply : Status) → RunAnswers old new asked now reply → CarriesPlan reply
     → (plan : Plan) × Ran (record { plan = plan; before = old.bays; after = new.bays })
 
--- Isolated: where two calls share a connection, and agree on what it comes from, the same leaves on it as far as both have gone, whatever other
+-- Isolated: where two calls share a connection (with its stop and its lines' kinds), and agree on what it comes from, the same leaves on it as far as both have gone, whatever other
 -- connections, slots, ports, bytes, faults and orders there are.
 abbrev pub IsIsolated : Type 0
 IsIsolated = (one other : Run) (x : Connection) → Ran one → Ran other → ShareInput one other x → SameOutput one other x

@@ -52,7 +52,7 @@ pub record ShareOne (one other : World) (x : Connection) : Type 0 where
 abbrev pub IsFrontOfOther : (one other : List ℕ) → Type 0
 IsFrontOfOther one other = ((rest : List ℕ) × (one ++ rest ≡ other)) ⊎ ((rest : List ℕ) × (other ++ rest ≡ one))
 
--- a place was live and has not died: it is live, or was emptied when its connection retired
+-- a place was live and has not died: it is live, or was emptied when its connection retired (what went there `ClientGot` does not tell then)
 pub record HasLived (first last : State) : Type 0 where
   pub was : first ≡ Live
   pub is : last ≢ Dead

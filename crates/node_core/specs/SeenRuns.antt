@@ -65,7 +65,7 @@ pub record ClientGave (run : Run) (n : ℕ) (input : ClientInput) : Type 0 where
   pub had : HadToGive (client_in_at run.before n) (client_in_at run.after n) given
   pub packets : input ≡ input_given (has_died (client_in_at run.before n).state (client_in_at run.after n).state) given
 
--- Two runs agree on what an end comes from: its line has as many whole frames in both, with the same MFAS bytes, and the same bytes at the own
+-- Two runs agree on what an end comes from: its line, each read through its own plan's mask, has as many whole frames in both, with the same MFAS bytes, and the same bytes at the own
 -- places of its tributary; its client has the same packets, which end in the same way. Of all other ports nothing is said.
 abbrev pub AgreeOnInput : FromEnd → (one other : Run) → Type 0
 AgreeOnInput (from_end.Line a port slots) one other = (line others : List ℕ) × LineGave one a line × LineGave other a others × AgreeOnTributary (tributary_of slots port) line others
@@ -80,7 +80,7 @@ pub record ShareInput (one other : Run) (x : Connection) : Type 0 where
 
 -- ---- what its own output got
 
--- these bytes went to output line b, and to client n, by which what their ports got grew
+-- these bytes went to output line b, and to client n, by which what their ports got grew; no bytes are these where a client's place was retired
 abbrev pub LineGot : Run → (b : ℕ) → (went : List ℕ) → Type 0
 LineGot run b went = IsGone (line_out_at run.before b) (line_out_at run.after b) went
 
@@ -106,7 +106,7 @@ pub record SameOnLine (one other : Run) (b f row column : ℕ) (went others : Li
   pub gone : HasGone went f row column → HasGone others f row column → HaveSameByte went others f row column
   pub whole : LineLived one b → LineLived other b → HaveSameByte went others f row column
 
--- What left on a connection is the same in both: to its client the same text; on its line the same bytes at its own places, in the frames of its
+-- What left on a connection is the same in both: to its client the same text; on its line the same bytes, as written, at its own places, in the frames of its
 -- turns, where both lines are scrambled, or neither is.
 pub record SameOutput (one other : Run) (x : Connection) : Type 0 where
   pub client : (n : ℕ) (went others : List ℕ) → x.to ≡ to_end.Client n → ClientGot one n went → ClientGot other n others → SameText one other n went others
