@@ -11,6 +11,7 @@ use Rattle.otn_base.specs.Counts.{saturated}
 use Rattle.otn_ports.specs.Reads.{HasEnded}
 use Rattle.otn_ports.specs.Views.{State, Empty, Live, Dead, InView, BaysView, client_in_at, line_out_at}
 use Rattle.packet_text.specs.LinesStand.{LinesView, LinesStand, may_be, lines_view}
+use Rattle.packet_text.proofs.StandingLines.{died_unended}
 use Rattle.packet_text.specs.TextLines.{full_lines, text_of_dead}
 use Rattle.packet_text.specs.declared.line.Line.{Line}
 use Rattle.packet_text.specs.declared.line.Line.TheVariants.{Packet, End, Bad, Lost}
@@ -114,4 +115,5 @@ input_left first last taken given channel h = record {
   gave = h.text.gave;
   live = more_live last.state (lines_view channel.lines).ended;
   over = λ none live. h.text.over (ended_live last.state (lines_view channel.lines).ended none live) live;
+  died = died_unended first last taken (given ++ h.beyond) (lines_view channel.lines) h.text;
 }

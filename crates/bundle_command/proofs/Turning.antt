@@ -3,7 +3,7 @@ use Rattle.std.proofs.Common.{◌≡◌, ◌≢◌, ◌<◌, ◌≤◌, ◌+◌,
 use Rattle.std.specs.Prelude.{slice_index, slice_range}
 use Rattle.std.specs.List.{Contains}
 use Rattle.otn_base.specs.declared.line_kind.LineKind.TheVariants.{Otu2}
-use Rattle.otn_ports.specs.OnePlace.{OnlyLineOut}
+use Rattle.otn_ports.proofs.OneOutPlace.{OnlyLineOut}
 use Rattle.otn_ports.specs.Views.{InView, OutView, BaysView, client_in_at, line_out_at, no_input}
 use Rattle.tributary_line.specs.FeedTurn.{Completes, FeedStands, FeedView}
 use Rattle.gfp_linear.specs.Weave.{packets_given}

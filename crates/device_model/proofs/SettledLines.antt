@@ -144,8 +144,14 @@ line_left form first was is taken came t line h asked = record {
   gave = gave_twice first was is taken came h.gave asked.gave;
   live = asked.lives;
   over = λ none live. by_ending line.reader.ending refl none live;
+  died = λ dead. died_by line.reader.ending refl dead;
 }
   where
+    died_by : (e : Ending) → line.reader.ending ≡ e → is.state ≡ Dead → is.ended ≡ first.ended
+    died_by Open e dead = asked.died dead ∙ h.unended (λ seen. (let f = sym e ∙ seen in cc))
+    died_by Seen e dead = let same = (ended_asked form first was is taken came t line h asked Seen e (λ o. cc)).0 in absurd (h.ending.seen e (sym (ap (λ (v : InView). v.state) same) ∙ dead))
+    died_by Died e dead = asked.died dead ∙ h.unended (λ seen. (let f = sym e ∙ seen in cc))
+
     by_closed : (e : Ending) → line.reader.ending ≡ e → e ≢ Open → is.state ≡ Live → HasEnded is.left is.ended
     by_closed e at closed live =
         let same = (ended_asked form first was is taken came t line h asked e at closed).0 in

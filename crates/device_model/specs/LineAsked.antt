@@ -1,6 +1,6 @@
 -- What was taken of an input at its end, and what may stand behind that.
 use Rattle.std.specs.Prelude.{◌≡◌, ℕ, Bool, true, false, List, [], ◌++◌}
-use Rattle.otn_ports.specs.Given.{Gave}
+use Rattle.otn_ports.specs.Given.{Gave, DiedUnended}
 use Rattle.otn_ports.specs.Reads.{HasEnded}
 use Rattle.otn_ports.specs.Views.{Live, InView}
 use Rattle.line_side.specs.declared.ending.Ending.{Ending}
@@ -21,8 +21,9 @@ pub record MayHave (more : Bool) (taken given : List ℕ) : Type 0 where
   pub parts : given ≡ taken ++ rest
 
 -- These bytes were taken of an input place. More may stand behind them only where it is live; where none may, a live place has answered its
--- end, whether or not it tells its bytes.
+-- end, whether or not it tells its bytes. A place that died had not answered it: nothing was asked of its port behind its end.
 pub record InputLeft (first last : InView) (taken : List ℕ) (more : Bool) : Type 0 where
   pub gave : Gave first taken last
   pub live : more ≡ true → last.state ≡ Live
   pub over : more ≡ false → last.state ≡ Live → HasEnded last.left last.ended
+  pub died : DiedUnended first last

@@ -1,7 +1,7 @@
 -- The moments of a run. A run is made of pieces: in each turn of a plan a line that it uses has one for each frame of a multiframe, and a
 -- client that it uses has one. A moment is a turn, and how many of its pieces each port has done. What is due at a moment is said port by port:
 -- no definition of it names two ports.
-use Rattle.std.specs.Prelude.{◌≡◌, ℕ, ◌+◌, ◌-◌, ◌*◌, ◌≤◌, min, Bool, true, ◌&&◌, if◌then◌else◌, nat_le, nat_lt, List, length, map, sum}
+use Rattle.std.specs.Prelude.{◌≡◌, ℕ, ◌+◌, ◌-◌, ◌*◌, min, Bool, true, ◌&&◌, if◌then◌else◌, nat_le, List, length, map, sum}
 use Rattle.std.specs.List.{concat, list_any, range_with_len}
 use Rattle.otn_base.specs.declared.kind.PortName.{PortName}
 use Rattle.otn_base.specs.declared.kind.PortName.TheVariants as port
@@ -45,24 +45,6 @@ over_ports count =
     + sum (map (λ b. count (port.LineOut b)) (range_with_len 0 LINES))
     + sum (map (λ n. count (port.ClientIn n)) (range_with_len 0 CLIENTS))
     + sum (map (λ n. count (port.ClientOut n)) (range_with_len 0 CLIENTS))
-
--- the moment in turn past + 1 at which each port has done so many pieces of the turn
-pub record Moment : Type 0 where
-  pub past : ℕ
-  pub done : PortName → ℕ
-
--- how many pieces of the moment's turn a port has in all: none behind the last turn
-abbrev pub pieces_at : Plan → (past : ℕ) → PortName → ℕ
-pieces_at plan past name = if nat_lt past plan.turns then pieces_of plan name else 0
-
--- the moments of a plan: of each turn no more pieces are done than there are
-pub record IsMoment (plan : Plan) (now : Moment) : Type 0 where
-  pub turns : now.past ≤ plan.turns
-  pub most : (name : PortName) → now.done name ≤ pieces_at plan now.past name
-
--- the pieces that are left from a moment on, in this turn and all later ones
-abbrev pub pieces_left : Plan → Moment → ℕ
-pieces_left plan now = over_ports (pieces_of plan) * (plan.turns - now.past) - over_ports now.done
 
 -- ---- what is due at a moment
 

@@ -21,6 +21,7 @@ step_kept old new place same kept = record {
   quiet = λ closed. (refl, λ opened. closed (sym kept ∙ opened));
   over = λ h closed. h (λ opened. closed (kept ∙ opened));
   ended = λ h. (let P : Ending → Type 0 = λ e. EndedAs e place in subst P (sym kept) h);
+  unended = λ other. (λ seen. other (kept ∙ seen), refl);
 }
 
 pub step_none : (r : ReaderView) (place : InView) → ReadStep r place [] r place
@@ -34,6 +35,7 @@ step_twice old mid new was half is x y g h = record {
   quiet = λ closed. let p = g.quiet closed in let q = h.quiet p.1 in (rw (p.0, q.0) refl, q.1);
   over = λ ended. h.over (g.over ended);
   ended = λ e. h.ended (g.ended e);
+  unended = λ other. let q = h.unended other in let p = g.unended q.0 in (p.0, q.1 ∙ p.1);
 }
 
 -- what the line may have after a step it might have before

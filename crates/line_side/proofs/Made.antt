@@ -5,11 +5,11 @@ use Rattle.std.proofs.lemmas.List.{length-set, length-take-le, take-append-drop,
 use Rattle.std.proofs.Math.Dec.{eqb}
 use Rattle.std.proofs.lemmas.Bool.Decides.{eqb_tells}
 use Rattle.otn_ports.specs.Views.{State, Empty, Live, Dead, OutView}
-use Rattle.otn_ports.specs.Given.{Gained, GainedBy}
+use Rattle.otn_ports.specs.Given.{Gained}
 use Rattle.otn_ports.specs.Writes.{Writes as PlaceWrites, state_after_write}
 use Rattle.otn_ports.specs.declared.drain.Written.{Written}
 use Rattle.otn_ports.specs.declared.drain.Written.TheVariants as written
-use Rattle.otn_ports.proofs.GivenLaws.{gained_none, gained_twice, write_gained}
+use Rattle.otn_ports.proofs.GivenLaws.{GainedBy, gained_none, gained_twice, write_gained}
 use Rattle.line_side.proofs.Giving.{dead_not_live, empty_not_live}
 use Rattle.otn_base.specs.Counts.{saturated}
 use Rattle.std.specs.Prelude.{slice_set, ◌&&◌}

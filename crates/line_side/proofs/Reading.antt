@@ -3,8 +3,8 @@ use Rattle.std.proofs.Common.{◌≡◌, ◌≢◌, ◌<◌, ℕ, false, List, [
 use Rattle.std.proofs.lemmas.List.{length-take-le}
 use Rattle.otn_ports.specs.Views.{State, Empty, Live, Dead, InView}
 use Rattle.otn_ports.specs.Reads.{Reads, HasEnded, state_after}
-use Rattle.otn_ports.specs.Given.{Gave, GaveBy}
-use Rattle.otn_ports.proofs.GivenLaws.{read_gave}
+use Rattle.otn_ports.specs.Given.{Gave}
+use Rattle.otn_ports.proofs.GivenLaws.{GaveBy, read_gave}
 use Rattle.otn_ports.specs.declared.in_place.Reading.{Reading}
 use Rattle.otn_ports.specs.declared.in_place.Reading.TheVariants.{Full, End, Lost}
 use Rattle.otn_ports.specs.declared.sealed.Sealed.{Sealed}
@@ -22,6 +22,8 @@ pub record FrameCame (reading : Reading) (was : InView) (frame : List ℕ) (is :
   pub whole : reading ≡ Full → (came ≡ frame) × (length came ≡ 16320) × (is.state ≢ Dead)
   pub short : reading ≢ Full → (length came < 16320) × (is.state ≡ Live → HasEnded is.left is.ended)
   pub end : (k : ℕ) → reading ≡ End k → k ≡ length came
+  pub unended : ((k : ℕ) → reading ≢ End k) → is.ended ≡ was.ended
+  pub died : is.state ≡ Dead → is.ended ≡ was.ended
 
 live_came : (reading : Reading) (was is : InView) (into : List ℕ) → length into ≡ 16320 → was.state ≡ Live → is.state ≡ state_after Live reading → Reads reading was into is → GaveBy reading was into is → FrameCame reading was into is
 live_came Full was is into len live state reads gave = record {
@@ -30,6 +32,8 @@ live_came Full was is into len live state reads gave = record {
   whole = λ _. (refl, len, λ dead. dead_not_live (sym dead ∙ state));
   short = λ other. absurd (other refl);
   end = λ k e. cc;
+  unended = λ _. reads.2;
+  died = λ _. reads.2;
 }
 live_came (End n) was is into len live state reads gave =
     let size : length (take n into) ≡ n = length-take-le n into (let b = reads.0 in omega arith) in
@@ -39,6 +43,8 @@ live_came (End n) was is into len live state reads gave =
       whole = λ e. absurd (cc);
       short = λ _. (let b = reads.0 in omega arith, λ _. reads.2);
       end = λ k e. (let same : n ≡ k = cc in omega arith);
+      unended = λ other. absurd (other n refl);
+      died = λ dead. absurd (dead_not_live (sym dead ∙ state));
     }
 live_came Lost was is into len live state reads (n, less, gave) =
     let size : length (take n into) ≡ n = length-take-le n into (omega arith) in
@@ -48,6 +54,8 @@ live_came Lost was is into len live state reads (n, less, gave) =
       whole = λ e. absurd (cc);
       short = λ _. (omega arith, λ now. absurd (dead_not_live (sym state ∙ now)));
       end = λ k e. absurd (cc);
+      unended = λ _. reads.4;
+      died = λ _. reads.4;
     }
 
 idle_came : (reading : Reading) (was is : InView) (into : List ℕ) → was.state ≢ Live → is ≡ was → reading ≡ End 0 → GaveBy (End 0) was into is → FrameCame reading was into is
@@ -57,6 +65,8 @@ idle_came reading was is into idle same answer gave = record {
   whole = λ e. absurd (cc);
   short = λ _. (omega arith, λ live. absurd (idle (sym (ap (λ place. place.state) same) ∙ live)));
   end = λ k e. (let zero : 0 ≡ k = cc in omega arith);
+  unended = λ _. ap (λ place. place.ended) same;
+  died = λ _. ap (λ place. place.ended) same;
 }
 
 pub frame_came : (reading : Reading) (was is : InView) (into : List ℕ) → length into ≡ 16320 → is.state ≡ state_after was.state reading → (was.state ≡ Live → Reads reading was into is)
@@ -83,6 +93,7 @@ frame_alive reading was is into alive h lost = record {
   short = h.short;
   end = λ k e. (h.end k e, alive);
   lost = lost;
+  unended = h.unended;
 }
 
 -- the place is dead
@@ -94,6 +105,7 @@ frame_dead reading was is into dead h = record {
   short = λ _. h.short (λ full. (h.whole full).2 dead);
   end = λ k e. absurd (cc);
   lost = λ _. dead;
+  unended = λ _. h.died dead;
 }
 
 -- a read is lost only where the place dies

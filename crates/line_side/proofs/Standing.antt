@@ -6,7 +6,7 @@ use Rattle.otn_base.specs.LineSlots.{slots_of}
 use Rattle.otn_base.specs.declared.line_kind.LineKind.{LineKind}
 use Rattle.otn_base.specs.declared.line_kind.LineKind.TheVariants.{Otu2, Otu3}
 use Rattle.otn_ports.specs.Views.{InView}
-use Rattle.otn_ports.specs.Given.{Gave}
+use Rattle.otn_ports.specs.Given.{Gave, DiedUnended}
 use Rattle.otn_ports.proofs.GivenLaws.{gave_none, gave_twice}
 use Rattle.multiframe.specs.LineTurns.{LineState, lock_of, line_state, multiframe}
 use Rattle.multiframe.specs.Alignment.{Alignment}
@@ -139,6 +139,7 @@ new_stands form first line is_form alignment ahead opened frames rest seen ended
   gave = gave_none first;
   ending = record { died = λ d. absurd (cc); seen = λ s. absurd (cc) };
   over = λ closed. absurd (closed opened);
+  unended = λ _. refl;
   is_line = λ given m.
       let fresh : LineIs size given 0 0 (line_state size (mfas_of given) 0) 0 line = (let P : LineState → Type 0 = λ s. LineIs size given 0 0 s 0 line in
       subst P (sym (line_state_none size (mfas_of given))) (turn_first size given line alignment ahead opened frames rest seen ended lead lost)) in
@@ -181,6 +182,7 @@ piece_of first was is taken t b result old new e moves pieces kind h =
         gave = gave_twice first was is taken s.came h.gave s.step.gave;
         ending = s.step.ended h.ending;
         over = s.step.over h.over;
+        unended = λ other. let q = s.step.unended other in q.1 ∙ h.unended q.0;
         is_line = λ given may. piece_is size was is taken given t result old new s pieces (h.is_line given (earlier given may)) (here given may);
       };
       earlier = earlier;
@@ -192,6 +194,10 @@ pub piece_stands : (form : LineForm) (first was is : InView) (taken : List ℕ) 
 piece_stands form first was is taken t b result old new e moves pieces kind h =
     let P : LineForm → Type 0 = λ f. LineStands f first was taken t old → PieceStands f first is taken t old (with_pieces new new.pieces result) in
     subst P h.is_form (piece_of first was is taken t b result old new e moves pieces kind) h
+
+-- a place that is dead has answered no end
+pub died_unended : (form : LineForm) (first now : InView) (taken : List ℕ) (t : ℕ) (line : LineView) → LineStands form first now taken t line → DiedUnended first now
+died_unended form first now taken t line h dead = h.unended (λ seen. h.ending.seen seen dead)
 
 -- bytes are taken of the place in a piece, or none
 pub piece_gave : (size : ℕ) (was is : InView) (b result : Bool) (old new : LineView) → StepMoves size b result old was new is → (came : List ℕ) × Gave was came is
@@ -230,6 +236,7 @@ end_stands form first now taken t result old new all moves h =
       gave = h.gave;
       ending = (let P : Ending → Type 0 = λ e. EndedAs e now in subst P (sym same) h.ending);
       over = λ closed. h.over (λ opened. closed (same ∙ opened));
+      unended = λ other. h.unended (λ seen. other (same ∙ seen));
       is_line = λ given may.
           let e = ends_of form first now taken given t result old new turn.all m h (let P : Ending → Type 0 = λ e. MayBe form.scrambled e taken given in subst P same may) in
           let P : LineState → Type 0 = λ s. LineIs size given (length taken) (suc t) s 0 new in

@@ -114,16 +114,18 @@ short_step reading old new was is frame opened other same after f = record {
   quiet = λ closed. absurd (closed opened);
   over = λ _ _. (f.short other).1;
   ended = λ _. (let P : Ending → Type 0 = λ e. EndedAs e is in subst P (sym after) (ended_short reading old.ending is other (λ k e. (f.end k e).1) f.lost));
+  unended = λ unseen. (λ seen. (let e = sym opened ∙ seen in cc), f.unended (λ k e. unseen (after ∙ ap (λ r. ending_after r old.ending) e)));
 }
 
-whole_step : (reading : Reading) (old new : ReaderView) (was is : InView) (frame : List ℕ) → old.ending ≡ Open → new.scrambled ≡ old.scrambled → new.ending ≡ old.ending
+whole_step : (reading : Reading) (old new : ReaderView) (was is : InView) (frame : List ℕ) → reading ≡ Full → old.ending ≡ Open → new.scrambled ≡ old.scrambled → new.ending ≡ old.ending
     → (f : FrameRead old.scrambled reading was frame is) → ReadStep old was f.came new is
-whole_step reading old new was is frame opened same kept f = record {
+whole_step reading old new was is frame full opened same kept f = record {
   scrambled = same;
   gave = f.gave;
   quiet = λ closed. absurd (closed opened);
   over = λ _ closed. absurd (closed (kept ∙ opened));
   ended = λ _. ended_open new.ending is (kept ∙ opened);
+  unended = λ _. (λ seen. (let e = sym opened ∙ seen in cc), f.unended (λ k e. (let x = sym full ∙ e in cc)));
 }
 
 -- ---- the steps as the reader's calls make them
@@ -176,7 +178,7 @@ pub advance_whole : (reading : Reading) (old : ReaderView) (was is : InView) (fr
     → new ≡ record { scrambled = old.scrambled; hand = frame; ahead = None; ending = old.ending; frames = saturated (old.frames + 1); rest = old.rest; seen = seen } → Advances true old was new is
 advance_whole reading old was is frame new seen sees e opened full f same = rw same (record {
   came = f.came;
-  step = whole_step reading old (record { scrambled = old.scrambled; hand = frame; ahead = None; ending = old.ending; frames = saturated (old.frames + 1); rest = old.rest; seen = seen }) was is frame opened refl refl f;
+  step = whole_step reading old (record { scrambled = old.scrambled; hand = frame; ahead = None; ending = old.ending; frames = saturated (old.frames + 1); rest = old.rest; seen = seen }) was is frame full opened refl refl f;
   alone = refl;
   line = λ given taken u w may h.
       let P : List ℕ → Type 0 = λ g. HasRead g (length taken) u w old → Advanced g (length (taken ++ f.came)) u (max w (u + 1)) true (record { scrambled = old.scrambled; hand = frame; ahead = None; ending = old.ending; frames = saturated (old.frames + 1); rest = old.rest; seen = seen }) in
@@ -242,7 +244,7 @@ pub look_whole : (reading : Reading) (old : ReaderView) (was is : InView) (frame
     → new ≡ record old { ahead = Some frame } → LooksAhead true old was new is
 look_whole reading old was is frame new e opened full f same = rw same (record {
   came = f.came;
-  step = whole_step reading old (record old { ahead = Some frame }) was is frame opened refl refl f;
+  step = whole_step reading old (record old { ahead = Some frame }) was is frame full opened refl refl f;
   hand = refl;
   line = λ given taken u w may h.
       let P : List ℕ → Type 0 = λ g. HasRead g (length taken) u w old → LookedAhead g (length (taken ++ f.came)) u (max w (u + 1)) true (record old { ahead = Some frame }) in

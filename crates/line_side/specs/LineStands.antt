@@ -11,7 +11,7 @@ use Rattle.line_side.specs.LineFile.{frame_at, first_frames, mfas_of}
 use Rattle.line_side.specs.MayBe.{MayBe}
 use Rattle.line_side.specs.Reader.{ReaderView, HasRead, EndedAs}
 use Rattle.otn_base.specs.Counts.{saturated}
-use Rattle.line_side.specs.declared.ending.Ending.TheVariants.{Open}
+use Rattle.line_side.specs.declared.ending.Ending.TheVariants.{Open, Seen}
 use Rattle.multiframe.specs.TurnPieces.{AlignedIn, in_hand, ended_in, lead_in_so_far}
 
 -- what is seen of an input line: its kind, its alignment, its reader, how many pieces of the turn are done, whether the last
@@ -63,6 +63,8 @@ pub record LineStands (form : LineForm) (first now : InView) (taken : List ℕ) 
   pub ending : EndedAs line.reader.ending now
   -- once the bytes have ended, a live place's port has answered its end, whether or not it tells its bytes, and has none left where it tells
   pub over : line.reader.ending ≢ Open → now.state ≡ Live → HasEnded now.left now.ended
+  -- where the end was not seen, the place has answered none: so nothing is asked of it behind its end, and one that died had not answered it
+  pub unended : line.reader.ending ≢ Seen → now.ended ≡ first.ended
   -- of all bytes that the line may turn out to have
   pub is_line : (given : List ℕ) → MayBe form.scrambled line.reader.ending taken given → IsLine (size_of form) given (length taken) t line
 

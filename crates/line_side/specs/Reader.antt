@@ -65,6 +65,7 @@ pub record FrameRead (scrambled : Bool) (reading : Reading) (was : InView) (fram
   pub short : reading ≢ Full → (length came < LINE_FRAME_BYTES) × (is.state ≡ Live → HasEnded is.left is.ended)
   pub end : (k : ℕ) → reading ≡ End k → (k ≡ length came) × (is.state ≢ Dead)
   pub lost : reading ≡ Lost → is.state ≡ Dead
+  pub unended : ((k : ℕ) → reading ≢ End k) → is.ended ≡ was.ended
 
 -- this frame, which was looked ahead at, is in hand, and so much was counted with it; without one nothing changes
 abbrev pub taking : Option (List ℕ) → Counted → ReaderView → ReaderView
@@ -101,13 +102,14 @@ abbrev pub AsksNoMore : {P : Type 0} → Ending → InPlaceOf P → Ending → I
 AsksNoMore old was new is = old ≢ Open → (is ≡ was) × (new ≢ Open)
 
 -- A step of a reader at the place of its line, in which these bytes came. Once the bytes have ended none come; a live place
--- has ended with them, and how they ended goes on to agree with the place.
+-- has ended with them, and how they ended goes on to agree with the place. While the end is not seen, the place answers none.
 pub record ReadStep (old : ReaderView) (was : InView) (came : List ℕ) (new : ReaderView) (is : InView) : Type 0 where
   pub scrambled : new.scrambled ≡ old.scrambled
   pub gave : Gave was came is
   pub quiet : old.ending ≢ Open → (came ≡ []) × (new.ending ≢ Open)
   pub over : (old.ending ≢ Open → was.state ≡ Live → HasEnded was.left was.ended) → new.ending ≢ Open → is.state ≡ Live → HasEnded is.left is.ended
   pub ended : EndedAs old.ending was → EndedAs new.ending is
+  pub unended : new.ending ≢ Seen → (old.ending ≢ Seen) × (is.ended ≡ was.ended)
 
 -- the frame after those that are used came into the hand, or there is none
 pub record Advanced (given : List ℕ) (n u w : ℕ) (result : Bool) (r : ReaderView) : Type 0 where

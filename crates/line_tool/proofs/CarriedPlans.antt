@@ -76,17 +76,17 @@ text_ran plan text old new asked now (ran.Refused error place) says h = absurd h
 text_ran plan text old new asked now ran.PlanFault says h = absurd h.ends
 
 -- all that there is was read
-was_read : (outcome : Outcome) (text : List ℕ) (source : SourceView) → WasRead status.Done text source → WasRead (outcome_status outcome) text source
-was_read outcome.Done text source h = h
-was_read outcome.Unfinished text source h = h
-was_read outcome.Cut text source h = h
+was_read : (outcome : Outcome) (text : List ℕ) (had source : SourceView) → WasRead status.Done text had source → WasRead (outcome_status outcome) text had source
+was_read outcome.Done text had source h = h
+was_read outcome.Unfinished text had source h = h
+was_read outcome.Cut text had source h = h
 
-read_for : (plan : Plan) (old new : SinkView) (first last : BaysView) (asked now : ℕ) (answer : Ran) (text : List ℕ) (source : SourceView) → PlanCarried plan first last old new asked now answer
-    → WasRead status.Done text source → WasRead (run_status (Ok answer)) text source
-read_for plan old new first last asked now (ran.Carried outcome) text source h all = was_read outcome text source all
-read_for plan old new first last asked now ran.ReportFault text source h all = all
-read_for plan old new first last asked now (ran.Refused error place) text source h all = absurd h.ends
-read_for plan old new first last asked now ran.PlanFault text source h all = absurd h.ends
+read_for : (plan : Plan) (old new : SinkView) (first last : BaysView) (asked now : ℕ) (answer : Ran) (text : List ℕ) (had source : SourceView) → PlanCarried plan first last old new asked now answer
+    → WasRead status.Done text had source → WasRead (run_status (Ok answer)) text had source
+read_for plan old new first last asked now (ran.Carried outcome) text had source h all = was_read outcome text had source all
+read_for plan old new first last asked now ran.ReportFault text had source h all = all
+read_for plan old new first last asked now (ran.Refused error place) text had source h all = absurd h.ends
+read_for plan old new first last asked now ran.PlanFault text had source h all = absurd h.ends
 
 no_plan_fault : (plan : Plan) (old new : SinkView) (first last : BaysView) (asked now : ℕ) (answer : Ran) → PlanCarried plan first last old new asked now answer → run_status (Ok answer) ≢ status.PlanFault
 no_plan_fault plan old new first last asked now (ran.Carried outcome.Done) h e = cc
@@ -114,7 +114,7 @@ accepted_ran plan old new asked now (Ok answer) r same h = record {
   text = r.text;
   read = r.read;
   most = r.most;
-  all = read_for plan old.report new.report old.bays new.bays asked now answer r.text new.plan h r.all;
+  all = read_for plan old.report new.report old.bays new.bays asked now answer r.text old.plan new.plan h r.all;
   ran = text_ran plan r.text old new asked now answer r.says.0 h;
   plan_counts = record { fault = λ e. absurd (no_plan_fault plan old.report new.report old.bays new.bays asked now answer h e); calm = λ _. r.counts.calm done_is_none };
   report_counts = h.counts;

@@ -33,6 +33,7 @@ pub mod SlotTexts
 pub mod TrialAnswers
 pub mod TrialCarried
 pub mod TrialDraw
+pub mod TrialEnds
 pub mod TrialPlaces
 pub mod TrialPlans
 pub mod TrialReport

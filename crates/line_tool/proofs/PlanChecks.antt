@@ -97,13 +97,13 @@ told_ends plan text (Ok (checked.Refused error place)) old new says told = absur
 told_ends plan text (Ok checked.PlanFault) old new says told = absurd told
 told_ends plan text (Err memory) old new says told = told
 
-told_read : (plan : Plan) (text : List ℕ) (source : SourceView) (answer : Result Checked NoMemory) (old new : Option (List ℕ)) → PlanTold (check_status answer) plan old new → IsAll text source
-    → WasRead (check_status answer) text source
-told_read plan text source (Ok checked.Told) old new told all = all
-told_read plan text source (Ok checked.ReportFault) old new told all = all
-told_read plan text source (Ok (checked.Refused error place)) old new told all = all
-told_read plan text source (Ok checked.PlanFault) old new told all = absurd told
-told_read plan text source (Err memory) old new told all = inr all
+told_read : (plan : Plan) (text : List ℕ) (had source : SourceView) (answer : Result Checked NoMemory) (old new : Option (List ℕ)) → PlanTold (check_status answer) plan old new → IsAll text source
+    → WasRead (check_status answer) text had source
+told_read plan text had source (Ok checked.Told) old new told all = all
+told_read plan text had source (Ok checked.ReportFault) old new told all = all
+told_read plan text had source (Ok (checked.Refused error place)) old new told all = all
+told_read plan text had source (Ok checked.PlanFault) old new told all = absurd told
+told_read plan text had source (Err memory) old new told all = inr all
 
 never_plan_fault : (plan : Plan) (answer : Result Checked NoMemory) (old new : Option (List ℕ)) → PlanTold (check_status answer) plan old new → check_status answer ≢ status.PlanFault
 never_plan_fault plan (Ok checked.Told) old new told e = cc
@@ -119,7 +119,7 @@ accepted_check plan had has old new answer r told later counts = record {
   text = r.text;
   read = r.read;
   most = r.most;
-  all = told_read plan r.text has answer old.got new.got told r.all;
+  all = told_read plan r.text had has answer old.got new.got told r.all;
   ends = told_ends plan r.text answer old.got new.got r.says.0 told;
   plan = r.later;
   plan_counts = record { fault = λ e. absurd (never_plan_fault plan answer old.got new.got told e); calm = λ _. r.counts.calm done_is_none };

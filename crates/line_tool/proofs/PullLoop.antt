@@ -5,12 +5,14 @@ use Rattle.std.proofs.lemmas.List.{take-append-le}
 use Rattle.otn_ports.proofs.GivenLaws.{gave_twice}
 use Rattle.otn_ports.proofs.TakenTwice.{after-after}
 use Rattle.otn_ports.specs.Bytes.{after}
-use Rattle.otn_ports.specs.Given.{Gave}
+use Rattle.otn_ports.specs.Given.{Gave, DiedUnended}
 use Rattle.otn_ports.specs.Reads.{HasEnded}
 use Rattle.otn_ports.specs.Views.{Live, Dead, InView}
+use Rattle.line_side.specs.LineForm.{plain_otu2}
 use Rattle.line_side.specs.LineFile.{mfas_of}
 use Rattle.line_side.specs.LineStands.{LineView}
 use Rattle.line_side.specs.MayBe.{MayBe}
+use Rattle.line_side.proofs.Standing.{died_unended}
 use Rattle.line_side.specs.declared.ending.Ending.{Ending}
 use Rattle.line_side.specs.declared.ending.Ending.TheVariants.{Open, Seen, Died}
 use Rattle.multiframe.specs.LineTurns.{line_state, has_ended}
@@ -141,6 +143,7 @@ turns_lost own first was now t before later old gained new h last few run none =
   gave = run.moves.stands.line.gave;
   more = may_come later.line.reader.ending;
   over = λ none live. run.moves.stands.line.over (closed_is later.line.reader.ending none) live;
+  died = died_unended plain_otu2 first now (h.taken ++ run.moves.came) (t + 1) later.line run.moves.stands.line;
   report = λ rest follow.
       let given = (h.taken ++ run.moves.came) ++ rest in
       let may = follows later.line.reader.ending (h.taken ++ run.moves.came) rest follow in
@@ -256,6 +259,7 @@ seen_ends own first now taken line old new all gave alive over seen =
             gave = gave;
             more = false;
             over = λ _ live. over live;
+            died = λ dead. absurd (alive dead);
             report = λ rest follow. all.report (taken ++ rest) (alone line.reader.ending taken rest follow);
             ends = (alive, refl, n.0, n.1);
             took = λ other rest follow. alone_took own taken line old new all rest follow;
@@ -268,6 +272,7 @@ seen_ends own first now taken line old new all gave alive over seen =
             gave = gave;
             more = false;
             over = λ _ live. over live;
+            died = λ dead. absurd (alive dead);
             report = λ rest follow. all.report (taken ++ rest) (alone line.reader.ending taken rest follow);
             ends = (alive, λ rest follow. subst LeavesBytes (sym (ap (λ xs. taken ++ xs) follow ∙ append-nil taken)) n.0, n.1);
             took = λ other rest follow. alone_took own taken line old new all rest follow;
@@ -300,6 +305,7 @@ turns_end Done own first was now t tap old new h few last none a = by_end a.ends
           gave = gave;
           more = false;
           over = λ _ live. u.1;
+          died = λ dead. absurd (a.ends.0 dead);
           report = λ rest follow. all.report (h.taken ++ rest) (alone tap.line.reader.ending h.taken rest follow);
           ends = (a.ends.0, refl, n.0, n.1);
           took = λ other rest follow. alone_took own h.taken tap.line old new all rest follow;
@@ -329,6 +335,7 @@ turns_end Unfinished own first was now t tap old new h few last none a = by_end 
           gave = gave_twice first was now h.taken a.came h.stands.line.gave a.gave;
           more = true;
           over = λ e. absurd (cc);
+          died = λ dead. absurd (a.ends.0 dead);
           report = λ rest follow. all.report ((h.taken ++ a.came) ++ rest) (may rest);
           ends = (
             a.ends.0,
@@ -348,11 +355,16 @@ turns_end Cut own first was now t tap old new h few last none a =
       gave = subst (λ xs. Gave first xs now) (ap (λ xs. h.taken ++ xs) a.ends.1 ∙ append-nil h.taken) (gave_twice first was now h.taken a.came h.stands.line.gave a.gave);
       more = false;
       over = λ _ live. let e : Dead ≡ Live = sym a.ends.0 ∙ live in absurd (cc);
+      died = λ dead. unended a.ends.2 dead;
       report = λ rest follow. all.report (h.taken ++ rest) (alone tap.line.reader.ending h.taken rest follow);
       ends = a.ends.0;
       took = λ other rest follow. alone_took own h.taken tap.line old new all rest follow;
       stopped = λ e. absurd (cc);
     }
+  where
+    unended : ((now ≡ was) ⊎ ((tap.line.reader.ending ≢ Seen) × (now.ended ≡ was.ended))) → DiedUnended first now
+    unended (inl same) dead = ap (λ (v : InView). v.ended) same ∙ died_unended plain_otu2 first was h.taken t tap.line h.stands.line (sym (ap (λ (v : InView). v.state) same) ∙ dead)
+    unended (inr asked) dead = asked.1 ∙ h.stands.line.unended asked.0
 turns_end ReportFault own first was now t tap old new h few last none a = absurd a.ends
 turns_end Memory own first was now t tap old new h few last none a = absurd a.ends
 

@@ -24,6 +24,7 @@ pub record SoFar (slot i : ℕ) (first now : InView) (old new : Option (List ℕ
   pub gave : Gave first taken now
   pub size : length taken ≡ i * 16320
   pub state : now.state ≡ first.state
+  pub unended : now.ended ≡ first.ended
   pub report : new ≡ after old (slot_bytes_until slot taken i)
 
 pub after-none : (got : Option (List ℕ)) → got ≡ after got []
@@ -36,6 +37,7 @@ so_far_none slot first old = record {
   gave = gave_none first;
   size = refl;
   state = refl;
+  unended = refl;
   report = after-none old ∙ ap (after old) (sym (until-none slot []));
 }
 
@@ -46,6 +48,7 @@ so_far_more slot i first mid now old gained new h step = record {
   gave = gave_twice first mid now h.taken step.taken h.gave step.gave;
   size = omega (arith, length-append h.taken step.taken, h.size, step.ends.0);
   state = step.ends.1 ∙ h.state;
+  unended = step.ends.3 ∙ h.unended;
   report = step.ends.2 ∙ ap (λ r. after r (slot_bytes slot step.taken)) h.report ∙ after-after old (slot_bytes_until slot h.taken i) (slot_bytes slot step.taken)
       ∙ ap (after old) (sym (until-came slot h.taken step.taken i h.size step.ends.0));
 }
@@ -107,6 +110,7 @@ ends_with Done slot i first mid now old gained new alive few h step =
     record {
       taken = e.taken ++ step.taken;
       gave = e.gave;
+      died = λ dead. absurd (alive (sym h.state ∙ sym step.ends.1 ∙ dead));
       ends = (e.report, λ dead. alive (sym h.state ∙ sym step.ends.1 ∙ dead), step.ends.2, omega (arith, e.size, e.used, none), omega (arith, e.size, none, few));
     }
 ends_with Unfinished slot i first mid now old gained new alive few h step =
@@ -115,14 +119,16 @@ ends_with Unfinished slot i first mid now old gained new alive few h step =
     record {
       taken = e.taken ++ step.taken;
       gave = e.gave;
+      died = λ dead. absurd (alive (sym h.state ∙ sym step.ends.2 ∙ dead));
       ends = (e.report, λ dead. alive (sym h.state ∙ sym step.ends.2 ∙ dead), omega (arith, e.size, e.used, some), inl step.ends.3, omega (arith, e.size, step.ends.1, few));
     }
 ends_with Cut slot i first mid now old gained new alive few h step =
     let e = ended slot i first mid now old gained new step.taken (omega arith) h step.gave step.ends.0 step.ends.2 in
-    record { taken = e.taken ++ step.taken; gave = e.gave; ends = (e.report, step.ends.1, omega (arith, e.size, step.ends.0, few)) }
+    record { taken = e.taken ++ step.taken; gave = e.gave; died = λ _. step.ends.3 ∙ h.unended; ends = (e.report, step.ends.1, omega (arith, e.size, step.ends.0, few)) }
 ends_with ReportFault slot i first mid now old gained new alive few h step = record {
   taken = h.taken ++ step.taken;
   gave = gave_twice first mid now h.taken step.taken h.gave step.gave;
+  died = λ dead. absurd (alive (sym h.state ∙ sym step.ends.1 ∙ dead));
   ends = (
     stopped_in slot i h.taken step.taken old gained new h.size step.ends.0 h.report step.ends.2,
     step.ends.1 ∙ h.state,
@@ -140,6 +146,7 @@ ends_after Done slot first mid now old new alive h byte =
     record {
       taken = e.taken ++ byte.taken;
       gave = e.gave;
+      died = λ dead. absurd (alive (sym h.state ∙ sym byte.ends.1 ∙ dead));
       ends = (e.report, λ dead. alive (sym h.state ∙ sym byte.ends.1 ∙ dead), byte.ends.2, omega (arith, e.size, e.used, none), omega (arith, e.size, none));
     }
 ends_after Unfinished slot first mid now old new alive h byte =
@@ -149,12 +156,13 @@ ends_after Unfinished slot first mid now old new alive h byte =
     record {
       taken = e.taken ++ byte.taken;
       gave = e.gave;
+      died = λ dead. absurd (alive (sym h.state ∙ sym byte.ends.1 ∙ dead));
       ends = (e.report, λ dead. alive (sym h.state ∙ sym byte.ends.1 ∙ dead), omega (arith, e.size, e.used, one), inr size, omega (arith, size));
     }
 ends_after Cut slot first mid now old new alive h byte =
     let none : length byte.taken ≡ 0 = ap length byte.ends.0 in
     let e = ended slot 131072 first mid now old new new byte.taken (lit≤ tt) h byte.gave (omega arith) refl in
-    record { taken = e.taken ++ byte.taken; gave = e.gave; ends = (e.report, byte.ends.1, omega (arith, e.size, none)) }
+    record { taken = e.taken ++ byte.taken; gave = e.gave; died = λ _. byte.ends.2 ∙ h.unended; ends = (e.report, byte.ends.1, omega (arith, e.size, none)) }
 ends_after ReportFault slot first mid now old new alive h byte = absurd byte.ends
 ends_after Memory slot first mid now old new alive h byte = absurd byte.ends
 
@@ -163,6 +171,7 @@ pub dead_run : (slot : ℕ) (line : InView) (report : Option (List ℕ)) → lin
 dead_run slot line report dead = record {
   taken = [];
   gave = gave_none line;
+  died = λ _. refl;
   ends = (after-none report ∙ ap (after report) (sym (slot_report-whole slot [] 0 refl (lit≤ tt) ∙ until-none slot [])), dead, lit≤ tt);
 }
 

@@ -1,7 +1,7 @@
 -- What each command answers for, over all that the top call is handed: as it was, and as it is.
 use Rattle.std.specs.Prelude.{◌≡◌, ◌≢◌, ◌<◌, ◌≤◌, ◌%◌, ◌⊎◌, ◌↔◌, ℕ, Bool, false, List, ◌++◌, length}
 use Rattle.otn_base.specs.declared.limits.TheConstants.{LINE_FRAME_BYTES}
-use Rattle.otn_ports.specs.Given.{Gave}
+use Rattle.otn_ports.specs.Given.{Gave, DiedUnended}
 use Rattle.otn_ports.specs.Reads.{HasEnded}
 use Rattle.otn_ports.specs.Views.{Live, Dead, BaysView}
 use Rattle.otn_ports.specs.declared.ended.Ended.{Ended}
@@ -45,6 +45,8 @@ pub record SlotRan (slot : ℕ) (old new : Device) (status : Status) : Type 0 wh
   -- these bytes were taken of the line
   pub taken : List ℕ
   pub gave : Gave (line_zero old) taken (line_zero new)
+  -- a line that died had not answered its end: nothing is asked of it behind that
+  pub died : DiedUnended (line_zero old) (line_zero new)
   -- what they give was written, whole, or a part of it from the front where a write failed
   pub wrote : Reports status old.report.got new.report.got (slot_report slot taken)
   -- that ended the command at once, with the frame whose slot was being written the last that was taken
@@ -68,6 +70,8 @@ pub record PullRan (own : Tributary) (old new : Device) (status : Status) : Type
   pub gave : Gave (line_zero old) taken (line_zero new)
   pub more : Bool
   pub over : more ≡ false → (line_zero new).state ≡ Live → HasEnded (line_zero new).left (line_zero new).ended
+  -- a line that died had not answered its end: nothing is asked of it behind that
+  pub died : DiedUnended (line_zero old) (line_zero new)
   -- what they give was written, whole, or a part of it from the front where a write failed
   pub wrote : (rest : List ℕ) → MayFollow more rest → Reports status old.report.got new.report.got (pull_report own (taken ++ rest))
   -- Cut is the answer where the line is dead, and Unfinished where it is not, and bytes stand behind the frames that the turns

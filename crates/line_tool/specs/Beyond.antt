@@ -10,7 +10,7 @@ use Rattle.otn_ports.specs.declared.ended.Ended.TheVariants.{Done, Unfinished, C
 abbrev pub ByteEnds : Ended → (taken : List ℕ) → (first now : InView) → Type 0
 ByteEnds Unfinished taken first now = (length taken ≡ 1) × (now.state ≡ first.state)
 ByteEnds Done taken first now = (taken ≡ []) × (now.state ≡ first.state) × HasEnded now.left now.ended
-ByteEnds Cut taken first now = (taken ≡ []) × (now.state ≡ Dead)
+ByteEnds Cut taken first now = (taken ≡ []) × (now.state ≡ Dead) × (now.ended ≡ first.ended)
 ByteEnds ReportFault taken first now = ⊥
 ByteEnds Memory taken first now = ⊥
 

@@ -38,7 +38,7 @@ pub record CheckRun (plan_old plan_new : SourceView) (old new : SinkView) (answe
   pub text : List ℕ
   pub read : plan_old.left ≡ before text plan_new.left
   pub most : length text ≤ most_read
-  pub all : WasRead answer text plan_new
+  pub all : WasRead answer text plan_old plan_new
   -- and answered for
   pub ends : CheckEnds answer text old.got new.got
   pub plan : SourceLater plan_old plan_new

@@ -21,11 +21,12 @@ most_read = MOST_PLAN_BYTES + 1
 abbrev pub IsAll : List ℕ → SourceView → Type 0
 IsAll text source = HasEnded source.left source.ended ⊎ (length text ≡ most_read)
 
--- what was read before an answer: all; fewer than the most, where a read failed; all or nothing, where there was no memory
-abbrev pub WasRead : Status → List ℕ → SourceView → Type 0
-WasRead status.PlanFault text source = length text < most_read
-WasRead status.Memory text source = (text ≡ []) ⊎ IsAll text source
-WasRead other text source = IsAll text source
+-- what was read before an answer: all; fewer than the most, where a read failed, and that before the source's end; all or nothing, where
+-- there was no memory
+abbrev pub WasRead : Status → List ℕ → (old new : SourceView) → Type 0
+WasRead status.PlanFault text old new = (length text < most_read) × (new.ended ≡ old.ended)
+WasRead status.Memory text old new = (text ≡ []) ⊎ IsAll text new
+WasRead other text old new = IsAll text new
 
 -- what a command answers that only reads the plan
 abbrev pub reading_status : Result Planned NoMemory → Status
@@ -46,7 +47,7 @@ pub record PlanReading (result : Result Planned NoMemory) (old new : SourceView)
   pub text : List ℕ
   pub read : old.left ≡ before text new.left
   pub most : length text ≤ most_read
-  pub all : WasRead (reading_status result) text new
+  pub all : WasRead (reading_status result) text old new
   pub says : SaysOf result text
   pub later : SourceLater old new
   pub counts : CountsBy status.PlanFault (reading_status result) old.faults new.faults

@@ -2,7 +2,7 @@
 use Rattle.std.specs.Prelude.{◌≡◌, ◌≢◌, ◌<◌, ◌⊎◌, ◌%◌, ℕ, Bool, true, false, List, [], ◌++◌, Option, Some, None, length}
 use Rattle.otn_base.specs.declared.limits.TheConstants.{LINE_FRAME_BYTES}
 use Rattle.otn_ports.specs.Bytes.{after}
-use Rattle.otn_ports.specs.Given.{Gave}
+use Rattle.otn_ports.specs.Given.{Gave, DiedUnended}
 use Rattle.otn_ports.specs.Reads.{HasEnded}
 use Rattle.otn_ports.specs.Views.{InView, Live, Dead}
 use Rattle.line_side.specs.LineStands.{LineView}
@@ -33,6 +33,7 @@ pub record PullEnded (own : Tributary) (first now : InView) (old new : Option (L
   pub gave : Gave first taken now
   pub more : Bool
   pub over : more ≡ false → now.state ≡ Live → HasEnded now.left now.ended
+  pub died : DiedUnended first now
   pub report : (rest : List ℕ) → MayFollow more rest → Reports (line_status ended) old new (pull_report own (taken ++ rest))
   pub ends : PullEnds ended more taken now
   pub took : ended ≢ ReportFault → (rest : List ℕ) → MayFollow more rest → length taken ≡ bytes_taken (taken ++ rest)
@@ -56,7 +57,7 @@ AnswerEnds Done line came was now =
     (now.state ≢ Dead) × (came ≡ []) × (((line.reader.ending ≡ Seen) × (line.reader.rest ≡ 0) × (now ≡ was)) ⊎ ((line.reader.ending ≢ Seen) × HasEnded now.left now.ended))
 AnswerEnds Unfinished line came was now =
     (now.state ≢ Dead) × (((line.reader.ending ≡ Seen) × (0 < line.reader.rest) × (came ≡ []) × (now ≡ was)) ⊎ ((line.reader.ending ≢ Seen) × (length came ≡ 1)))
-AnswerEnds Cut line came was now = (now.state ≡ Dead) × (came ≡ [])
+AnswerEnds Cut line came was now = (now.state ≡ Dead) × (came ≡ []) × ((now ≡ was) ⊎ ((line.reader.ending ≢ Seen) × (now.ended ≡ was.ended)))
 AnswerEnds ReportFault line came was now = ⊥
 AnswerEnds Memory line came was now = ⊥
 

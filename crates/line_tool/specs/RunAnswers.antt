@@ -50,7 +50,7 @@ pub record RunAnswers (old new : Device) (asked asked_now : ℕ) (reply : Status
   pub text : List ℕ
   pub read : old.plan.left ≡ before text new.plan.left
   pub most : length text ≤ most_read
-  pub all : WasRead reply text new.plan
+  pub all : WasRead reply text old.plan new.plan
   -- and answered for
   pub ran : TextRan reply text old new asked asked_now
   -- each of the two counts of faults rose or stands at its end after its own answer, and is as it was after any other

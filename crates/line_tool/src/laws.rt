@@ -1,6 +1,7 @@
 // Laws over what the commands answer for, and over what they write.
 ghost use Rattle.std.specs.Prelude.{◌≡◌, ◌≢◌, ◌<◌, ◌-◌, ◌%◌, ◌^◌, ◌↔◌, ◌⊎◌, ℕ, List, Some, length, min};
 ghost use Rattle.otn_ports.specs.Given.{HadToGive};
+ghost use Rattle.otn_ports.specs.PortViews.{SinkView};
 ghost use Rattle.otn_ports.specs.Views.{Dead};
 ghost use Rattle.plan_file.specs.declared.error.PlanError.{PlanError};
 ghost use Rattle.tributary_model.specs.Places.{Tributary};
@@ -22,6 +23,7 @@ ghost use Rattle.line_tool.specs.AnswerWords.{IsWell, Reports};
 ghost use Rattle.line_tool.specs.SlotReport.{HasBytesBehind};
 ghost use Rattle.line_tool.specs.SlotReport.{most_taken, slot_report};
 ghost use Rattle.line_tool.specs.SlotReport.{StoppedInFrame};
+ghost use Rattle.line_tool.specs.TrialAnswers.{TrialAnswers};
 ghost use Rattle.line_tool.specs.Words.{IsForm};
 ghost use Rattle.line_tool.specs.declared.status.Status.{Status};
 ghost use Rattle.line_tool.specs.declared.words.Command.{Command};
@@ -92,7 +94,7 @@ pub fn check_of_text()
 /// Where no count of faults rose or stands at its end, and the line was not dead, a command is Done or Unfinished, `check` Done or
 /// Plan; or there was no memory. So is `run`, of the places that its plan uses, or Plan (`run`): Unfinished exactly where a line has more
 /// than its turns want, or a client is not spent (`ends`); and `protect`, of its three places, and `unbundle`, of its line and
-/// all client outputs.
+/// all client outputs. `trial` is Done, or there was no memory.
 pub fn without_faults()
     ensures slot { (slot : ℕ) (old new : Device) (answer : Status) → LineAnswers (SlotRan slot) old new answer
         → IsWell old.report.faults new.report.faults → IsWell (line_zero old).faults (line_zero new).faults → (line_zero old).state ≢ Dead
@@ -107,6 +109,8 @@ pub fn without_faults()
     ensures ends { RunEndsByInputs }
     ensures protect { ProtectIsComplete }
     ensures unbundle { UnbundleIsComplete }
+    ensures trial { (number : ℕ) (old new : SinkView) (asked asked_now : ℕ) (answer : Status) → TrialAnswers number old new asked asked_now answer
+        → IsWell old.faults new.faults → (answer ≡ Status.Done) ⊎ (answer ≡ Status.Memory) }
 {}
 
 /// `run`, by the whole text of a source that tells it.

@@ -1,5 +1,6 @@
 -- A node before turn 1 of a plan stands at its first moment.
 use Rattle.std.proofs.Common.{◌≡◌, ◌≤◌, ◌+◌, ◌*◌, ℕ, false, None, [], arith, refl, sym, ap, subst, ◌∙◌}
+use Rattle.otn_base.specs.declared.kind.PortName.{PortName}
 use Rattle.otn_base.specs.declared.kind.PortName.TheVariants as port
 use Rattle.otn_ports.specs.Views.{InView, OutView, BaysView, line_in_at, line_out_at, client_in_at, client_out_at}
 use Rattle.line_side.specs.LineForm.{size_of}
@@ -11,13 +12,14 @@ use Rattle.plan_file.specs.declared.connection.ToEnd.TheVariants as to_end
 use Rattle.plan_file.specs.declared.plan.Plan.{Plan}
 use Rattle.device_model.specs.Entries.{form_in, form_out, own_turn}
 use Rattle.device_model.specs.LineFiles.{AreFramesOf}
-use Rattle.device_model.specs.Moments.{turns_done}
+use Rattle.device_model.specs.Moments.{pieces_of, turns_done}
 use Rattle.device_model.specs.Through.{Inputs, own_input}
 use Rattle.device_model.proofs.SoundPlans.{sound_plan}
 use Rattle.cross_matrix.specs.Parts.{ClientInStands, ClientOutStands}
 use Rattle.cross_matrix.specs.Pipes.{PipeStands}
-use Rattle.node_core.specs.Built.{IsNewLink, IsNewNode}
+use Rattle.node_core.specs.Built.{AreNewLinesIn, AreNewLinesOut, IsNewLink, AreNewLinks}
 use Rattle.node_core.specs.NodeView.{NodeView, done_at, taken_pieces, given_pieces}
+use Rattle.node_core.specs.Pieces.{wanted_of, IsFresh}
 use Rattle.node_core.specs.Ports.{index_of}
 use Rattle.node_core.specs.Stands.{PlanStands, LinesIn, PipesStand, LinesOut, ClientInAt, ClientsIn, ClientOutAt, ClientsOut, StandsAt, no_bytes, after_retire, out_after_retire}
 use Rattle.node_core.specs.declared.link.Link.{Link}
@@ -28,6 +30,16 @@ use Rattle.node_core.specs.declared.link.Target.TheVariants as target
 use Rattle.node_core.proofs.ClientTurns.{none_done}
 use Rattle.node_core.proofs.LinkTurns.{same_entry, input_kind, at_start}
 use Rattle.node_core.proofs.Retired.{not_retired}
+
+-- a node before turn 1 of the plan
+pub record IsNewNode (plan : Plan) (node : NodeView) : Type 0 where
+  pub turns : node.turns ≡ plan.turns
+  pub past : node.past ≡ 0
+  pub wants : (name : PortName) → wanted_of node.pieces name ≡ pieces_of plan name
+  pub fresh : IsFresh node.pieces
+  pub lines_in : AreNewLinesIn plan node.lines_in
+  pub lines_out : AreNewLinesOut plan node.lines_out
+  pub links : AreNewLinks plan node.links
 
 -- of a new node no piece is done
 none_taken : (plan : Plan) (node : NodeView) → IsNewNode plan node → (o : Origin) → taken_pieces node o ≡ 0

@@ -5,7 +5,7 @@ use Rattle.std.proofs.lemmas.Bool.Decides.{eqb_tells}
 use Rattle.std.proofs.lemmas.Option.{slice_get_within}
 use Rattle.otn_base.specs.declared.kind.PortName.{PortName}
 use Rattle.otn_base.specs.declared.kind.PortName.TheVariants as port
-use Rattle.otn_ports.specs.OnePlace.{OnlyClientOut}
+use Rattle.otn_ports.proofs.OneOutPlace.{OnlyClientOut}
 use Rattle.otn_ports.specs.Views.{OutView, BaysView, client_out_at, no_input, no_output}
 use Rattle.plan_file.specs.declared.connection.Connection.{Connection}
 use Rattle.plan_file.specs.declared.connection.ToEnd.{ToEnd}

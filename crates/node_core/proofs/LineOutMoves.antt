@@ -7,7 +7,7 @@ use Rattle.std.proofs.lemmas.Nat.{div-mul-add, mod-mul-add}
 use Rattle.otn_base.specs.LineSlots.{LineSlots, slots_of}
 use Rattle.otn_base.specs.declared.kind.PortName.{PortName}
 use Rattle.otn_base.specs.declared.kind.PortName.TheVariants as port
-use Rattle.otn_ports.specs.OnePlace.{OnlyLineOut}
+use Rattle.otn_ports.proofs.OneOutPlace.{OnlyLineOut}
 use Rattle.otn_ports.specs.Views.{OutView, BaysView, line_out_at, no_input, no_output}
 use Rattle.line_side.specs.LineForm.{size_of}
 use Rattle.line_side.specs.LineOutput.{FramePut}

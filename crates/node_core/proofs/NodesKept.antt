@@ -13,7 +13,7 @@ use Rattle.plan_file.specs.declared.plan.Plan.{Plan}
 use Rattle.device_model.specs.Entries.{form_in, form_out}
 use Rattle.device_model.specs.Moments.{uses, pieces_of}
 use Rattle.device_model.proofs.SoundPlans.{sound_plan}
-use Rattle.node_core.specs.Built.{IsNewNode}
+use Rattle.node_core.proofs.Building.{IsNewNode}
 use Rattle.node_core.specs.NodeMoves.{FenceMove}
 use Rattle.node_core.specs.NodeView.{NodeView, HasLineIn, LineCount, IsNode, done_at}
 use Rattle.node_core.specs.Pieces.{wanted_of}

@@ -26,13 +26,17 @@ use Rattle.node_core.specs.Moves.{is_to_client, has_client_out}
 use Rattle.node_core.specs.NodeView.{NodeView, HasLineOut, HasLink, done_at}
 use Rattle.node_core.specs.Ports.{index_of}
 use Rattle.node_core.specs.RunLeft.{OutputLeft, LineOutLeft, ClientOutLeft, OutputsLeft}
-use Rattle.node_core.specs.Settling.{OutputsStand}
 use Rattle.node_core.specs.Stands.{InputBytes, MayGive, StandsAt, out_after_retire}
 use Rattle.node_core.specs.declared.link.Link.{Link}
 use Rattle.node_core.proofs.ClientLinks.{to_client, one_or_none}
 use Rattle.node_core.proofs.NodeReads.{entry_of, entry_at, found_out, none_out, all_turns, is_past}
 use Rattle.node_core.proofs.Parts.{known_at}
 use Rattle.node_core.proofs.UsedPorts.{used_within}
+
+-- what went to the outputs of a node past its last turn, whatever its inputs may turn out to be
+pub record OutputsStand (plan : Plan) (first : BaysView) (taken : InputBytes) (node : NodeView) (last : BaysView) (inputs : Inputs) : Type 0 where
+  pub went : Went
+  pub outputs : OutputsLeft plan inputs first went last
 
 left_of : (first : OutView) (due : List ℕ) (last : OutView) → (s : IsSent first due last) → OutputLeft first due s.went last
 left_of first due last s = record { rest = s.rest; parts = s.parts; gained = s.gained; whole = s.whole }

@@ -5,11 +5,20 @@ use Rattle.std.proofs.lemmas.List.{get_or-set_other}
 use Rattle.otn_base.specs.declared.kind.PortName.{PortName}
 use Rattle.plan_file.specs.declared.plan.Plan.{Plan}
 use Rattle.plan_file.specs.Answer.{fault_in}
-use Rattle.device_model.specs.Moments.{uses, pieces_by, pieces_of, pieces_left, over_ports, Moment}
+use Rattle.device_model.specs.Moments.{uses, pieces_by, pieces_of, over_ports}
 use Rattle.node_core.specs.Ports.{index_of}
 use Rattle.node_core.specs.Pieces.{PiecesView, wanted_of, done_of, is_open, left_now, in_a_turn, IsCounted, IsFresh}
 use Rattle.node_core.proofs.PieceCounts.{opened, shut_done, done_more, wants_same, left_counted, turn_counted, left_fresh, none_left, left_and_done}
 use Rattle.node_core.proofs.UsedPorts.{used_within, used_pieces, pieces_used, plan_turn}
+
+-- the moment in turn past + 1 at which each port has done so many pieces of the turn
+pub record Moment : Type 0 where
+  pub past : ℕ
+  pub done : PortName → ℕ
+
+-- the pieces that are left from a moment on, in this turn and all later ones
+abbrev pub pieces_left : Plan → Moment → ℕ
+pieces_left plan now = over_ports (pieces_of plan) * (plan.turns - now.past) - over_ports now.done
 
 -- the pieces are those of a plan's turn, of which no more are done than there are
 pub record Wants (plan : Plan) (pieces : PiecesView) : Type 0 where

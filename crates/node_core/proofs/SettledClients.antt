@@ -10,6 +10,7 @@ use Rattle.packet_text.specs.LinesStand.{LinesView, LinesStand, ReadAsNeeded, ca
 use Rattle.packet_text.specs.PacketText.{packets_of}
 use Rattle.packet_text.specs.declared.line.Line.{Line}
 use Rattle.packet_text.specs.declared.line.Line.TheVariants.{Packet, End, Bad, Lost}
+use Rattle.packet_text.proofs.StandingLines.{died_unended}
 use Rattle.packet_text.proofs.Texts.{full_lines-front}
 use Rattle.odu_client.specs.ClientInput.{ClientInput, emitted_before, input_given, packets_asked}
 use Rattle.odu_client.specs.Framing.{MayDie}
@@ -114,6 +115,7 @@ text_left x first was taken k (taking.Client client) more h e =
       gave = lines.gave;
       live = λ m. live_where first.state was.state first.faults was.faults (goes_on (taking.Client client)) lines.gave.state (sym e ∙ m);
       over = λ m live. lines.over (not_goes (lines_view client.lines).ended (over_where first.state was.state first.faults was.faults (goes_on (taking.Client client)) lines.gave.state (sym e ∙ m) live)) live;
+      died = died_unended first was taken h.stands.packets (lines_view client.lines) lines;
     }
 text_left x first was taken k (taking.Line sink) more h e = absurd h
 text_left x first was taken k (taking.Signal stream) more h e = absurd h

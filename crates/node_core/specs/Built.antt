@@ -1,6 +1,5 @@
 -- What a node is made of, before turn 1 of a plan.
 use Rattle.std.specs.Prelude.{◌≡◌, ℕ, List, [], Some, length, slice_get}
-use Rattle.otn_base.specs.declared.kind.PortName.{PortName}
 use Rattle.otn_base.specs.declared.limits.TheConstants.{LINES}
 use Rattle.otn_ports.specs.Views.{InView, OutView}
 use Rattle.line_side.specs.LineOutput.{LineOutView, LineMade}
@@ -8,11 +7,8 @@ use Rattle.line_side.specs.LineStands.{LineView, LineStands}
 use Rattle.plan_file.specs.declared.connection.Connection.{Connection}
 use Rattle.plan_file.specs.declared.plan.Plan.{Plan}
 use Rattle.device_model.specs.Entries.{form_in, form_out}
-use Rattle.device_model.specs.Moments.{pieces_of}
 use Rattle.node_core.specs.Links.{IsLinkOf}
 use Rattle.node_core.specs.NodeMoves.{Starts}
-use Rattle.node_core.specs.NodeView.{NodeView}
-use Rattle.node_core.specs.Pieces.{wanted_of, IsFresh}
 use Rattle.node_core.specs.declared.link.Link.{Link}
 
 -- the input lines are of these forms, from which nothing was read, and the output lines, of which no frame was made
@@ -35,13 +31,3 @@ pub record IsNewLink (x : Connection) (link : Link) : Type 0 where
 pub record AreNewLinks (plan : Plan) (links : List Link) : Type 0 where
   pub count : length links ≡ length plan.connections
   pub each : (i : ℕ) (x : Connection) (link : Link) → slice_get plan.connections i ≡ Some x → slice_get links i ≡ Some link → IsNewLink x link
-
--- a node before turn 1 of the plan
-pub record IsNewNode (plan : Plan) (node : NodeView) : Type 0 where
-  pub turns : node.turns ≡ plan.turns
-  pub past : node.past ≡ 0
-  pub wants : (name : PortName) → wanted_of node.pieces name ≡ pieces_of plan name
-  pub fresh : IsFresh node.pieces
-  pub lines_in : AreNewLinesIn plan node.lines_in
-  pub lines_out : AreNewLinesOut plan node.lines_out
-  pub links : AreNewLinks plan node.links

@@ -15,7 +15,7 @@ use Rattle.plan_file.specs.declared.plan.Plan.{Plan}
 use Rattle.cross_matrix.specs.Parts.{IsReceived}
 use Rattle.device_model.specs.Entries.{form_in}
 use Rattle.device_model.specs.Moments.{uses, emitted_by}
-use Rattle.device_model.specs.Numbers.{Went, client_numbers_by, state_after_turn}
+use Rattle.device_model.specs.Numbers.{client_numbers_by, state_after_turn}
 use Rattle.device_model.specs.Outcomes.{IsOutcome}
 use Rattle.device_model.specs.Report.{Numbers, ClientInNumbers, ClientOutNumbers}
 use Rattle.device_model.specs.Through.{Inputs, own_input}
@@ -23,13 +23,13 @@ use Rattle.device_model.specs.declared.outcome.FromState.{FromState}
 use Rattle.device_model.specs.declared.outcome.Outcome.{Outcome}
 use Rattle.node_core.specs.NodeView.{NodeView, HasLineIn, HasLineOut, HasLink, done_at}
 use Rattle.device_model.specs.LineAsked.{InputLeft}
-use Rattle.node_core.specs.RunLeft.{Takings, MayBeInputs, ClientInLeft, SamePlace, TookOf, TookOfText, OutputsLeft}
+use Rattle.node_core.specs.RunLeft.{Takings, MayBeInputs, ClientInLeft, SamePlace, TookOf, TookOfText}
 use Rattle.node_core.specs.Stands.{InputBytes, MayGive, StandsAt}
 use Rattle.node_core.specs.declared.link.Link.{Link}
 
 -- ---- settling
 
--- where the inputs are these: how much was taken of the lines and of the texts, and the outcome; what went to the outputs `OutputsStand` says
+-- where the inputs are these: how much was taken of the lines and of the texts, and the outcome; what went to the outputs `RunOf` says
 pub record SettledOf (plan : Plan) (first last : BaysView) (takings : Takings) (taken : InputBytes) (node : NodeView) (outcome : Outcome) (inputs : Inputs) : Type 0 where
   pub may : MayGive plan taken node inputs
   pub took : (a : ℕ) → uses plan (port.LineIn a) ≡ true → TookOf plan inputs takings a
@@ -45,11 +45,6 @@ pub record Settled (plan : Plan) (first : BaysView) (taken : InputBytes) (node :
       → ClientInLeft x.retire (client_in_at first n) (client_in_at last n) (takings.client n) (takings.client_more n)
   pub idle : (name : PortName) → uses plan name ≡ false → SamePlace name first last
   pub of_inputs : (inputs : Inputs) → MayBeInputs plan first last takings inputs → SettledOf plan first last takings taken node outcome inputs
-
--- what went to the outputs of a node past its last turn, whatever its inputs may turn out to be
-pub record OutputsStand (plan : Plan) (first : BaysView) (taken : InputBytes) (node : NodeView) (last : BaysView) (inputs : Inputs) : Type 0 where
-  pub went : Went
-  pub outputs : OutputsLeft plan inputs first went last
 
 -- ---- what a node is asked at the end
 

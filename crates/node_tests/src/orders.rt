@@ -10,11 +10,12 @@ use plan_file::Plan;
 use std::alloc::Global;
 use std::test::Fail;
 
-// Chooses the first or the last, and counts how often it was asked.
+// Chooses the first or the last, and counts how often it was asked and the numbers that it was asked with.
 #[derive(Drop)]
 struct Counting {
     last: bool,
     asked: u64,
+    numbers: u64,
 }
 
 impl Chooser for Counting {
@@ -24,15 +25,17 @@ impl Chooser for Counting {
         ensures { self.new.asked ≡ raised self.old.asked 1 }
     {
         self.asked = self.asked.saturating_add(1);
+        self.numbers = self.numbers.saturating_add(u64::from(n));
         if self.last { n.saturating_sub(1) } else { 0 }
     }
 }
 
-// What a run shows: how often the chooser was asked, the file of line 0, its frames, the client's numbers, and what the first
+// What a run shows: how often the chooser was asked, the sum of the numbers that it was asked with, the file of line 0, its frames, the client's numbers, and what the first
 // connection comes from.
 #[derive(Drop)]
 struct Shown {
     asked: u64,
+    numbers: u64,
     file: Vec<u8>,
     frames: u64,
     client: (u64, bool, Option<u64>),
@@ -48,10 +51,15 @@ fn run(alloc: Global, plan: &Plan, last: bool, room: usize) -> Result<Shown, Mem
     bays.set_client_in(0, InPlaceOf::Live(MemSource::new(text), 0));
     bays.set_line_out(0, OutPlaceOf::Live(MemSink::with_room(alloc, room)?, 0));
     let mut node = Node::build(alloc, plan)?;
-    let mut chooser = Counting { last, asked: 0 };
+    let mut chooser = Counting {
+        last,
+        asked: 0,
+        numbers: 0,
+    };
     carry(&mut node, &mut bays, &mut chooser);
     Ok(Shown {
         asked: chooser.asked,
+        numbers: chooser.numbers,
         file: file_of(alloc, bays.line_out(0))?,
         frames: node.line_out_frames(0),
         client: node.client_in(0),
@@ -106,6 +114,9 @@ fn two_orders_write_one_file(rt: HostRuntime) -> Result<(), Fail> {
     // In each of 8 turns 8 frames of the line and one piece of the client.
     assert_eq!(rt; one.asked, 72);
     assert_eq!(rt; other.asked, 72);
+    // The line first: in a turn it is asked eight times among two, and once among one. The client first: once and eight times.
+    assert_eq!(rt; one.numbers, 8 * (8 * 2 + 1));
+    assert_eq!(rt; other.numbers, 8 * (2 + 8));
     assert_eq!(rt; one.file.len(), 64 * 16_320);
     assert!(rt; one.file == other.file);
     assert_eq!(rt; (one.frames, other.frames), (64, 64));

@@ -5,13 +5,24 @@ use Rattle.std.specs.Prelude.{unwrap_or}
 use Rattle.otn_ports.specs.Bytes.{before, after, HasFailed, raised}
 use Rattle.otn_ports.specs.Reads.{Takes, Reads, state_after, idle_reading}
 use Rattle.otn_ports.specs.Writes.{Sends, Writes, state_after_write}
-use Rattle.otn_ports.specs.Given.{Lives, Gave, Gained, GaveBy, GainedBy, Took, HadToGive, given_between, Grew, IsGone, gone_between}
+use Rattle.otn_ports.specs.Given.{Lives, Gave, Gained, DiedUnended, Took, HadToGive, given_between, Grew, IsGone, gone_between}
 use Rattle.otn_ports.specs.Views.{State, Empty, Live, Dead, InView, OutView}
 use Rattle.otn_ports.specs.declared.drain.Written.{Written}
 use Rattle.otn_ports.specs.declared.drain.Written.TheVariants as written
 use Rattle.otn_ports.specs.declared.in_place.Reading.{Reading}
 use Rattle.otn_ports.specs.declared.in_place.Reading.TheVariants.{Full, End, Lost}
 use Rattle.otn_ports.proofs.TakenTwice.{before-before, after-after}
+
+-- what the answer of a read says of what a place gave in it, live or not, with the slice as it was left
+abbrev pub GaveBy : Reading → InView → List ℕ → InView → Type 0
+GaveBy Full old into new = Gave old into new
+GaveBy (End n) old into new = Gave old (take n into) new
+GaveBy Lost old into new = (n : ℕ) × (n < length into) × Gave old (take n into) new
+
+-- what the answer of a write says of what went to a place in it: to one that is not live nothing goes
+abbrev pub GainedBy : Written → OutView → List ℕ → OutView → Type 0
+GainedBy written.Whole old bytes new = (went : List ℕ) × Gained old went new × (old.state ≡ Live → went ≡ bytes)
+GainedBy written.Lost old bytes new = (n : ℕ) × (n < length bytes) × Gained old (take n bytes) new
 
 -- a number raised by nothing, and raised twice
 pub raised-none : (n : ℕ) → n ≡ raised n 0
@@ -110,9 +121,9 @@ nothing [] e = refl
 nothing (x ∷ xs) e = grind arith
 
 live_read : (result : Reading) (old new : InView) (into : List ℕ) → old.state ≡ Live → new.state ≡ state_after Live result → Reads result old into new → GaveBy result old into new
-live_read Full old new into live state (takes, calm) = live_gave old new into live takes (inl (state ∙ sym live, calm))
+live_read Full old new into live state (takes, calm, open_yet) = live_gave old new into live takes (inl (state ∙ sym live, calm))
 live_read (End n) old new into live state (n_less, takes, ended, calm) = live_gave old new (take n into) live takes (inl (state ∙ sym live, calm))
-live_read Lost old new into live state (n, less, takes, failed) = (n, less, live_gave old new (take n into) live takes (inr (live, state, failed)))
+live_read Lost old new into live state (n, less, takes, failed, open_yet) = (n, less, live_gave old new (take n into) live takes (inr (live, state, failed)))
 
 idle_read : (result : Reading) (old new : InView) (into : List ℕ) → new ≡ old → result ≡ idle_reading (length into) → GaveBy result old into new
 idle_read result old new [] same answer = rw (same, answer) (gave_none old)
@@ -127,6 +138,36 @@ read_gave result old new into room fits state live idle = by_state old.state ref
     by_state Live e = live_read result old new into e (state ∙ ap (λ s. state_after s result) e) (live e)
     by_state Empty e = let h = idle (λ l. empty_not_live (sym e ∙ l)) in idle_read result old new into h.0 (h.1 ∙ ap idle_reading (sym fits))
     by_state Dead e = let h = idle (λ l. dead_not_live (sym e ∙ l)) in idle_read result old new into h.0 (h.1 ∙ ap idle_reading (sym fits))
+
+live_unended : (result : Reading) (old new : InView) (into : List ℕ) → Reads result old into new → ((n : ℕ) → result ≢ End n) → new.ended ≡ old.ended
+live_unended Full old new into (takes, calm, same) other = same
+live_unended (End n) old new into reads other = absurd (other n refl)
+live_unended Lost old new into (n, less, takes, failed, same) other = same
+
+-- a place has answered its end in a read only where that came to the end
+pub read_unended : (result : Reading) (old new : InView) (into : List ℕ) (room : ℕ) → (old.state ≡ Live → Reads result old into new)
+    → (old.state ≢ Live → (new ≡ old) × (result ≡ idle_reading room)) → ((n : ℕ) → result ≢ End n) → new.ended ≡ old.ended
+read_unended result old new into room live idle other = by_state old.state refl
+  where
+    by_state : (s : State) → old.state ≡ s → new.ended ≡ old.ended
+    by_state Live e = live_unended result old new into (live e) other
+    by_state Empty e = ap (λ place. place.ended) (idle (λ l. empty_not_live (sym e ∙ l))).0
+    by_state Dead e = ap (λ place. place.ended) (idle (λ l. dead_not_live (sym e ∙ l))).0
+
+-- a place that is as it was has answered no end, and one that is not live in between is not asked
+pub died_none : (place : InView) → DiedUnended place place
+died_none place dead = refl
+
+pub died_twice : (first old new : InView) (y : List ℕ) → Gave old y new → DiedUnended first old → (old.state ≡ Live → DiedUnended first new) → DiedUnended first new
+died_twice first old new y gave h k = by_state old.state refl
+  where
+    rests : old.state ≢ Live → DiedUnended first new
+    rests idle dead = let e = (gave.idle idle).0 in ap (λ place. place.ended) e ∙ h (sym (ap (λ place. place.state) e) ∙ dead)
+
+    by_state : (s : State) → old.state ≡ s → DiedUnended first new
+    by_state Live e = k e
+    by_state Empty e = rests (λ l. empty_not_live (sym e ∙ l))
+    by_state Dead e = rests (λ l. dead_not_live (sym e ∙ l))
 
 live_write : (result : Written) (old new : OutView) (bytes : List ℕ) → old.state ≡ Live → new.state ≡ state_after_write Live result → Writes result old bytes new → GainedBy result old bytes new
 live_write written.Whole old new bytes live state (sends, calm) = (bytes, live_gained old new bytes live sends (inl (state ∙ sym live, calm)), λ _. refl)

@@ -1,6 +1,7 @@
 pub mod BaysLaws
 pub mod GivenLaws
 pub mod Lists
+pub mod OneOutPlace
 pub mod PlacesLaws
 pub mod PortLaws
 pub mod SameRack

@@ -1,6 +1,8 @@
 -- A port that stands in no place, from one moment to a later one.
-use Rattle.std.proofs.Common.{ℕ, List, [], ◌++◌, take, arith, ap, ◌∙◌, refl}
+use Rattle.std.proofs.Common.{◌≡◌, ◌≢◌, ℕ, zero, suc, Bool, true, false, List, [], ◌++◌, take, Ok, arith, ap, ◌∙◌, refl}
+use Rattle.std.proofs.lemmas.Bool.Decides.{nat_tests}
 use Rattle.otn_ports.specs.Bytes.{before, after}
+use Rattle.otn_ports.specs.Reads.{ended_after}
 use Rattle.otn_ports.specs.PortViews.{SourceView, SinkView, SourceGave, SinkGot, SourceLater, SinkLater, SourceReads, SinkWrites}
 use Rattle.otn_ports.specs.declared.drain.Written.{Written}
 use Rattle.otn_ports.specs.declared.drain.Written.TheVariants.{Whole, Lost}
@@ -51,3 +53,9 @@ source_read_later result old new bytes reads = (bytes, reads.gave)
 pub sink_written_later : (result : Written) (old new : SinkView) (bytes : List ℕ) → SinkWrites result old bytes new → SinkLater old new
 sink_written_later Whole old new bytes (got, same) = (bytes, got)
 sink_written_later Lost old new bytes (n, less, got, failed) = (take n bytes, got)
+
+-- a read that gave a byte has not come to the end
+pub still_open : (room n : ℕ) (was is : Bool) → n ≢ 0 → is ≡ ended_after room (Ok n) was → is ≡ was
+still_open room n true is some e = e
+still_open room zero false is some e = absurd (some refl)
+still_open room (suc n) false is some e = e ∙ grind (arith, nat_tests)

@@ -2,13 +2,12 @@
 use Rattle.std.proofs.Common.{◌≡◌, ◌≢◌, ℕ, List, [], ◌++◌, length, take, drop, refl, sym, ap, ◌∙◌, append_assoc, append-nil, inr}
 use Rattle.std.proofs.lemmas.List.{take-append-drop}
 use Rattle.otn_ports.specs.Bytes.{HasFailed}
-use Rattle.otn_ports.specs.Given.{GainedBy}
 use Rattle.otn_ports.specs.Sent.{IsSent}
 use Rattle.otn_ports.specs.Views.{State, Empty, Live, Dead, OutView}
 use Rattle.otn_ports.specs.Writes.{Sends, Writes, IsWriting, state_after_write}
 use Rattle.otn_ports.specs.declared.drain.Written.{Written}
 use Rattle.otn_ports.specs.declared.drain.Written.TheVariants as written
-use Rattle.otn_ports.proofs.GivenLaws.{gained_none, gained_twice, write_gained, empty_not_live, dead_not_live}
+use Rattle.otn_ports.proofs.GivenLaws.{GainedBy, gained_none, gained_twice, write_gained, empty_not_live, dead_not_live}
 
 -- nothing was due, and nothing is gone
 pub sent_none : (place : OutView) → IsSent place [] place

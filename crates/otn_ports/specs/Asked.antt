@@ -1,6 +1,6 @@
 -- An input place that was asked for one byte more.
 use Rattle.std.specs.Prelude.{◌≡◌, ◌≤◌, ℕ, Bool, true, false, List, [], ◌∷◌, length}
-use Rattle.otn_ports.specs.Given.{Gave}
+use Rattle.otn_ports.specs.Given.{Gave, DiedUnended}
 use Rattle.otn_ports.specs.Reads.{HasEnded}
 use Rattle.otn_ports.specs.Views.{Live, InView}
 
@@ -14,6 +14,7 @@ pub record ByteAsked (asks : Bool) (was is : InView) (came : List ℕ) : Type 0 
   pub gave : Gave was came is
   pub quiet : asks ≡ false → (is ≡ was) × (came ≡ [])
   pub most : length came ≤ 1
+  pub died : DiedUnended was is
   pub lives : has_come came ≡ true → is.state ≡ Live
   pub over : asks ≡ true → has_come came ≡ false → is.state ≡ Live → HasEnded is.left is.ended
 

@@ -1,13 +1,9 @@
 -- What a place gave, and what went to it, between two moments.
-use Rattle.std.specs.Prelude.{◌≡◌, ◌≢◌, ◌<◌, ◌⊎◌, ℕ, List, [], ◌++◌, length, take, Option, Some}
+use Rattle.std.specs.Prelude.{◌≡◌, ◌≢◌, ◌⊎◌, ℕ, List, [], ◌++◌, Option, Some}
 use Rattle.otn_ports.specs.Bytes.{HasFailed}
 use Rattle.otn_ports.specs.Reads.{Takes}
 use Rattle.otn_ports.specs.Writes.{Sends}
 use Rattle.otn_ports.specs.Views.{State, Empty, Live, Dead, InView, OutView}
-use Rattle.otn_ports.specs.declared.drain.Written.{Written}
-use Rattle.otn_ports.specs.declared.drain.Written.TheVariants as written
-use Rattle.otn_ports.specs.declared.in_place.Reading.{Reading}
-use Rattle.otn_ports.specs.declared.in_place.Reading.TheVariants.{Full, End, Lost}
 
 -- a source that tells its bytes gave these, and still has the rest
 pub record Took (first now : Option (List ℕ)) (bytes : List ℕ) : Type 0 where
@@ -65,13 +61,7 @@ pub record Gained (first : OutView) (bytes : List ℕ) (now : OutView) : Type 0 
   pub state : Lives first.state now.state first.faults now.faults
   pub idle : first.state ≢ Live → (now ≡ first) × (bytes ≡ [])
 
--- what the answer of a read says of what a place gave in it, live or not, with the slice as it was left
-abbrev pub GaveBy : Reading → InView → List ℕ → InView → Type 0
-GaveBy Full old into new = Gave old into new
-GaveBy (End n) old into new = Gave old (take n into) new
-GaveBy Lost old into new = (n : ℕ) × (n < length into) × Gave old (take n into) new
-
--- what the answer of a write says of what went to a place in it: to one that is not live nothing goes
-abbrev pub GainedBy : Written → OutView → List ℕ → OutView → Type 0
-GainedBy written.Whole old bytes new = (went : List ℕ) × Gained old went new × (old.state ≡ Live → went ≡ bytes)
-GainedBy written.Lost old bytes new = (n : ℕ) × (n < length bytes) × Gained old (take n bytes) new
+-- A place that is dead in the end has answered no end between two moments: its port, where it failed, had not answered it before. So nothing was
+-- asked of a port behind its end that it could fail at.
+abbrev pub DiedUnended : InView → InView → Type 0
+DiedUnended first now = now.state ≡ Dead → now.ended ≡ first.ended

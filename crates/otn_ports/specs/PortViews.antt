@@ -1,6 +1,7 @@
 -- What is seen of a port that stands in no place.
 use Rattle.std.specs.Prelude.{◌≡◌, ◌<◌, ◌≤◌, ℕ, Bool, List, length, take, Option}
 use Rattle.otn_ports.specs.Bytes.{before, after, HasFailed}
+use Rattle.otn_ports.specs.Reads.{ended_by}
 use Rattle.otn_ports.specs.declared.source.Source as source
 use Rattle.otn_ports.specs.declared.sink.Sink as sink
 use Rattle.otn_ports.specs.declared.drain.Written.{Written}
@@ -59,10 +60,11 @@ FailedBy reading.Full old new = new ≡ old
 FailedBy (reading.End n) old new = new ≡ old
 FailedBy reading.Lost old new = HasFailed old new
 
--- a whole read of a source that stands in no place, with the bytes that came
+-- a whole read of a source that stands in no place, with the bytes that came: it has answered its end where the read came to it, or had before
 pub record SourceReads (result : Reading) (old : SourceView) (bytes : List ℕ) (new : SourceView) : Type 0 where
   pub gave : SourceGave old bytes new
   pub cause : FailedBy result old.faults new.faults
+  pub ended : new.ended ≡ ended_by result old.ended
 
 -- a whole write to a sink that stands in no place: all bytes went out and its count is as it was, or a part of them, from the front, and a call failed
 abbrev pub SinkWrites : Written → SinkView → List ℕ → SinkView → Type 0

@@ -69,6 +69,7 @@ cuts_then r a b c p q s x y h k = record {
   gave = gave_twice p q s x y h.gave k.gave;
   quiet = λ e. (let f = h.quiet e in let g = k.quiet f.1 in (rw (f.0, g.0) refl, g.1, g.2 ∙ f.2));
   over = λ f. k.over (h.over f);
+  unended = λ still. k.unended still ∙ h.unended (opened still);
   alive = λ e. k.alive e ∙ h.alive (λ e. cc);
   blocks = λ e still. (let going = opened still in let u = h.blocks (λ e. cc) going in let v = k.blocks e still in rw (length-append x y) (omega arith));
   clean = λ e. k.clean (h.clean e);
@@ -100,6 +101,7 @@ cuts_none a p = record {
   gave = gave_none p;
   quiet = λ e. (refl, e, refl);
   over = λ f. f;
+  unended = λ _. refl;
   alive = λ _. refl;
   blocks = λ _ _. refl;
   clean = λ h. h;

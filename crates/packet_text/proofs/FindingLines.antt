@@ -13,7 +13,7 @@ use Rattle.packet_text.specs.declared.found.Found.TheVariants as found
 use Rattle.packet_text.proofs.Texts.{lines_of-line, lines_of-long, lines_of-last, LongLine, full_lines-none, whole_blocks-part}
 use Rattle.packet_text.proofs.Judging.{bad_gives, long_gives}
 use Rattle.packet_text.proofs.AsNeeded.{shown_by_lf, shown_too_long, alive_short, reads_on, rests_on}
-use Rattle.packet_text.proofs.GoingOn.{start, all_lines, text_lines, sound_empty, sound_packet, has_bad, has_ended, line_goes, last_goes}
+use Rattle.packet_text.proofs.GoingOn.{flag, start, all_lines, text_lines, sound_empty, sound_packet, has_bad, has_ended, line_goes, last_goes}
 
 pub find_line : (taken : List ℕ) (packets : List (List ℕ)) (r : Found) (old new : LinesView) (cnew : CutView) (was is : InView) → (h : GoesOn taken packets old) → CutsSome cut.Line (start old) was cnew is
     → ((lines : List (List ℕ)) → Counts lines old → Judges r lines cnew.line new) → new.hand ≡ cnew.hand → new.ended ≡ cnew.ended → Finds r taken packets old was new is
@@ -26,6 +26,7 @@ find_line taken packets r old new cnew was is h s judges hand ended =
       gave = k.gave;
       quiet = λ e. (let q = k.quiet e in (q.0, ended ∙ q.1, q.2));
       over = λ f e live. k.over f (sym ended ∙ e) live;
+      unended = λ e. k.unended (sym ended ∙ e);
       alive = λ _. k.alive (λ e. cc);
       empty = λ e. (let g = j.empty e in line_goes h k hand ended packets (sound_empty h.lines cnew.line packets h.sound g.0) g.1);
       packet = λ e. (let g = j.packet e in line_goes h k hand ended (packets ++ new.packet ∷ []) (sound_packet h.lines cnew.line new.packet packets h.sound g.0 g.1) g.2);
@@ -53,6 +54,7 @@ find_last taken packets r old new cnew was is h s judges hand ended =
       gave = k.gave;
       quiet = λ e. (let q = k.quiet e in (q.0, ended ∙ q.1, q.2));
       over = λ f e live. k.over f (sym ended ∙ e) live;
+      unended = λ e. k.unended (sym ended ∙ e);
       alive = λ _. k.alive (λ e. cc);
       empty = λ e. (let g = j.empty e in last_goes h k hand ended packets (sound_empty h.lines cnew.line packets h.sound g.0) g.1);
       packet = λ e. (let g = j.packet e in last_goes h k hand ended (packets ++ new.packet ∷ []) (sound_packet h.lines cnew.line new.packet packets h.sound g.0 g.1) g.2);
@@ -78,6 +80,7 @@ find_long taken packets r old new cnew was is bad h s number ended =
       gave = k.gave;
       quiet = λ e. (let q = k.quiet e in (q.0, ended ∙ q.1, q.2));
       over = λ f e live. k.over f (sym ended ∙ e) live;
+      unended = λ e. k.unended (sym ended ∙ e);
       alive = λ _. k.alive (λ e. cc);
       empty = λ e. absurd (cc);
       packet = λ e. absurd (cc);
@@ -105,6 +108,7 @@ find_end taken packets old new cnew was is h s ended =
       gave = k.gave;
       quiet = λ e. (let q = k.quiet e in (q.0, ended ∙ q.1, q.2));
       over = λ f e live. k.over f (sym ended ∙ e) live;
+      unended = λ e. k.unended (sym ended ∙ e);
       alive = λ _. k.alive (λ e. cc);
       empty = λ e. absurd (cc);
       packet = λ e. absurd (cc);
@@ -135,6 +139,7 @@ find_lost taken packets old new cnew was is h s ended =
       gave = k.gave;
       quiet = λ e. (let q = k.quiet e in (q.0, ended ∙ q.1, q.2));
       over = λ f e live. k.over f (sym ended ∙ e) live;
+      unended = λ e. k.unended (sym ended ∙ e);
       alive = λ e. absurd (e refl);
       empty = λ e. absurd (cc);
       packet = λ e. absurd (cc);
@@ -159,6 +164,7 @@ finds_none taken packets view place h = record {
   gave = gave_none place;
   quiet = λ e. (refl, e, refl);
   over = λ f. f;
+  unended = λ _. refl;
   alive = λ _. refl;
   empty = λ _. rw (append-nil taken) h;
   packet = λ e. absurd (cc);
@@ -191,6 +197,7 @@ finds_then taken packets r a b c p q s h k =
       gave = gave_twice p q s x y h.gave k.gave;
       quiet = λ f. (let u = h.quiet f in let v = k.quiet u.1 in (rw (u.0, v.0) refl, v.1, v.2 ∙ u.2));
       over = λ f. k.over (h.over f);
+      unended = λ still. k.unended still ∙ h.unended (flag b.ended (λ e. let v = (k.quiet e).1 in cc));
       alive = λ f. k.alive f ∙ h.alive (λ g. cc);
       empty = λ f. rw (← e) (k.empty f);
       packet = λ f. rw (← e) (k.packet f);

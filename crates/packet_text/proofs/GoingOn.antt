@@ -15,7 +15,8 @@ use Rattle.packet_text.proofs.Texts.{lines_of-line, lines_of-last, full_lines-li
 abbrev pub start : LinesView → CutView
 start view = record { line = []; hand = view.hand; ended = view.ended }
 
-flag : (b : Bool) → (b ≡ true → ⊥) → b ≡ false
+-- what is not so is false
+pub flag : (b : Bool) → (b ≡ true → ⊥) → b ≡ false
 flag true f = absurd (f refl)
 flag false f = refl
 

@@ -1,7 +1,8 @@
 -- Where the lines of a place stand, from one answer to the next.
 use Rattle.std.proofs.Common.{◌≡◌, ◌≢◌, ◌<◌, ◌≤◌, ◌+◌, ◌-◌, ◌%◌, ◌⊎◌, inl, inr, ℕ, Bool, true, false, if◌then◌else◌, List, [], ◌∷◌, ◌++◌, length, length-append, take, zero, suc, arith, refl, sym, ap, subst, ◌∙◌, append_assoc, append-nil}
 use Rattle.otn_ports.specs.Views.{InView}
-use Rattle.otn_ports.proofs.GivenLaws.{gave_none, gave_twice}
+use Rattle.otn_ports.specs.Given.{DiedUnended}
+use Rattle.otn_ports.proofs.GivenLaws.{dead_not_live, gave_none, gave_twice}
 use Rattle.packet_text.specs.TextLines.{lines_of, full_lines, text_of_dead}
 use Rattle.packet_text.specs.PacketText.{packets_of, packets_behind, empty_lines}
 use Rattle.packet_text.specs.LinesStand.{LinesView, Begins, GoesOnWith, may_be, GoesOn, came_short, asked_for, ReadAsNeeded, LinesStand, TakeStands, fresh_lines, given_by, is_packet}
@@ -11,6 +12,7 @@ use Rattle.packet_text.specs.declared.line.Line.TheVariants as line
 use Rattle.packet_text.specs.declared.found.Found.{Found}
 use Rattle.packet_text.specs.declared.found.Found.TheVariants as found
 use Rattle.packet_text.proofs.AsNeeded.{alive_short, rests_on}
+use Rattle.packet_text.proofs.GoingOn.{flag}
 use Rattle.packet_text.proofs.Texts.{full_lines-front, full_lines-more, whole_blocks-more}
 
 -- nothing was read yet
@@ -52,6 +54,7 @@ pub fresh_stands : (first : InView) (view : LinesView) → view ≡ fresh_lines 
 fresh_stands first view e = rw e (record {
   gave = gave_none first;
   over = λ f. absurd (cc);
+  unended = λ _. refl;
   alive = λ _. refl;
   ended = λ f. absurd (cc);
   lost = λ f. absurd (cc);
@@ -142,6 +145,9 @@ found_stands r first taken packets old mid was is counts going finds near h = re
     alive : was.state ≡ first.state
     alive = h.alive (λ e. let p = going in cc)
 
+    unended : (q : Found) → Finds q taken packets old was mid is → mid.ended ≡ false → is.ended ≡ first.ended
+    unended q g still = g.unended still ∙ h.unended (flag old.ended (λ e. let v = (g.quiet e).1 in cc))
+
     ends : (q : Found) (n : ℕ) → answer_of q n ≡ line.End → q ≡ found.End
     ends found.Empty n e = absurd (cc)
     ends found.Packet n e = absurd (cc)
@@ -179,6 +185,7 @@ found_stands r first taken packets old mid was is counts going finds near h = re
     by_found found.Packet no_empty g = record {
       gave = gave_twice first was is taken g.came h.gave g.gave;
       over = g.over h.over;
+      unended = unended found.Packet g;
       alive = λ f. g.alive (λ e. cc) ∙ alive;
       ended = λ f. absurd (cc);
       lost = λ f. absurd (cc);
@@ -191,6 +198,7 @@ found_stands r first taken packets old mid was is counts going finds near h = re
     by_found found.Bad no_empty g = rw (append-nil packets) (record {
       gave = gave_twice first was is taken g.came h.gave g.gave;
       over = g.over h.over;
+      unended = unended found.Bad g;
       alive = λ f. g.alive (λ e. cc) ∙ alive;
       ended = λ f. absurd (cc);
       lost = λ f. absurd (cc);
@@ -203,6 +211,7 @@ found_stands r first taken packets old mid was is counts going finds near h = re
     by_found found.End no_empty g = let end = g.end refl in rw (append-nil packets) (record {
       gave = gave_twice first was is taken g.came h.gave g.gave;
       over = g.over h.over;
+      unended = unended found.End g;
       alive = λ f. g.alive (λ e. cc) ∙ alive;
       ended = λ f. end.0;
       lost = λ f. absurd (cc);
@@ -215,6 +224,7 @@ found_stands r first taken packets old mid was is counts going finds near h = re
     by_found found.Lost no_empty g = let lost = g.lost refl in rw (append-nil packets) (record {
       gave = gave_twice first was is taken g.came h.gave g.gave;
       over = g.over h.over;
+      unended = unended found.Lost g;
       alive = λ f. absurd (f refl);
       ended = λ f. absurd (cc);
       lost = λ f. (lost.2, lost.1, sym alive ∙ lost.0);
@@ -224,6 +234,19 @@ found_stands r first taken packets old mid was is counts going finds near h = re
       read = as_needed found.Lost (length packets + 1) refl g g.reads;
       near = λ e. absurd (cc);
     })
+
+-- a place that is dead has answered no end
+pub died_unended : (first now : InView) (taken : List ℕ) (packets : List (List ℕ)) (view : LinesView) → LinesStand first now taken packets view → DiedUnended first now
+died_unended first now taken packets view h dead = by_answer view.answer refl
+  where
+    stays : view.answer ≢ line.Lost → now.ended ≡ first.ended
+    stays other = ap (λ place. place.ended) (h.gave.idle (λ live. dead_not_live (sym dead ∙ h.alive other ∙ live))).0
+
+    by_answer : (a : Line) → view.answer ≡ a → now.ended ≡ first.ended
+    by_answer line.Packet e = stays (λ lost. let k = sym e ∙ lost in cc)
+    by_answer line.End e = stays (λ lost. let k = sym e ∙ lost in cc)
+    by_answer (line.Bad n) e = stays (λ lost. let k = sym e ∙ lost in cc)
+    by_answer line.Lost e = h.unended (h.lost e).0
 
 -- the last answer is given again
 pub still_stands : (first now : InView) (taken : List ℕ) (packets : List (List ℕ)) (view : LinesView) → view.answer ≢ line.Packet → LinesStand first now taken packets view → TakeStands first taken packets view view now

@@ -14,4 +14,5 @@ pub record BlockRead (reading : Reading) (was : InView) (block : List ℕ) (is :
   pub end : (n : ℕ) → reading ≡ End n → (came ≡ take n block) × (n < 4096)
   pub over : (n : ℕ) → reading ≡ End n → is.state ≡ Live → HasEnded is.left is.ended
   pub alive : reading ≢ Lost → is.state ≡ was.state
+  pub unended : ((n : ℕ) → reading ≢ End n) → is.ended ≡ was.ended
   pub lost : reading ≡ Lost → (length came < 4096) × (was.state ≡ Live) × (is.state ≡ Dead)

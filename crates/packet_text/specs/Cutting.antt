@@ -76,6 +76,7 @@ pub record Cuts (result : Cut) (old : CutView) (was : InView) (came : List ℕ) 
   pub gave : Gave was came is
   pub quiet : old.ended ≡ true → (came ≡ []) × (new.ended ≡ true) × (is ≡ was)
   pub over : (old.ended ≡ true → was.state ≡ Live → HasEnded was.left was.ended) → new.ended ≡ true → is.state ≡ Live → HasEnded is.left is.ended
+  pub unended : new.ended ≡ false → is.ended ≡ was.ended
   pub alive : result ≢ Lost → is.state ≡ was.state
   pub blocks : result ≢ Lost → new.ended ≡ false → length came % 4096 ≡ 0
   pub clean : has_lf old.line ≡ false → has_lf new.line ≡ false

@@ -44,6 +44,7 @@ pub record Finds (result : Found) (taken : List ℕ) (packets : List (List ℕ))
   pub gave : Gave was came is
   pub quiet : old.ended ≡ true → (came ≡ []) × (new.ended ≡ true) × (is ≡ was)
   pub over : (old.ended ≡ true → was.state ≡ Live → HasEnded was.left was.ended) → new.ended ≡ true → is.state ≡ Live → HasEnded is.left is.ended
+  pub unended : new.ended ≡ false → is.ended ≡ was.ended
   pub alive : result ≢ Lost → is.state ≡ was.state
   pub empty : result ≡ Empty → GoesOn (taken ++ came) packets new
   pub packet : result ≡ Packet → GoesOn (taken ++ came) (packets ++ new.packet ∷ []) new

@@ -103,10 +103,12 @@ pub record ReadAsNeeded (short : Bool) (asked : ℕ) (taken : List ℕ) : Type 0
 
 -- `first` and `now` are views of a place, between which these bytes were taken, and these packets given: whatever text it may turn
 -- out to have, they are its first packets, and the last answer is right. Before the end is seen no line is found bad but where the bytes
--- that were taken show it, and then nothing more is read. While packets come less than a block is in hand.
+-- that were taken show it, and then nothing more is read. While packets come less than a block is in hand. Where the end was not seen, the
+-- place has answered none: so nothing is asked of it behind its end.
 pub record LinesStand (first now : InView) (taken : List ℕ) (packets : List (List ℕ)) (view : LinesView) : Type 0 where
   pub gave : Gave first taken now
   pub over : view.ended ≡ true → now.state ≡ Live → HasEnded now.left now.ended
+  pub unended : view.ended ≡ false → now.ended ≡ first.ended
   pub alive : view.answer ≢ Lost → now.state ≡ first.state
   pub ended : view.answer ≡ End → view.ended ≡ true
   pub lost : view.answer ≡ Lost → (view.ended ≡ false) × (now.state ≡ Dead) × (first.state ≡ Live)

@@ -6,6 +6,7 @@ use Rattle.otn_ports.specs.Views.{State, Empty, Live, Dead, InView, OutView, Bay
 use Rattle.line_side.specs.LineForm.{plain_otu2}
 use Rattle.line_side.specs.LineStands.{LineView}
 use Rattle.line_side.specs.MayBe.{MayBe}
+use Rattle.line_side.proofs.Standing.{died_unended}
 use Rattle.line_side.specs.declared.ending.Ending.{Ending}
 use Rattle.line_side.specs.declared.ending.Ending.TheVariants.{Open, Seen, Died}
 use Rattle.tributary_model.specs.Places.{Tributary}
@@ -216,6 +217,7 @@ left_open own first now taken t tap h = record {
   gave = h.line.gave;
   live = more_live tap.line.reader.ending now.state;
   over = λ none live. h.line.over (none_closed tap.line.reader.ending now.state none live) live;
+  died = died_unended plain_otu2 first now taken t tap.line h.line;
 }
 
 may_open : (e : Ending) (s : State) (taken given : List ℕ) → MayHave (more_of e s) taken given → MayBe false e taken given

@@ -1,7 +1,8 @@
 -- A turn of the command, from what its parts do.
 use Rattle.std.proofs.Common.{◌≡◌, ◌<◌, ◌≤◌, ◌+◌, ◌-◌, ℕ, suc, false, List, [], ◌∷◌, ◌++◌, length, take, drop, refl, ap, sym, subst, ◌∙◌, slice_range, length-take, length-drop, arith, add-one}
 use Rattle.otn_ports.proofs.PortLaws.{sink_got_twice}
-use Rattle.otn_ports.specs.OnePlace.{OnlyLineIn, OnlyLineOut}
+use Rattle.otn_ports.specs.OnePlace.{OnlyLineIn}
+use Rattle.otn_ports.proofs.OneOutPlace.{OnlyLineOut}
 use Rattle.otn_ports.specs.PortViews.{SinkGot, SinkWrites}
 use Rattle.otn_ports.specs.Views.{InView, OutView, BaysView, line_in_at, line_out_at}
 use Rattle.otn_ports.specs.declared.drain.Written.TheVariants as written

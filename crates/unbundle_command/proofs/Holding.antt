@@ -10,7 +10,7 @@ use Rattle.std.proofs.lemmas.List.{get_or-set_same, get_or-set_other}
 use Rattle.std.proofs.lemmas.List.Elements.{filter-append}
 use Rattle.otn_base.specs.Counts.{saturated}
 use Rattle.otn_base.specs.declared.limits.TheConstants.{CLIENTS}
-use Rattle.otn_ports.specs.OnePlace.{OnlyClientOut}
+use Rattle.otn_ports.proofs.OneOutPlace.{OnlyClientOut}
 use Rattle.otn_ports.specs.Sent.{IsSent}
 use Rattle.otn_ports.specs.Views.{OutView, BaysView, client_out_at}
 use Rattle.otn_ports.proofs.SentLaws.{sent_none, sent_twice}

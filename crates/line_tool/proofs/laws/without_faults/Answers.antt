@@ -3,6 +3,7 @@ use Rattle.line_tool.proofs.ProtectTable.{protect_complete}
 use Rattle.line_tool.proofs.PullTable.{pull_complete}
 use Rattle.line_tool.proofs.RunLaws.{run_complete, run_ends}
 use Rattle.line_tool.proofs.SlotTable.{slot_complete}
+use Rattle.line_tool.proofs.TrialEnds.{trial_complete}
 use Rattle.line_tool.proofs.UnbundleTable.{unbundle_complete}
 use Rattle.line_tool.proofs.laws.without_faults.Goals as goal
 
@@ -26,3 +27,6 @@ returns-clause-protect c = protect_complete
 
 pub returns-clause-unbundle : goal.returns-clause-unbundle
 returns-clause-unbundle c = unbundle_complete
+
+pub returns-clause-trial : goal.returns-clause-trial
+returns-clause-trial c = λ number old new asked now answer. trial_complete answer number old new asked now

@@ -27,7 +27,7 @@ returns-in-Full-clause-step g c =
     let after = c.step_after.ensures in
     subst (λ answer. SlotStep c.args.slot old new (g.K.Sink.got c.args.report.now) (g.K.Sink.got c.write_slot_of.new.report) answer) (sym after)
     (step_written c.write_slot_of.result c.args.slot frame old new (g.K.Sink.got c.args.report.now) (g.K.Sink.got c.write_slot_of.new.report)
-    gave size goes_on (rw loan at c.write_slot_of.ensures.written))
+    gave size goes_on (reads.live live).2 (rw loan at c.write_slot_of.ensures.written))
 
 pub returns-in-Full-clause-report : goal.returns-in-Full-clause-report
 returns-in-Full-clause-report g c =

@@ -1,5 +1,6 @@
 use Rattle.std.proofs.Common.{◌∙◌, arith, ◌≤◌, length}
 use Rattle.otn_ports.proofs.TakenTwice.{more}
+use Rattle.otn_ports.proofs.PortLaws.{still_open}
 use Rattle.otn_ports.proofs.fill.read_whole.Goals as goal
 
 pub loop-done-preserved : goal.loop-done-preserved
@@ -9,6 +10,7 @@ loop-done-preserved g c =
       within = omega (arith, c.in-Ok.ensures.bound);
       bytes = more _ _ _ _ _ _ _ _ c.loop-done.invariant.within room c.loop-done.invariant.bytes c.in-Ok.ensures.bytes;
       well = c.in-Ok.ensures.well ∙ c.loop-done.invariant.well;
+      ended = still_open _ _ _ _ c.in-Ok.n-test.1 c.in-Ok.ensures.answered ∙ c.loop-done.invariant.ended;
       same = cc;
       later = omega (arith, c.read.ensures.later);
     }

@@ -1,7 +1,6 @@
 use Rattle.std.proofs.Common.{[], refl}
-use Rattle.node_core.specs.Built.{IsNewNode}
 use Rattle.node_core.specs.NodeView.{NodeView}
-use Rattle.node_core.proofs.Building.{first_moment}
+use Rattle.node_core.proofs.Building.{IsNewNode, first_moment}
 use Rattle.node_core.proofs.NodesKept.{first_node}
 use Rattle.node_core.proofs.PlanPieces.{all_left}
 use Rattle.otn_ports.specs.Views.{BaysView}

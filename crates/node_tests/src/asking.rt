@@ -1,0 +1,76 @@
+// In which order a node asks its lines at the end.
+ghost use Rattle.std.specs.Prelude.{None};
+ghost use Rattle.otn_ports.specs.Memory.{memory_ended};
+
+use node_core::{Node, Outcome, carry};
+use otn_base::Memory;
+use otn_ports::{Failed, FirstReady, InPlaceOf, MemSink, MemSource, Rack, Source};
+use plan_file::Plan;
+use std::alloc::Global;
+use std::cell::Cell;
+use std::rc::Rc;
+use std::test::Fail;
+
+// An input that leaves its name where the last call is to be seen.
+#[derive(Drop)]
+struct NamedSource {
+    bytes: MemSource,
+    name: u8,
+    last: Rc<Cell<u8>>,
+}
+
+impl Source for NamedSource {
+    ghost left = { λ _. None };
+
+    ghost faults = { λ _. 0 };
+
+    ghost ended = { λ s. memory_ended s.bytes };
+
+    fn read(&mut self, into: &mut [u8]) -> Result<usize, Failed> {
+        self.last.set(self.name);
+        self.bytes.read(into)
+    }
+}
+
+// A line of ten frames of bytes 0, one more than a turn that hunts in vain looks at.
+fn line(alloc: Global, name: u8, last: &Rc<Cell<u8>>) -> Result<NamedSource, Memory> {
+    Ok(NamedSource {
+        bytes: MemSource::new(vec![in alloc; 0u8; 163_200]?),
+        name,
+        last: last.clone()?,
+    })
+}
+
+// A run of the plan over line inputs 0 and 1: how it ended, and which of the two was called last.
+fn last_called(alloc: Global, text: &[u8]) -> Result<(Option<Outcome>, u8), Memory> {
+    let last = Rc::new(alloc, Cell::new(9_u8))?;
+    let mut bays: Rack<NamedSource, MemSink> = Rack::new(alloc)?;
+    bays.set_line_in(0, InPlaceOf::Live(line(alloc, 0, &last)?, 0));
+    bays.set_line_in(1, InPlaceOf::Live(line(alloc, 1, &last)?, 0));
+    let plan = match Plan::read(alloc, text) {
+        Ok(plan) => plan,
+        Err(_) => return Ok((None, 9)),
+    };
+    let mut node = Node::build(alloc, &plan)?;
+    let mut chooser = FirstReady::new();
+    carry(&mut node, &mut bays, &mut chooser);
+    let outcome = node.settle(&mut bays);
+    Ok((Some(outcome), last.get()))
+}
+
+const RISING: &[u8] =
+    b"turns = 1\n[[connection]]\nname = \"a\"\nkind = \"odu0\"\nfrom = { line = 0, port = 1, slots = [1] }\nto = { client = 0 }\n[[connection]]\nname = \"b\"\nkind = \"odu0\"\nfrom = { line = 1, port = 1, slots = [1] }\nto = { client = 1 }\n";
+
+const FALLING: &[u8] =
+    b"turns = 1\n[[connection]]\nname = \"b\"\nkind = \"odu0\"\nfrom = { line = 1, port = 1, slots = [1] }\nto = { client = 1 }\n[[connection]]\nname = \"a\"\nkind = \"odu0\"\nfrom = { line = 0, port = 1, slots = [1] }\nto = { client = 0 }\n";
+
+#[test]
+fn lines_are_asked_in_the_order_of_their_numbers(rt: HostRuntime) -> Result<(), Fail> {
+    let alloc = rt.alloc();
+    for text in [RISING, FALLING] {
+        let (outcome, last) = last_called(alloc, text)?;
+        assert_eq!(rt; outcome, Some(Outcome::Unfinished));
+        assert_eq!(rt; last, 1);
+    }
+    Ok(())
+}
