@@ -8,18 +8,18 @@ use Rattle.plan_file.specs.Answer.{plan_of_text, plan_of_table, table_of_text}
 use Rattle.otn_base.specs.declared.memory.Memory.{Memory as NoMemory}
 use Rattle.plan_file.specs.declared.error.PlanError.{PlanError}
 use Rattle.plan_file.specs.declared.plan.Plan.{Plan}
-use Rattle.line_tool.specs.Answers.{CheckAnswers}
+use Rattle.check_command.specs.PlanCheck.{CheckAnswers}
 use Rattle.otn_ports.specs.PortViews.{SourceView, SinkView, SinkLater}
-use Rattle.line_tool.specs.Device.{Device}
-use Rattle.line_tool.specs.Ends.{check_status}
-use Rattle.line_tool.specs.PlanCheck.{CheckRun, CheckEnds, PlanTold}
-use Rattle.line_tool.specs.PlanReading.{IsAll, PlanReading, WasRead, most_read}
-use Rattle.line_tool.specs.AnswerWords.{CountsBy, IsRefusal, IsWell}
-use Rattle.line_tool.specs.declared.check.Checked.{Checked}
-use Rattle.line_tool.specs.declared.check.Checked.TheVariants as checked
-use Rattle.line_tool.specs.declared.plan_text.Planned.TheVariants as planned
-use Rattle.line_tool.specs.declared.status.Status.{Status}
-use Rattle.line_tool.specs.declared.status.Status.TheVariants as status
+use Rattle.command_base.specs.Device.{Device}
+use Rattle.check_command.specs.PlanCheck.{check_status}
+use Rattle.check_command.specs.PlanCheck.{CheckRun, CheckEnds, PlanTold}
+use Rattle.check_command.specs.PlanReading.{IsAll, PlanReading, WasRead, most_read}
+use Rattle.command_base.specs.AnswerWords.{CountsBy, IsRefusal, IsWell}
+use Rattle.check_command.specs.declared.check.Checked.{Checked}
+use Rattle.check_command.specs.declared.check.Checked.TheVariants as checked
+use Rattle.check_command.specs.declared.plan_text.Planned.TheVariants as planned
+use Rattle.command_base.specs.declared.status.Status.{Status}
+use Rattle.command_base.specs.declared.status.Status.TheVariants as status
 
 -- a text that is too long is no table
 too_long : (text : List ℕ) → 1048576 < length text → table_of_text text ≡ None

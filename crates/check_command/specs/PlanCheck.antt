@@ -1,16 +1,28 @@
 -- What `check` reads, and what it answers.
-use Rattle.std.specs.Prelude.{◌≡◌, ◌≤◌, ℕ, List, [], ◌∷◌, ◌++◌, Option, Ok, Err, length, codes}
+use Rattle.std.specs.Prelude.{◌≡◌, ◌≤◌, ℕ, List, [], ◌∷◌, ◌++◌, Option, Result, Ok, Err, length, codes}
+use Rattle.otn_base.specs.declared.memory.Memory.{Memory as NoMemory}
 use Rattle.std.specs.Fmt.{decimal}
 use Rattle.otn_ports.specs.Bytes.{before, after}
 use Rattle.plan_file.specs.Answer.{plan_of_text}
 use Rattle.plan_file.specs.declared.error.NoPlan.TheVariants.{Refused}
 use Rattle.plan_file.specs.declared.plan.Plan.{Plan}
 use Rattle.otn_ports.specs.PortViews.{SourceView, SinkView, SourceLater, SinkLater}
-use Rattle.line_tool.specs.Gains.{GainsPart}
-use Rattle.line_tool.specs.PlanReading.{WasRead, most_read}
-use Rattle.line_tool.specs.AnswerWords.{CountsBy}
-use Rattle.line_tool.specs.declared.status.Status.{Status}
-use Rattle.line_tool.specs.declared.status.Status.TheVariants as status
+use Rattle.command_base.specs.Gains.{GainsPart}
+use Rattle.check_command.specs.PlanReading.{WasRead, most_read}
+use Rattle.command_base.specs.AnswerWords.{CountsBy}
+use Rattle.command_base.specs.declared.status.Status.{Status}
+use Rattle.command_base.specs.declared.status.Status.TheVariants as status
+use Rattle.command_base.specs.Device.{Device}
+use Rattle.check_command.specs.declared.check.Checked.{Checked}
+use Rattle.check_command.specs.declared.check.Checked.TheVariants as checked
+
+-- the answer of each ending, and of want of memory
+abbrev pub check_status : Result Checked NoMemory → Status
+check_status (Ok checked.Told) = status.Done
+check_status (Ok (checked.Refused error place)) = status.Plan error place
+check_status (Ok checked.PlanFault) = status.PlanFault
+check_status (Ok checked.ReportFault) = status.ReportFault
+check_status (Err memory) = status.Memory
 
 -- what is written of an accepted plan: `plan connections N turns T` and a line feed
 abbrev pub plan_text : Plan → List ℕ
@@ -45,3 +57,7 @@ pub record CheckRun (plan_old plan_new : SourceView) (old new : SinkView) (answe
   pub plan_counts : CountsBy status.PlanFault answer plan_old.faults plan_new.faults
   pub report : SinkLater old new
   pub report_counts : CountsBy status.ReportFault answer old.faults new.faults
+
+-- the same, of all that the top call is handed
+abbrev pub CheckAnswers : (old new : Device) → Status → Type 0
+CheckAnswers old new status = CheckRun old.plan new.plan old.report new.report status

@@ -7,11 +7,11 @@ use Rattle.otn_ports.specs.PortViews.{SourceView, SourceLater}
 use Rattle.otn_ports.specs.Reads.{HasEnded}
 use Rattle.plan_file.specs.Answer.{fault_in, plan_of_text}
 use Rattle.plan_file.specs.declared.error.NoPlan.TheVariants.{Refused}
-use Rattle.line_tool.specs.AnswerWords.{CountsBy}
-use Rattle.line_tool.specs.declared.plan_text.Planned.{Planned}
-use Rattle.line_tool.specs.declared.plan_text.Planned.TheVariants as planned
-use Rattle.line_tool.specs.declared.status.Status.{Status}
-use Rattle.line_tool.specs.declared.status.Status.TheVariants as status
+use Rattle.command_base.specs.AnswerWords.{CountsBy}
+use Rattle.check_command.specs.declared.plan_text.Planned.{Planned}
+use Rattle.check_command.specs.declared.plan_text.Planned.TheVariants as planned
+use Rattle.command_base.specs.declared.status.Status.{Status}
+use Rattle.command_base.specs.declared.status.Status.TheVariants as status
 
 -- the most bytes that are read of a plan's source: one more than the longest plan has
 abbrev pub most_read : ℕ

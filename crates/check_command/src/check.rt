@@ -1,12 +1,11 @@
 // The command `check`: whether the plan is one, and how large.
 ghost use Rattle.std.specs.Prelude.{◌≡◌, IfOk, string_bytes};
 ghost use Rattle.otn_ports.specs.PortViews.{source_view, sink_view, SinkLater};
-ghost use Rattle.line_tool.specs.Ends.{check_status};
-ghost use Rattle.line_tool.specs.PlanCheck.{CheckRun, PlanTold, plan_text};
-ghost use Rattle.line_tool.specs.AnswerWords.{CountsBy, IsRefusal};
+ghost use Rattle.check_command.specs.PlanCheck.{CheckRun, PlanTold, check_status, plan_text};
+ghost use Rattle.command_base.specs.AnswerWords.{CountsBy, IsRefusal};
 
-use crate::Status;
 use crate::plan_text::{Planned, read_plan};
+use command_base::Status;
 use otn_base::Memory;
 use otn_ports::{Sink, Source, Written, write_whole};
 use plan_file::{Plan, PlanError};
@@ -14,7 +13,7 @@ use std::alloc::{AllocError, Global};
 
 /// How `check` ended, once it had its memory.
 #[derive(Clone, Copy, Debug, PartialEq, Eq)]
-pub(crate) enum Checked {
+pub enum Checked {
     /// The plan is accepted, and its line is written.
     Told,
     /// The plan breaks this rule first, at this place.
@@ -26,7 +25,7 @@ pub(crate) enum Checked {
 }
 
 /// The answer of the top call to a `check` that ended so, or for which there was no memory.
-pub(crate) fn status_of_check(answer: Result<Checked, Memory>) -> Status
+pub fn status_of_check(answer: Result<Checked, Memory>) -> Status
     ensures { result ≡ check_status answer }
 {
     match answer {
@@ -40,7 +39,7 @@ pub(crate) fn status_of_check(answer: Result<Checked, Memory>) -> Status
 
 /// Reads the plan, of 1,048,576 bytes at most and one more that shows that it is longer, and writes
 /// `plan connections N turns T` where it is accepted.
-pub(crate) fn check_plan<P: Source, K: Sink>(
+pub fn check_plan<P: Source, K: Sink>(
     alloc: Global,
     plan: &mut P,
     report: &mut K,

@@ -1,7 +1,7 @@
 // The plan of a command, read of its source.
 ghost use Rattle.std.specs.Prelude.{◌≡◌, IfOk, vec_len};
 ghost use Rattle.otn_ports.specs.PortViews.{source_view};
-ghost use Rattle.line_tool.specs.PlanReading.{PlanReading, most_read};
+ghost use Rattle.check_command.specs.PlanReading.{PlanReading, most_read};
 
 use otn_base::Memory;
 use otn_base::limits::MOST_PLAN_BYTES;
@@ -11,7 +11,7 @@ use std::alloc::{AllocError, Global};
 
 /// What a plan's source gave.
 #[derive(Drop)]
-pub(crate) enum Planned {
+pub enum Planned {
     /// A plan that is accepted.
     Accepted(Plan),
     /// A text that breaks this rule first, at this place.
@@ -21,7 +21,7 @@ pub(crate) enum Planned {
 }
 
 /// Reads the plan, of 1,048,576 bytes at most and one more that shows that it is longer.
-pub(crate) fn read_plan<P: Source>(alloc: Global, plan: &mut P) -> Result<Planned, Memory>
+pub fn read_plan<P: Source>(alloc: Global, plan: &mut P) -> Result<Planned, Memory>
     ensures { PlanReading result (source_view P.Source plan.old) (source_view P.Source plan.new) }
 {
     let mut text = plan_buffer(alloc)?;

@@ -2,9 +2,9 @@
 use Rattle.std.proofs.Common.{◌≡◌, ◌≢◌, ◌∙◌, ◌⊎◌, sym, inl, inr, refl}
 use Rattle.otn_ports.specs.Given.{Lives}
 use Rattle.otn_ports.specs.Views.{State, Empty, Live, Dead, InView}
-use Rattle.line_tool.specs.AnswerWords.{IsWell}
-use Rattle.line_tool.specs.declared.status.Status.{Status}
-use Rattle.line_tool.specs.declared.status.Status.TheVariants.{Done, Unfinished, Words, Plan, PlanFault, ReportFault, Cut, Memory}
+use Rattle.command_base.specs.AnswerWords.{IsWell}
+use Rattle.command_base.specs.declared.status.Status.{Status}
+use Rattle.command_base.specs.declared.status.Status.TheVariants.{Done, Unfinished, Words, Plan, PlanFault, ReportFault, Cut, Memory}
 
 pub is_dead : (s : State) → (s ≡ Dead) ⊎ (s ≢ Dead)
 is_dead Dead = inl refl

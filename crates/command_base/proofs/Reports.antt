@@ -3,7 +3,7 @@ use Rattle.std.proofs.Common.{◌≡◌, ◌∙◌, Option, None, Some, refl, su
 use Rattle.otn_ports.proofs.PortLaws.{sink_later_none, sink_later_twice}
 use Rattle.otn_ports.specs.Bytes.{HasFailed}
 use Rattle.otn_ports.specs.PortViews.{SinkView}
-use Rattle.line_tool.specs.Ends.{FaultsBy, ReportAfter}
+use Rattle.command_base.specs.Ends.{FaultsBy, ReportAfter}
 use Rattle.otn_ports.specs.declared.ended.Ended.{Ended}
 use Rattle.otn_ports.specs.declared.ended.Ended.TheVariants.{Done, Unfinished, Cut, ReportFault, Memory}
 

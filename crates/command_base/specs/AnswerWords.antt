@@ -1,9 +1,9 @@
 -- What the records of the commands share: what a report gained, which answers a line has and which refuse, and faults.
 use Rattle.std.specs.Prelude.{◌≡◌, ◌≢◌, ℕ, List, Option}
 use Rattle.otn_ports.specs.Bytes.{after, HasFailed}
-use Rattle.line_tool.specs.Gains.{GainsPart}
-use Rattle.line_tool.specs.declared.status.Status.{Status}
-use Rattle.line_tool.specs.declared.status.Status.TheVariants.{Done, Unfinished, Words, Plan, PlanFault, ReportFault, Cut, Memory}
+use Rattle.command_base.specs.Gains.{GainsPart}
+use Rattle.command_base.specs.declared.status.Status.{Status}
+use Rattle.command_base.specs.declared.status.Status.TheVariants.{Done, Unfinished, Words, Plan, PlanFault, ReportFault, Cut, Memory}
 
 -- a report gained all these bytes; where a write of it failed, a part of them from the front
 abbrev pub Reports : Status → (old new : Option (List ℕ)) → List ℕ → Type 0

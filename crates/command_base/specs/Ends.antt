@@ -1,16 +1,13 @@
 -- How a command ends, and what the top call then answers.
-use Rattle.std.specs.Prelude.{◌≡◌, Option, Some, None, Result, Ok, Err}
-use Rattle.otn_base.specs.declared.memory.Memory.{Memory as NoMemory}
+use Rattle.std.specs.Prelude.{◌≡◌, Option, Some, None}
 use Rattle.otn_ports.specs.Bytes.{HasFailed}
 use Rattle.otn_ports.specs.declared.drain.Written.{Written}
 use Rattle.otn_ports.specs.declared.drain.Written.TheVariants as written
 use Rattle.otn_ports.specs.PortViews.{SinkView, SinkLater}
-use Rattle.line_tool.specs.declared.check.Checked.{Checked}
-use Rattle.line_tool.specs.declared.check.Checked.TheVariants as checked
 use Rattle.otn_ports.specs.declared.ended.Ended.{Ended}
 use Rattle.otn_ports.specs.declared.ended.Ended.TheVariants.{Done, Unfinished, Cut, ReportFault, Memory}
-use Rattle.line_tool.specs.declared.status.Status.{Status}
-use Rattle.line_tool.specs.declared.status.Status.TheVariants as status
+use Rattle.command_base.specs.declared.status.Status.{Status}
+use Rattle.command_base.specs.declared.status.Status.TheVariants as status
 
 -- the answer of each ending
 abbrev pub line_status : Ended → Status
@@ -19,20 +16,6 @@ line_status Unfinished = status.Unfinished
 line_status Cut = status.Cut
 line_status ReportFault = status.ReportFault
 line_status Memory = status.Memory
-
--- the same of `check`
-abbrev pub check_status : Result Checked NoMemory → Status
-check_status (Ok checked.Told) = status.Done
-check_status (Ok (checked.Refused error place)) = status.Plan error place
-check_status (Ok checked.PlanFault) = status.PlanFault
-check_status (Ok checked.ReportFault) = status.ReportFault
-check_status (Err memory) = status.Memory
-
--- the same of `trial`
-abbrev pub trial_status : Result Written NoMemory → Status
-trial_status (Ok written.Whole) = status.Done
-trial_status (Ok written.Lost) = status.ReportFault
-trial_status (Err memory) = status.Memory
 
 -- a report's count of faults: it rose or stands at its end where a write failed, and else it is as it was
 abbrev pub FaultsBy : Option Ended → (old new : SinkView) → Type 0

@@ -1,12 +1,12 @@
 // The answer of the top call to how a command over places ended.
 ghost use Rattle.std.specs.Prelude.{◌≡◌};
-ghost use Rattle.line_tool.specs.Ends.{line_status};
+ghost use Rattle.command_base.specs.Ends.{line_status};
 
 use crate::Status;
 use otn_ports::Ended;
 
 /// The answer of the top call to a command that ended so.
-pub(crate) fn status_of(ended: Ended) -> Status
+pub fn status_of(ended: Ended) -> Status
     ensures { result ≡ line_status ended }
 {
     match ended {

@@ -1,6 +1,6 @@
 // How a run of the program ended.
 ghost use Rattle.std.specs.Prelude.{◌≡◌};
-ghost use Rattle.line_tool.specs.Codes.{code_of};
+ghost use Rattle.command_base.specs.Codes.{code_of};
 
 use plan_file::PlanError;
 use std::fmt;

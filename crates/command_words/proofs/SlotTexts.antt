@@ -2,7 +2,7 @@
 use Rattle.std.proofs.Common.{◌≡◌, ◌<◌, ◌≤◌, ◌+◌, ◌∙◌, ℕ, zero, suc, List, [], ◌∷◌, ◌++◌, length, get_or, take, drop, ◌≢◌, ◌-◌, refl, sym, ap, subst, arith, length-append, length-drop, add-one}
 use Rattle.std.proofs.Math.Seq.{get_or-append_seam, take-length}
 use Rattle.otn_base.specs.SlotList.{IsSlotList}
-use Rattle.line_tool.specs.Words.{digit, slots_text}
+use Rattle.command_words.specs.Words.{digit, slots_text}
 
 -- the digits of slots, each with a comma after it
 abbrev pub with_commas : List ℕ → List ℕ

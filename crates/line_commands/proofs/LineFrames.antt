@@ -4,8 +4,8 @@ use Rattle.std.proofs.lemmas.List.{take-append-le, drop-append-le, drop_at, leng
 use Rattle.std.proofs.lemmas.Nat.{div-mul-add}
 use Rattle.std.proofs.Math.Seq.{take-length}
 use Rattle.line_side.specs.LineFile.{frame_at}
-use Rattle.line_tool.proofs.Rows.{flat_map-range_more, flat_same}
-use Rattle.line_tool.specs.SlotReport.{slot_bytes, slot_bytes_until, slot_report, whole_frames_used}
+use Rattle.command_base.proofs.Rows.{flat_map-range_more, flat_same}
+use Rattle.line_commands.specs.SlotReport.{slot_bytes, slot_bytes_until, slot_report, whole_frames_used}
 
 -- a frame stays where more bytes follow
 pub frame_at-append : (bytes more : List ℕ) (f : ℕ) → f * 16320 + 16320 ≤ length bytes → frame_at (bytes ++ more) f ≡ frame_at bytes f

@@ -21,10 +21,10 @@ use Rattle.tributary_model.proofs.Ranges.{joined, none_between}
 use Rattle.tributary_model.proofs.Totals.{sent_up}
 use Rattle.tributary_model.proofs.Passing.{joins, joins_to_whole_groups}
 use Rattle.device_model.specs.LineViews.{frames_of, view_at, views_until, emitted_at}
-use Rattle.line_tool.specs.PullReport.{tributary}
-use Rattle.line_tool.specs.PullCarried.{LineCarries, BeginsWithWhatIsCarried, IsTheWholeGroups, HasWhatIsCarriedAfterDamage}
-use Rattle.line_tool.proofs.PullTurns.{stays_ended, written_first, written_all}
-use Rattle.line_tool.proofs.PullWorlds.{is_tributary}
+use Rattle.line_commands.specs.PullReport.{tributary}
+use Rattle.line_commands.specs.PullCarried.{LineCarries, BeginsWithWhatIsCarried, IsTheWholeGroups, HasWhatIsCarriedAfterDamage}
+use Rattle.line_commands.proofs.PullTurns.{stays_ended, written_first, written_all}
+use Rattle.line_commands.proofs.PullWorlds.{is_tributary}
 
 -- ---- the turns of a line
 

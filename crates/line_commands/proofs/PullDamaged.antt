@@ -10,9 +10,9 @@ use Rattle.tributary_model.specs.Emission.{emission}
 use Rattle.tributary_model.specs.Damage.{NeverThree, emissions}
 use Rattle.tributary_model.proofs.OneDamaged.{as_if_repeated}
 use Rattle.device_model.specs.LineViews.{view_at, views_until, emitted_at}
-use Rattle.line_tool.specs.PullReport.{tributary, turns_of, pull_report}
-use Rattle.line_tool.specs.PullDamaged.{LinesDifferInOneMessage, WritesAsIfRepeated}
-use Rattle.line_tool.proofs.PullWorlds.{same_flat}
+use Rattle.line_commands.specs.PullReport.{tributary, turns_of, pull_report}
+use Rattle.line_commands.specs.PullDamaged.{LinesDifferInOneMessage, WritesAsIfRepeated}
+use Rattle.line_commands.proofs.PullWorlds.{same_flat}
 
 views_next : (own : Tributary) (given : List ℕ) (n : ℕ) → views_until own given (suc n) ≡ view_at own given n ∷ views_until own given n
 unfolding views_until

@@ -8,7 +8,7 @@ use Rattle.line_side.specs.Reader.{HasRead, ReaderView, count_of, rest_of}
 use Rattle.line_side.specs.declared.ending.Ending.{Ending}
 use Rattle.line_side.specs.declared.ending.Ending.TheVariants.{Open, Seen, Died}
 use Rattle.multiframe.specs.LineTurns.{Lock, LineState, Hunting, Locked, Ended, Outcome, CutShort, Lost, Whole, lock_from, least_start, outcome_of, after_outcome, after_hunt, after_turn, line_state, wanted, wanted_in, wanted_from, wanted_so_far, used_in}
-use Rattle.line_tool.specs.PullReport.{turns_of, frames_wanted, bytes_wanted}
+use Rattle.line_commands.specs.PullReport.{turns_of, frames_wanted, bytes_wanted}
 
 -- ---- between turns nothing more is wanted than by the turns before
 

@@ -1,8 +1,8 @@
 -- Worked lines, against the definition of the turns that `pull` carries out.
 use Rattle.std.proofs.Common.{◌≡◌, ◌<◌, ℕ, zero, suc, ◌+◌, ◌%◌, List, [], ◌∷◌, true, false, refl, inl, arith, lit≤}
 use Rattle.multiframe.specs.LineTurns.{least_start, line_state, has_ended}
-use Rattle.line_tool.proofs.PullTurns.{turns_all}
-use Rattle.line_tool.specs.PullReport.{turns_of}
+use Rattle.line_commands.proofs.PullTurns.{turns_all}
+use Rattle.line_commands.specs.PullReport.{turns_of}
 
 -- the MFAS bytes of n frames from e on
 abbrev from_to : ℕ → ℕ → List ℕ

@@ -16,21 +16,21 @@ use Rattle.line_side.specs.declared.ending.Ending.TheVariants.{Open, Seen, Died}
 use Rattle.multiframe.specs.LineTurns.{line_state, has_ended}
 use Rattle.tributary_model.specs.Places.{Tributary}
 use Rattle.otn_ports.specs.PortViews.{SinkView}
-use Rattle.line_tool.specs.Ends.{ReportAfter}
-use Rattle.line_tool.specs.Gains.{GainsPart}
+use Rattle.command_base.specs.Ends.{ReportAfter}
+use Rattle.command_base.specs.Gains.{GainsPart}
 use Rattle.device_model.specs.LineViews.{emitted_at}
-use Rattle.line_tool.specs.PullReport.{emitted_until, pull_report, frames_wanted, bytes_taken, LeavesBytes}
-use Rattle.line_tool.specs.PullRuns.{PullEnded, TurnRun, AnswerRun}
-use Rattle.line_tool.specs.PullReport.{MayFollow}
+use Rattle.line_commands.specs.PullReport.{emitted_until, pull_report, frames_wanted, bytes_taken, LeavesBytes}
+use Rattle.line_commands.specs.PullRuns.{PullEnded, TurnRun, AnswerRun}
+use Rattle.line_commands.specs.PullReport.{MayFollow}
 use Rattle.tributary_line.specs.TapTurn.{TapView, TapStands}
-use Rattle.line_tool.specs.declared.pull.After.{After}
-use Rattle.line_tool.specs.declared.pull.After.TheVariants as next
+use Rattle.line_commands.specs.declared.pull.After.{After}
+use Rattle.line_commands.specs.declared.pull.After.TheVariants as next
 use Rattle.otn_ports.specs.declared.ended.Ended.{Ended}
 use Rattle.otn_ports.specs.declared.ended.Ended.TheVariants.{Done, Unfinished, Cut, ReportFault, Memory}
-use Rattle.line_tool.proofs.PullEnds.{took_so_far, TookWanted, took_wanted, frames_there}
-use Rattle.line_tool.proofs.PullTurns.{turn_count, written_first, written_all}
-use Rattle.line_tool.proofs.Rows.{flat_map-range_more}
-use Rattle.line_tool.proofs.SlotLoop.{after-none, part_after}
+use Rattle.line_commands.proofs.PullEnds.{took_so_far, TookWanted, took_wanted, frames_there}
+use Rattle.line_commands.proofs.PullTurns.{turn_count, written_first, written_all}
+use Rattle.command_base.proofs.Rows.{flat_map-range_more}
+use Rattle.line_commands.proofs.SlotLoop.{after-none, part_after}
 
 -- the turns so far: t of them, and the line had not ended before any
 pub record TurnsSoFar (own : Tributary) (first now : InView) (t : ℕ) (tap : TapView) (old new : Option (List ℕ)) : Type 0 where

@@ -5,18 +5,18 @@ use Rattle.otn_ports.specs.Given.{Gave, HadToGive}
 use Rattle.otn_ports.specs.Reads.{HasEnded}
 use Rattle.otn_ports.specs.Views.{State, Empty, Live, Dead, InView}
 use Rattle.tributary_model.specs.Places.{Tributary}
-use Rattle.line_tool.specs.Answers.{LineAnswers, PullRan}
-use Rattle.line_tool.specs.Device.{Device, line_zero}
-use Rattle.line_tool.specs.Ends.{line_status}
-use Rattle.line_tool.specs.PullReport.{LeavesBytes, bytes_taken, pull_report}
-use Rattle.line_tool.specs.PullRuns.{PullEnded}
-use Rattle.line_tool.specs.PullReport.{MayFollow, StoppedInTurn}
-use Rattle.line_tool.specs.AnswerWords.{IsWell, Reports}
+use Rattle.line_commands.specs.LineAnswers.{LineAnswers, PullRan}
+use Rattle.command_base.specs.Device.{Device, line_zero}
+use Rattle.command_base.specs.Ends.{line_status}
+use Rattle.line_commands.specs.PullReport.{LeavesBytes, bytes_taken, pull_report}
+use Rattle.line_commands.specs.PullRuns.{PullEnded}
+use Rattle.line_commands.specs.PullReport.{MayFollow, StoppedInTurn}
+use Rattle.command_base.specs.AnswerWords.{IsWell, Reports}
 use Rattle.otn_ports.specs.declared.ended.Ended.{Ended}
 use Rattle.otn_ports.specs.declared.ended.Ended.TheVariants.{Done, Unfinished, Cut, ReportFault, Memory}
-use Rattle.line_tool.specs.declared.status.Status.{Status}
-use Rattle.line_tool.specs.declared.status.Status.TheVariants as status
-use Rattle.line_tool.proofs.Lives.{still_alive}
+use Rattle.command_base.specs.declared.status.Status.{Status}
+use Rattle.command_base.specs.declared.status.Status.TheVariants as status
+use Rattle.command_base.proofs.Lives.{still_alive}
 
 -- nothing is beyond the bytes taken of a line that has ended or is not live
 none_beyond : (s : State) (left : Option (List ℕ)) (answered : Bool) (rest : List ℕ) → (s ≡ Live → HasEnded left answered) → (s ≡ Live → left ≡ Some rest) → (s ≢ Live → rest ≡ []) → rest ≡ []

@@ -7,7 +7,7 @@ use Rattle.line_side.specs.LineFile.{mfas_of}
 use Rattle.multiframe.specs.LineTurns.{LineState, Hunting, Locked, Ended, line_state, after_turn, has_ended}
 use Rattle.tributary_model.specs.Places.{Tributary}
 use Rattle.device_model.specs.LineViews.{emitted_at}
-use Rattle.line_tool.specs.PullReport.{turns_of, pull_report}
+use Rattle.line_commands.specs.PullReport.{turns_of, pull_report}
 
 -- ---- numbers that pass a test
 

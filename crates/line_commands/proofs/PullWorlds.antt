@@ -8,7 +8,7 @@ use Rattle.tributary_model.specs.Places.{Tributary}
 use Rattle.device_model.proofs.LineViews.{same_emitted}
 use Rattle.device_model.specs.Agreements.{AgreeOnTributary}
 use Rattle.device_model.specs.LineViews.{emitted_at}
-use Rattle.line_tool.specs.PullReport.{tributary, turns_of, pull_report}
+use Rattle.line_commands.specs.PullReport.{tributary, turns_of, pull_report}
 
 -- eight slots share the payload columns evenly
 pub is_tributary : (port : ℕ) (slots : List ℕ) → IsSlotList 8 slots → IsTributary (tributary port slots)

@@ -8,15 +8,15 @@ use Rattle.otn_ports.specs.Given.{Gave}
 use Rattle.otn_ports.specs.Views.{Dead, InView}
 use Rattle.line_side.specs.LineFile.{frame_at}
 use Rattle.otn_ports.specs.PortViews.{SinkView}
-use Rattle.line_tool.specs.Ends.{ReportAfter}
-use Rattle.line_tool.specs.SlotReport.{slot_bytes, slot_bytes_until, slot_report, whole_frames_used}
-use Rattle.line_tool.specs.SlotRuns.{SlotEnded, SlotStep}
-use Rattle.line_tool.specs.SlotReport.{StoppedInFrame}
-use Rattle.line_tool.specs.Gains.{GainsPart}
-use Rattle.line_tool.specs.Beyond.{ByteRun}
+use Rattle.command_base.specs.Ends.{ReportAfter}
+use Rattle.line_commands.specs.SlotReport.{slot_bytes, slot_bytes_until, slot_report, whole_frames_used}
+use Rattle.line_commands.specs.SlotRuns.{SlotEnded, SlotStep}
+use Rattle.line_commands.specs.SlotReport.{StoppedInFrame}
+use Rattle.command_base.specs.Gains.{GainsPart}
+use Rattle.command_base.specs.Beyond.{ByteRun}
 use Rattle.otn_ports.specs.declared.ended.Ended.{Ended}
 use Rattle.otn_ports.specs.declared.ended.Ended.TheVariants.{Done, Unfinished, Cut, ReportFault, Memory}
-use Rattle.line_tool.proofs.LineFrames.{last_frame, slot_report-at, slot_report-whole, until-append, until-came, until-more, until-none, used-at}
+use Rattle.line_commands.proofs.LineFrames.{last_frame, slot_report-at, slot_report-whole, until-append, until-came, until-more, until-none, used-at}
 
 -- after i whole frames
 pub record SoFar (slot i : ℕ) (first now : InView) (old new : Option (List ℕ)) : Type 0 where

@@ -6,23 +6,23 @@ use Rattle.otn_ports.specs.Bytes.{after, raised}
 use Rattle.otn_ports.specs.Given.{HadToGive}
 use Rattle.otn_ports.specs.Reads.{HasEnded}
 use Rattle.otn_ports.specs.Views.{State, Empty, Live, Dead, InView}
-use Rattle.line_tool.specs.Answers.{LineAnswers, SlotRan}
-use Rattle.line_tool.specs.Device.{Device, line_zero}
-use Rattle.line_tool.specs.Ends.{line_status}
-use Rattle.line_tool.specs.AnswerWords.{Reports, IsWell}
-use Rattle.line_tool.specs.SlotReport.{HasBytesBehind}
+use Rattle.line_commands.specs.LineAnswers.{LineAnswers, SlotRan}
+use Rattle.command_base.specs.Device.{Device, line_zero}
+use Rattle.command_base.specs.Ends.{line_status}
+use Rattle.command_base.specs.AnswerWords.{Reports, IsWell}
+use Rattle.line_commands.specs.SlotReport.{HasBytesBehind}
 use Rattle.line_side.specs.LineFile.{frame_at}
-use Rattle.line_tool.specs.SlotReport.{slot_bytes, slot_bytes_until, slot_report, whole_frames_used}
-use Rattle.line_tool.specs.SlotRuns.{SlotEnded}
-use Rattle.line_tool.specs.SlotReport.{StoppedInFrame}
-use Rattle.line_tool.specs.Gains.{GainsPart}
+use Rattle.line_commands.specs.SlotReport.{slot_bytes, slot_bytes_until, slot_report, whole_frames_used}
+use Rattle.line_commands.specs.SlotRuns.{SlotEnded}
+use Rattle.line_commands.specs.SlotReport.{StoppedInFrame}
+use Rattle.command_base.specs.Gains.{GainsPart}
 use Rattle.otn_ports.specs.declared.ended.Ended.{Ended}
 use Rattle.otn_ports.specs.declared.ended.Ended.TheVariants.{Done, Unfinished, Cut, ReportFault, Memory}
-use Rattle.line_tool.specs.declared.status.Status.{Status}
-use Rattle.line_tool.specs.declared.status.Status.TheVariants as status
-use Rattle.line_tool.proofs.Lives.{is_dead, is_report_fault, still_alive}
-use Rattle.line_tool.proofs.LineFrames.{frame_at-append, until-append, until-more}
-use Rattle.line_tool.proofs.SlotLoop.{part_of_report}
+use Rattle.command_base.specs.declared.status.Status.{Status}
+use Rattle.command_base.specs.declared.status.Status.TheVariants as status
+use Rattle.command_base.proofs.Lives.{is_dead, is_report_fault, still_alive}
+use Rattle.line_commands.proofs.LineFrames.{frame_at-append, until-append, until-more}
+use Rattle.line_commands.proofs.SlotLoop.{part_of_report}
 
 -- the first frames and then some more
 until-add : (slot : ℕ) (bytes : List ℕ) (n k : ℕ) → (rest : List ℕ) × (slot_bytes_until slot bytes (n + k) ≡ slot_bytes_until slot bytes n ++ rest)

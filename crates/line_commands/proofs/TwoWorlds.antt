@@ -4,10 +4,10 @@ use Rattle.std.proofs.lemmas.Bool.Decides.{Decides-eqb}
 use Rattle.std.specs.List.{flat_map, range_with_len}
 use Rattle.frame_geometry.specs.Places.{place_of}
 use Rattle.odtu_columns.specs.Columns.{slot_of, columns_of, slot_row_of}
-use Rattle.line_tool.specs.Agreements.{AgreeOnSlot}
+use Rattle.line_commands.specs.Agreements.{AgreeOnSlot}
 use Rattle.line_side.specs.LineFile.{frame_at}
-use Rattle.line_tool.proofs.Rows.{flat_same}
-use Rattle.line_tool.specs.SlotReport.{slot_bytes, slot_bytes_until, slot_report, whole_frames_used}
+use Rattle.command_base.proofs.Rows.{flat_same}
+use Rattle.line_commands.specs.SlotReport.{slot_bytes, slot_bytes_until, slot_report, whole_frames_used}
 
 -- what is made of the numbers that pass a test is the same where it is the same at each of them
 rows_same : (p : ℕ → Bool) (g h : ℕ → ℕ) (a n : ℕ) → ((x : ℕ) → a ≤ x → x < a + n → p x ≡ true → g x ≡ h x)

@@ -8,7 +8,7 @@ use Rattle.tributary_model.specs.Places.{Tributary}
 use Rattle.tributary_model.specs.Carries.{sent, Carries, IsSteady}
 use Rattle.tributary_model.specs.Carriage.{SaysAnew}
 use Rattle.device_model.specs.LineViews.{view_at}
-use Rattle.line_tool.specs.PullReport.{emitted_until, pull_report, tributary}
+use Rattle.line_commands.specs.PullReport.{emitted_until, pull_report, tributary}
 
 -- In the turns b + 1 to u + 1 a line carries the bytes for a tributary, by the numbers of p, of a sender that began with turn
 -- s + 1. Up to turn u + 1 the numbers are steady.

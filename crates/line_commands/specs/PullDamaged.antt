@@ -7,7 +7,7 @@ use Rattle.tributary_model.specs.Messages.{hears_message}
 use Rattle.tributary_model.specs.Stretches.{course}
 use Rattle.tributary_model.specs.Damage.{pair_had, NeverThree}
 use Rattle.device_model.specs.LineViews.{view_at, views_until}
-use Rattle.line_tool.specs.PullReport.{pull_report, tributary}
+use Rattle.line_commands.specs.PullReport.{pull_report, tributary}
 
 -- Two lines show the same of a tributary but for the message of turn i + 1, before which its sink is Up: on the first line this is
 -- damaged, on the other it gives the pair of the turn before. On neither are three messages in a row damaged.

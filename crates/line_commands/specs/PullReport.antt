@@ -7,7 +7,7 @@ use Rattle.otn_base.specs.declared.limits.TheConstants.{LINE_FRAME_BYTES, MOST_T
 use Rattle.tributary_model.specs.Places.{Tributary}
 use Rattle.device_model.specs.LineViews.{emitted_at}
 use Rattle.otn_ports.specs.Bytes.{after}
-use Rattle.line_tool.specs.Gains.{GainsPart}
+use Rattle.command_base.specs.Gains.{GainsPart}
 
 -- the tributary of a port, from 1, and of slots of an OTU2 line
 abbrev pub tributary : (port : ℕ) → (slots : List ℕ) → Tributary

@@ -8,13 +8,13 @@ use Rattle.otn_ports.specs.Views.{InView, Live, Dead}
 use Rattle.line_side.specs.LineStands.{LineView}
 use Rattle.line_side.specs.declared.ending.Ending.TheVariants.{Seen}
 use Rattle.tributary_model.specs.Places.{Tributary}
-use Rattle.line_tool.specs.Ends.{line_status}
-use Rattle.line_tool.specs.Gains.{GainsPart}
-use Rattle.line_tool.specs.PullReport.{pull_report, LeavesBytes, bytes_taken, MayFollow, StoppedInTurn}
+use Rattle.command_base.specs.Ends.{line_status}
+use Rattle.command_base.specs.Gains.{GainsPart}
+use Rattle.line_commands.specs.PullReport.{pull_report, LeavesBytes, bytes_taken, MayFollow, StoppedInTurn}
 use Rattle.tributary_line.specs.TapTurn.{TapView, TurnMoves}
-use Rattle.line_tool.specs.AnswerWords.{Reports}
-use Rattle.line_tool.specs.declared.pull.After.{After}
-use Rattle.line_tool.specs.declared.pull.After.TheVariants as next
+use Rattle.command_base.specs.AnswerWords.{Reports}
+use Rattle.line_commands.specs.declared.pull.After.{After}
+use Rattle.line_commands.specs.declared.pull.After.TheVariants as next
 use Rattle.otn_ports.specs.declared.ended.Ended.{Ended}
 use Rattle.otn_ports.specs.declared.ended.Ended.TheVariants.{Done, Unfinished, Cut, ReportFault, Memory}
 

@@ -4,7 +4,7 @@ use Rattle.std.specs.List.{flat_map, range_with_len}
 use Rattle.line_side.specs.LineFile.{frame_at}
 use Rattle.odtu_columns.specs.Columns.{slot_row_of}
 use Rattle.otn_ports.specs.Bytes.{after}
-use Rattle.line_tool.specs.Gains.{GainsPart}
+use Rattle.command_base.specs.Gains.{GainsPart}
 use Rattle.otn_base.specs.declared.limits.TheConstants.{LINE_FRAME_BYTES, MOST_FRAMES, OTU2_SLOTS, ROWS}
 
 -- of so many bytes, how many frames are whole, and of these how many are used: 131,072 at most

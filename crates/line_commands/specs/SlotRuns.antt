@@ -7,8 +7,8 @@ use Rattle.otn_ports.specs.Reads.{HasEnded}
 use Rattle.otn_ports.specs.Views.{InView, Dead}
 use Rattle.otn_ports.specs.declared.drain.Written.{Written}
 use Rattle.otn_ports.specs.declared.drain.Written.TheVariants as written
-use Rattle.line_tool.specs.Gains.{GainsPart}
-use Rattle.line_tool.specs.SlotReport.{slot_bytes, slot_report, whole_frames_used, most_taken, StoppedInFrame}
+use Rattle.command_base.specs.Gains.{GainsPart}
+use Rattle.line_commands.specs.SlotReport.{slot_bytes, slot_report, whole_frames_used, most_taken, StoppedInFrame}
 use Rattle.otn_ports.specs.declared.ended.Ended.{Ended}
 use Rattle.otn_ports.specs.declared.ended.Ended.TheVariants.{Done, Unfinished, Cut, ReportFault, Memory}
 

@@ -5,11 +5,11 @@ ghost use Rattle.otn_ports.specs.Views.{InView};
 ghost use Rattle.tributary_model.specs.Places.{Tributary};
 ghost use Rattle.otn_base.specs.declared.limits.TheConstants.{GROUPS, OTU2_SLOTS};
 ghost use Rattle.otn_ports.specs.PortViews.{sink_view};
-ghost use Rattle.line_tool.specs.Ends.{ReportAfter};
-ghost use Rattle.line_tool.specs.PullReport.{tributary};
+ghost use Rattle.command_base.specs.Ends.{ReportAfter};
+ghost use Rattle.line_commands.specs.PullReport.{tributary};
 ghost use Rattle.tributary_line.specs.TapTurn.{TapStands, IsBetweenTurns};
 
-use crate::beyond::ask_for_more;
+use command_base::ask_for_more;
 use line_side::UncountedLineIn;
 use otn_base::limits::{GROUPS, MOST_TURNS};
 use otn_base::{LineKind, Slots};
@@ -24,12 +24,12 @@ enum After {
     ReportFailed,
 }
 
-ghost use Rattle.line_tool.specs.PullRuns.{PullEnded, TurnRun, AnswerRun, fault_of};
+ghost use Rattle.line_commands.specs.PullRuns.{PullEnded, TurnRun, AnswerRun, fault_of};
 
 /// Writes what a sink of these slots and this tributary port, 1 to 8, emits in each turn of the line, up to and with
 /// the turn in which the line ended, of 16,384 turns at most. Where its end was not seen and it is not dead, it is then asked
 /// for one byte more. A write that fails ends it at once.
-pub(crate) fn write_pull<I: Source, K: Sink>(
+pub fn write_pull<I: Source, K: Sink>(
     alloc: Global,
     port: u8,
     slots: &Slots,

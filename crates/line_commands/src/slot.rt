@@ -4,11 +4,11 @@ ghost use Rattle.otn_base.specs.declared.limits.TheConstants.{GROUPS, OTU2_SLOTS
 ghost use Rattle.otn_ports.specs.InPlace.{in_view};
 ghost use Rattle.otn_ports.specs.Views.{Dead};
 ghost use Rattle.otn_ports.specs.PortViews.{sink_view};
-ghost use Rattle.line_tool.specs.Ends.{ReportAfter, step_of};
-ghost use Rattle.line_tool.specs.SlotReport.{slot_bytes};
-ghost use Rattle.line_tool.specs.SlotRuns.{SlotEnded, SlotStep, SlotWritten};
+ghost use Rattle.command_base.specs.Ends.{ReportAfter, step_of};
+ghost use Rattle.line_commands.specs.SlotReport.{slot_bytes};
+ghost use Rattle.line_commands.specs.SlotRuns.{SlotEnded, SlotStep, SlotWritten};
 
-use crate::beyond::ask_for_more;
+use command_base::ask_for_more;
 use frame_geometry::Frame;
 use odtu_columns::slot_row;
 use otn_base::LineKind;
@@ -25,7 +25,7 @@ const SLOT_BYTES: usize = GROUPS / OTU2_SLOTS;
 /// Writes the 1,904 payload bytes of the slot, 1 to 8, row by row, of each whole frame that the
 /// line gives, of 131,072 frames at most, and then asks the line for one byte more. A write that fails
 /// ends it at once.
-pub(crate) fn write_slot<I: Source, K: Sink>(
+pub fn write_slot<I: Source, K: Sink>(
     alloc: Global,
     slot: u8,
     line: &mut InPlaceOf<I>,

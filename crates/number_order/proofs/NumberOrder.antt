@@ -2,7 +2,7 @@
 use Rattle.std.proofs.Common.{◌≡◌, ◌+◌, ℕ, refl, ap, add-one}
 use Rattle.rand_core.specs.Pcg32Seed.{pcg32_seed}
 use Rattle.rand_pcg.specs.Pcg.{pcg32, pcg32_of_seed}
-use Rattle.line_tool.specs.NumberOrder.{generator_after}
+use Rattle.number_order.specs.NumberOrder.{generator_after}
 
 -- before the first word
 pub generator_first : (number : ℕ) → generator_after number 0 ≡ pcg32_of_seed (pcg32_seed 16 number)

@@ -3,7 +3,7 @@ use Rattle.std.specs.Prelude.{◌≡◌, ℕ, zero, suc}
 use Rattle.rand_core.specs.Pcg32Seed.{pcg32_seed}
 use Rattle.rand_pcg.specs.Lcg.{Lcg}
 use Rattle.rand_pcg.specs.Pcg.{pcg32, pcg32_of_seed}
-use Rattle.line_tool.specs.declared.number_chooser.NumberChooser.{NumberChooser}
+use Rattle.number_order.specs.declared.number_chooser.NumberChooser.{NumberChooser}
 
 -- how often it was asked
 abbrev pub number_chooser_asked : NumberChooser → ℕ

@@ -1,6 +1,6 @@
 // A chooser drawn from a number.
 ghost use Rattle.std.specs.Prelude.{◌≡◌, ◌+◌, ℕ};
-ghost use Rattle.line_tool.specs.NumberOrder.{HasGivenWords, number_chooser_asked, order_word};
+ghost use Rattle.number_order.specs.NumberOrder.{HasGivenWords, number_chooser_asked, order_word};
 
 use otn_ports::Chooser;
 use rand_core::SeedableRng;

@@ -11,16 +11,16 @@ use Rattle.device_model.specs.Report.{Numbers, report_text}
 use Rattle.device_model.specs.declared.outcome.Outcome.{Outcome}
 use Rattle.device_model.specs.declared.outcome.Outcome.TheVariants as outcome
 use Rattle.node_core.specs.RunLeft.{Takings, RunLeft}
-use Rattle.line_tool.specs.PlanReading.{WasRead}
-use Rattle.line_tool.specs.Device.{Device, Stays}
-use Rattle.line_tool.specs.PlanReading.{PlanReading}
-use Rattle.line_tool.specs.PlanRuns.{PlanCarried, run_status}
-use Rattle.line_tool.specs.RunAnswers.{PlanRan, RunAnswers, TextRan, outcome_status, pieces_in_all}
-use Rattle.line_tool.specs.AnswerWords.{IsRefusal, Reports}
-use Rattle.line_tool.specs.declared.plan_run.Ran.{Ran}
-use Rattle.line_tool.specs.declared.plan_run.Ran.TheVariants as ran
-use Rattle.line_tool.specs.declared.plan_text.Planned.TheVariants as planned
-use Rattle.line_tool.specs.declared.status.Status.TheVariants as status
+use Rattle.check_command.specs.PlanReading.{WasRead}
+use Rattle.command_base.specs.Device.{Device, Stays}
+use Rattle.check_command.specs.PlanReading.{PlanReading}
+use Rattle.run_command.specs.PlanRuns.{PlanCarried, run_status}
+use Rattle.run_command.specs.RunAnswers.{PlanRan, RunAnswers, TextRan, outcome_status, pieces_in_all}
+use Rattle.command_base.specs.AnswerWords.{IsRefusal, Reports}
+use Rattle.run_command.specs.declared.plan_run.Ran.{Ran}
+use Rattle.run_command.specs.declared.plan_run.Ran.TheVariants as ran
+use Rattle.check_command.specs.declared.plan_text.Planned.TheVariants as planned
+use Rattle.command_base.specs.declared.status.Status.TheVariants as status
 
 -- no outcome is that a write of the report failed
 never_fault : (o : Outcome) → outcome_status o ≢ status.ReportFault

@@ -8,8 +8,8 @@ use Rattle.device_model.specs.Healing.{IsCarriedAgain}
 use Rattle.node_core.specs.RunsAlike.{LeftAlike}
 use Rattle.node_core.specs.RunsDamaged.{HealsIn, Follows, HandsOnAFront, ShareButForOne}
 use Rattle.node_core.proofs.RunsDamaged.{runs_heal, hands_on_a_front, agree_but_for_one}
-use Rattle.line_tool.specs.RunCalls.{Call, HasCarried, world_of, went_of}
-use Rattle.line_tool.proofs.RunCalls.{is_world}
+use Rattle.run_command.specs.RunCalls.{Call, HasCarried, world_of, went_of}
+use Rattle.run_command.proofs.RunCalls.{is_world}
 
 pub healed : (call : Call) (x : Connection) (a from s b u h : ℕ) (slots : LineSlots) (bytes p : List ℕ) (has : HasCarried call) → Contains call.plan.connections x → x.from ≡ from_end.Line a from slots
     → IsCarriedAgain (call.inputs.line a) x from slots bytes p s b u h → HealsIn (world_of call has) (went_of call has) x bytes p s u h

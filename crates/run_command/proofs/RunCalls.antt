@@ -16,11 +16,11 @@ use Rattle.node_core.specs.RunsThrough.{LeftThrough, CarriedIn}
 use Rattle.node_core.proofs.GivenRuns.{given_inputs}
 use Rattle.node_core.proofs.RunsAlike.{left_alike}
 use Rattle.node_core.proofs.RunsThrough.{left_through, carried_in}
-use Rattle.line_tool.specs.Device.{Device}
-use Rattle.line_tool.specs.RunCalls.{Call, HasCarried, CarriesPlan, world_of, went_of}
-use Rattle.line_tool.specs.RunAnswers.{PlanRan, RunAnswers}
-use Rattle.line_tool.specs.declared.status.Status.{Status}
-use Rattle.line_tool.specs.declared.status.Status.TheVariants as status
+use Rattle.command_base.specs.Device.{Device}
+use Rattle.run_command.specs.RunCalls.{Call, HasCarried, CarriesPlan, world_of, went_of}
+use Rattle.run_command.specs.RunAnswers.{PlanRan, RunAnswers}
+use Rattle.command_base.specs.declared.status.Status.{Status}
+use Rattle.command_base.specs.declared.status.Status.TheVariants as status
 
 -- ---- the plan is accepted
 

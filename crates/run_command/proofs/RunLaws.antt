@@ -9,12 +9,12 @@ use Rattle.device_model.specs.declared.outcome.Outcome.TheVariants as outcome
 use Rattle.node_core.specs.FaultlessRuns.{AreWell}
 use Rattle.node_core.specs.RunLeft.{MayBeInputs}
 use Rattle.node_core.proofs.FaultlessRuns.{faultless}
-use Rattle.line_tool.specs.Device.{Device}
-use Rattle.line_tool.specs.RunAnswers.{PlanRan, RunAnswers, TextRan, outcome_status}
-use Rattle.line_tool.specs.RunLaws.{NothingFailed, EndsBy}
-use Rattle.line_tool.specs.declared.status.Status.{Status}
-use Rattle.line_tool.specs.declared.status.Status.TheVariants as status
-use Rattle.line_tool.proofs.PlanChecks.{same_plan}
+use Rattle.command_base.specs.Device.{Device}
+use Rattle.run_command.specs.RunAnswers.{PlanRan, RunAnswers, TextRan, outcome_status}
+use Rattle.run_command.specs.RunLaws.{NothingFailed, EndsBy}
+use Rattle.command_base.specs.declared.status.Status.{Status}
+use Rattle.command_base.specs.declared.status.Status.TheVariants as status
+use Rattle.check_command.proofs.PlanChecks.{same_plan}
 
 -- ---- by the whole text
 

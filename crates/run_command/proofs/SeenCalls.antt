@@ -9,12 +9,12 @@ use Rattle.device_model.specs.Moments.{uses}
 use Rattle.node_core.specs.RunLeft.{RunLeft, SamePlace}
 use Rattle.node_core.specs.SeenRuns.{Run, IsRun, ShareInput, SameOutput, ShareInputUpTo, SameLineUpTo, PutThrough, CarriesOver}
 use Rattle.node_core.proofs.SeenRuns.{seen_alike, not_ahead as seen_not_ahead, puts_through, carries_over}
-use Rattle.line_tool.specs.Device.{Device}
-use Rattle.line_tool.specs.Headline.{Ran}
-use Rattle.line_tool.specs.RunAnswers.{PlanRan, RunAnswers}
-use Rattle.line_tool.specs.RunCalls.{CarriesPlan}
-use Rattle.line_tool.specs.declared.status.Status.{Status}
-use Rattle.line_tool.proofs.RunCalls.{accepted_plan, run_carries, same_answer}
+use Rattle.command_base.specs.Device.{Device}
+use Rattle.run_command.specs.Headline.{Ran}
+use Rattle.run_command.specs.RunAnswers.{PlanRan, RunAnswers}
+use Rattle.run_command.specs.RunCalls.{CarriesPlan}
+use Rattle.command_base.specs.declared.status.Status.{Status}
+use Rattle.run_command.proofs.RunCalls.{accepted_plan, run_carries, same_answer}
 
 -- ---- a call of a plan
 

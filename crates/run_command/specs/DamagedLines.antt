@@ -7,7 +7,7 @@ use Rattle.plan_file.specs.declared.connection.FromEnd.TheVariants as from_end
 use Rattle.device_model.specs.Healing.{IsCarriedAgain}
 use Rattle.node_core.specs.RunsAlike.{LeftAlike}
 use Rattle.node_core.specs.RunsDamaged.{HealsIn, Follows, HandsOnAFront, ShareButForOne}
-use Rattle.line_tool.specs.RunCalls.{Call, HasCarried, world_of, went_of}
+use Rattle.run_command.specs.RunCalls.{Call, HasCarried, world_of, went_of}
 
 -- Healed: once its line carries a client's bytes to it in steady numbers, whatever came before, and a turn says its number anew while no slot is
 -- marked, from the fourth turn after it on its to end gets exactly these bytes, as far as its output lived.

@@ -9,10 +9,10 @@ use Rattle.plan_file.specs.declared.plan.Plan.{Plan}
 use Rattle.device_model.specs.Moments.{uses}
 use Rattle.node_core.specs.RunLeft.{SamePlace}
 use Rattle.node_core.specs.SeenRuns.{Run, ShareInput, SameOutput, ShareInputUpTo, SameLineUpTo, PutThrough, CarriesOver}
-use Rattle.line_tool.specs.Device.{Device}
-use Rattle.line_tool.specs.RunAnswers.{RunAnswers}
-use Rattle.line_tool.specs.RunCalls.{CarriesPlan}
-use Rattle.line_tool.specs.declared.status.Status.{Status}
+use Rattle.command_base.specs.Device.{Device}
+use Rattle.run_command.specs.RunAnswers.{RunAnswers}
+use Rattle.run_command.specs.RunCalls.{CarriesPlan}
+use Rattle.command_base.specs.declared.status.Status.{Status}
 
 -- A call of `run` that carried this plan, over places that were seen so before it and after it. That it answered so is `run`'s own clause
 -- `answers`, which all its calls meet: nothing here looks into it.

@@ -8,12 +8,12 @@ use Rattle.plan_file.specs.declared.plan.Plan.{Plan}
 use Rattle.device_model.specs.Report.{Numbers, report_text}
 use Rattle.device_model.specs.declared.outcome.Outcome.{Outcome}
 use Rattle.node_core.specs.RunLeft.{Takings, RunLeft}
-use Rattle.line_tool.specs.RunAnswers.{outcome_status, pieces_in_all}
-use Rattle.line_tool.specs.AnswerWords.{CountsBy, Reports}
-use Rattle.line_tool.specs.declared.plan_run.Ran.{Ran}
-use Rattle.line_tool.specs.declared.plan_run.Ran.TheVariants as ran
-use Rattle.line_tool.specs.declared.status.Status.{Status}
-use Rattle.line_tool.specs.declared.status.Status.TheVariants as status
+use Rattle.run_command.specs.RunAnswers.{outcome_status, pieces_in_all}
+use Rattle.command_base.specs.AnswerWords.{CountsBy, Reports}
+use Rattle.run_command.specs.declared.plan_run.Ran.{Ran}
+use Rattle.run_command.specs.declared.plan_run.Ran.TheVariants as ran
+use Rattle.command_base.specs.declared.status.Status.{Status}
+use Rattle.command_base.specs.declared.status.Status.TheVariants as status
 
 -- the answer of each ending, and of want of memory
 abbrev pub run_status : Result Ran NoMemory → Status

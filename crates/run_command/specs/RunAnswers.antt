@@ -9,11 +9,11 @@ use Rattle.device_model.specs.Report.{Numbers, report_text}
 use Rattle.device_model.specs.declared.outcome.Outcome.{Outcome}
 use Rattle.device_model.specs.declared.outcome.Outcome.TheVariants as outcome
 use Rattle.node_core.specs.RunLeft.{Takings, RunLeft}
-use Rattle.line_tool.specs.Device.{Device}
-use Rattle.line_tool.specs.PlanReading.{WasRead, most_read}
-use Rattle.line_tool.specs.AnswerWords.{CountsBy, IsRefusal, Reports}
-use Rattle.line_tool.specs.declared.status.Status.{Status}
-use Rattle.line_tool.specs.declared.status.Status.TheVariants as status
+use Rattle.command_base.specs.Device.{Device}
+use Rattle.check_command.specs.PlanReading.{WasRead, most_read}
+use Rattle.command_base.specs.AnswerWords.{CountsBy, IsRefusal, Reports}
+use Rattle.command_base.specs.declared.status.Status.{Status}
+use Rattle.command_base.specs.declared.status.Status.TheVariants as status
 
 -- the answer of each outcome
 abbrev pub outcome_status : Outcome → Status

@@ -12,10 +12,10 @@ use Rattle.node_core.specs.GivenRuns.{HasGiven}
 use Rattle.node_core.specs.RunLeft.{MayBeInputs}
 use Rattle.node_core.specs.RunsAlike.{World, ShareOne, LeftAlike}
 use Rattle.node_core.specs.RunsThrough.{LeftThrough, CarriedIn}
-use Rattle.line_tool.specs.Device.{Device}
-use Rattle.line_tool.specs.RunAnswers.{PlanRan, RunAnswers}
-use Rattle.line_tool.specs.declared.status.Status.{Status}
-use Rattle.line_tool.specs.declared.status.Status.TheVariants as status
+use Rattle.command_base.specs.Device.{Device}
+use Rattle.run_command.specs.RunAnswers.{PlanRan, RunAnswers}
+use Rattle.command_base.specs.declared.status.Status.{Status}
+use Rattle.command_base.specs.declared.status.Status.TheVariants as status
 
 -- ---- calls
 

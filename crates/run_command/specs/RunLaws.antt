@@ -7,11 +7,11 @@ use Rattle.device_model.specs.Outcomes.{HasMore, HasOpen}
 use Rattle.device_model.specs.Through.{Inputs}
 use Rattle.node_core.specs.FaultlessRuns.{AreWell}
 use Rattle.node_core.specs.RunLeft.{MayBeInputs}
-use Rattle.line_tool.specs.Device.{Device}
-use Rattle.line_tool.specs.RunAnswers.{PlanRan, RunAnswers, TextRan}
-use Rattle.line_tool.specs.AnswerWords.{IsWell}
-use Rattle.line_tool.specs.declared.status.Status.{Status}
-use Rattle.line_tool.specs.declared.status.Status.TheVariants as status
+use Rattle.command_base.specs.Device.{Device}
+use Rattle.run_command.specs.RunAnswers.{PlanRan, RunAnswers, TextRan}
+use Rattle.command_base.specs.AnswerWords.{IsWell}
+use Rattle.command_base.specs.declared.status.Status.{Status}
+use Rattle.command_base.specs.declared.status.Status.TheVariants as status
 
 -- Where its source tells the text of the plan, `run` answers for that text.
 abbrev pub RunAnswersForItsText : Type 0

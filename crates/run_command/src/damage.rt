@@ -1,5 +1,5 @@
 // The headline of damaged lines.
-ghost use Rattle.line_tool.specs.DamagedLines.{IsAsRepeated, IsHandedOn, IsHealed};
+ghost use Rattle.run_command.specs.DamagedLines.{IsAsRepeated, IsHandedOn, IsHealed};
 
 /// What damage does to a connection of a plan that `run` carried, whatever its inputs may have been, and where
 /// they tell, with what they gave. It heals (`healed`): once its line carries a client's bytes to it again in steady

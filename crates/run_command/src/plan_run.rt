@@ -1,33 +1,26 @@
 // The command `run`: a plan is carried over the places, and reported.
 ghost use Rattle.std.specs.Prelude.{◌≡◌, IfErr, IfOk, None};
-ghost use Rattle.otn_ports.specs.Bytes.{raised};
 ghost use Rattle.otn_ports.specs.PortViews.{sink_view};
 ghost use Rattle.otn_ports.specs.Racks.{bays_view};
-ghost use Rattle.otn_ports.specs.Views.{BaysView};
 ghost use Rattle.plan_file.specs.Answer.{fault_in};
-ghost use Rattle.plan_file.specs.declared.plan.Plan.{Plan};
-ghost use Rattle.node_core.specs.NodeView.{left_of};
-ghost use Rattle.node_core.specs.RunLeft.{Takings, RunLeft};
-ghost use Rattle.node_core.specs.RunNumbers.{numbers_of_run};
-ghost use Rattle.node_core.specs.Stands.{StandsAt, no_bytes};
-ghost use Rattle.line_tool.specs.Device.{Stays, device};
-ghost use Rattle.line_tool.specs.PlanRuns.{PlanCarried, run_status};
-ghost use Rattle.line_tool.specs.RunAnswers.{RunAnswers, outcome_status};
-ghost use Rattle.line_tool.specs.AnswerWords.{IsRefusal};
+ghost use Rattle.command_base.specs.Device.{Stays, device};
+ghost use Rattle.run_command.specs.PlanRuns.{PlanCarried, run_status};
+ghost use Rattle.run_command.specs.RunAnswers.{RunAnswers, outcome_status};
+ghost use Rattle.command_base.specs.AnswerWords.{IsRefusal};
 
-use crate::Status;
-use crate::plan_text::{Planned, read_plan};
-use crate::report::put_report;
 use arrayvec::ArrayString;
-use node_core::{Node, Outcome, RunNumbers, carry};
+use check_command::{Planned, read_plan};
+use command_base::Status;
+use node_core::{Node, Outcome, carry_node};
 use otn_base::Memory;
 use otn_ports::{Chooser, Rack, Sink, Source, Written, write_whole};
 use plan_file::{Plan, PlanError};
+use run_report::put_report;
 use std::alloc::Global;
 
 /// How `run` ended, once it had its memory.
 #[derive(Clone, Copy, Debug, PartialEq, Eq)]
-pub(crate) enum Ran {
+pub enum Ran {
     /// The plan was carried, with this outcome, and its report is written.
     Carried(Outcome),
     /// The plan breaks this rule first, at this place.
@@ -39,7 +32,7 @@ pub(crate) enum Ran {
 }
 
 /// The answer of the top call to a `run` that ended so, or for which there was no memory.
-pub(crate) fn status_of_run(answer: Result<Ran, Memory>) -> Status
+pub fn status_of_run(answer: Result<Ran, Memory>) -> Status
     ensures { result ≡ run_status answer }
 {
     match answer {
@@ -62,7 +55,7 @@ fn status_of_outcome(outcome: Outcome) -> Status
 }
 
 /// Reads the plan, and where it is accepted carries it over the places, in an order that the chooser says, and writes its report.
-pub(crate) fn run_plan<P: Source, K: Sink, C: Chooser, I: Source, O: Sink>(
+pub fn run_plan<P: Source, K: Sink, C: Chooser, I: Source, O: Sink>(
     alloc: Global,
     plan: &mut P,
     bays: &mut Rack<I, O>,
@@ -102,19 +95,4 @@ fn carry_plan<K: Sink, C: Chooser, I: Source, O: Sink>(
         Written::Whole => Ok(Ran::Carried(numbers.outcome)),
         Written::Lost => Ok(Ran::ReportFault),
     }
-}
-
-/// Carries a node through all its turns, settles it, and tells its numbers.
-pub(crate) fn carry_node<C: Chooser, I: Source, O: Sink>(
-    node: &mut Node,
-    bays: &mut Rack<I, O>,
-    chooser: &mut C,
-) -> RunNumbers
-    ensures left { (plan : Plan) (first : BaysView) → StandsAt plan first no_bytes node.old (bays_view I.Source O.Sink bays.old)
-        → (takings : Takings) × RunLeft plan first (bays_view I.Source O.Sink bays.new) takings (numbers_of_run result) }
-    ensures asked { C.asked chooser.new ≡ raised (C.asked chooser.old) (left_of node.old) }
-{
-    carry(node, bays, chooser);
-    let outcome = node.settle(bays);
-    node.numbers(outcome)
 }

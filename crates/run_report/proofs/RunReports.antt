@@ -14,7 +14,7 @@ use Rattle.plan_file.proofs.Lists.{slice_get_known}
 use Rattle.device_model.specs.declared.outcome.FromState.{FromState}
 use Rattle.device_model.specs.Report.{connection_line, connection_lines, used_lines}
 use Rattle.device_model.proofs.Kept.{keeps_all}
-use Rattle.line_tool.proofs.Rows.{flat_map-range_more}
+use Rattle.command_base.proofs.Rows.{flat_map-range_more}
 
 -- one port more of a kind
 pub used_more : (is_used : ℕ → Bool) (line : ℕ → List ℕ) (n : ℕ) (first now new : List ℕ) → now ≡ first ++ used_lines n is_used line

@@ -7,7 +7,7 @@ ghost use Rattle.plan_file.specs.Answer.{fault_in};
 ghost use Rattle.device_model.specs.Moments.{uses};
 ghost use Rattle.device_model.specs.Report.{connection_lines, report_text, used_lines};
 ghost use Rattle.node_core.specs.RunNumbers.{numbers_of_run};
-ghost use Rattle.line_tool.specs.RunReport.{line_in_of, line_out_of, client_in_of, client_out_of};
+ghost use Rattle.run_report.specs.RunReport.{line_in_of, line_out_of, client_in_of, client_out_of};
 
 use crate::report_lines::{
     REPORT_BYTES, put_client_in, put_client_out, put_connection, put_line_in, put_line_out,

@@ -7,13 +7,13 @@ use Rattle.otn_ports.specs.Views.{BaysView}
 use Rattle.otn_ports.specs.declared.drain.Written.{Written}
 use Rattle.otn_ports.proofs.GivenLaws.{raised-twice}
 use Rattle.device_model.specs.Through.{Inputs}
-use Rattle.line_tool.specs.TrialAnswers.{TrialRan}
-use Rattle.line_tool.specs.TrialCarried.{AreTrialRuns}
-use Rattle.line_tool.specs.TrialDraw.{packets_of_trial}
-use Rattle.line_tool.specs.TrialReport.{check_line, client_lines, trial_report}
-use Rattle.line_tool.specs.TrialRuns.{FirstRan, MiddleRan, LastRan, GotPackets, ClientsTold}
-use Rattle.line_tool.proofs.TrialCarried.{all_packets_come_back}
-use Rattle.line_tool.proofs.TrialDraw.{trial_is_packets, trial_packets_are}
+use Rattle.trial_command.specs.TrialAnswers.{TrialRan}
+use Rattle.trial_plans.specs.TrialCarried.{AreTrialRuns}
+use Rattle.trial_plans.specs.TrialDraw.{packets_of_trial}
+use Rattle.trial_command.specs.TrialReport.{check_line, client_lines, trial_report}
+use Rattle.trial_command.specs.TrialRuns.{FirstRan, MiddleRan, LastRan, GotPackets, ClientsTold}
+use Rattle.trial_plans.proofs.TrialCarried.{all_packets_come_back}
+use Rattle.trial_plans.proofs.TrialDraw.{trial_is_packets, trial_packets_are}
 
 -- one of four by its number
 abbrev four : {A : Type 0} → (a b c d : A) → ℕ → A

@@ -23,9 +23,9 @@ use Rattle.device_model.specs.Moments.{over_ports, pieces_of}
 use Rattle.device_model.specs.Report.{Numbers}
 use Rattle.node_core.specs.RunLeft.{Takings, RunLeft}
 use Rattle.packet_text.specs.PacketText.{hex_text}
-use Rattle.line_tool.specs.TrialDraw.{packets_of_trial}
-use Rattle.line_tool.specs.TrialPlans.{trial_plan}
-use Rattle.line_tool.specs.TrialRuns.{holding, waiting, ReadsWell, RunWent}
+use Rattle.trial_plans.specs.TrialDraw.{packets_of_trial}
+use Rattle.trial_plans.specs.TrialPlans.{trial_plan}
+use Rattle.trial_command.specs.TrialRuns.{holding, waiting, ReadsWell, RunWent}
 
 abbrev pub view : Rack MemSource MemSink → BaysView
 view rack = bays_view source.ghosts sink.ghosts rack

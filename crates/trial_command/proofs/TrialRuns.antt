@@ -23,10 +23,10 @@ use Rattle.node_core.specs.RunLeft.{Takings, MayBeInputs, OutputLeft, RunLeft}
 use Rattle.odu_client.specs.ClientInput.{AtEnd, input_given}
 use Rattle.packet_text.specs.PacketText.{hex_text}
 use Rattle.packet_text.proofs.ReadingBack.{reads_back}
-use Rattle.line_tool.specs.TrialDraw.{packets_of_trial}
-use Rattle.line_tool.specs.TrialPlans.{trial_connection, trial_plan}
-use Rattle.line_tool.specs.TrialRuns.{holding, waiting, ReadsWell, FirstPlaces, MiddlePlaces, LastPlaces, RunWent, FirstRan, MiddleRan, LastRan}
-use Rattle.line_tool.proofs.TrialDraw.{trial_is_packets}
+use Rattle.trial_plans.specs.TrialDraw.{packets_of_trial}
+use Rattle.trial_plans.specs.TrialPlans.{trial_connection, trial_plan}
+use Rattle.trial_command.specs.TrialRuns.{holding, waiting, ReadsWell, FirstPlaces, MiddlePlaces, LastPlaces, RunWent, FirstRan, MiddleRan, LastRan}
+use Rattle.trial_plans.proofs.TrialDraw.{trial_is_packets}
 
 -- ---- the ports that a plan uses
 

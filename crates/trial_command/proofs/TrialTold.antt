@@ -5,13 +5,13 @@ use Rattle.otn_ports.proofs.PortLaws.{sink_later_none}
 use Rattle.otn_ports.specs.PortViews.{SinkLater, SinkView}
 use Rattle.otn_ports.specs.declared.drain.Written.{Written}
 use Rattle.otn_ports.specs.declared.drain.Written.TheVariants as written
-use Rattle.line_tool.specs.Ends.{trial_status}
-use Rattle.line_tool.specs.AnswerWords.{IsRefusal}
-use Rattle.line_tool.specs.TrialAnswers.{TrialAnswers, TrialRan}
-use Rattle.line_tool.specs.TrialReport.{trial_report}
-use Rattle.line_tool.specs.TrialDraw.{packets_of_trial}
-use Rattle.line_tool.specs.declared.status.Status.{Status}
-use Rattle.line_tool.specs.declared.status.Status.TheVariants as status
+use Rattle.trial_command.specs.TrialAnswers.{trial_status}
+use Rattle.command_base.specs.AnswerWords.{IsRefusal}
+use Rattle.trial_command.specs.TrialAnswers.{TrialAnswers, TrialRan}
+use Rattle.trial_command.specs.TrialReport.{trial_report}
+use Rattle.trial_plans.specs.TrialDraw.{packets_of_trial}
+use Rattle.command_base.specs.declared.status.Status.{Status}
+use Rattle.command_base.specs.declared.status.Status.TheVariants as status
 
 -- by how the report was written, seen through any view of it
 pub trial_told : {K : Type 0} (view : K → SinkView) (answer : Result Written NoMemory) (number : ℕ) (old new : K) (asked now : ℕ) → IfErr answer (λ _. new ≡ old)

@@ -1,16 +1,23 @@
 -- What the command `trial` answers for.
-use Rattle.std.specs.Prelude.{◌≡◌, ℕ, ◌*◌, List}
+use Rattle.std.specs.Prelude.{◌≡◌, ℕ, ◌*◌, List, Result, Ok, Err}
+use Rattle.otn_base.specs.declared.memory.Memory.{Memory as NoMemory}
 use Rattle.otn_ports.specs.Bytes.{raised}
 use Rattle.otn_ports.specs.PortViews.{SinkView, SinkWrites}
 use Rattle.otn_ports.specs.declared.drain.Written.{Written}
 use Rattle.otn_ports.specs.declared.drain.Written.TheVariants as written
 use Rattle.device_model.specs.Through.{Inputs}
-use Rattle.line_tool.specs.TrialCarried.{AreTrialRuns}
-use Rattle.line_tool.specs.TrialDraw.{packets_of_trial}
-use Rattle.line_tool.specs.TrialReport.{trial_report}
-use Rattle.line_tool.specs.TrialRuns.{run_pieces}
-use Rattle.line_tool.specs.declared.status.Status.{Status}
-use Rattle.line_tool.specs.declared.status.Status.TheVariants as status
+use Rattle.trial_plans.specs.TrialCarried.{AreTrialRuns}
+use Rattle.trial_plans.specs.TrialDraw.{packets_of_trial}
+use Rattle.trial_command.specs.TrialReport.{trial_report}
+use Rattle.trial_command.specs.TrialRuns.{run_pieces}
+use Rattle.command_base.specs.declared.status.Status.{Status}
+use Rattle.command_base.specs.declared.status.Status.TheVariants as status
+
+-- the answer of the top call by how the trial's report was written, and of want of memory
+abbrev pub trial_status : Result Written NoMemory → Status
+trial_status (Ok written.Whole) = status.Done
+trial_status (Ok written.Lost) = status.ReportFault
+trial_status (Err memory) = status.Memory
 
 -- how many pieces the four runs have together
 abbrev pub trial_pieces : ℕ

@@ -5,7 +5,7 @@ use Rattle.std.specs.List.{concat}
 use Rattle.crc_small.specs.LongDivision.{crc32_of}
 use Rattle.gfp_frames.specs.CoreHeader.{four_bytes}
 use Rattle.hex.specs.Hex.{encode_lower}
-use Rattle.line_tool.specs.TrialPlans.{trial_clients}
+use Rattle.trial_plans.specs.TrialPlans.{trial_clients}
 
 -- the check of a line file: its CRC-32 in eight hex digits, the most significant first
 abbrev pub check_digits : (file : List ℕ) → List ℕ

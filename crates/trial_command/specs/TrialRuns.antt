@@ -10,10 +10,10 @@ use Rattle.node_core.specs.RunLeft.{Takings, RunLeft}
 use Rattle.odu_client.specs.ClientInput.{AtEnd}
 use Rattle.packet_text.specs.Laws.{IsPacket}
 use Rattle.packet_text.specs.PacketText.{hex_text}
-use Rattle.line_tool.specs.TrialCarried.{trial_frames}
-use Rattle.line_tool.specs.TrialDraw.{packets_of_trial}
-use Rattle.line_tool.specs.TrialReport.{client_lines}
-use Rattle.line_tool.specs.TrialPlans.{trial_clients, trial_turns, trial_connection, trial_plan}
+use Rattle.trial_plans.specs.TrialCarried.{trial_frames}
+use Rattle.trial_plans.specs.TrialDraw.{packets_of_trial}
+use Rattle.trial_command.specs.TrialReport.{client_lines}
+use Rattle.trial_plans.specs.TrialPlans.{trial_clients, trial_turns, trial_connection, trial_plan}
 
 -- ---- places
 

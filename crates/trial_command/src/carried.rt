@@ -1,15 +1,14 @@
 // The four runs of the trial.
 ghost use Rattle.std.specs.Prelude.{◌≡◌, ◌≤◌, ◌<◌, IfOk};
 ghost use Rattle.otn_ports.specs.Racks.{bays_view};
-ghost use Rattle.line_tool.specs.TrialRuns.{RunWent, FirstRan, MiddleRan, LastRan};
+ghost use Rattle.trial_command.specs.TrialRuns.{RunWent, FirstRan, MiddleRan, LastRan};
 
-use crate::plan_run::carry_node;
-use crate::trial::places::{Memories, file_of, first_places, last_places, middle_places};
-use crate::trial::plans::plan_of_run;
-use node_core::Node;
+use crate::places::{Memories, file_of, first_places, last_places, middle_places};
+use node_core::{Node, carry_node};
 use otn_base::Memory;
 use otn_ports::{Chooser, MemSink, MemSource, Sink, Source};
 use std::alloc::Global;
+use trial_plans::plan_of_run;
 
 /// The first run: the clients' packets, drawn by the number, go to line 0, whose file is the answer. Where the place of the line died, it had
 /// no room, and the answer is `Memory`.

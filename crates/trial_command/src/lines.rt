@@ -1,7 +1,7 @@
 // The lines of the trial's report.
 ghost use Rattle.std.specs.Prelude.{◌≡◌, ◌≤◌, IfOk, length, string_bytes};
 ghost use Rattle.gfp_frames.specs.CoreHeader.{four_bytes};
-ghost use Rattle.line_tool.specs.TrialReport.{check_digits, check_line, client_line, feed, lines_in, text_line};
+ghost use Rattle.trial_command.specs.TrialReport.{check_digits, check_line, client_line, feed, lines_in, text_line};
 
 use crc_small::crc32;
 use hex::encode;

@@ -4,14 +4,13 @@ ghost use Rattle.otn_ports.specs.InPlace.{in_view};
 ghost use Rattle.otn_ports.specs.OutPlace.{out_view};
 ghost use Rattle.otn_ports.specs.Racks.{bays_view};
 ghost use Rattle.otn_ports.specs.Views.{Live, line_out_at};
-ghost use Rattle.line_tool.specs.TrialRuns.{FirstPlaces, MiddlePlaces, LastPlaces, holding, waiting};
+ghost use Rattle.trial_command.specs.TrialRuns.{FirstPlaces, MiddlePlaces, LastPlaces, holding, waiting};
 
-use crate::trial::draw::{draw_text, generator_of};
-use crate::trial::plans::CLIENTS;
 use otn_base::Memory;
 use otn_ports::{InPlaceOf, MemSink, MemSource, OutPlaceOf, Rack, Sink, Source};
 use std::alloc::Global;
 use std::mem;
+use trial_plans::{CLIENTS, draw_text, generator_of};
 
 /// Places in memory.
 pub(crate) type Memories = Rack<MemSource, MemSink>;

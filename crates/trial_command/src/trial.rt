@@ -2,30 +2,21 @@
 ghost use Rattle.std.specs.Prelude.{◌≡◌, IfErr, IfOk, string_bytes};
 ghost use Rattle.otn_ports.specs.PortViews.{sink_view};
 ghost use Rattle.otn_ports.specs.Racks.{bays_view};
-ghost use Rattle.line_tool.specs.Ends.{trial_status};
-ghost use Rattle.line_tool.specs.TrialAnswers.{TrialRan};
-ghost use Rattle.line_tool.specs.TrialPlans.{trial_clients};
-ghost use Rattle.line_tool.specs.TrialRuns.{ClientsTold};
+ghost use Rattle.trial_command.specs.TrialAnswers.{TrialRan, trial_status};
+ghost use Rattle.trial_plans.specs.TrialPlans.{trial_clients};
+ghost use Rattle.trial_command.specs.TrialRuns.{ClientsTold};
 
-mod carried;
-mod draw;
-mod laws;
-mod lines;
-mod places;
-mod plans;
-
-use crate::Status;
-use carried::{first_run, last_run, middle_run};
-pub use laws::{all_packets_come_back, come_back, drawn_as_said};
-use lines::{line_of_check, line_of_client};
+use crate::carried::{first_run, last_run, middle_run};
+use crate::lines::{line_of_check, line_of_client};
+use crate::places::{Memories, text_of};
+use command_base::Status;
 use otn_base::Memory;
 use otn_ports::{Chooser, MemSink, MemSource, Sink, Source, Written, write_whole};
-use places::{Memories, text_of};
-use plans::CLIENTS;
 use std::alloc::Global;
+use trial_plans::CLIENTS;
 
 /// The answer of the top call to a `trial` whose report was written so, or for which there was no memory.
-pub(crate) fn status_of_trial(answer: Result<Written, Memory>) -> Status
+pub fn status_of_trial(answer: Result<Written, Memory>) -> Status
     ensures { result ≡ trial_status answer }
 {
     match answer {
@@ -38,7 +29,7 @@ pub(crate) fn status_of_trial(answer: Result<Written, Memory>) -> Status
 /// Draws packets for eight clients by the number, carries them through four nodes in a row over ports in memory, in an order that the chooser
 /// says, and writes the checks of the three line files and what came back. A place of the trial that died had no room: the answer is `Memory`
 /// then, as it is for want of memory. After `Memory` the report is as it was; the chooser may have been asked by then.
-pub(crate) fn run_trial<C: Chooser, K: Sink>(
+pub fn run_trial<C: Chooser, K: Sink>(
     alloc: Global,
     number: u64,
     chooser: &mut C,

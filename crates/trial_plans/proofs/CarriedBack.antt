@@ -36,7 +36,7 @@ use Rattle.device_model.proofs.GotStreams.{gets_the_stream}
 use Rattle.device_model.proofs.ClientStreams.{stream_front}
 use Rattle.device_model.proofs.RunsInARow.{carries_through_runs}
 use Rattle.device_model.proofs.SoundPlans.{sound_plan}
-use Rattle.line_tool.specs.CarriedBack.{IsSending, ComesBack, bytes_back}
+use Rattle.trial_plans.specs.CarriedBack.{IsSending, ComesBack, bytes_back}
 
 -- ---- totals
 

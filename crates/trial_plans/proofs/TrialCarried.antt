@@ -12,11 +12,11 @@ use Rattle.packet_text.specs.PacketText.{hex_text}
 use Rattle.device_model.specs.Chains.{Hop}
 use Rattle.device_model.specs.Delivery.{AreOffered, whole_payload}
 use Rattle.device_model.specs.Through.{Inputs, own_input, arrived_by, text_by}
-use Rattle.line_tool.specs.CarriedBack.{ComesBack, bytes_back}
-use Rattle.line_tool.specs.TrialCarried.{AreTrialPackets, AreTrialRuns}
-use Rattle.line_tool.specs.TrialPlans.{one_slot, trial_connection, trial_plan}
-use Rattle.line_tool.proofs.CarriedBack.{brings_all_packets_back}
-use Rattle.line_tool.proofs.TrialPlans.{first_accepted, second_accepted, third_accepted}
+use Rattle.trial_plans.specs.CarriedBack.{ComesBack, bytes_back}
+use Rattle.trial_plans.specs.TrialCarried.{AreTrialPackets, AreTrialRuns}
+use Rattle.trial_plans.specs.TrialPlans.{one_slot, trial_connection, trial_plan}
+use Rattle.trial_plans.proofs.CarriedBack.{brings_all_packets_back}
+use Rattle.trial_plans.proofs.TrialPlans.{first_accepted, second_accepted, third_accepted}
 
 known : (run c : ℕ) → c < 8 → Contains (trial_plan run).connections (trial_connection run c)
 known run c h =

@@ -4,7 +4,7 @@ use Rattle.std.specs.List.{range_with_len}
 use Rattle.std.proofs.lemmas.List.FromFn.{map-range_with_len_more}
 use Rattle.plan_file.specs.Answer.{fault_in}
 use Rattle.plan_file.specs.declared.connection.Connection.{Connection}
-use Rattle.line_tool.specs.TrialPlans.{trial_connection, trial_plan}
+use Rattle.trial_plans.specs.TrialPlans.{trial_connection, trial_plan}
 
 pub first_accepted : fault_in (trial_plan 0) ≡ None
 unfolding fault_in

@@ -7,7 +7,7 @@ use Rattle.odu_client.specs.ClientOutput.{arriving_packets}
 use Rattle.packet_text.specs.PacketText.{hex_text}
 use Rattle.device_model.specs.LineFiles.{IsLineFile}
 use Rattle.device_model.specs.Through.{Inputs, own_input, arrived_by, text_by}
-use Rattle.line_tool.specs.TrialPlans.{trial_clients, trial_packets, trial_turns, trial_connection, trial_plan}
+use Rattle.trial_plans.specs.TrialPlans.{trial_clients, trial_packets, trial_turns, trial_connection, trial_plan}
 
 -- how many bytes a packet of the trial has at most
 abbrev pub longest_packet : ℕ

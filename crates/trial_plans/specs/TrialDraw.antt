@@ -3,9 +3,9 @@ use Rattle.std.specs.Prelude.{◌≡◌, ℕ, zero, suc, ◌+◌, ◌%◌, List,
 use Rattle.std.specs.List.{range_with_len}
 use Rattle.packet_text.specs.PacketText.{hex_text}
 use Rattle.rand_pcg.specs.Lcg.{Lcg}
-use Rattle.line_tool.specs.NumberOrder.{generator_after, order_word}
-use Rattle.line_tool.specs.TrialCarried.{longest_packet}
-use Rattle.line_tool.specs.TrialPlans.{trial_packets}
+use Rattle.number_order.specs.NumberOrder.{generator_after, order_word}
+use Rattle.trial_plans.specs.TrialCarried.{longest_packet}
+use Rattle.trial_plans.specs.TrialPlans.{trial_packets}
 
 -- how many bytes a packet has whose first word is this one: 1 to 1,500
 abbrev pub drawn_size : (word : ℕ) → ℕ

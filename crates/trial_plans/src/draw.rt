@@ -1,7 +1,7 @@
 // The packets of the trial, drawn by a generator.
 ghost use Rattle.std.specs.Prelude.{◌≡◌, ℕ, IfOk};
-ghost use Rattle.line_tool.specs.NumberOrder.{generator_after};
-ghost use Rattle.line_tool.specs.TrialDraw.{DrawsPacket, DrawsText};
+ghost use Rattle.number_order.specs.NumberOrder.{generator_after};
+ghost use Rattle.trial_plans.specs.TrialDraw.{DrawsPacket, DrawsText};
 
 use hex::encode;
 use otn_base::Memory;
@@ -16,14 +16,14 @@ const PACKETS: u32 = 16;
 const LONGEST: u32 = 1500;
 
 /// The generator of a number, before its first word.
-pub(crate) fn generator_of(number: u64) -> Lcg64Xsh32
+pub fn generator_of(number: u64) -> Lcg64Xsh32
     ensures { result ≡ generator_after number 0 }
 {
     Lcg64Xsh32::seed_from_u64(number)
 }
 
 /// Draws the 16 packets of a client, as text: a line of hex digits for each.
-pub(crate) fn draw_text(alloc: Global, generator: &mut Lcg64Xsh32) -> Result<Vec<u8>, Memory>
+pub fn draw_text(alloc: Global, generator: &mut Lcg64Xsh32) -> Result<Vec<u8>, Memory>
     ensures { IfOk result (λ text. DrawsText 16 generator.old generator.new text.items) }
 {
     let mut text = Vec::new(alloc);

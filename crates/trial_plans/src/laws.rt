@@ -1,8 +1,8 @@
 // The laws of the trial: what runs in a row bring back to a client.
-ghost use Rattle.line_tool.specs.CarriedBack.{BringsTheStreamBack, BringsAllPacketsBack};
+ghost use Rattle.trial_plans.specs.CarriedBack.{BringsTheStreamBack, BringsAllPacketsBack};
 ghost use Rattle.std.specs.Prelude.{ℕ};
-ghost use Rattle.line_tool.specs.TrialCarried.{AllPacketsComeBack, AreTrialPackets};
-ghost use Rattle.line_tool.specs.TrialDraw.{packets_of_trial};
+ghost use Rattle.trial_plans.specs.TrialCarried.{AllPacketsComeBack, AreTrialPackets};
+ghost use Rattle.trial_plans.specs.TrialDraw.{packets_of_trial};
 
 /// A client's packets that a first run takes to a line, that go on from line to line in one run or more, and that a
 /// last run takes to a client, each run of an accepted plan and over the file that the one before made: what arrives

@@ -2,7 +2,7 @@
 ghost use Rattle.std.specs.Prelude.{◌≡◌, ◌≤◌, ◌<◌, ◌+◌, [], ◌∷◌, None, IfOk, string_bytes};
 ghost use Rattle.plan_file.specs.Answer.{fault_in};
 ghost use Rattle.otn_base.specs.declared.limits.TheConstants.{OTU2_SLOTS};
-ghost use Rattle.line_tool.specs.TrialPlans.{comes_from, goes_to, one_slot, trial_clients, trial_connection, trial_plan};
+ghost use Rattle.trial_plans.specs.TrialPlans.{comes_from, goes_to, one_slot, trial_clients, trial_connection, trial_plan};
 
 use otn_base::limits::{NOMINAL, OTU2_SLOTS};
 use otn_base::{Kind, LineKind, Memory, Slots, Trace};
@@ -10,14 +10,14 @@ use plan_file::{Connection, Connections, FromEnd, LineList, Name, Pace, Plan, To
 use std::alloc::Global;
 
 /// Clients of the trial: one for each slot of an OTU2.
-pub(crate) const CLIENTS: u8 = OTU2_SLOTS as u8;
+pub const CLIENTS: u8 = OTU2_SLOTS as u8;
 
 // Turns of each run.
 const TURNS: u32 = 16;
 
 /// The plan of a run, from 0. It breaks no rule.
 #[tactic(auto, using(crate::proofs::TrialPlans::each_accepted))]
-pub(crate) fn plan_of_run(alloc: Global, run: u8) -> Result<Plan, Memory>
+pub fn plan_of_run(alloc: Global, run: u8) -> Result<Plan, Memory>
     requires { run < 4 }
     ensures plan { IfOk result (λ plan. plan ≡ trial_plan run) }
     ensures accepted { IfOk result (λ plan. fault_in plan ≡ None) }

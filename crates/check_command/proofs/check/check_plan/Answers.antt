@@ -1,8 +1,8 @@
 use Rattle.std.proofs.Common.{◌∙◌, Ok, ap, subst}
 use Rattle.otn_ports.specs.PortViews.{sink_view, source_view}
-use Rattle.line_tool.specs.PlanReading.{PlanReading}
-use Rattle.line_tool.proofs.PlanChecks.{accepted_check}
-use Rattle.line_tool.proofs.check.check_plan.Goals as goal
+use Rattle.check_command.specs.PlanReading.{PlanReading}
+use Rattle.check_command.proofs.PlanChecks.{accepted_check}
+use Rattle.check_command.proofs.check.check_plan.Goals as goal
 
 pub returns-in-Accepted-clause-run : goal.returns-in-Accepted-clause-run
 returns-in-Accepted-clause-run g c =

@@ -1,7 +1,7 @@
 use Rattle.std.proofs.Common.{◌≡◌, [], ◌∷◌, IfNone, subst, sym, arith}
-use Rattle.line_tool.specs.Words.{IsNoForm, texts}
-use Rattle.line_tool.proofs.WordLists.{five_texts}
-use Rattle.line_tool.proofs.words.command_of.Goals as goal
+use Rattle.command_words.specs.Words.{IsNoForm, texts}
+use Rattle.command_words.proofs.WordLists.{five_texts}
+use Rattle.command_words.proofs.words.command_of.Goals as goal
 
 pub returns-in-len5-clause-no_form : goal.returns-in-len5-clause-no_form
 returns-in-len5-clause-no_form c =

@@ -1,7 +1,7 @@
 use Rattle.std.proofs.Common.{ℕ, rules}
-use Rattle.line_tool.specs.Words.{IsForm, texts}
-use Rattle.line_tool.specs.declared.words.Command.TheVariants.{RunOrdered}
-use Rattle.line_tool.proofs.words.order_of.Goals as goal
+use Rattle.command_words.specs.Words.{IsForm, texts}
+use Rattle.command_words.specs.declared.words.Command.TheVariants.{RunOrdered}
+use Rattle.command_words.proofs.words.order_of.Goals as goal
 
 pub returns-in_err-number-clause-none : goal.returns-in_err-number-clause-none
 returns-in_err-number-clause-none c =

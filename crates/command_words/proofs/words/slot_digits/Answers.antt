@@ -1,6 +1,6 @@
 use Rattle.std.proofs.Common.{rules, take, refl, ◌∙◌}
-use Rattle.line_tool.proofs.SlotTexts.{no_comma, no_slot, no_slot_left, read_slots, read_text, read_more}
-use Rattle.line_tool.proofs.words.slot_digits.Goals as goal
+use Rattle.command_words.proofs.SlotTexts.{no_comma, no_slot, no_slot_left, read_slots, read_text, read_more}
+use Rattle.command_words.proofs.words.slot_digits.Goals as goal
 
 pub returns-then-rest-ne44-clause-none : goal.returns-then-rest-ne44-clause-none
 returns-then-rest-ne44-clause-none c =

@@ -1,6 +1,6 @@
 use Rattle.std.proofs.Common.{◌≡◌, ◌++◌, length}
-use Rattle.line_tool.proofs.SlotTexts.{with_commas}
-use Rattle.line_tool.proofs.words.slot_digits.Given as goal
+use Rattle.command_words.proofs.SlotTexts.{with_commas}
+use Rattle.command_words.proofs.words.slot_digits.Given as goal
 
 -- what is read so far, and what is left, are the text
 abbrev pub invariant-loop-rest : goal.invariant-loop-rest

@@ -1,7 +1,7 @@
-use Rattle.line_tool.specs.Words.{IsForm, texts}
-use Rattle.line_tool.specs.declared.words.Command.TheVariants.{RunCaptures}
-use Rattle.line_tool.proofs.Forms.{one_form}
-use Rattle.line_tool.proofs.words.takes_captures.Goals as goal
+use Rattle.command_words.specs.Words.{IsForm, texts}
+use Rattle.command_words.specs.declared.words.Command.TheVariants.{RunCaptures}
+use Rattle.command_words.proofs.Forms.{one_form}
+use Rattle.command_words.proofs.words.takes_captures.Goals as goal
 
 pub returns-in-Some : goal.returns-in-Some
 returns-in-Some c =

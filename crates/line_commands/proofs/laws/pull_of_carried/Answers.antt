@@ -1,5 +1,5 @@
-use Rattle.line_tool.proofs.PullCarried.{begins_with, whole_groups, after_damage}
-use Rattle.line_tool.proofs.laws.pull_of_carried.Goals as goal
+use Rattle.line_commands.proofs.PullCarried.{begins_with, whole_groups, after_damage}
+use Rattle.line_commands.proofs.laws.pull_of_carried.Goals as goal
 
 pub returns-clause-begins : goal.returns-clause-begins
 returns-clause-begins c = begins_with

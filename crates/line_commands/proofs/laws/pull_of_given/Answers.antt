@@ -1,5 +1,5 @@
-use Rattle.line_tool.proofs.PullTable.{pull_reports, pull_unfinished, pull_counted, pull_took, pull_stopped}
-use Rattle.line_tool.proofs.laws.pull_of_given.Goals as goal
+use Rattle.line_commands.proofs.PullTable.{pull_reports, pull_unfinished, pull_counted, pull_took, pull_stopped}
+use Rattle.line_commands.proofs.laws.pull_of_given.Goals as goal
 
 pub returns-clause-report : goal.returns-clause-report
 returns-clause-report c = pull_reports

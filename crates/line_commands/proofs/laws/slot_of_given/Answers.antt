@@ -1,5 +1,5 @@
-use Rattle.line_tool.proofs.SlotTable.{slot_reports, slot_unfinished, slot_counted, slot_took, slot_stopped}
-use Rattle.line_tool.proofs.laws.slot_of_given.Goals as goal
+use Rattle.line_commands.proofs.SlotTable.{slot_reports, slot_unfinished, slot_counted, slot_took, slot_stopped}
+use Rattle.line_commands.proofs.laws.slot_of_given.Goals as goal
 
 pub returns-clause-report : goal.returns-clause-report
 returns-clause-report c = slot_reports

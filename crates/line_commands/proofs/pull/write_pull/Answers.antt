@@ -3,9 +3,9 @@ use Rattle.otn_base.specs.LineSlots.{slots_of}
 use Rattle.otn_ports.specs.InPlace.{in_view}
 use Rattle.otn_ports.specs.Views.{InView}
 use Rattle.tributary_line.specs.TapTurn.{TapStands}
-use Rattle.line_tool.specs.PullReport.{tributary}
-use Rattle.line_tool.proofs.PullLoop.{pull_has_memory}
-use Rattle.line_tool.proofs.pull.write_pull.Goals as goal
+use Rattle.line_commands.specs.PullReport.{tributary}
+use Rattle.line_commands.proofs.PullLoop.{pull_has_memory}
+use Rattle.line_commands.proofs.pull.write_pull.Goals as goal
 
 pub returns-clause-run : goal.returns-clause-run
 returns-clause-run g c = λ some.

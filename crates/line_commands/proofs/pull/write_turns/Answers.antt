@@ -2,12 +2,12 @@ use Rattle.std.proofs.Common.{◌≡◌, ◌+◌, ◌∙◌, refl, subst, inl, i
 use Rattle.otn_ports.specs.InPlace.{in_view}
 use Rattle.line_side.specs.LineStands.{LineView}
 use Rattle.otn_ports.specs.PortViews.{sink_view}
-use Rattle.line_tool.specs.PullRuns.{AnswerRun}
-use Rattle.line_tool.specs.declared.pull.After.TheVariants as next
+use Rattle.line_commands.specs.PullRuns.{AnswerRun}
+use Rattle.line_commands.specs.declared.pull.After.TheVariants as next
 use Rattle.otn_ports.specs.declared.ended.Ended.TheVariants.{ReportFault}
-use Rattle.line_tool.proofs.PullLoop.{turns_none, turns_more, turns_lost, turns_end, never_written}
-use Rattle.line_tool.proofs.Reports.{report_same, report_more}
-use Rattle.line_tool.proofs.pull.write_turns.Goals as goal
+use Rattle.line_commands.proofs.PullLoop.{turns_none, turns_more, turns_lost, turns_end, never_written}
+use Rattle.command_base.proofs.Reports.{report_same, report_more}
+use Rattle.line_commands.proofs.pull.write_turns.Goals as goal
 
 pub loop-init : goal.loop-init
 loop-init g c = record {

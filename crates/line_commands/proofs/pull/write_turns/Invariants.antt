@@ -4,9 +4,9 @@ use Rattle.otn_ports.specs.Views.{InView}
 use Rattle.tributary_model.specs.Places.{Tributary}
 use Rattle.tributary_line.specs.TapTurn.{TapStands, IsBetweenTurns}
 use Rattle.otn_ports.specs.PortViews.{sink_view}
-use Rattle.line_tool.specs.Ends.{ReportAfter}
-use Rattle.line_tool.proofs.PullLoop.{TurnsSoFar, HasLast}
-use Rattle.line_tool.proofs.pull.write_turns.Given as goal
+use Rattle.command_base.specs.Ends.{ReportAfter}
+use Rattle.line_commands.proofs.PullLoop.{TurnsSoFar, HasLast}
+use Rattle.line_commands.proofs.pull.write_turns.Given as goal
 
 -- the turns so far, after the last of which the line goes on
 abbrev pub invariant-loop : goal.invariant-loop

@@ -1,8 +1,8 @@
 use Rattle.std.proofs.Common.{◌≡◌, length, arith, ◌∙◌}
 use Rattle.odtu_columns.specs.Columns.{slot_row_of}
-use Rattle.line_tool.specs.SlotReport.{slot_bytes}
-use Rattle.line_tool.proofs.Rows.{rows_filled, rows_whole, part_length}
-use Rattle.line_tool.proofs.slot.gather_slot.Goals as goal
+use Rattle.line_commands.specs.SlotReport.{slot_bytes}
+use Rattle.command_base.proofs.Rows.{rows_filled, rows_whole, part_length}
+use Rattle.line_commands.proofs.slot.gather_slot.Goals as goal
 
 pub loop-row-preserved : goal.loop-row-preserved
 loop-row-preserved c =

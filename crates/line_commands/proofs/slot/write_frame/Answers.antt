@@ -6,11 +6,11 @@ use Rattle.otn_ports.specs.Reads.{state_after, idle_reading}
 use Rattle.otn_ports.specs.Views.{Live}
 use Rattle.otn_ports.specs.declared.in_place.Reading.TheVariants.{Full}
 use Rattle.frame_geometry.specs.Loans.{after_loan-whole}
-use Rattle.line_tool.proofs.SlotSteps.{live_of, step_written}
+use Rattle.line_commands.proofs.SlotSteps.{live_of, step_written}
 use Rattle.otn_ports.specs.PortViews.{sink_view}
-use Rattle.line_tool.specs.Ends.{ReportAfter}
-use Rattle.line_tool.specs.SlotRuns.{SlotStep}
-use Rattle.line_tool.proofs.slot.write_frame.Goals as goal
+use Rattle.command_base.specs.Ends.{ReportAfter}
+use Rattle.line_commands.specs.SlotRuns.{SlotStep}
+use Rattle.line_commands.proofs.slot.write_frame.Goals as goal
 
 pub returns-in-Full-clause-step : goal.returns-in-Full-clause-step
 returns-in-Full-clause-step g c =

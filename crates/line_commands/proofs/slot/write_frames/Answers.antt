@@ -1,9 +1,9 @@
 use Rattle.std.proofs.Common.{◌≡◌, Some, None, subst, arith}
 use Rattle.otn_ports.specs.InPlace.{in_view}
 use Rattle.otn_ports.specs.PortViews.{sink_view}
-use Rattle.line_tool.proofs.Reports.{report_same, report_more}
-use Rattle.line_tool.proofs.SlotLoop.{SoFar, so_far_none, so_far_more, ends_with, ends_after, never_fault}
-use Rattle.line_tool.proofs.slot.write_frames.Goals as goal
+use Rattle.command_base.proofs.Reports.{report_same, report_more}
+use Rattle.line_commands.proofs.SlotLoop.{SoFar, so_far_none, so_far_more, ends_with, ends_after, never_fault}
+use Rattle.line_commands.proofs.slot.write_frames.Goals as goal
 
 pub loop-init : goal.loop-init
 loop-init g c = record {

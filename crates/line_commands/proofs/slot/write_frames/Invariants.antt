@@ -1,9 +1,9 @@
 use Rattle.std.proofs.Common.{None}
 use Rattle.otn_ports.specs.InPlace.{in_view}
 use Rattle.otn_ports.specs.PortViews.{sink_view}
-use Rattle.line_tool.specs.Ends.{ReportAfter}
-use Rattle.line_tool.proofs.SlotLoop.{SoFar}
-use Rattle.line_tool.proofs.slot.write_frames.Given as goal
+use Rattle.command_base.specs.Ends.{ReportAfter}
+use Rattle.line_commands.proofs.SlotLoop.{SoFar}
+use Rattle.line_commands.proofs.slot.write_frames.Given as goal
 
 abbrev pub invariant-loop : goal.invariant-loop
 invariant-loop g l = record {

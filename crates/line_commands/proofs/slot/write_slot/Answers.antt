@@ -1,8 +1,8 @@
 use Rattle.std.proofs.Common.{◌≡◌, ap}
 use Rattle.otn_ports.specs.InPlace.{in_view}
 use Rattle.otn_ports.specs.Views.{Dead}
-use Rattle.line_tool.proofs.SlotLoop.{dead_run, slot_has_memory}
-use Rattle.line_tool.proofs.slot.write_slot.Goals as goal
+use Rattle.line_commands.proofs.SlotLoop.{dead_run, slot_has_memory}
+use Rattle.line_commands.proofs.slot.write_slot.Goals as goal
 
 pub returns-in-Dead-clause-run : goal.returns-in-Dead-clause-run
 returns-in-Dead-clause-run g c = λ some.

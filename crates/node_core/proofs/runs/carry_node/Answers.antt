@@ -1,5 +1,5 @@
 use Rattle.otn_ports.specs.Racks.{bays_view}
-use Rattle.line_tool.proofs.plan_run.carry_node.Goals as goal
+use Rattle.node_core.proofs.runs.carry_node.Goals as goal
 
 pub returns-clause-left : goal.returns-clause-left
 returns-clause-left g c = λ plan first h.

@@ -1,6 +1,6 @@
 use Rattle.std.proofs.Common.{rules}
-use Rattle.line_tool.proofs.DamagedLines.{healed, as_repeated, handed_on}
-use Rattle.line_tool.proofs.damage.damaged_lines.Goals as goal
+use Rattle.run_command.proofs.DamagedLines.{healed, as_repeated, handed_on}
+use Rattle.run_command.proofs.damage.damaged_lines.Goals as goal
 
 pub returns-clause-healed : goal.returns-clause-healed
 returns-clause-healed c = search (rules, healed)

@@ -1,5 +1,5 @@
-use Rattle.line_tool.proofs.SeenCalls.{of_a_plan, isolated, not_ahead, is_through, is_carried, leaves_others}
-use Rattle.line_tool.proofs.laws.headline.Goals as goal
+use Rattle.run_command.proofs.SeenCalls.{of_a_plan, isolated, not_ahead, is_through, is_carried, leaves_others}
+use Rattle.run_command.proofs.laws.headline.Goals as goal
 
 pub returns-clause-runs : goal.returns-clause-runs
 returns-clause-runs c = λ old new asked now reply. of_a_plan reply old new asked now

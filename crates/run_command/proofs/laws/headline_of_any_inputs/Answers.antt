@@ -1,5 +1,5 @@
-use Rattle.line_tool.proofs.RunCalls.{run_carries, isolated, is_through, is_carried}
-use Rattle.line_tool.proofs.laws.headline_of_any_inputs.Goals as goal
+use Rattle.run_command.proofs.RunCalls.{run_carries, isolated, is_through, is_carried}
+use Rattle.run_command.proofs.laws.headline_of_any_inputs.Goals as goal
 
 pub returns-clause-runs : goal.returns-clause-runs
 returns-clause-runs c = λ old new asked now reply. run_carries reply old new asked now

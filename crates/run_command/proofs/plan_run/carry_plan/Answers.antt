@@ -3,8 +3,8 @@ use Rattle.otn_ports.specs.Bytes.{raised}
 use Rattle.otn_ports.specs.PortViews.{sink_view}
 use Rattle.otn_ports.specs.Racks.{bays_view}
 use Rattle.node_core.specs.RunNumbers.{numbers_of_run}
-use Rattle.line_tool.proofs.CarriedPlans.{carried_whole, carried_lost}
-use Rattle.line_tool.proofs.plan_run.carry_plan.Goals as goal
+use Rattle.run_command.proofs.CarriedPlans.{carried_whole, carried_lost}
+use Rattle.run_command.proofs.plan_run.carry_plan.Goals as goal
 
 pub returns-in-Whole-clause-ran : goal.returns-in-Whole-clause-ran
 returns-in-Whole-clause-ran g c =

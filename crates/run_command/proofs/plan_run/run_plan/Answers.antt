@@ -1,11 +1,11 @@
 use Rattle.std.proofs.Common.{◌∙◌, Result, Ok, Err, IfErr, ap, subst}
 use Rattle.otn_base.specs.declared.memory.Memory.{Memory as NoMemory}
 use Rattle.otn_ports.specs.PortViews.{sink_view, source_view}
-use Rattle.line_tool.specs.Device.{device}
-use Rattle.line_tool.specs.PlanReading.{PlanReading}
-use Rattle.line_tool.specs.declared.plan_run.Ran.{Ran}
-use Rattle.line_tool.proofs.CarriedPlans.{accepted_ran, accepted_stays}
-use Rattle.line_tool.proofs.plan_run.run_plan.Goals as goal
+use Rattle.command_base.specs.Device.{device}
+use Rattle.check_command.specs.PlanReading.{PlanReading}
+use Rattle.run_command.specs.declared.plan_run.Ran.{Ran}
+use Rattle.run_command.proofs.CarriedPlans.{accepted_ran, accepted_stays}
+use Rattle.run_command.proofs.plan_run.run_plan.Goals as goal
 
 second : (result : Result Ran NoMemory) (A B C : Type 0) → IfErr result (λ _. A × B × C) → IfErr result (λ _. B)
 second (Ok ran) A B C h = tt

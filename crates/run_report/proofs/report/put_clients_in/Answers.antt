@@ -4,9 +4,9 @@ use Rattle.otn_ports.specs.Racks.{bays_view}
 use Rattle.device_model.specs.Moments.{uses}
 use Rattle.device_model.specs.Report.{used_lines}
 use Rattle.node_core.specs.RunNumbers.{numbers_of_run}
-use Rattle.line_tool.specs.RunReport.{client_in_of}
-use Rattle.line_tool.proofs.RunReports.{used_more}
-use Rattle.line_tool.proofs.report.put_clients_in.Goals as goal
+use Rattle.run_report.specs.RunReport.{client_in_of}
+use Rattle.run_report.proofs.RunReports.{used_more}
+use Rattle.run_report.proofs.report.put_clients_in.Goals as goal
 
 pub loop-n-init : goal.loop-n-init
 loop-n-init g c = record { text = sym (append-nil c.args.text.now.bytes); most = omega arith }

@@ -2,8 +2,8 @@ use Rattle.std.proofs.Common.{◌≡◌, ◌<◌, ◌+◌, ◌∙◌, ◌∷◌,
 use Rattle.std.proofs.Math.Seq.{drop-cons}
 use Rattle.std.proofs.lemmas.Option.{slice_get_read}
 use Rattle.node_core.specs.RunNumbers.{numbers_of_run}
-use Rattle.line_tool.proofs.RunReports.{connection_more, short_name}
-use Rattle.line_tool.proofs.report.put_connections.Goals as goal
+use Rattle.run_report.proofs.RunReports.{connection_more, short_name}
+use Rattle.run_report.proofs.report.put_connections.Goals as goal
 
 pub put_connection-requires-clause-name : goal.put_connection-requires-clause-name
 put_connection-requires-clause-name c =

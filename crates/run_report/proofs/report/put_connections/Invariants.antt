@@ -2,7 +2,7 @@ use Rattle.std.proofs.Common.{◌≡◌, ◌≤◌, ◌+◌, ◌*◌, ◌++◌, 
 use Rattle.arrayvec.specs.ArrayString.{array_string_len}
 use Rattle.device_model.specs.Report.{connection_lines}
 use Rattle.node_core.specs.RunNumbers.{numbers_of_run}
-use Rattle.line_tool.proofs.report.put_connections.Given as goal
+use Rattle.run_report.proofs.report.put_connections.Given as goal
 
 -- the lines so far, and what is left of them
 abbrev pub invariant-loop-i : goal.invariant-loop-i

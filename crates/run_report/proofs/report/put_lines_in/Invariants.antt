@@ -5,8 +5,8 @@ use Rattle.otn_ports.specs.Racks.{bays_view}
 use Rattle.device_model.specs.Moments.{uses}
 use Rattle.device_model.specs.Report.{used_lines}
 use Rattle.node_core.specs.RunNumbers.{numbers_of_run}
-use Rattle.line_tool.specs.RunReport.{line_in_of}
-use Rattle.line_tool.proofs.report.put_lines_in.Given as goal
+use Rattle.run_report.specs.RunReport.{line_in_of}
+use Rattle.run_report.proofs.report.put_lines_in.Given as goal
 
 -- the lines so far
 abbrev pub invariant-loop-a : goal.invariant-loop-a

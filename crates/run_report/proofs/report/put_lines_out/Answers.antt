@@ -3,9 +3,9 @@ use Rattle.otn_base.specs.declared.kind.PortName.TheVariants as port
 use Rattle.otn_ports.specs.Racks.{bays_view}
 use Rattle.device_model.specs.Moments.{uses}
 use Rattle.node_core.specs.RunNumbers.{numbers_of_run}
-use Rattle.line_tool.specs.RunReport.{line_out_of}
-use Rattle.line_tool.proofs.RunReports.{used_more}
-use Rattle.line_tool.proofs.report.put_lines_out.Goals as goal
+use Rattle.run_report.specs.RunReport.{line_out_of}
+use Rattle.run_report.proofs.RunReports.{used_more}
+use Rattle.run_report.proofs.report.put_lines_out.Goals as goal
 
 pub loop-b-init : goal.loop-b-init
 loop-b-init g c = record { text = sym (append-nil c.args.text.now.bytes); most = omega arith }

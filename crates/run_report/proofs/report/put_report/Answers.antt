@@ -1,6 +1,6 @@
 use Rattle.device_model.specs.Report.{report_text}
-use Rattle.line_tool.proofs.RunReports.{seven_parts}
-use Rattle.line_tool.proofs.report.put_report.Goals as goal
+use Rattle.run_report.proofs.RunReports.{seven_parts}
+use Rattle.run_report.proofs.report.put_report.Goals as goal
 
 pub returns-clause-text : goal.returns-clause-text
 unfolding report_text

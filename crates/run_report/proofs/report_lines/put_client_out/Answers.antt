@@ -1,6 +1,6 @@
 use Rattle.std.proofs.Common.{append_assoc}
 use Rattle.device_model.specs.Report.{client_out_line}
-use Rattle.line_tool.proofs.report_lines.put_client_out.Goals as goal
+use Rattle.run_report.proofs.report_lines.put_client_out.Goals as goal
 
 pub returns-clause-text : goal.returns-clause-text
 unfolding client_out_line

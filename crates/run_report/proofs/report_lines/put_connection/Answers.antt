@@ -1,6 +1,6 @@
 use Rattle.std.proofs.Common.{append_assoc}
 use Rattle.device_model.specs.Report.{connection_line}
-use Rattle.line_tool.proofs.report_lines.put_connection.Goals as goal
+use Rattle.run_report.proofs.report_lines.put_connection.Goals as goal
 
 pub returns-clause-text : goal.returns-clause-text
 unfolding connection_line

@@ -1,6 +1,6 @@
 use Rattle.std.proofs.Common.{append_assoc}
 use Rattle.device_model.specs.Report.{line_in_line}
-use Rattle.line_tool.proofs.report_lines.put_line_in.Goals as goal
+use Rattle.run_report.proofs.report_lines.put_line_in.Goals as goal
 
 pub returns-clause-text : goal.returns-clause-text
 unfolding line_in_line

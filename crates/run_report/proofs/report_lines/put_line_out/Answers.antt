@@ -1,6 +1,6 @@
 use Rattle.std.proofs.Common.{append_assoc}
 use Rattle.device_model.specs.Report.{line_out_line}
-use Rattle.line_tool.proofs.report_lines.put_line_out.Goals as goal
+use Rattle.run_report.proofs.report_lines.put_line_out.Goals as goal
 
 pub returns-clause-text : goal.returns-clause-text
 unfolding line_out_line

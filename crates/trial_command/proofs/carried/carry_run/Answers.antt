@@ -3,8 +3,8 @@ use Rattle.otn_ports.specs.contracts.mem_sink.MemSinkSink.TheImpl as sink
 use Rattle.otn_ports.specs.contracts.mem_source.MemSourceSource.TheImpl as source
 use Rattle.node_core.specs.NodeView.{left_of}
 use Rattle.node_core.specs.RunNumbers.{numbers_of_run}
-use Rattle.line_tool.proofs.TrialPlaces.{run_went}
-use Rattle.line_tool.proofs.trial.carried.carry_run.Goals as goal
+use Rattle.trial_command.proofs.TrialPlaces.{run_went}
+use Rattle.trial_command.proofs.carried.carry_run.Goals as goal
 
 pub returns : goal.returns
 returns g c =

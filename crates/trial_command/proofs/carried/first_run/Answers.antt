@@ -1,8 +1,8 @@
 use Rattle.otn_ports.specs.Racks.{bays_view}
 use Rattle.otn_ports.specs.contracts.mem_sink.MemSinkSink.TheImpl as sink
 use Rattle.otn_ports.specs.contracts.mem_source.MemSourceSource.TheImpl as source
-use Rattle.line_tool.proofs.TrialRuns.{first_ran}
-use Rattle.line_tool.proofs.trial.carried.first_run.Goals as goal
+use Rattle.trial_command.proofs.TrialRuns.{first_ran}
+use Rattle.trial_command.proofs.carried.first_run.Goals as goal
 
 pub returns-in-Some : goal.returns-in-Some
 returns-in-Some g c =

@@ -1,8 +1,8 @@
 use Rattle.otn_ports.specs.Racks.{bays_view}
 use Rattle.otn_ports.specs.contracts.mem_sink.MemSinkSink.TheImpl as sink
 use Rattle.otn_ports.specs.contracts.mem_source.MemSourceSource.TheImpl as source
-use Rattle.line_tool.proofs.TrialRuns.{last_ran}
-use Rattle.line_tool.proofs.trial.carried.last_run.Goals as goal
+use Rattle.trial_command.proofs.TrialRuns.{last_ran}
+use Rattle.trial_command.proofs.carried.last_run.Goals as goal
 
 pub returns : goal.returns
 returns g c =

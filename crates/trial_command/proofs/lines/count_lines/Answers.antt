@@ -1,7 +1,7 @@
 use Rattle.std.proofs.Common.{◌<◌, ◌+◌, length, take, get_or, ap, sym, ◌∙◌, arith}
-use Rattle.line_tool.specs.TrialReport.{lines_in}
-use Rattle.line_tool.proofs.TrialReport.{feed_few, lines_none, lines_next}
-use Rattle.line_tool.proofs.trial.lines.count_lines.Goals as goal
+use Rattle.trial_command.specs.TrialReport.{lines_in}
+use Rattle.trial_command.proofs.TrialReport.{feed_few, lines_none, lines_next}
+use Rattle.trial_command.proofs.lines.count_lines.Goals as goal
 
 pub loop-i-init : goal.loop-i-init
 loop-i-init c = record { count = sym (lines_none c.args.text.now); few = omega arith }

@@ -1,9 +1,9 @@
 use Rattle.std.proofs.Common.{◌<◌, ap, sym, ◌∙◌, arith}
-use Rattle.line_tool.specs.NumberOrder.{generator_after}
-use Rattle.line_tool.specs.TrialRuns.{holding}
-use Rattle.line_tool.proofs.TrialDraw.{first_client, text_drawn}
-use Rattle.line_tool.proofs.TrialPlaces.{first_none, next_client}
-use Rattle.line_tool.proofs.trial.places.first_places.Goals as goal
+use Rattle.number_order.specs.NumberOrder.{generator_after}
+use Rattle.trial_command.specs.TrialRuns.{holding}
+use Rattle.trial_plans.proofs.TrialDraw.{first_client, text_drawn}
+use Rattle.trial_command.proofs.TrialPlaces.{first_none, next_client}
+use Rattle.trial_command.proofs.places.first_places.Goals as goal
 
 pub loop-c-init : goal.loop-c-init
 loop-c-init c = record {

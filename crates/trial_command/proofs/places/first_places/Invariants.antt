@@ -1,8 +1,8 @@
 use Rattle.std.proofs.Common.{◌≡◌}
-use Rattle.line_tool.specs.NumberOrder.{generator_after, order_word}
-use Rattle.line_tool.specs.TrialDraw.{client_place}
-use Rattle.line_tool.proofs.TrialPlaces.{FirstUpTo, view}
-use Rattle.line_tool.proofs.trial.places.first_places.Given as goal
+use Rattle.number_order.specs.NumberOrder.{generator_after, order_word}
+use Rattle.trial_plans.specs.TrialDraw.{client_place}
+use Rattle.trial_command.proofs.TrialPlaces.{FirstUpTo, view}
+use Rattle.trial_command.proofs.places.first_places.Given as goal
 
 abbrev pub invariant-loop-c : goal.invariant-loop-c
 invariant-loop-c l = record {

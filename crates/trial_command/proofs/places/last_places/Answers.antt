@@ -1,6 +1,6 @@
 use Rattle.std.proofs.Common.{◌<◌, arith}
-use Rattle.line_tool.proofs.TrialPlaces.{next_room}
-use Rattle.line_tool.proofs.trial.places.last_places.Goals as goal
+use Rattle.trial_command.proofs.TrialPlaces.{next_room}
+use Rattle.trial_command.proofs.places.last_places.Goals as goal
 
 pub loop-c-preserved : goal.loop-c-preserved
 loop-c-preserved c =

@@ -5,8 +5,8 @@ use Rattle.otn_ports.specs.Racks.{bays_view}
 use Rattle.otn_ports.specs.contracts.mem_sink.MemSinkSink.TheImpl as sink
 use Rattle.otn_ports.specs.contracts.mem_source.MemSourceSource.TheImpl as source
 use Rattle.otn_ports.proofs.BaysLaws.{client_out_seen}
-use Rattle.line_tool.proofs.TrialReport.{none_told, next_told}
-use Rattle.line_tool.proofs.trial.lines_of_clients.Goals as goal
+use Rattle.trial_command.proofs.TrialReport.{none_told, next_told}
+use Rattle.trial_command.proofs.trial.lines_of_clients.Goals as goal
 
 pub loop-c-init : goal.loop-c-init
 loop-c-init c = none_told (bays_view source.ghosts sink.ghosts c.args.bays.now) (string_bytes c.new-lines.result) c.new-lines.ensures.bytes

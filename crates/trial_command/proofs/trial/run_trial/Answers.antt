@@ -4,9 +4,9 @@ use Rattle.otn_ports.specs.PortViews.{sink_view}
 use Rattle.otn_ports.specs.Racks.{bays_view}
 use Rattle.otn_ports.specs.contracts.mem_sink.MemSinkSink.TheImpl as sink
 use Rattle.otn_ports.specs.contracts.mem_source.MemSourceSource.TheImpl as source
-use Rattle.line_tool.specs.TrialReport.{check_line}
-use Rattle.line_tool.proofs.TrialAnswers.{trial_ran}
-use Rattle.line_tool.proofs.trial.run_trial.Goals as goal
+use Rattle.trial_command.specs.TrialReport.{check_line}
+use Rattle.trial_command.proofs.TrialAnswers.{trial_ran}
+use Rattle.trial_command.proofs.trial.run_trial.Goals as goal
 
 pub returns-clause-ran : goal.returns-clause-ran
 returns-clause-ran g c =

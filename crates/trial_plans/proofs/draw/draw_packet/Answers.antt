@@ -1,6 +1,6 @@
 use Rattle.std.proofs.Common.{◌≡◌, ◌+◌, ◌%◌, arith}
-use Rattle.line_tool.proofs.TrialDraw.{no_byte, next_byte, all_bytes}
-use Rattle.line_tool.proofs.trial.draw.draw_packet.Goals as goal
+use Rattle.trial_plans.proofs.TrialDraw.{no_byte, next_byte, all_bytes}
+use Rattle.trial_plans.proofs.draw.draw_packet.Goals as goal
 
 pub loop-init : goal.loop-init
 loop-init c = no_byte c.args.generator.now c.next_word.new.self c.next_word.result c.new-packet.result.items c.next_word.ensures c.new-packet.ensures.items

@@ -1,6 +1,6 @@
 use Rattle.std.proofs.Common.{[], ◌∷◌, ◌++◌, ap, ◌∙◌}
-use Rattle.line_tool.proofs.TrialDraw.{no_packet, next_packet}
-use Rattle.line_tool.proofs.trial.draw.draw_text.Goals as goal
+use Rattle.trial_plans.proofs.TrialDraw.{no_packet, next_packet}
+use Rattle.trial_plans.proofs.draw.draw_text.Goals as goal
 
 pub loop-init : goal.loop-init
 loop-init c = no_packet c.args.generator.now c.new-text.result.items c.new-text.ensures.items

@@ -1,5 +1,5 @@
-use Rattle.line_tool.proofs.TrialCarried as trial
-use Rattle.line_tool.proofs.trial.laws.all_packets_come_back.Goals as goal
+use Rattle.trial_plans.proofs.TrialCarried as trial
+use Rattle.trial_plans.proofs.laws.all_packets_come_back.Goals as goal
 
 pub returns : goal.returns
 returns c = trial.all_packets_come_back

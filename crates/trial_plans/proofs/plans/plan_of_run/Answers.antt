@@ -1,5 +1,5 @@
-use Rattle.line_tool.proofs.TrialPlans.{one_more}
-use Rattle.line_tool.proofs.trial.plans.plan_of_run.Goals as goal
+use Rattle.trial_plans.proofs.TrialPlans.{one_more}
+use Rattle.trial_plans.proofs.plans.plan_of_run.Goals as goal
 
 pub loop-c-preserved : goal.loop-c-preserved
 loop-c-preserved c =
