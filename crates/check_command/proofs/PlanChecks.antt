@@ -8,11 +8,9 @@ use Rattle.plan_file.specs.Answer.{plan_of_text, plan_of_table, table_of_text}
 use Rattle.otn_base.specs.declared.memory.Memory.{Memory as NoMemory}
 use Rattle.plan_file.specs.declared.error.PlanError.{PlanError}
 use Rattle.plan_file.specs.declared.plan.Plan.{Plan}
-use Rattle.check_command.specs.PlanCheck.{CheckAnswers}
+use Rattle.check_command.specs.PlanCheck.{CheckAnswers, check_status, CheckRun, CheckEnds, PlanTold}
 use Rattle.otn_ports.specs.PortViews.{SourceView, SinkView, SinkLater}
 use Rattle.command_base.specs.Device.{Device}
-use Rattle.check_command.specs.PlanCheck.{check_status}
-use Rattle.check_command.specs.PlanCheck.{CheckRun, CheckEnds, PlanTold}
 use Rattle.check_command.specs.PlanReading.{IsAll, PlanReading, WasRead, most_read}
 use Rattle.command_base.specs.AnswerWords.{CountsBy, IsRefusal, IsWell}
 use Rattle.check_command.specs.declared.check.Checked.{Checked}

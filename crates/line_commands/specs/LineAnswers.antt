@@ -9,11 +9,8 @@ use Rattle.command_base.specs.Device.{Device, OnlyLine, line_zero}
 use Rattle.command_base.specs.AnswerWords.{CountsBy, Reports, IsLineAnswer}
 use Rattle.command_base.specs.declared.status.Status.{Status}
 use Rattle.command_base.specs.declared.status.Status.TheVariants.{Unfinished, ReportFault, Cut, Memory}
-use Rattle.line_commands.specs.PullReport.{LeavesBytes, bytes_taken, pull_report}
-use Rattle.line_commands.specs.PullReport.{MayFollow, StoppedInTurn}
-use Rattle.line_commands.specs.SlotReport.{HasBytesBehind}
-use Rattle.line_commands.specs.SlotReport.{slot_report, most_taken}
-use Rattle.line_commands.specs.SlotReport.{StoppedInFrame}
+use Rattle.line_commands.specs.PullReport.{LeavesBytes, bytes_taken, pull_report, MayFollow, StoppedInTurn}
+use Rattle.line_commands.specs.SlotReport.{HasBytesBehind, slot_report, most_taken, StoppedInFrame}
 
 -- ---- a command over line input 0, by what it is to have done once there was memory
 

@@ -5,9 +5,8 @@ use Rattle.otn_ports.proofs.PortLaws.{sink_later_none}
 use Rattle.otn_ports.specs.PortViews.{SinkLater, SinkView}
 use Rattle.otn_ports.specs.declared.drain.Written.{Written}
 use Rattle.otn_ports.specs.declared.drain.Written.TheVariants as written
-use Rattle.trial_command.specs.TrialAnswers.{trial_status}
+use Rattle.trial_command.specs.TrialAnswers.{trial_status, TrialAnswers, TrialRan}
 use Rattle.command_base.specs.AnswerWords.{IsRefusal}
-use Rattle.trial_command.specs.TrialAnswers.{TrialAnswers, TrialRan}
 use Rattle.trial_command.specs.TrialReport.{trial_report}
 use Rattle.trial_plans.specs.TrialDraw.{packets_of_trial}
 use Rattle.command_base.specs.declared.status.Status.{Status}
