@@ -14,19 +14,19 @@ use Rattle.otn_ports.specs.declared.source.Source as source
 use Rattle.tributary_model.specs.Places.{Tributary}
 use Rattle.line_tool.specs.Answers.{LineAnswers, PullRan, SlotRan}
 use Rattle.otn_ports.specs.PortViews.{SinkView, sink_view, source_view}
-use Rattle.line_tool.specs.Device.{Device, OnlyLine, Stays, device, line_zero}
-use Rattle.line_tool.specs.Ends.{ReportAfter, line_status}
-use Rattle.line_tool.specs.PlanCheck.{CheckRun}
-use Rattle.line_tool.specs.PullRuns.{PullEnded}
-use Rattle.line_tool.specs.AnswerWords.{CountsBy, IsRefusal}
-use Rattle.line_tool.specs.SlotRuns.{SlotEnded}
+use Rattle.command_base.specs.Device.{Device, OnlyLine, Stays, device, line_zero}
+use Rattle.command_base.specs.Ends.{ReportAfter, line_status}
+use Rattle.check_command.specs.PlanCheck.{CheckRun}
+use Rattle.line_commands.specs.PullRuns.{PullEnded}
+use Rattle.command_base.specs.AnswerWords.{CountsBy, IsRefusal}
+use Rattle.line_commands.specs.SlotRuns.{SlotEnded}
 use Rattle.otn_ports.specs.declared.ended.Ended.{Ended}
 use Rattle.otn_ports.specs.declared.ended.Ended.TheVariants.{Done, Unfinished, Cut, ReportFault, Memory}
-use Rattle.line_tool.specs.declared.status.Status.{Status}
-use Rattle.line_tool.specs.declared.status.Status.TheVariants as status
-use Rattle.line_tool.proofs.PullTable.{pull_ran}
+use Rattle.command_base.specs.declared.status.Status.{Status}
+use Rattle.command_base.specs.declared.status.Status.TheVariants as status
+use Rattle.line_commands.proofs.PullTable.{pull_ran}
 use Rattle.line_tool.proofs.PutBack.{put_back}
-use Rattle.line_tool.proofs.SlotTable.{slot_ran}
+use Rattle.line_commands.proofs.SlotTable.{slot_ran}
 
 -- ---- the answers, by how the command ended
 

@@ -10,10 +10,10 @@ use Rattle.otn_ports.specs.declared.ended.Ended.TheVariants.{Done, Unfinished, C
 use Rattle.otn_ports.specs.declared.sink.Sink as sink
 use Rattle.otn_ports.specs.declared.source.Source as source
 use Rattle.line_tool.specs.Answers.{PlacesAnswers}
-use Rattle.line_tool.specs.AnswerWords.{CountsBy, IsRefusal}
-use Rattle.line_tool.specs.Device.{Device, Stays, device}
-use Rattle.line_tool.specs.Ends.{line_status}
-use Rattle.line_tool.specs.declared.status.Status.TheVariants as status
+use Rattle.command_base.specs.AnswerWords.{CountsBy, IsRefusal}
+use Rattle.command_base.specs.Device.{Device, Stays, device}
+use Rattle.command_base.specs.Ends.{line_status}
+use Rattle.command_base.specs.declared.status.Status.TheVariants as status
 use Rattle.line_tool.proofs.Answered.{refused_for}
 
 -- the report's count of faults

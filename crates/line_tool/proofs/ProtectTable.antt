@@ -9,12 +9,12 @@ use Rattle.device_model.specs.LineAsked.{InputLeft}
 use Rattle.node_core.proofs.GivenRuns.{follows}
 use Rattle.protect_selector.specs.ProtectLeft.{AllDone, IsCut, LeftSo, ProtectRan, TookOf}
 use Rattle.protect_selector.specs.Protecting.{Ends, ends_of}
-use Rattle.line_tool.specs.AnswerWords.{IsWell}
-use Rattle.line_tool.specs.Ends.{line_status}
+use Rattle.command_base.specs.AnswerWords.{IsWell}
+use Rattle.command_base.specs.Ends.{line_status}
 use Rattle.line_tool.specs.ProtectLaws.{AreThreeWell, LeftOfGiven, ProtectIsComplete, ProtectsWhatWasGiven, taken_of}
-use Rattle.line_tool.specs.declared.status.Status.TheVariants as status
+use Rattle.command_base.specs.declared.status.Status.TheVariants as status
 use Rattle.line_tool.proofs.Protected.{may_be_itself}
-use Rattle.line_tool.proofs.PullTable.{taken_by_number}
+use Rattle.line_commands.proofs.PullTable.{taken_by_number}
 
 -- ---- by Given
 

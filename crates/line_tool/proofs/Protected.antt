@@ -11,7 +11,7 @@ use Rattle.device_model.specs.LineAsked.{MayHave}
 use Rattle.protect_selector.specs.OfLines.{switch_text, switch_text_at}
 use Rattle.protect_selector.specs.ProtectLeft.{LeftSo, ProtectRan}
 use Rattle.protect_selector.specs.Protecting.{Ends}
-use Rattle.line_tool.specs.PullReport.{tributary}
+use Rattle.line_commands.specs.PullReport.{tributary}
 
 -- the tributary of slots of an OTU2 line
 pub of_otu2 : (slots : LineSlots) (port : ℕ) → slots.kind ≡ Otu2 → tributary_of slots port ≡ tributary port slots.list

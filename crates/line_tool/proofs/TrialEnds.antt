@@ -1,10 +1,10 @@
 -- How the trial ends where no write of its report failed.
 use Rattle.std.proofs.Common.{◌≡◌, ◌⊎◌, ℕ, refl, inl, inr}
 use Rattle.otn_ports.specs.PortViews.{SinkView}
-use Rattle.line_tool.specs.AnswerWords.{IsWell}
-use Rattle.line_tool.specs.TrialAnswers.{TrialAnswers}
-use Rattle.line_tool.specs.declared.status.Status.{Status}
-use Rattle.line_tool.specs.declared.status.Status.TheVariants as status
+use Rattle.command_base.specs.AnswerWords.{IsWell}
+use Rattle.trial_command.specs.TrialAnswers.{TrialAnswers}
+use Rattle.command_base.specs.declared.status.Status.{Status}
+use Rattle.command_base.specs.declared.status.Status.TheVariants as status
 
 -- it is Done, or there was no memory
 pub trial_complete : (answer : Status) (number : ℕ) (old new : SinkView) (asked now : ℕ) → TrialAnswers number old new asked now answer → IsWell old.faults new.faults

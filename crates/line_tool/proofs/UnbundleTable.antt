@@ -8,9 +8,9 @@ use Rattle.otn_ports.specs.declared.ended.Ended.TheVariants.{Done, Unfinished, C
 use Rattle.node_core.proofs.GivenRuns.{follows}
 use Rattle.unbundle_command.specs.Unbundled.{arrived_before, report_text}
 use Rattle.unbundle_command.specs.UnbundleLeft.{IsCut, written_by, UnbundleOf, UnbundleRan}
-use Rattle.line_tool.specs.Ends.{line_status}
+use Rattle.command_base.specs.Ends.{line_status}
 use Rattle.line_tool.specs.UnbundleLaws.{AreOutputsWell, UnbundlesWhatWasGiven, UnbundleIsComplete}
-use Rattle.line_tool.specs.declared.status.Status.TheVariants as status
+use Rattle.command_base.specs.declared.status.Status.TheVariants as status
 use Rattle.line_tool.proofs.Protected.{may_be_itself}
 use Rattle.line_tool.proofs.ProtectTable.{still, took_by_number}
 

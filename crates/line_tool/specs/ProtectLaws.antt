@@ -11,11 +11,11 @@ use Rattle.device_model.specs.Moments.{line_taken}
 use Rattle.protect_selector.specs.OfLines.{given_before, switch_text}
 use Rattle.protect_selector.specs.ProtectLeft.{HasMore, IsCut, OutputDue, StoppedIn}
 use Rattle.protect_selector.specs.Protecting.{Ends, OnlyProtected, ends_of}
-use Rattle.line_tool.specs.AnswerWords.{IsWell}
+use Rattle.command_base.specs.AnswerWords.{IsWell}
 use Rattle.line_tool.specs.Answers.{PlacesAnswers, Protects}
-use Rattle.line_tool.specs.Device.{Device}
-use Rattle.line_tool.specs.declared.status.Status.{Status}
-use Rattle.line_tool.specs.declared.status.Status.TheVariants as status
+use Rattle.command_base.specs.Device.{Device}
+use Rattle.command_base.specs.declared.status.Status.{Status}
+use Rattle.command_base.specs.declared.status.Status.TheVariants as status
 
 -- how many bytes so many turns want of a line that gives these, and one more, or all where there are fewer
 abbrev pub taken_of : (turns : ℕ) → (given : List ℕ) → ℕ

@@ -9,12 +9,12 @@ use Rattle.otn_ports.specs.declared.ended.Ended.TheVariants as ending
 use Rattle.unbundle_command.specs.Unbundled.{arrived_before, report_text}
 use Rattle.unbundle_command.specs.Unbundling.{OnlyUnbundled}
 use Rattle.unbundle_command.specs.UnbundleLeft.{HasMore, IsCut, OutputsSent, written_by}
-use Rattle.line_tool.specs.AnswerWords.{IsWell}
+use Rattle.command_base.specs.AnswerWords.{IsWell}
 use Rattle.line_tool.specs.Answers.{PlacesAnswers, Unbundles}
-use Rattle.line_tool.specs.Device.{Device}
+use Rattle.command_base.specs.Device.{Device}
 use Rattle.line_tool.specs.ProtectLaws.{taken_of}
-use Rattle.line_tool.specs.declared.status.Status.{Status}
-use Rattle.line_tool.specs.declared.status.Status.TheVariants as status
+use Rattle.command_base.specs.declared.status.Status.{Status}
+use Rattle.command_base.specs.declared.status.Status.TheVariants as status
 
 -- What is left where the line had these bytes to give. By the place's number as many were taken of it as the turns want and one more, or all.
 pub record UnbundledOfGiven (turns : ℕ) (old new : Device) (ended : Ended) (given : List ℕ) : Type 0 where

@@ -1,22 +1,20 @@
 // The top call of the program.
 ghost use Rattle.std.specs.Prelude.{◌≡◌, ◌≢◌, ◌↔◌};
 ghost use Rattle.line_tool.specs.Answers.{Answers, LeavesBays, LeavesChooser, LeavesPlan};
-ghost use Rattle.line_tool.specs.Device.{Stays, device};
-ghost use Rattle.line_tool.specs.AnswerWords.{IsRefusal};
-ghost use Rattle.line_tool.specs.Words.{IsForm, IsNoForm, texts};
-ghost use Rattle.line_tool.specs.declared.words.Command.{Command};
+ghost use Rattle.command_base.specs.Device.{Stays, device};
+ghost use Rattle.command_base.specs.AnswerWords.{IsRefusal};
+ghost use Rattle.command_words.specs.Words.{IsForm, IsNoForm, texts};
+ghost use Rattle.command_words.specs.declared.words.Command.{Command};
 
-use crate::check::{check_plan, status_of_check};
-use crate::ended::status_of;
-use crate::plan_run::{run_plan, status_of_run};
-use crate::pull::write_pull;
-use crate::slot::write_slot;
-use crate::trial::{run_trial, status_of_trial};
-use crate::words::command_of;
-use crate::{Command, Status};
+use check_command::{check_plan, status_of_check};
+use command_base::{Status, status_of};
+use command_words::{Command, command_of};
+use line_commands::{write_pull, write_slot};
 use otn_ports::{Chooser, Rack, Sink, Source};
 use protect_selector::protect;
+use run_command::{run_plan, status_of_run};
 use std::alloc::Global;
+use trial_command::{run_trial, status_of_trial};
 use unbundle_command::unbundle;
 
 /// Does all that the program does: the command that the words say, over these places, with its output

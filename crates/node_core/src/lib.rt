@@ -38,4 +38,4 @@ pub use laws::{faultless_runs, outputs_through, run_of_given, runs_agree, runs_c
 pub use node::Node;
 pub use numbers::{ClientInCounts, ClientOutCounts, RunNumbers};
 pub use ports::uses;
-pub use runs::carry;
+pub use runs::{carry, carry_node};

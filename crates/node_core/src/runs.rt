@@ -4,10 +4,12 @@ ghost use Rattle.otn_ports.specs.Bytes.{raised};
 ghost use Rattle.otn_ports.specs.Racks.{bays_view};
 ghost use Rattle.otn_ports.specs.Views.{BaysView};
 ghost use Rattle.plan_file.specs.declared.plan.Plan.{Plan};
-ghost use Rattle.node_core.specs.Stands.{InputBytes, StandsAt, Later};
+ghost use Rattle.node_core.specs.RunLeft.{Takings, RunLeft};
+ghost use Rattle.node_core.specs.RunNumbers.{numbers_of_run};
+ghost use Rattle.node_core.specs.Stands.{InputBytes, StandsAt, Later, no_bytes};
 ghost use Rattle.node_core.specs.NodeView.{left_of};
 
-use crate::Node;
+use crate::{Node, RunNumbers};
 use otn_ports::{Chooser, Rack, Sink, Source};
 
 /// Steps the ready port that the chooser says, its answer taken modulo their number, while one is ready; then ends the turn; until
@@ -32,4 +34,19 @@ pub fn carry<P: Source, K: Sink, C: Chooser>(
             node.step(port, bays);
         }
     }
+}
+
+/// Carries a node through all its turns, settles it, and tells its numbers.
+pub fn carry_node<C: Chooser, I: Source, O: Sink>(
+    node: &mut Node,
+    bays: &mut Rack<I, O>,
+    chooser: &mut C,
+) -> RunNumbers
+    ensures left { (plan : Plan) (first : BaysView) → StandsAt plan first no_bytes node.old (bays_view I.Source O.Sink bays.old)
+        → (takings : Takings) × RunLeft plan first (bays_view I.Source O.Sink bays.new) takings (numbers_of_run result) }
+    ensures asked { C.asked chooser.new ≡ raised (C.asked chooser.old) (left_of node.old) }
+{
+    carry(node, bays, chooser);
+    let outcome = node.settle(bays);
+    node.numbers(outcome)
 }

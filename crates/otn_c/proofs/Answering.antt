@@ -5,9 +5,9 @@ use Rattle.otn_ports.specs.Views.{BaysView}
 use Rattle.line_tool.specs.AnswerWords.{IsRefusal}
 use Rattle.line_tool.specs.Answers.{Answers}
 use Rattle.line_tool.specs.Words.{IsForm, IsNoForm}
-use Rattle.line_tool.specs.declared.status.Status.{Status}
-use Rattle.line_tool.specs.declared.status.Status.TheVariants as status
-use Rattle.line_tool.specs.declared.words.Command.{Command}
+use Rattle.command_base.specs.declared.status.Status.{Status}
+use Rattle.command_base.specs.declared.status.Status.TheVariants as status
+use Rattle.command_words.specs.declared.words.Command.{Command}
 use Rattle.otn_c.specs.Calls.{IsAnswered, fresh_sink, source_of}
 
 pub source_is : (left bytes : List ℕ) (ended : Bool) → left ≡ bytes → ended ≡ false

@@ -3,8 +3,8 @@ use Rattle.std.proofs.Common.{◌≡◌, ◌≢◌, ◌≤◌, ◌<◌, ◌⊎�
 use Rattle.otn_ports.specs.PortViews.{SinkView}
 use Rattle.otn_ports.specs.Views.{BaysView}
 use Rattle.line_tool.specs.Codes.{code_of}
-use Rattle.line_tool.specs.declared.status.Status.{Status}
-use Rattle.line_tool.specs.declared.status.Status.TheVariants as status
+use Rattle.command_base.specs.declared.status.Status.{Status}
+use Rattle.command_base.specs.declared.status.Status.TheVariants as status
 use Rattle.otn_c.specs.Blocks.{end_of, words_said}
 use Rattle.otn_c.specs.Calls.{CallEnds, Gives, IsAnswered, IsHandedOut, Needs, Tells, fresh_sink, no_room}
 use Rattle.otn_c.specs.Places.{OpensWith, OutUpTo}

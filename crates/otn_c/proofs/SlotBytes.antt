@@ -9,9 +9,9 @@ use Rattle.line_tool.specs.Device.{Device, line_zero}
 use Rattle.line_tool.specs.SlotReport.{slot_report}
 use Rattle.line_tool.specs.TrialRuns.{holding}
 use Rattle.line_tool.specs.Words.{IsForm}
-use Rattle.line_tool.specs.declared.status.Status.{Status}
-use Rattle.line_tool.specs.declared.status.Status.TheVariants as status
-use Rattle.line_tool.specs.declared.words.Command.TheVariants.{Slot}
+use Rattle.command_base.specs.declared.status.Status.{Status}
+use Rattle.command_base.specs.declared.status.Status.TheVariants as status
+use Rattle.command_words.specs.declared.words.Command.TheVariants.{Slot}
 use Rattle.otn_c.specs.Blocks.{part_of, words_said}
 use Rattle.otn_c.specs.Calls.{Called, SlotOverBytes, no_call, no_memory, no_room}
 use Rattle.otn_c.specs.Places.{input_as}

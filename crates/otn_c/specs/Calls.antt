@@ -9,10 +9,10 @@ use Rattle.line_tool.specs.Answers.{Answers}
 use Rattle.line_tool.specs.Codes.{code_of}
 use Rattle.line_tool.specs.SlotReport.{slot_report}
 use Rattle.line_tool.specs.Words.{IsForm, IsNoForm}
-use Rattle.line_tool.specs.declared.status.Status.{Status}
-use Rattle.line_tool.specs.declared.status.Status.TheVariants as status
-use Rattle.line_tool.specs.declared.words.Command.{Command}
-use Rattle.line_tool.specs.declared.words.Command.TheVariants.{Slot}
+use Rattle.command_base.specs.declared.status.Status.{Status}
+use Rattle.command_base.specs.declared.status.Status.TheVariants as status
+use Rattle.command_words.specs.declared.words.Command.{Command}
+use Rattle.command_words.specs.declared.words.Command.TheVariants.{Slot}
 use Rattle.otn_c.specs.Blocks.{words_said, part_of, start_of, end_of}
 use Rattle.otn_c.specs.Places.{OpensWith, HasNoPart, HasSize, IsKept, output_at}
 use Rattle.otn_c.specs.declared.answer.Answer.{Answer}

@@ -2,9 +2,9 @@
 use Rattle.std.specs.Prelude.{◌≡◌, ◌++◌, ◌⊎◌, ◌<◌, ◌/◌, ◌%◌, nat_lt, ◌==◌, ℕ, zero, suc, Bool, true, false, List, [], ◌∷◌, codes, filter}
 use Rattle.std.specs.Fmt.{decimal}
 use Rattle.otn_base.specs.declared.limits.TheConstants.{LINES, CLIENTS}
-use Rattle.line_tool.specs.Words.{IsForm, IsNoForm}
-use Rattle.line_tool.specs.declared.words.Command.{Command}
-use Rattle.line_tool.specs.declared.words.Command.TheVariants.{Slot, Pull, Check, Run, RunOrdered, RunCaptures, Trial, Protect, Unbundle}
+use Rattle.command_words.specs.Words.{IsForm, IsNoForm}
+use Rattle.command_words.specs.declared.words.Command.{Command}
+use Rattle.command_words.specs.declared.words.Command.TheVariants.{Slot, Pull, Check, Run, RunOrdered, RunCaptures, Trial, Protect, Unbundle}
 use Rattle.program_words.specs.declared.files.InputFile.{InputFile}
 use Rattle.program_words.specs.declared.files.InputFile.TheVariants.{Line as line-in, Text as text-in, Capture as capture-in}
 use Rattle.program_words.specs.declared.files.OutputFile.{OutputFile}

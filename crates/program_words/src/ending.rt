@@ -1,9 +1,9 @@
 // The number that the program ends with.
 ghost use Rattle.std.specs.Prelude.{◌≡◌, MatchResult};
 ghost use Rattle.std.specs.Process.{exit_status};
-ghost use Rattle.line_tool.specs.Codes.{code_of};
+ghost use Rattle.command_base.specs.Codes.{code_of};
 
-use line_tool::Status;
+use command_base::Status;
 use std::io;
 use std::process::ExitCode;
 

@@ -1,12 +1,12 @@
 // The files of the current folder, and which of them each command reads and writes.
 ghost use Rattle.std.specs.Prelude.{◌≡◌, ◌++◌, ◌∷◌, [], true, false, IfOk, All, codes, filter, string_bytes};
-ghost use Rattle.line_tool.specs.Words.{IsForm, texts};
-ghost use Rattle.line_tool.specs.declared.words.Command.{Command};
+ghost use Rattle.command_words.specs.Words.{IsForm, texts};
+ghost use Rattle.command_words.specs.declared.words.Command.{Command};
 ghost use Rattle.program_words.specs.Files.{AreRead, AreWritten, IsInput, IsOfPlan, IsOutput, ReadsPlan};
 ghost use Rattle.program_words.specs.Files.{files_read, files_written, is_line_below, is_read, is_written};
 ghost use Rattle.program_words.specs.Files.{client_name, input_name, output_name};
 
-use line_tool::{Command, command_of};
+use command_words::{Command, command_of};
 use otn_base::limits::{CLIENTS, LINES};
 use std::alloc::{AllocError, Global};
 

@@ -1,6 +1,6 @@
 // The words that are answered by a page of text.
 ghost use Rattle.std.specs.Prelude.{◌≡◌, ◌∷◌, [], IfSome, IfNone};
-ghost use Rattle.line_tool.specs.Words.{IsNoForm, texts};
+ghost use Rattle.command_words.specs.Words.{IsNoForm, texts};
 ghost use Rattle.program_words.specs.Pages.{AsksFor};
 ghost use Rattle.program_words.specs.declared.pages.Page.{Page};
 

@@ -1,8 +1,8 @@
-use Rattle.line_tool.proofs.PlanChecks.{check_complete}
+use Rattle.check_command.proofs.PlanChecks.{check_complete}
 use Rattle.line_tool.proofs.ProtectTable.{protect_complete}
-use Rattle.line_tool.proofs.PullTable.{pull_complete}
-use Rattle.line_tool.proofs.RunLaws.{run_complete, run_ends}
-use Rattle.line_tool.proofs.SlotTable.{slot_complete}
+use Rattle.line_commands.proofs.PullTable.{pull_complete}
+use Rattle.run_command.proofs.RunLaws.{run_complete, run_ends}
+use Rattle.line_commands.proofs.SlotTable.{slot_complete}
 use Rattle.line_tool.proofs.TrialEnds.{trial_complete}
 use Rattle.line_tool.proofs.UnbundleTable.{unbundle_complete}
 use Rattle.line_tool.proofs.laws.without_faults.Goals as goal

@@ -7,18 +7,19 @@ use Rattle.protect_selector.specs.Protecting.{ends_of, OnlyProtected}
 use Rattle.protect_selector.specs.ProtectLeft.{ProtectRan}
 use Rattle.unbundle_command.specs.Unbundling.{OnlyUnbundled}
 use Rattle.line_tool.specs.Answers.{Answers, PlacesAnswers, Protects, Unbundles}
-use Rattle.line_tool.specs.Device.{device}
-use Rattle.line_tool.specs.Ends.{check_status, trial_status}
-use Rattle.line_tool.specs.PullReport.{tributary}
-use Rattle.line_tool.specs.RunAnswers.{RunAnswers}
-use Rattle.line_tool.specs.AnswerWords.{IsRefusal}
-use Rattle.line_tool.specs.Words.{texts}
-use Rattle.line_tool.specs.declared.words.Command.TheVariants.{Slot, Pull, Run, RunOrdered, RunCaptures, Trial, Protect, Unbundle}
+use Rattle.command_base.specs.Device.{device}
+use Rattle.check_command.specs.PlanCheck.{check_status}
+use Rattle.trial_command.specs.TrialAnswers.{trial_status}
+use Rattle.line_commands.specs.PullReport.{tributary}
+use Rattle.run_command.specs.RunAnswers.{RunAnswers}
+use Rattle.command_base.specs.AnswerWords.{IsRefusal}
+use Rattle.command_words.specs.Words.{texts}
+use Rattle.command_words.specs.declared.words.Command.TheVariants.{Slot, Pull, Run, RunOrdered, RunCaptures, Trial, Protect, Unbundle}
 use Rattle.line_tool.proofs.Answered.{check_stays, line_stays, never_words, nothing_stays, pull_answered, refused_line, slot_answered}
-use Rattle.line_tool.proofs.Forms.{one_form}
+use Rattle.command_words.proofs.Forms.{one_form}
 use Rattle.line_tool.proofs.PlacesAnswered.{by_memory, places_answered, places_refused, places_stay, report_stays, same_places}
 use Rattle.line_tool.proofs.Protected.{of_otu2, protect_later}
-use Rattle.line_tool.proofs.TrialTold.{trial_answered, trial_later, trial_refused, trial_told}
+use Rattle.trial_command.proofs.TrialTold.{trial_answered, trial_later, trial_refused, trial_told}
 use Rattle.line_tool.proofs.UnbundleTable.{unbundle_later}
 use Rattle.line_tool.proofs.top.run.Goals as goal
 

@@ -1,0 +1,6 @@
+pub mod AnswerWords
+pub mod Beyond
+pub mod Codes
+pub mod Device
+pub mod Ends
+pub mod Gains

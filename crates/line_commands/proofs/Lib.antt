@@ -1,0 +1,13 @@
+pub mod LineFrames
+pub mod PullCarried
+pub mod PullDamaged
+pub mod PullEnds
+pub mod PullExamples
+pub mod PullLoop
+pub mod PullTable
+pub mod PullTurns
+pub mod PullWorlds
+pub mod SlotLoop
+pub mod SlotSteps
+pub mod SlotTable
+pub mod TwoWorlds

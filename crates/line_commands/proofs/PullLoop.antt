@@ -1,0 +1,387 @@
+-- The turns of `pull`, and how it ends.
+use Rattle.std.proofs.Common.{◌≡◌, ◌≢◌, ◌<◌, ◌≤◌, ◌+◌, ◌*◌, ◌/◌, ◌%◌, ◌∙◌, ◌⊎◌, ℕ, Bool, true, false, List, [], ◌++◌, Option, Some, None, length, ltb, min, refl, sym, ap, subst, inl, inr, arith, append-nil, append_assoc, length-append}
+use Rattle.std.proofs.lemmas.Bool.{ltb-true, ltb-false}
+use Rattle.std.proofs.lemmas.List.{take-append-le}
+use Rattle.otn_ports.proofs.GivenLaws.{gave_twice}
+use Rattle.otn_ports.proofs.TakenTwice.{after-after}
+use Rattle.otn_ports.specs.Bytes.{after}
+use Rattle.otn_ports.specs.Given.{Gave, DiedUnended}
+use Rattle.otn_ports.specs.Reads.{HasEnded}
+use Rattle.otn_ports.specs.Views.{Live, Dead, InView}
+use Rattle.line_side.specs.LineForm.{plain_otu2}
+use Rattle.line_side.specs.LineFile.{mfas_of}
+use Rattle.line_side.specs.LineStands.{LineView}
+use Rattle.line_side.specs.MayBe.{MayBe}
+use Rattle.line_side.proofs.Standing.{died_unended}
+use Rattle.line_side.specs.declared.ending.Ending.{Ending}
+use Rattle.line_side.specs.declared.ending.Ending.TheVariants.{Open, Seen, Died}
+use Rattle.multiframe.specs.LineTurns.{line_state, has_ended}
+use Rattle.tributary_model.specs.Places.{Tributary}
+use Rattle.otn_ports.specs.PortViews.{SinkView}
+use Rattle.command_base.specs.Ends.{ReportAfter}
+use Rattle.command_base.specs.Gains.{GainsPart}
+use Rattle.device_model.specs.LineViews.{emitted_at}
+use Rattle.line_commands.specs.PullReport.{emitted_until, pull_report, frames_wanted, bytes_taken, LeavesBytes}
+use Rattle.line_commands.specs.PullRuns.{PullEnded, TurnRun, AnswerRun}
+use Rattle.line_commands.specs.PullReport.{MayFollow}
+use Rattle.tributary_line.specs.TapTurn.{TapView, TapStands}
+use Rattle.line_commands.specs.declared.pull.After.{After}
+use Rattle.line_commands.specs.declared.pull.After.TheVariants as next
+use Rattle.otn_ports.specs.declared.ended.Ended.{Ended}
+use Rattle.otn_ports.specs.declared.ended.Ended.TheVariants.{Done, Unfinished, Cut, ReportFault, Memory}
+use Rattle.line_commands.proofs.PullEnds.{took_so_far, TookWanted, took_wanted, frames_there}
+use Rattle.line_commands.proofs.PullTurns.{turn_count, written_first, written_all}
+use Rattle.command_base.proofs.Rows.{flat_map-range_more}
+use Rattle.line_commands.proofs.SlotLoop.{after-none, part_after}
+
+-- the turns so far: t of them, and the line had not ended before any
+pub record TurnsSoFar (own : Tributary) (first now : InView) (t : ℕ) (tap : TapView) (old new : Option (List ℕ)) : Type 0 where
+  pub taken : List ℕ
+  pub stands : TapStands own first now taken t tap
+  pub report : (given : List ℕ) → MayBe false tap.line.reader.ending taken given → new ≡ after old (emitted_until own given t)
+  pub unended : (given : List ℕ) → MayBe false tap.line.reader.ending taken given → (s : ℕ) → s < t → has_ended (line_state 8 (mfas_of given) s) ≡ false
+
+-- whether the line has ended after these turns
+abbrev pub HasLast : (own : Tributary) (first now : InView) (t : ℕ) (tap : TapView) (old new : Option (List ℕ)) → TurnsSoFar own first now t tap old new → Bool → Type 0
+HasLast own first now t tap old new h ended =
+    (given : List ℕ) → MayBe false tap.line.reader.ending h.taken given → has_ended (line_state 8 (mfas_of given) t) ≡ ended
+
+-- one turn more
+emitted_more : (own : Tributary) (given : List ℕ) (t : ℕ) → emitted_until own given (t + 1) ≡ emitted_until own given t ++ emitted_at own given t
+emitted_more own given t =
+    let last : 0 + t ≡ t = omega arith in
+    flat_map-range_more (emitted_at own given) 0 t ∙ ap (λ s. emitted_until own given t ++ emitted_at own given s) last
+
+-- a line hunts before its first turn
+first_open : (ms : List ℕ) → has_ended (line_state 8 ms 0) ≡ false
+unfolding line_state
+first_open ms = refl
+
+-- before the first turn
+pub turns_none : (own : Tributary) (first : InView) (tap : TapView) (got : Option (List ℕ)) → ((first : InView) → TapStands own first first [] 0 tap)
+    → (h : TurnsSoFar own first first 0 tap got got) × HasLast own first first 0 tap got got h false
+turns_none own first tap got stands = (
+  record {
+    taken = [];
+    stands = stands first;
+    report = λ given may. after-none got;
+    unended = λ given may s before. absurd (omega (arith, before));
+  },
+  λ given may. first_open (mfas_of given),
+)
+
+-- a number below t + 1 is below t, or is t
+last_or_before : (s t : ℕ) → s < t + 1 → (s < t) ⊎ (s ≡ t)
+last_or_before s t within = by_test (ltb s t) refl
+  where
+    by_test : (b : Bool) → ltb s t ≡ b → (s < t) ⊎ (s ≡ t)
+    by_test true e = inl (ltb-true s t e)
+    by_test false e = let above = ltb-false s t e in inr (omega (arith, above, within))
+
+-- the line had not ended before turn t + 1 either
+still_unended : (ms : List ℕ) (t : ℕ) → ((s : ℕ) → s < t → has_ended (line_state 8 ms s) ≡ false) → has_ended (line_state 8 ms t) ≡ false
+    → (s : ℕ) → s < t + 1 → has_ended (line_state 8 ms s) ≡ false
+still_unended ms t before last s within = by_place (last_or_before s t within)
+  where
+    by_place : (s < t) ⊎ (s ≡ t) → has_ended (line_state 8 ms s) ≡ false
+    by_place (inl less) = before s less
+    by_place (inr same) = ap (λ k. has_ended (line_state 8 ms k)) same ∙ last
+
+-- a turn more, after which the line has ended or not
+pub turns_more : (own : Tributary) (first was now : InView) (t : ℕ) (before later : TapView) (old gained new : Option (List ℕ)) (ended : Bool) (answer : After)
+    → (h : TurnsSoFar own first was t before old gained) → HasLast own first was t before old gained h false
+    → (run : TurnRun own first now h.taken t before later gained new answer) → (new ≡ after gained run.emitted) × (later.line.ended ≡ ended)
+    → (k : TurnsSoFar own first now (t + 1) later old new) × HasLast own first now (t + 1) later old new k ended
+turns_more own first was now t before later old gained new ended answer h last run wrote = (
+  record {
+    taken = h.taken ++ run.moves.came;
+    stands = run.moves.stands;
+    report = λ given may.
+        wrote.0 ∙ ap (λ r. after r run.emitted) (h.report given (run.moves.earlier given may)) ∙ after-after old (emitted_until own given t) run.emitted
+        ∙ ap (λ xs. after old (emitted_until own given t ++ xs)) (run.moves.emits given may) ∙ ap (after old) (sym (emitted_more own given t));
+    unended = λ given may.
+        let earlier = run.moves.earlier given may in
+        still_unended (mfas_of given) t (h.unended given earlier) (last given earlier);
+  },
+  λ given may. sym (run.moves.ended given may) ∙ wrote.1,
+)
+
+-- ---- how it ends
+
+-- a part of the first bytes is a part of all
+part_before : (old new : Option (List ℕ)) (bytes rest : List ℕ) → GainsPart old new bytes → GainsPart old new (bytes ++ rest)
+part_before old new bytes rest h =
+    let within : h.went ≤ length bytes = omega (arith, h.part) in
+    record {
+      went = h.went;
+      part = omega (arith, h.part, length-append bytes rest);
+      gained = h.gained ∙ ap (after old) (sym (take-append-le h.went bytes rest within));
+    }
+
+-- whether more may come of a line
+abbrev pub may_come : Ending → Bool
+may_come Open = true
+may_come Seen = false
+may_come Died = false
+
+follows : (ending : Ending) (taken rest : List ℕ) → MayFollow (may_come ending) rest → MayBe false ending taken (taken ++ rest)
+follows Open taken rest follow = record { rest = rest; over = λ closed. absurd (closed refl); parts = refl }
+follows Seen taken rest follow = record { rest = rest; over = λ closed. follow; parts = refl }
+follows Died taken rest follow = record { rest = rest; over = λ closed. follow; parts = refl }
+
+closed_is : (ending : Ending) → may_come ending ≡ false → ending ≢ Open
+closed_is Open e = absurd (cc)
+closed_is Seen e = λ f. cc
+closed_is Died e = λ f. cc
+
+-- with a write that failed
+pub turns_lost : (own : Tributary) (first was now : InView) (t : ℕ) (before later : TapView) (old gained new : Option (List ℕ))
+    → (h : TurnsSoFar own first was t before old gained) → HasLast own first was t before old gained h false → t < 16384
+    → TurnRun own first now h.taken t before later gained new next.ReportFailed → later.line.pieces ≡ 0 → PullEnded own first now old new ReportFault
+turns_lost own first was now t before later old gained new h last few run none = record {
+  taken = h.taken ++ run.moves.came;
+  gave = run.moves.stands.line.gave;
+  more = may_come later.line.reader.ending;
+  over = λ none live. run.moves.stands.line.over (closed_is later.line.reader.ending none) live;
+  died = died_unended plain_otu2 first now (h.taken ++ run.moves.came) (t + 1) later.line run.moves.stands.line;
+  report = λ rest follow.
+      let given = (h.taken ++ run.moves.came) ++ rest in
+      let may = follows later.line.reader.ending (h.taken ++ run.moves.came) rest follow in
+      let earlier = run.moves.earlier given may in
+      let part = part_after old gained new (emitted_until own given t) run.emitted (h.report given earlier) run.wrote in
+      let turn = ap (λ xs. emitted_until own given t ++ xs) (run.moves.emits given may) ∙ sym (emitted_more own given t) in
+      let all = written_first own given (t + 1) (omega arith) (still_unended (mfas_of given) t (h.unended given earlier) (last given earlier)) in
+      subst (GainsPart old new) (sym all.1) (part_before old new (emitted_until own given (t + 1)) all.0 (subst (GainsPart old new) turn part));
+  ends = tt;
+  took = λ other. absurd (other refl);
+  stopped = λ _. (
+    t,
+    λ rest follow.
+        let given = (h.taken ++ run.moves.came) ++ rest in
+        let may = follows later.line.reader.ending (h.taken ++ run.moves.came) rest follow in
+        let earlier = run.moves.earlier given may in
+        record {
+          few = few;
+          unended = λ s within. still_unended (mfas_of given) t (h.unended given earlier) (last given earlier) s (omega (arith, within));
+          last = took_so_far given (h.taken ++ run.moves.came) (t + 1) later.line (run.moves.stands.line.is_line given may) none;
+          gained = subst (λ r. GainsPart r new (emitted_at own given t)) (h.report given earlier) (subst (GainsPart gained new) (run.moves.emits given may) run.wrote);
+        },
+  );
+}
+
+open_is : (ending : Ending) → ending ≢ Seen → ending ≢ Died → ending ≡ Open
+open_is Open a b = refl
+open_is Seen a b = absurd (a refl)
+open_is Died a b = absurd (b refl)
+
+-- a place that is not dead was not dead before
+pub was_alive : (was now : InView) (came : List ℕ) → Gave was came now → now.state ≢ Dead → was.state ≢ Dead
+was_alive was now came gave alive dead =
+    let idle : was.state ≢ Live = λ live. let e : Dead ≡ Live = sym dead ∙ live in absurd (cc) in
+    alive (ap (λ (v : InView). v.state) (gave.idle idle).0 ∙ dead)
+
+-- all that was taken is what a line may have
+itself : (ending : Ending) (taken : List ℕ) → MayBe false ending taken taken
+itself ending taken = record { rest = []; over = λ _. refl; parts = sym (append-nil taken) }
+
+alone : (ending : Ending) (taken rest : List ℕ) → rest ≡ [] → MayBe false ending taken (taken ++ rest)
+alone ending taken rest none = record { rest = rest; over = λ _. none; parts = refl }
+
+-- after the last turn: of all that the line may have, its report is written, and what the turns wanted was taken
+record AllTurns (own : Tributary) (taken : List ℕ) (line : LineView) (old new : Option (List ℕ)) : Type 0 where
+  pub report : (given : List ℕ) → MayBe false line.reader.ending taken given → new ≡ after old (pull_report own given)
+  pub took : (given : List ℕ) → MayBe false line.reader.ending taken given → TookWanted given taken line.reader
+
+all_turns : (own : Tributary) (first was : InView) (t : ℕ) (tap : TapView) (old new : Option (List ℕ)) → (h : TurnsSoFar own first was t tap old new) → t ≤ 16384
+    → ((given : List ℕ) → MayBe false tap.line.reader.ending h.taken given → (has_ended (line_state 8 (mfas_of given) t) ≡ true) ⊎ (t ≡ 16384))
+    → tap.line.pieces ≡ 0 → AllTurns own h.taken tap.line old new
+all_turns own first was t tap old new h few last none = record {
+  report = λ given may. h.report given may ∙ ap (after old) (sym (written_all own given t few (h.unended given may) (last given may)));
+  took = λ given may.
+      took_wanted given h.taken t tap.line (h.stands.line.is_line given may) none (turn_count (mfas_of given) t few (h.unended given may) (last given may));
+}
+
+-- nothing is left after the whole frames, where the end was seen
+no_rest : (n frames rest : ℕ) → frames ≡ n / 16320 → rest ≡ n % 16320 → rest ≡ 0 → (16320 * frames < n → ⊥) × (n % 16320 ≡ 0)
+no_rest n frames rest a b c = (λ less. omega (arith, a, b, c, less), omega (arith, b, c))
+
+some_rest : (n frames rest : ℕ) → frames ≡ n / 16320 → rest ≡ n % 16320 → 0 < rest → (16320 * frames < n) × (0 < n % 16320)
+some_rest n frames rest a b c = (omega (arith, a, b, c), omega (arith, b, c))
+
+whole_frames_only : (n frames : ℕ) → n ≡ 16320 * frames → (16320 * frames < n → ⊥) × (n % 16320 ≡ 0)
+whole_frames_only n frames a = (λ less. omega (arith, a, less), omega (arith, a))
+
+one_byte : (n m frames : ℕ) → n ≡ 16320 * frames → m ≡ n + 1 → 0 < m % 16320
+one_byte n m frames a b = omega (arith, a, b)
+
+-- so many bytes were taken where no more may follow
+open_least : (n m frames : ℕ) → n ≡ 16320 * frames → m ≡ n → n ≡ min m (16320 * frames + 1)
+open_least n m frames a b = omega (arith, a, b)
+
+closed_least : (n m frames : ℕ) → n ≡ m → m < 16320 * frames → n ≡ min m (16320 * frames + 1)
+closed_least n m frames a b = omega (arith, a, b)
+
+alone_took : (own : Tributary) (taken : List ℕ) (line : LineView) (old new : Option (List ℕ)) → AllTurns own taken line old new
+    → (rest : List ℕ) → rest ≡ [] → length taken ≡ bytes_taken (taken ++ rest)
+alone_took own taken line old new all rest none = by_ending line.reader.ending refl
+  where
+    took : TookWanted (taken ++ rest) taken line.reader
+    took = all.took (taken ++ rest) (alone line.reader.ending taken rest none)
+
+    same : length (taken ++ rest) ≡ length taken
+    same = ap length (ap (λ xs. taken ++ xs) none ∙ append-nil taken)
+
+    closed : line.reader.ending ≢ Open → length taken ≡ bytes_taken (taken ++ rest)
+    closed ended = let o = took.over ended in closed_least (length taken) (length (taken ++ rest)) (frames_wanted (taken ++ rest)) o.0 o.2
+
+    by_ending : (e : Ending) → line.reader.ending ≡ e → length taken ≡ bytes_taken (taken ++ rest)
+    by_ending Open e =
+        let s = took.still e in
+        open_least (length taken) (length (taken ++ rest)) (frames_wanted (taken ++ rest)) (s.0 ∙ ap (λ n. 16320 * n) s.1) same
+    by_ending Seen e = closed (λ f. cc)
+    by_ending Died e = closed (λ f. cc)
+
+-- and where one byte more was taken
+more_least : (n more m frames : ℕ) → n ≡ 16320 * frames → more ≡ n + 1 → more ≤ m → more ≡ min m (16320 * frames + 1)
+more_least n more m frames a b c = omega (arith, a, b, c)
+
+-- the end was seen
+seen_ends : (own : Tributary) (first now : InView) (taken : List ℕ) (line : LineView) (old new : Option (List ℕ)) → AllTurns own taken line old new
+    → Gave first taken now → now.state ≢ Dead → (now.state ≡ Live → HasEnded now.left now.ended) → line.reader.ending ≡ Seen
+    → ((line.reader.rest ≡ 0) → PullEnded own first now old new Done) × ((0 < line.reader.rest) → PullEnded own first now old new Unfinished)
+seen_ends own first now taken line old new all gave alive over seen =
+    let took = all.took taken (itself line.reader.ending taken) in
+    let closed : line.reader.ending ≢ Open = λ e. let f : Seen ≡ Open = sym seen ∙ e in absurd (cc) in (
+      λ none.
+          let n = no_rest (length taken) (frames_there taken) line.reader.rest (took.over closed).1 (took.rest seen) none in
+          record {
+            taken = taken;
+            gave = gave;
+            more = false;
+            over = λ _ live. over live;
+            died = λ dead. absurd (alive dead);
+            report = λ rest follow. all.report (taken ++ rest) (alone line.reader.ending taken rest follow);
+            ends = (alive, refl, n.0, n.1);
+            took = λ other rest follow. alone_took own taken line old new all rest follow;
+            stopped = λ e. absurd (cc);
+          },
+      λ some.
+          let n = some_rest (length taken) (frames_there taken) line.reader.rest (took.over closed).1 (took.rest seen) some in
+          record {
+            taken = taken;
+            gave = gave;
+            more = false;
+            over = λ _ live. over live;
+            died = λ dead. absurd (alive dead);
+            report = λ rest follow. all.report (taken ++ rest) (alone line.reader.ending taken rest follow);
+            ends = (alive, λ rest follow. subst LeavesBytes (sym (ap (λ xs. taken ++ xs) follow ∙ append-nil taken)) n.0, n.1);
+            took = λ other rest follow. alone_took own taken line old new all rest follow;
+            stopped = λ e. absurd (cc);
+          },
+    )
+
+-- how the command ends with an answer
+pub turns_end : (ended : Ended) (own : Tributary) (first was now : InView) (t : ℕ) (tap : TapView) (old new : Option (List ℕ)) → (h : TurnsSoFar own first was t tap old new)
+    → t ≤ 16384 → ((given : List ℕ) → MayBe false tap.line.reader.ending h.taken given → (has_ended (line_state 8 (mfas_of given) t) ≡ true) ⊎ (t ≡ 16384))
+    → tap.line.pieces ≡ 0 → AnswerRun tap.line was now ended → PullEnded own first now old new ended
+turns_end Done own first was now t tap old new h few last none a = by_end a.ends.2
+  where
+    all : AllTurns own h.taken tap.line old new
+    all = all_turns own first was t tap old new h few last none
+
+    gave : Gave first h.taken now
+    gave = subst (λ xs. Gave first xs now) (ap (λ xs. h.taken ++ xs) a.ends.1 ∙ append-nil h.taken) (gave_twice first was now h.taken a.came h.stands.line.gave a.gave)
+
+    by_end : ((tap.line.reader.ending ≡ Seen) × (tap.line.reader.rest ≡ 0) × (now ≡ was)) ⊎ ((tap.line.reader.ending ≢ Seen) × HasEnded now.left now.ended) → PullEnded own first now old new Done
+    by_end (inl s) =
+        let closed : tap.line.reader.ending ≢ Open = λ e. let f : Seen ≡ Open = sym s.0 ∙ e in absurd (cc) in
+        (seen_ends own first now h.taken tap.line old new all gave a.ends.0 (λ live. subst (λ (v : InView). HasEnded v.left v.ended) (sym s.2) (h.stands.line.over closed (ap (λ (v : InView). v.state) (sym s.2) ∙ live))) s.0).0 s.1
+    by_end (inr u) =
+        let alive = was_alive was now a.came a.gave a.ends.0 in
+        let open_now = open_is tap.line.reader.ending u.0 (λ died. alive (h.stands.line.ending.died died)) in
+        let n = whole_frames_only (length h.taken) (frames_there h.taken) ((all.took h.taken (itself tap.line.reader.ending h.taken)).still open_now).0 in
+        record {
+          taken = h.taken;
+          gave = gave;
+          more = false;
+          over = λ _ live. u.1;
+          died = λ dead. absurd (a.ends.0 dead);
+          report = λ rest follow. all.report (h.taken ++ rest) (alone tap.line.reader.ending h.taken rest follow);
+          ends = (a.ends.0, refl, n.0, n.1);
+          took = λ other rest follow. alone_took own h.taken tap.line old new all rest follow;
+          stopped = λ e. absurd (cc);
+        }
+turns_end Unfinished own first was now t tap old new h few last none a = by_end a.ends.1
+  where
+    all : AllTurns own h.taken tap.line old new
+    all = all_turns own first was t tap old new h few last none
+
+    by_end : ((tap.line.reader.ending ≡ Seen) × (0 < tap.line.reader.rest) × (a.came ≡ []) × (now ≡ was)) ⊎ ((tap.line.reader.ending ≢ Seen) × (length a.came ≡ 1)) → PullEnded own first now old new Unfinished
+    by_end (inl s) =
+        let closed : tap.line.reader.ending ≢ Open = λ e. let f : Seen ≡ Open = sym s.0 ∙ e in absurd (cc) in
+        let gave = subst (λ xs. Gave first xs now) (ap (λ xs. h.taken ++ xs) s.2 ∙ append-nil h.taken) (gave_twice first was now h.taken a.came h.stands.line.gave a.gave) in
+        (seen_ends own first now h.taken tap.line old new all gave a.ends.0 (λ live. subst (λ (v : InView). HasEnded v.left v.ended) (sym s.3) (h.stands.line.over closed (ap (λ (v : InView). v.state) (sym s.3) ∙ live))) s.0).1 s.1
+    by_end (inr u) =
+        let alive = was_alive was now a.came a.gave a.ends.0 in
+        let open_now = open_is tap.line.reader.ending u.0 (λ died. alive (h.stands.line.ending.died died)) in
+        let may : (rest : List ℕ) → MayBe false tap.line.reader.ending h.taken ((h.taken ++ a.came) ++ rest)
+        = λ rest. record { rest = a.came ++ rest; over = λ closed. absurd (closed open_now); parts = append_assoc h.taken a.came rest } in
+        let wanted : (rest : List ℕ) → (length h.taken ≡ 16320 * frames_there ((h.taken ++ a.came) ++ rest))
+        × (frames_there ((h.taken ++ a.came) ++ rest) ≡ frames_wanted ((h.taken ++ a.came) ++ rest))
+        = λ rest. (all.took ((h.taken ++ a.came) ++ rest) (may rest)).still open_now in
+        let size : length (h.taken ++ a.came) ≡ length h.taken + 1 = length-append h.taken a.came ∙ ap (λ n. length h.taken + n) u.1 in
+        record {
+          taken = h.taken ++ a.came;
+          gave = gave_twice first was now h.taken a.came h.stands.line.gave a.gave;
+          more = true;
+          over = λ e. absurd (cc);
+          died = λ dead. absurd (a.ends.0 dead);
+          report = λ rest follow. all.report ((h.taken ++ a.came) ++ rest) (may rest);
+          ends = (
+            a.ends.0,
+            λ rest follow. omega (arith, (wanted rest).0, size, length-append (h.taken ++ a.came) rest),
+            one_byte (length h.taken) (length (h.taken ++ a.came)) (frames_there ((h.taken ++ a.came) ++ [])) (wanted []).0 size,
+          );
+          took = λ other rest follow.
+              let all : length (h.taken ++ a.came) ≤ length ((h.taken ++ a.came) ++ rest) = omega (arith, length-append (h.taken ++ a.came) rest) in
+              more_least (length h.taken) (length (h.taken ++ a.came)) (length ((h.taken ++ a.came) ++ rest)) (frames_wanted ((h.taken ++ a.came) ++ rest))
+              ((wanted rest).0 ∙ ap (λ n. 16320 * n) (wanted rest).1) size all;
+          stopped = λ e. absurd (cc);
+        }
+turns_end Cut own first was now t tap old new h few last none a =
+    let all = all_turns own first was t tap old new h few last none in
+    record {
+      taken = h.taken;
+      gave = subst (λ xs. Gave first xs now) (ap (λ xs. h.taken ++ xs) a.ends.1 ∙ append-nil h.taken) (gave_twice first was now h.taken a.came h.stands.line.gave a.gave);
+      more = false;
+      over = λ _ live. let e : Dead ≡ Live = sym a.ends.0 ∙ live in absurd (cc);
+      died = λ dead. unended a.ends.2 dead;
+      report = λ rest follow. all.report (h.taken ++ rest) (alone tap.line.reader.ending h.taken rest follow);
+      ends = a.ends.0;
+      took = λ other rest follow. alone_took own h.taken tap.line old new all rest follow;
+      stopped = λ e. absurd (cc);
+    }
+  where
+    unended : ((now ≡ was) ⊎ ((tap.line.reader.ending ≢ Seen) × (now.ended ≡ was.ended))) → DiedUnended first now
+    unended (inl same) dead = ap (λ (v : InView). v.ended) same ∙ died_unended plain_otu2 first was h.taken t tap.line h.stands.line (sym (ap (λ (v : InView). v.state) same) ∙ dead)
+    unended (inr asked) dead = asked.1 ∙ h.stands.line.unended asked.0
+turns_end ReportFault own first was now t tap old new h few last none a = absurd a.ends
+turns_end Memory own first was now t tap old new h few last none a = absurd a.ends
+
+-- ---- the report
+
+-- the last answer is no write
+pub never_written : (answer : Ended) (line : LineView) (was now : InView) (old new : SinkView) → AnswerRun line was now answer → ReportAfter None old new → ReportAfter (Some answer) old new
+never_written Done line was now old new a h = record { later = h.later; faults = h.faults }
+never_written Unfinished line was now old new a h = record { later = h.later; faults = h.faults }
+never_written Cut line was now old new a h = record { later = h.later; faults = h.faults }
+never_written ReportFault line was now old new a h = absurd a.ends
+never_written Memory line was now old new a h = absurd a.ends
+
+-- nor does the command end for want of memory, once its turns are begun
+pub pull_has_memory : (ended : Ended) (own : Tributary) (first now : InView) (old new : Option (List ℕ)) → PullEnded own first now old new ended → ended ≢ Memory
+pull_has_memory Done own first now old new h = λ e. cc
+pull_has_memory Unfinished own first now old new h = λ e. cc
+pull_has_memory Cut own first now old new h = λ e. cc
+pull_has_memory ReportFault own first now old new h = λ e. cc
+pull_has_memory Memory own first now old new h = absurd h.ends

@@ -1,5 +1,0 @@
-use Rattle.line_tool.proofs.PullWorlds.{same_pull}
-use Rattle.line_tool.proofs.laws.pull_two_worlds.Goals as goal
-
-pub returns : goal.returns
-returns c = same_pull

@@ -1,5 +1,0 @@
-use Rattle.line_tool.proofs.RunLaws.{run_told}
-use Rattle.line_tool.proofs.laws.run_of_text.Goals as goal
-
-pub returns : goal.returns
-returns c = λ text old new asked now reply. run_told reply text old new asked now

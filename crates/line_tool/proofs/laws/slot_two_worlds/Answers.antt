@@ -1,5 +1,0 @@
-use Rattle.line_tool.proofs.TwoWorlds.{same_report}
-use Rattle.line_tool.proofs.laws.slot_two_worlds.Goals as goal
-
-pub returns : goal.returns
-returns c = same_report

@@ -1,6 +1,0 @@
-use Rattle.std.proofs.Common.{sym, ◌∙◌}
-use Rattle.line_tool.proofs.NumberOrder.{generator_first}
-use Rattle.line_tool.proofs.trial.draw.generator_of.Goals as goal
-
-pub returns : goal.returns
-returns c = c.seed_from_u64.ensures ∙ sym (generator_first c.args.number)

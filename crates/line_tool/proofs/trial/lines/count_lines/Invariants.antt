@@ -1,6 +1,0 @@
-use Rattle.std.proofs.Common.{◌≡◌, ◌≤◌, take}
-use Rattle.line_tool.specs.TrialReport.{lines_in}
-use Rattle.line_tool.proofs.trial.lines.count_lines.Given as goal
-
-abbrev pub invariant-loop-i : goal.invariant-loop-i
-invariant-loop-i l = record { count : l.count ≡ lines_in (take l.i l.text); few : l.count ≤ l.i }

@@ -1,5 +1,0 @@
-use Rattle.line_tool.proofs.TrialPlaces.{LastUpTo, view}
-use Rattle.line_tool.proofs.trial.places.last_places.Given as goal
-
-abbrev pub invariant-loop-c : goal.invariant-loop-c
-invariant-loop-c l = LastUpTo l.fn.file.items l.c (view l.bays)

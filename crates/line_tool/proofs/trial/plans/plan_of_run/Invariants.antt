@@ -1,7 +1,0 @@
-use Rattle.std.specs.Prelude.{◌≡◌, map}
-use Rattle.std.specs.List.{range_with_len}
-use Rattle.line_tool.specs.TrialPlans.{trial_connection}
-use Rattle.line_tool.proofs.trial.plans.plan_of_run.Given as goal
-
-abbrev pub invariant-loop-c : goal.invariant-loop-c
-invariant-loop-c l = l.list.items ≡ map (trial_connection l.run) (range_with_len 0 l.c)

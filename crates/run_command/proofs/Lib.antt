@@ -1,0 +1,5 @@
+pub mod CarriedPlans
+pub mod DamagedLines
+pub mod RunCalls
+pub mod RunLaws
+pub mod SeenCalls

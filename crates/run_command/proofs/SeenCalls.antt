@@ -1,0 +1,54 @@
+-- The headline, by what is seen of the places before and after a call.
+use Rattle.std.proofs.Common.{◌≡◌, ℕ, false, refl, subst}
+use Rattle.std.specs.List.{Contains}
+use Rattle.otn_base.specs.declared.kind.PortName.{PortName}
+use Rattle.plan_file.specs.Answer.{plan_of_text}
+use Rattle.plan_file.specs.declared.connection.Connection.{Connection}
+use Rattle.plan_file.specs.declared.plan.Plan.{Plan}
+use Rattle.device_model.specs.Moments.{uses}
+use Rattle.node_core.specs.RunLeft.{RunLeft, SamePlace}
+use Rattle.node_core.specs.SeenRuns.{Run, IsRun, ShareInput, SameOutput, ShareInputUpTo, SameLineUpTo, PutThrough, CarriesOver}
+use Rattle.node_core.proofs.SeenRuns.{seen_alike, not_ahead as seen_not_ahead, puts_through, carries_over}
+use Rattle.command_base.specs.Device.{Device}
+use Rattle.run_command.specs.Headline.{Ran}
+use Rattle.run_command.specs.RunAnswers.{PlanRan, RunAnswers}
+use Rattle.run_command.specs.RunCalls.{CarriesPlan}
+use Rattle.command_base.specs.declared.status.Status.{Status}
+use Rattle.run_command.proofs.RunCalls.{accepted_plan, run_carries, same_answer}
+
+-- ---- a call of a plan
+
+pub of_a_plan : (reply : Status) (old new : Device) (asked now : ℕ) → RunAnswers old new asked now reply → CarriesPlan reply → (plan : Plan) × Ran (record { plan = plan; before = old.bays; after = new.bays })
+of_a_plan reply old new asked now answers carries =
+    let r = run_carries reply old new asked now answers carries in
+    (r.0, record { old = old; new = new; asked = asked; asked_now = now; reply = reply; answers = answers; carries = carries; is_plan = r.2; was = refl; is = refl })
+
+-- what it left
+left_by : (run : Run) (r : Ran run) → IsRun run
+left_by run r =
+    let p = run_carries r.reply r.old r.new r.asked r.asked_now r.answers r.carries in
+    let same : p.0 ≡ run.plan = same_answer (plan_of_text r.answers.text) p.0 run.plan p.2 r.is_plan in
+    let ran : PlanRan run.plan r.old r.new r.asked r.asked_now r.reply = subst (λ plan. PlanRan plan r.old r.new r.asked r.asked_now r.reply) same p.1 in
+    record {
+      accepted = accepted_plan r.answers.text run.plan r.is_plan;
+      takings = ran.takings;
+      numbers = ran.numbers;
+      left = subst (λ bays. RunLeft run.plan run.before bays ran.takings ran.numbers) r.is (subst (λ bays. RunLeft run.plan bays r.new.bays ran.takings ran.numbers) r.was ran.left);
+    }
+
+-- ---- what left
+
+pub isolated : (one other : Run) (x : Connection) → Ran one → Ran other → ShareInput one other x → SameOutput one other x
+isolated one other x first second share = seen_alike one other x (left_by one first) (left_by other second) share
+
+pub not_ahead : (n : ℕ) (one other : Run) (x : Connection) → Ran one → Ran other → ShareInputUpTo n one other x → SameLineUpTo n one other x
+not_ahead n one other x first second share = seen_not_ahead n one other x (left_by one first) (left_by other second) share
+
+pub is_through : (run : Run) (x : Connection) → Ran run → Contains run.plan.connections x → PutThrough run x
+is_through run x ran has = puts_through run x (left_by run ran) has
+
+pub is_carried : (run : Run) (x : Connection) → Ran run → Contains run.plan.connections x → CarriesOver run x
+is_carried run x ran has = carries_over run x (left_by run ran) has
+
+pub leaves_others : (run : Run) (name : PortName) → Ran run → uses run.plan name ≡ false → SamePlace name run.before run.after
+leaves_others run name ran unused = (left_by run ran).left.idle name unused

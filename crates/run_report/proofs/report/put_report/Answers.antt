@@ -1,0 +1,9 @@
+use Rattle.device_model.specs.Report.{report_text}
+use Rattle.run_report.proofs.RunReports.{seven_parts}
+use Rattle.run_report.proofs.report.put_report.Goals as goal
+
+pub returns-clause-text : goal.returns-clause-text
+unfolding report_text
+returns-clause-text g c =
+    seven_parts _ _ _ _ _ _ _ c.requires.empty c.put_turns.ensures.text c.put_lines_in.ensures.text c.put_lines_out.ensures.text c.put_clients_in.ensures.text c.put_clients_out.ensures.text
+    c.put_connections.ensures.text c.put_status.ensures.text

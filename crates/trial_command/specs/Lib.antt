@@ -1,0 +1,3 @@
+pub mod TrialAnswers
+pub mod TrialReport
+pub mod TrialRuns

@@ -1,0 +1,4 @@
+pub mod CarriedBack
+pub mod TrialCarried
+pub mod TrialDraw
+pub mod TrialPlans
