@@ -35,8 +35,10 @@ A plan of one connection:
     kind = \"odu0\"
     from = { client = 0 }
     to = { line = 0, port = 1, slots = [1] }
+An ODUflex has kind = \"flex\" and one slot or more. The way out: from = { line = .. } and to = { client = 0 }.
 
 It ends with 0 done  1 unfinished  2 words  3 plan CODE at PLACE  4 plan fault  5 report fault  6 cut  7 memory.
+1: too few turns, or the report says bad L: line L of a client is no packet. 2: otn --help. 3: otn --rules.
 4: no plan.toml can be read here. 5: standard output failed. 6: a file failed, and the report says which is dead.
 ";
 
@@ -45,8 +47,8 @@ otn: plan CODE at PLACE. PLACE 0 is the top of plan.toml, 1 its first connection
 The rules are tried by their numbers, and the first that is broken is told: check again after each mend.
 
  1 NotToml      the text is no TOML, no UTF-8, or longer than 1,048,576 bytes: another reader of TOML says the line
- 2 UnknownKey   take out the key that can't stand there: one that is misspelt; pace without a client or a signal;
-                fcs or trace without a client; a list of lines without version = 2
+ 2 UnknownKey   take out the key that can't stand there: one that is misspelt; pace where from is no client or
+                signal; fcs or trace where from is no client; a list of lines without version = 2
  3 MissingKey   write the key that is missing: turns at the top; name, kind, from or to of a connection; line, port
                 or slots of a line end
  4 WrongKind    a value is of the wrong type; kind is odu0 or flex, signal is oci or lck, version is 1 or 2; a
