@@ -2,17 +2,20 @@
 //! standard output to the one call that does all the work, and ends with the code of its answer.
 #![tactic(auto)]
 
+ghost use Rattle.std.specs.Prelude.{All};
+ghost use Rattle.program_words.specs.Files.{IsInput, IsOutput};
+
 use line_tool::{NumberChooser, Status, order_of, run};
 use otn_base::Memory;
 use otn_ports::{
-    Bays, Chooser, FileSink, FileSource, FirstReady, InPlace, InPort, OutPlace, OutPort, Rack,
-    Sink, Source, StdoutSink,
+    Chooser, FileSink, FileSource, FirstReady, InPlaceOf, OutPlaceOf, Rack, Sink, Source,
+    StdoutSink,
 };
 use pages::text_of;
 use pcap_packets::{PcapSink, PcapSource};
 use program_words::{
-    InputFile, Opened, OutputFile, exit_code, given_words, input_files, opened_input, output_files,
-    page_of, reads_plan, status_of_page,
+    InputFile, InputPort, Opened, OutputFile, OutputPort, exit_code, given_words, input_files,
+    opened_input, output_files, page_of, reads_plan, status_of_page,
 };
 use std::fs;
 use std::process::ExitCode;
@@ -41,46 +44,87 @@ fn serve(rt: &HostRuntime) -> Result<Status, Memory> {
     }
 }
 
-// Opens the inputs that the words' command reads, makes the outputs that it writes, and answers the words over them. Each
-// box is made here, where no port is in the signature.
+// The places of a device over files.
+type FileBays = Rack<InputPort<FileSource>, OutputPort<FileSink>>;
+
+// Opens the inputs that the words' command reads, makes the outputs that it writes, and answers the words over them.
 fn over_files(rt: &HostRuntime, words: &[String]) -> Result<Status, Memory> {
     let alloc = rt.alloc();
-    let mut bays = Bays::new(alloc)?;
-    for &file in &input_files(alloc, words)? {
-        if let InputFile::Capture(n) = file
-            && !matches!(bays.client_in(n), InPlace::Empty)
-        {
-            continue;
-        }
-        let Some(source) = input_file(rt, &file.name(alloc)?) else {
-            continue;
-        };
-        let port: Box<dyn Source> = match file {
-            InputFile::Capture(_) => Box::new(alloc, PcapSource::new(alloc, source)?)?,
-            _ => Box::new(alloc, source)?,
-        };
-        let place = InPlace::Live(InPort::Boxed(port), 0);
-        match file {
-            InputFile::Line(n) => bays.set_line_in(n, place),
-            InputFile::Text(n) | InputFile::Capture(n) => bays.set_client_in(n, place),
-        }
-    }
-    for &file in &output_files(alloc, words)? {
-        let sink = output_file(rt, &file.name(alloc)?);
-        let port: Box<dyn Sink> = match file {
-            OutputFile::Capture(_) => Box::new(alloc, PcapSink::new(alloc, sink)?)?,
-            _ => Box::new(alloc, sink)?,
-        };
-        let place = OutPlace::Live(OutPort::Boxed(port), 0);
-        match file {
-            OutputFile::Line(n) => bays.set_line_out(n, place),
-            OutputFile::Text(n) | OutputFile::Capture(n) => bays.set_client_out(n, place),
-        }
-    }
+    let mut bays = Rack::new(alloc)?;
+    open_inputs(rt, &input_files(alloc, words)?, &mut bays)?;
+    make_outputs(rt, &output_files(alloc, words)?, &mut bays)?;
     Ok(match order_of(words) {
         Some(number) => answer(rt, words, &mut bays, &mut NumberChooser::new(number)),
         None => answer(rt, words, &mut bays, &mut FirstReady::new()),
     })
+}
+
+// Opens these files, each at its place.
+fn open_inputs(rt: &HostRuntime, files: &[InputFile], bays: &mut FileBays) -> Result<(), Memory>
+    requires { All IsInput files.now }
+{
+    for &file in files {
+        if !is_spare(file, bays) {
+            open_input(rt, file, bays)?;
+        }
+    }
+    Ok(())
+}
+
+// Whether the file is a capture of a client that has a packet text.
+fn is_spare(file: InputFile, bays: &FileBays) -> bool
+    requires { IsInput file }
+{
+    match file {
+        InputFile::Capture(n) => !matches!(bays.client_in(n), InPlaceOf::Empty),
+        _ => false,
+    }
+}
+
+// Opens this file at its place, where there is one.
+fn open_input(rt: &HostRuntime, file: InputFile, bays: &mut FileBays) -> Result<(), Memory>
+    requires { IsInput file }
+{
+    let alloc = rt.alloc();
+    let Some(source) = input_file(rt, &file.name(alloc)?) else {
+        return Ok(());
+    };
+    match file {
+        InputFile::Line(n) => bays.set_line_in(n, InPlaceOf::Live(InputPort::Plain(source), 0)),
+        InputFile::Text(n) => bays.set_client_in(n, InPlaceOf::Live(InputPort::Plain(source), 0)),
+        InputFile::Capture(n) => {
+            let capture = PcapSource::new(alloc, source)?;
+            bays.set_client_in(n, InPlaceOf::Live(InputPort::Capture(capture), 0));
+        }
+    }
+    Ok(())
+}
+
+// Makes these files, each at its place.
+fn make_outputs(rt: &HostRuntime, files: &[OutputFile], bays: &mut FileBays) -> Result<(), Memory>
+    requires { All IsOutput files.now }
+{
+    for &file in files {
+        make_output(rt, file, bays)?;
+    }
+    Ok(())
+}
+
+// Makes this file at its place.
+fn make_output(rt: &HostRuntime, file: OutputFile, bays: &mut FileBays) -> Result<(), Memory>
+    requires { IsOutput file }
+{
+    let alloc = rt.alloc();
+    let sink = output_file(rt, &file.name(alloc)?);
+    match file {
+        OutputFile::Line(n) => bays.set_line_out(n, OutPlaceOf::Live(OutputPort::Plain(sink), 0)),
+        OutputFile::Text(n) => bays.set_client_out(n, OutPlaceOf::Live(OutputPort::Plain(sink), 0)),
+        OutputFile::Capture(n) => {
+            let capture = PcapSink::new(alloc, sink)?;
+            bays.set_client_out(n, OutPlaceOf::Live(OutputPort::Capture(capture), 0));
+        }
+    }
+    Ok(())
 }
 
 // Answers the words over these places, the file of the plan where their command reads it, and standard output.

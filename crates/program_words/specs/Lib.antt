@@ -2,3 +2,4 @@ pub mod Files
 pub mod Given
 pub mod Opened
 pub mod Pages
+pub mod Ports

@@ -1,0 +1,69 @@
+// The ports of files: their bytes as they are, or the packets of captures.
+ghost use Rattle.program_words.specs.Ports.{input_ended, input_faults, input_left, is_input_boxed};
+ghost use Rattle.program_words.specs.Ports.{is_output_boxed, output_faults, output_got, output_keeps};
+
+use otn_ports::{Failed, Sink, Source, Written};
+use pcap_packets::{PcapSink, PcapSource};
+
+/// What the place of an input file holds: the file as it is, or the capture that it has. Each call on it, and each of its
+/// meanings, is that of what it holds.
+#[derive(Drop)]
+pub enum InputPort<S> {
+    Plain(S),
+    Capture(PcapSource<S>),
+}
+
+impl<S: Source> Source for InputPort<S> {
+    ghost left = { input_left S.left };
+
+    ghost faults = { input_faults S.faults };
+
+    ghost ended = { input_ended S.ended };
+
+    ghost boxed = { is_input_boxed S.boxed };
+
+    fn read(&mut self, into: &mut [u8]) -> Result<usize, Failed> {
+        match self {
+            InputPort::Plain(source) => source.read(into),
+            InputPort::Capture(source) => source.read(into),
+        }
+    }
+}
+
+/// What the place of an output file holds, likewise.
+#[derive(Drop)]
+pub enum OutputPort<S: Sink> {
+    Plain(S),
+    Capture(PcapSink<S>),
+}
+
+impl<S: Sink> Sink for OutputPort<S> {
+    ghost got = { output_got S.got };
+
+    ghost faults = { output_faults S.faults };
+
+    ghost keeps = { output_keeps S.keeps };
+
+    ghost boxed = { is_output_boxed S.boxed };
+
+    fn write(&mut self, bytes: &[u8]) -> Result<usize, Failed> {
+        match self {
+            OutputPort::Plain(sink) => sink.write(bytes),
+            OutputPort::Capture(sink) => sink.write(bytes),
+        }
+    }
+
+    fn write_lines(&mut self, lines: &[u8]) -> (Written, usize) {
+        match self {
+            OutputPort::Plain(sink) => sink.write_lines(lines),
+            OutputPort::Capture(sink) => sink.write_lines(lines),
+        }
+    }
+
+    fn kept(&self) -> Option<&[u8]> {
+        match self {
+            OutputPort::Plain(sink) => sink.kept(),
+            OutputPort::Capture(sink) => sink.kept(),
+        }
+    }
+}
