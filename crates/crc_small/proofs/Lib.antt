@@ -1,7 +1,9 @@
 pub mod Changes
+pub mod Folding
 pub mod Header
 pub mod Inverted
 pub mod Linear
 pub mod LookUps
 pub mod Register
+pub mod Vectors
 pub mod Words

@@ -127,7 +127,7 @@ pub record Generator (m g : ℕ) : Type 0 where
   pub leads : g / 2 ^ suc m ≡ 1
   pub turns : zeros (suc m) g (suc m) 1 ≡ bring_down (suc m) g (2 ^ m) 0
 
-zeros_zero : (n g k : ℕ) → zeros n g k 0 ≡ 0
+pub zeros_zero : (n g k : ℕ) → zeros n g k 0 ≡ 0
 unfolding zeros
 zeros_zero n g zero = refl
 zeros_zero n g (suc k) = ap (zeros n g k) (bring_down_small n g 0 (pow_pos n)) ∙ zeros_zero n g k

@@ -13,17 +13,17 @@ use Rattle.crc_small.proofs.Inverted.{generator_32, shifted_32}
 use Rattle.crc_small.proofs.LookUps.{zeros_under}
 
 -- a register after the shifts of a byte, and after those of a word
-z : ℕ → ℕ
+unfoldable pub z : ℕ → ℕ
 z r = zeros 32 0x104C11DB7 8 r
 
 w : ℕ → ℕ
 w r = z (z (z (z r)))
 
-z-xor : (r t : ℕ) → r < 2 ^ 32 → t < 2 ^ 32 → z (bit_xor r t) ≡ bit_xor (z r) (z t)
+pub z-xor : (r t : ℕ) → r < 2 ^ 32 → t < 2 ^ 32 → z (bit_xor r t) ≡ bit_xor (z r) (z t)
 unfolding z
 z-xor r t hr ht = zeros-xor 32 0x104C11DB7 8 r t generator_32.leads hr ht
 
-z-lt : (r : ℕ) → r < 2 ^ 32 → z r < 2 ^ 32
+pub z-lt : (r : ℕ) → r < 2 ^ 32 → z r < 2 ^ 32
 unfolding z
 z-lt r h = zeros-lt 32 0x104C11DB7 8 r generator_32.leads h
 
@@ -49,7 +49,7 @@ unfolding w
 w-lt r h = z-lt (z (z (z r))) (z-lt (z (z r)) (z-lt (z r) (z-lt r h)))
 
 -- one byte, put at the top of the register
-one_byte : (c x : ℕ) → c < 2 ^ 32 → x < 2 ^ 8 → after_byte 31 0x104C11DB7 c x ≡ z (bit_xor c (x * 2 ^ 24))
+pub one_byte : (c x : ℕ) → c < 2 ^ 32 → x < 2 ^ 8 → after_byte 31 0x104C11DB7 c x ≡ z (bit_xor c (x * 2 ^ 24))
 unfolding z
 one_byte c x hc hx = sym (shifted_32 c x hc hx)
 
@@ -130,7 +130,7 @@ w-four a b c d ha hb hc hd =
 abbrev pub row : ℕ → List ℕ
 row k = get_or FRAME_STEPS k []
 
-both : {a b c d : ℕ} → a ≡ b → c ≡ d → bit_xor a c ≡ bit_xor b d
+pub both : {a b c d : ℕ} → a ≡ b → c ≡ d → bit_xor a c ≡ bit_xor b d
 both {a} {b} {c} {d} e f = ap (λ x. bit_xor x c) e ∙ ap (bit_xor b) f
 
 row_0 : (i : ℕ) → i < 256 → get_or (row 0) i 0 ≡ z (i * 2 ^ 24)

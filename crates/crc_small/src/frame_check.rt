@@ -1,9 +1,14 @@
 // The check of 32 bits: the frame check sequence of a GFP payload.
 
-ghost use Rattle.std.specs.Prelude.{◌≡◌, ◌+◌, ◌/◌, ◌%◌, ◌^◌, ◌≤◌, length, slice_index};
+ghost use Rattle.std.specs.Prelude.{◌≡◌, ◌≤◌, length, slice_index};
 ghost use Rattle.crc_small.specs.LongDivision.{crc32_of};
+ghost use Rattle.crc_small.specs.Folding.{after_some};
 
-use crate::steps::{byte32, four_words32, word32};
+use crate::long_message::front32;
+use crate::steps::{byte32, four_words32, word, word32};
+
+// From so many bytes on a message is folded.
+const LONG: usize = 160;
 
 /// The check of 32 bits of some bytes (G.7041 clause 6.1.2.2.1), by the generator 04C11DB7: the remainder
 /// of their bits, most significant first, followed by 32 zeros, with the first 32 bits and the remainder
@@ -11,8 +16,7 @@ use crate::steps::{byte32, four_words32, word32};
 pub fn crc32(bytes: &[u8]) -> u32
     ensures { result ≡ crc32_of bytes.now }
 {
-    let mut register = 0xFFFF_FFFF;
-    let mut at = 0;
+    let (mut register, mut at) = begin(bytes);
     while bytes.len() - at >= 16 {
         register = four_words32(
             register,
@@ -33,14 +37,14 @@ pub fn crc32(bytes: &[u8]) -> u32
     register ^ 0xFFFF_FFFF
 }
 
-// The four bytes from this place on, the first of them the most significant one.
-#[inline]
-fn word(bytes: &[u8], at: usize) -> u32
-    requires { at + 4 ≤ length bytes.now }
-    ensures first { result / 2 ^ 24 ≡ slice_index bytes.now at }
-    ensures second { result / 2 ^ 16 % 2 ^ 8 ≡ slice_index bytes.now (at + 1) }
-    ensures third { result / 2 ^ 8 % 2 ^ 8 ≡ slice_index bytes.now (at + 2) }
-    ensures fourth { result % 2 ^ 8 ≡ slice_index bytes.now (at + 3) }
+// The register after the first bytes, and how many they are: a long message is folded, but for its end.
+#[tactic(auto, unfolding(crate::specs::Folding::after_some))]
+fn begin(bytes: &[u8]) -> (u32, usize)
+    ensures within { result.1 ≤ length bytes.now }
+    ensures register { result.0 ≡ after_some (slice_index bytes.now) 0 result.1 0xFFFFFFFF }
 {
-    u32::from_be_bytes([bytes[at], bytes[at + 1], bytes[at + 2], bytes[at + 3]])
+    if bytes.len() < LONG {
+        return (0xFFFF_FFFF, 0);
+    }
+    front32(bytes)
 }

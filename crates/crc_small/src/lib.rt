@@ -10,6 +10,7 @@
 mod frame_check;
 mod frame_tables;
 mod header_check;
+mod long_message;
 mod message_check;
 mod steps;
 mod tables;

@@ -1,6 +1,7 @@
 // What some bytes do to a register: look-ups in tables.
 
-ghost use Rattle.std.specs.Prelude.{◌≡◌};
+ghost use Rattle.std.specs.Prelude.{◌≡◌, ◌+◌, ◌/◌, ◌%◌, ◌^◌, ◌≤◌, length, slice_index};
+ghost use Rattle.crc_small.specs.Folding.{after_some};
 ghost use Rattle.crc_small.specs.Shifted.{after_byte, after_word};
 ghost use Rattle.crc_small.specs.LookUp.{looked_up};
 
@@ -93,4 +94,31 @@ fn look_up(
         ^ three[(word >> 16 & 0xFF) as usize]
         ^ two[(word >> 8 & 0xFF) as usize]
         ^ one[(word & 0xFF) as usize]
+}
+
+/// The register of the check of 32 bits after these sixteen bytes.
+#[inline]
+pub(crate) fn sixteen32(register: u32, bytes: &[u8]) -> u32
+    requires { length bytes.now ≡ 16 }
+    ensures { result ≡ after_some (slice_index bytes.now) 0 16 register }
+{
+    four_words32(
+        register,
+        word(bytes, 0),
+        word(bytes, 4),
+        word(bytes, 8),
+        word(bytes, 12),
+    )
+}
+
+/// The four bytes from this place on, the first of them the most significant one.
+#[inline]
+pub(crate) fn word(bytes: &[u8], at: usize) -> u32
+    requires { at + 4 ≤ length bytes.now }
+    ensures first { result / 2 ^ 24 ≡ slice_index bytes.now at }
+    ensures second { result / 2 ^ 16 % 2 ^ 8 ≡ slice_index bytes.now (at + 1) }
+    ensures third { result / 2 ^ 8 % 2 ^ 8 ≡ slice_index bytes.now (at + 2) }
+    ensures fourth { result % 2 ^ 8 ≡ slice_index bytes.now (at + 3) }
+{
+    u32::from_be_bytes([bytes[at], bytes[at + 1], bytes[at + 2], bytes[at + 3]])
 }

@@ -1,9 +1,10 @@
 use Rattle.std.proofs.Common.{refl, ◌∙◌, ◌+◌, ◌≤◌, length, arith}
-use Rattle.crc_small.proofs.Inverted.{register-none, IsWordAt, word_more, four_words_more, register-rest, register-all}
+use Rattle.crc_small.proofs.Inverted.{IsWordAt, word_more, four_words_more, register-rest, register-all}
+use Rattle.crc_small.proofs.Folding.{register_some}
 use Rattle.crc_small.proofs.frame_check.crc32.Goals as goal
 
 pub loop-at-init : goal.loop-at-init
-loop-at-init c = (omega arith, register-none)
+loop-at-init c = (c.begin-register.ensures.within, c.begin-register.ensures.register ∙ register_some c.args.bytes.now c.begin-register.result.1 c.begin-register.ensures.within)
 
 pub loop-at-preserved : goal.loop-at-preserved
 loop-at-preserved c =
