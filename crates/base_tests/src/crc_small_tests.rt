@@ -1,6 +1,11 @@
 // Values from outside: the catalogue of CRC algorithms, the worked examples of the standards, and, for the
 // checks of 8 and 5 bits whose generators no catalogue lists, long division of whole numbers in Python.
+ghost use Rattle.std.specs.Prelude.{IfOk, vec_len, ◌≡◌};
+
 use crc_small::{crc5, crc8, crc16, crc32, fix_one_bit};
+use otn_base::Memory;
+use std::alloc::Global;
+use std::test::Fail;
 
 #[test]
 fn frame_checks(rt: HostRuntime) {
@@ -12,6 +17,49 @@ fn frame_checks(rt: HostRuntime) {
         crc32(b"The quick brown fox jumps over the lazy dog"),
         0x459D_EE61
     );
+}
+
+// Bytes of a linear congruential sequence.
+fn scattered(alloc: Global, count: usize) -> Result<Vec<u8>, Memory>
+    ensures { IfOk result (λ bytes. vec_len bytes ≡ count) }
+{
+    let mut bytes = vec![in alloc; 0u8; count]?;
+    let mut last = 1u8;
+    for byte in bytes.iter_mut() {
+        last = last.wrapping_mul(5).wrapping_add(113);
+        *byte = last;
+    }
+    Ok(bytes)
+}
+
+// The same check, bit by bit.
+fn bit_by_bit(bytes: &[u8]) -> u32 {
+    let mut register = 0xFFFF_FFFFu32;
+    for byte in bytes {
+        register ^= (*byte as u32) << 24;
+        for _ in 0..8u32 {
+            let over = register >> 31;
+            register = (register << 1) ^ (over * 0x04C1_1DB7);
+        }
+    }
+    register ^ 0xFFFF_FFFF
+}
+
+#[test]
+fn long_frame_checks(rt: HostRuntime) -> Result<(), Fail> {
+    let bytes = scattered(rt.alloc(), 700)?;
+    let mut wrong = 0usize;
+    for count in 0..700_usize {
+        if crc32(&bytes[..count]) != bit_by_bit(&bytes[..count]) {
+            wrong = wrong.saturating_add(1);
+        }
+    }
+    assert_eq!(rt; wrong, 0);
+    // Of a model in Python.
+    assert_eq!(rt; crc32(&bytes[..159]), 0x6D86_E4C6);
+    assert_eq!(rt; crc32(&bytes[..160]), 0x6B13_FDC1);
+    assert_eq!(rt; crc32(&bytes[..255]), 0x1713_2EDD);
+    Ok(())
 }
 
 #[test]

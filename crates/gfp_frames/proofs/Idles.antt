@@ -1,8 +1,10 @@
 -- Idle frames one after another.
-use Rattle.std.proofs.Common.{◌≡◌, ℕ, zero, suc, ◌+◌, ◌-◌, ◌*◌, ◌/◌, ◌%◌, ◌<◌, ◌≤◌, List, [], ◌∷◌, ◌++◌, length, take, drop, refl, ap, ◌∙◌, sym, arith, append_assoc, length-append, length-drop}
+use Rattle.std.proofs.Common.{◌≡◌, ℕ, zero, suc, ◌+◌, ◌-◌, ◌*◌, ◌/◌, ◌%◌, ◌<◌, ◌≤◌, List, [], ◌∷◌, ◌++◌, length, get_or, ◌⊎◌, inl, inr, take, drop, refl, ap, ◌∙◌, sym, arith, append_assoc, length-append, length-drop}
 use Rattle.std.specs.Prelude.{replicate, min}
 use Rattle.std.proofs.Math.Seq.{take-length}
-use Rattle.std.proofs.lemmas.List.{append-nil, take_at, take-append-drop, drop-drop, length-take-le}
+use Rattle.std.proofs.lemmas.List.{append-nil, take_at, take-take, take-append-drop, drop-drop, length-take-le, ext_get_or, get_or-take, get_or-append_right}
+use Rattle.std.proofs.lemmas.Bool.{cases_lt}
+use Rattle.std.proofs.Math.ListN.{get_or-append}
 use Rattle.std.proofs.lemmas.Slice.{take-put_mid}
 use borrow.Rule.Slice.PartMut.{put_mid}
 use Rattle.gfp_scrambler.specs.Register.{last_bits, scrambled}
@@ -160,3 +162,44 @@ filled frames given old mid new into rest n count m made is short size front sam
     ∙ ap (λ y. old.hand ++ y) idles
     ∙ ap (λ k. old.hand ++ idle_bytes ((k + 3) / 4)) (left ∙ ap (λ k. n - k) given_all) in
     idles_given frames given (put_mid count (length into - count) into rest) old new (idles_begun old.hand n) made bytes (same_too ∙ same)
+
+-- the front of some idle frames, in whole frames
+idles_front : (n m : ℕ) → m ≤ n → take (4 * m) (idle_bytes n) ≡ idle_bytes m
+idles_front n m h =
+    let e : m + (n - m) ≡ n = omega arith in
+    ap (λ k. take (4 * m) (idle_bytes k)) (sym e)
+    ∙ ap (take (4 * m)) (sym (idles_join m (n - m)))
+    ∙ take_at (idle_bytes m) (idle_bytes (n - m)) (4 * m) (idle_size m)
+
+-- a list whose front of `count` stands once more at `at`
+front_again : (old new : List ℕ) (at count : ℕ) → count ≤ at → at + count ≤ length old → length new ≡ length old
+    → ((k d : ℕ) → at ≤ k → k < at + count → get_or new k d ≡ get_or old (k - at) d) → ((k d : ℕ) → k < at → get_or new k d ≡ get_or old k d)
+    → take (at + count) new ≡ take at old ++ take count old
+front_again old new at count few h same copied below =
+    let a : length (take (at + count) new) ≡ at + count = length-take-le (at + count) new (omega arith) in
+    let b : length (take at old) ≡ at = length-take-le at old (omega arith) in
+    let c : length (take count old) ≡ count = length-take-le count old (omega arith) in
+    let d = length-append (take at old) (take count old) in
+    ext_get_or 0 (take (at + count) new) (take at old ++ take count old) (omega arith) (λ i l. case i (omega arith) (cases_lt i at))
+  where
+    case : (i : ℕ) → i < at + count → (i < at) ⊎ (at ≤ i) → get_or (take (at + count) new) i 0 ≡ get_or (take at old ++ take count old) i 0
+    case i l (inl low) =
+        let b : length (take at old) ≡ at = length-take-le at old (omega arith) in
+        get_or-take (at + count) new i 0 l ∙ below i 0 low ∙ sym (get_or-take at old i 0 low) ∙ sym (get_or-append (take at old) (take count old) 0 i (omega arith))
+    case i l (inr high) =
+        let b : length (take at old) ≡ at = length-take-le at old (omega arith) in
+        get_or-take (at + count) new i 0 l ∙ copied i 0 high l ∙ sym (get_or-take count old (i - at) 0 (omega arith)) ∙ sym (get_or-append_right (take at old) (take count old) at i 0 b high)
+
+-- the front of some idle frames once more, behind them
+pub idles_again : (s new : List ℕ) (at count : ℕ) → count ≤ at → at + count ≤ length s → at % 4 ≡ 0 → count % 4 ≡ 0 → take at s ≡ idle_bytes (at / 4) → length new ≡ length s
+    → ((k d : ℕ) → at ≤ k → k < at + count → get_or new k d ≡ get_or s (k - at) d) → ((k d : ℕ) → k < at → get_or new k d ≡ get_or s k d)
+    → take (at + count) new ≡ idle_bytes ((at + count) / 4)
+idles_again s new at count few h whole frames before same copied below =
+    let part : take count s ≡ idle_bytes (count / 4) =
+    sym (take-take count at s few)
+    ∙ ap (take count) before
+    ∙ ap (λ k. take k (idle_bytes (at / 4))) (let e : count ≡ 4 * (count / 4) = omega arith in e)
+    ∙ idles_front (at / 4) (count / 4) (omega arith) in
+    front_again s new at count few h same copied below
+    ∙ ap (λ y. y ++ take count s) before ∙ ap (λ y. idle_bytes (at / 4) ++ y) part
+    ∙ idles_join (at / 4) (count / 4) ∙ ap idle_bytes (let e : at / 4 + count / 4 ≡ (at + count) / 4 = omega arith in e)

@@ -17,6 +17,9 @@ use std::marker::Model;
 /// Bytes of a frame at most: a core header and an area of 65,535 bytes.
 const MOST_FRAME: usize = 65_539;
 
+/// So many bytes of idle frames are put one by one.
+const FEW_IDLES: usize = 512;
+
 /// Bytes of a core header, and of an idle frame.
 const HEADER: usize = 4;
 
@@ -236,8 +239,36 @@ fn sixteen_idles() -> [u8; 64]
     ]
 }
 
-// Whole idle frames.
+// Whole idle frames: some first, and then as many again as stand there.
 fn put_idles(into: &mut [u8])
+    requires { length into.old % 4 ≡ 0 }
+    ensures { into.new ≡ idle_bytes (length into.old / 4) }
+{
+    let few = into.len().min(FEW_IDLES);
+    put_few_idles(&mut into[..few]);
+    let mut at = few;
+    while at < into.len() {
+        let count = at.min(into.len() - at);
+        put_again(into, at, count);
+        at += count;
+    }
+}
+
+// The first bytes of those up to `at`, which are idle frames, once more behind them.
+fn put_again(into: &mut [u8], at: usize, count: usize)
+    requires count { count ≤ at }
+    requires room { at + count ≤ length into.old }
+    requires whole { at % 4 ≡ 0 }
+    requires frames { count % 4 ≡ 0 }
+    requires idle { take at into.old ≡ idle_bytes (at / 4) }
+    ensures size { length into.new ≡ length into.old }
+    ensures idle { take (at + count) into.new ≡ idle_bytes ((at + count) / 4) }
+{
+    into.copy_within(..count, at);
+}
+
+// The same, one after the other.
+fn put_few_idles(into: &mut [u8])
     requires { length into.old % 4 ≡ 0 }
     ensures { into.new ≡ idle_bytes (length into.old / 4) }
 {

@@ -1,6 +1,6 @@
 use Rattle.std.proofs.Common.{◌≡◌, ◌+◌, ◌-◌, ◌∙◌, arith}
 use Rattle.gfp_frames.proofs.Idles.{idle_put, idles_put}
-use Rattle.gfp_frames.proofs.maker.put_idles.Goals as goal
+use Rattle.gfp_frames.proofs.maker.put_few_idles.Goals as goal
 
 pub loop-into-preserved : goal.loop-into-preserved
 loop-into-preserved c =
