@@ -1,6 +1,7 @@
 pub mod Lists
 pub mod Asking
-pub mod LookingUp
+pub mod DigitBlocks
+pub mod DigitLanes
 pub mod KeptDigits
 pub mod LineBytes
 pub mod Cuts
