@@ -190,11 +190,11 @@ pub marked_all : (first second : List ℕ) (g : ℕ → ℕ) → first ≡ sixte
 marked_all first second g ef es e i h = elim (cases_lt i 16) [
   | inl l ↦ let a = each i l in omega (arith, a, and_le_l (mark (g i)) (mark (g (16 + i))))
   | inr k ↦ (
-    let j = i - 16 in
-    let at : 16 + j ≡ i = omega (arith, k) in
-    let a = each j (omega (arith, h, k)) in
-    let b : 128 ≤ mark (g (16 + j)) = omega (arith, a, and_le_r (mark (g j)) (mark (g (16 + j)))) in
-    rw at at b)
+      let j = i - 16 in
+      let at : 16 + j ≡ i = omega (arith, k) in
+      let a = each j (omega (arith, h, k)) in
+      let b : 128 ≤ mark (g (16 + j)) = omega (arith, a, and_le_r (mark (g j)) (mark (g (16 + j)))) in
+      rw at at b)
 ]
   where
     both : zip2 bit_and first second ≡ sixteen (λ i. bit_and (mark (g i)) (mark (g (16 + i))))
@@ -223,10 +223,10 @@ low_pair g i l h = elim (cases_lt (mark (g i)) 128) [
   | inr a ↦ elim (cases_lt (mark (g (16 + i))) 128) [
     | inl b ↦ record { lane = 16 + i; below = omega (arith, l); low = b }
     | inr b ↦ absurd (
-      let p = kept_digit (g i) a in
-      let q = kept_digit (g (16 + i)) b in
-      let both : 128 ≤ bit_and (mark (g i)) (mark (g (16 + i))) = rw (p.3, q.3) (marks_and p.0 q.0 p.2 q.2) in
-      omega (arith, both, h))
+        let p = kept_digit (g i) a in
+        let q = kept_digit (g (16 + i)) b in
+        let both : 128 ≤ bit_and (mark (g i)) (mark (g (16 + i))) = rw (p.3, q.3) (marks_and p.0 q.0 p.2 q.2) in
+        omega (arith, both, h))
   ]
 ]
 

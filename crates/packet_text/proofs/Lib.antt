@@ -2,7 +2,7 @@ pub mod Lists
 pub mod Asking
 pub mod DigitBlocks
 pub mod DigitLanes
-pub mod KeptDigits
+pub mod ByteBlocks
 pub mod LineBytes
 pub mod Cuts
 pub mod CutsThen

@@ -1,8 +1,7 @@
 -- What is kept of the answers to bytes, as hex digits, and the bytes that two of them say.
-use Rattle.std.specs.Prelude.{ℕ, ◌≡◌, ◌<◌, ◌+◌, ◌*◌, ◌%◌, List, [], ◌∷◌, Option, Some, None, slice_index, bit_and, bit_or}
+use Rattle.std.specs.Prelude.{ℕ, ◌≡◌, ◌<◌, ◌+◌, ◌*◌, ◌%◌, List, [], ◌∷◌, Option, Some, None, Ok, Err, slice_index, bit_and, bit_or}
 use Rattle.hex.specs.Hex.{hex_digit_value, pair_value}
 use Rattle.hex.specs.declared.error.FromHexError.{FromHexError}
-use Rattle.std.specs.Prelude.{Ok, Err}
 
 -- of a digit 128 and its value, of another byte 0
 abbrev pub marked : Option ℕ → ℕ
@@ -20,6 +19,10 @@ pub record MarksAll (table : List ℕ) : Type 0 where
 -- a vector of sixteen bytes, lane by lane
 abbrev pub sixteen : (ℕ → ℕ) → List ℕ
 sixteen f = f 0 ∷ f 1 ∷ f 2 ∷ f 3 ∷ f 4 ∷ f 5 ∷ f 6 ∷ f 7 ∷ f 8 ∷ f 9 ∷ f 10 ∷ f 11 ∷ f 12 ∷ f 13 ∷ f 14 ∷ f 15 ∷ []
+
+-- lanes 0 to 7 of two vectors, in turn
+abbrev pub in_turn : (f g : ℕ → ℕ) → List ℕ
+in_turn f g = f 0 ∷ g 0 ∷ f 1 ∷ g 1 ∷ f 2 ∷ g 2 ∷ f 3 ∷ g 3 ∷ f 4 ∷ g 4 ∷ f 5 ∷ g 5 ∷ f 6 ∷ g 6 ∷ f 7 ∷ g 7 ∷ []
 
 -- the bytes of a list from a place on, counted from 0
 unfoldable pub bytes_from : List ℕ → (at : ℕ) → ℕ → ℕ

@@ -1,7 +1,6 @@
 pub mod TextLines
 pub mod PacketText
 pub mod DigitMarks
-pub mod ByteAnswers
 pub mod Carrying
 pub mod Blocks
 pub mod Cutting

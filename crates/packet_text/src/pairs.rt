@@ -4,16 +4,13 @@ ghost use Rattle.hex.specs.Hex.{decode_of};
 ghost use Rattle.packet_text.specs.PacketText.{decoded};
 ghost use Rattle.packet_text.specs.DigitMarks.{mark, MarksAll, marks_from, IsPair, HasRefused};
 
-use crate::lanes::{Rows, decode_block, load};
+use crate::lanes::{BLOCK, Rows, decode_block, load};
 use hex::{FromHex, decode_to_slice};
 use otn_base::Memory;
 use std::alloc::Global;
 
 // Bytes that there are.
 const BYTES: usize = 256;
-
-// Bytes that are made together.
-const BLOCK: usize = 16;
 
 const ZERO: u8 = b'0';
 
