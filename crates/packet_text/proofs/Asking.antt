@@ -1,8 +1,8 @@
 -- What the library says of a digit, and what is kept of it.
-use Rattle.std.proofs.Common.{◌≡◌, ◌<◌, ◌≤◌, ◌+◌, ◌*◌, ◌/◌, ◌%◌, ◌==◌, ◌⊎◌, inl, inr, ℕ, Bool, true, List, [], ◌∷◌, slice_index, bit_and, bit_or, Option, Some, None, Result, Ok, Err, arith, refl, sym, ap, ◌∙◌}
+use Rattle.std.proofs.Common.{◌≡◌, ◌<◌, ◌≤◌, ◌+◌, ◌*◌, ◌/◌, ◌%◌, ◌==◌, ◌⊎◌, inl, inr, ℕ, true, List, [], ◌∷◌, slice_index, bit_or, Option, Some, None, Result, Ok, Err, arith, refl, sym, ap, ◌∙◌}
 use Rattle.std.specs.Result.{result_unwrap_or}
 use Rattle.std.proofs.lemmas.Bool.{agree_below_at, eqb-true}
-use Rattle.hex.specs.Hex.{hex_digit_value, digit_or_error, pair_value, decode_sized, decode_pairs, ◌>>=◌}
+use Rattle.hex.specs.Hex.{hex_digit_value, digit_or_error, decode_sized, decode_pairs, ◌>>=◌}
 use Rattle.hex.specs.declared.error.FromHexError.{FromHexError}
 use Rattle.packet_text.specs.DigitMarks.{marked, mark, byte_of, IsPair, IsRefused}
 

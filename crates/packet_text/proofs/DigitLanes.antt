@@ -1,9 +1,9 @@
 -- Hex digits in vectors of sixteen bytes.
-use Rattle.std.proofs.Common.{◌≡◌, ◌≢◌, ℕ, zero, suc, ◌+◌, ◌-◌, ◌*◌, ◌/◌, ◌%◌, ◌^◌, ◌<◌, ◌≤◌, ◌⊎◌, ◌==◌, inl, inr, Bool, true, false, cond, eqb, ltb, List, [], ◌∷◌, ◌++◌, map, length, get_or, replicate, slice_index, bit_and, bit_or, refl, sym, ap, ◌∙◌, arith, w8, Fits, ltb-true, ltb-false, eqb-true}
+use Rattle.std.proofs.Common.{◌≡◌, ◌≢◌, ℕ, zero, suc, ◌+◌, ◌-◌, ◌*◌, ◌/◌, ◌%◌, ◌^◌, ◌<◌, ◌≤◌, ◌⊎◌, ◌==◌, inl, inr, Bool, true, false, cond, eqb, ltb, List, [], ◌∷◌, map, length, get_or, replicate, bit_and, bit_or, refl, sym, ap, ◌∙◌, arith, w8, Fits, ltb-true, ltb-false, eqb-true}
 use Rattle.std.proofs.lemmas.Bool.{cases_lt, cases_eq, agree_below_at, eqb-false}
 use Rattle.std.proofs.lemmas.List.{ext_get_or, get_or-map, length-map}
 use Rattle.std.proofs.lemmas.Nat.{and_le_l, and_le_r}
-use Rattle.std.proofs.lemmas.Simd.{get_or-put_chunk_at, Each1-all, Each1-zip2, Each2-splat, swz_l, SwzOk, SwzOk-from_below, length-zip2, length-swz_l, get_or-swz_l_below, length-chunk, get_or-chunk, zip2_splat, tops_compared, map-map, zip2_of_maps, below_from_Fits, bitmask_splat}
+use Rattle.std.proofs.lemmas.Simd.{get_or-put_chunk_at, Each1-all, Each1-zip2, Each2-splat, swz_l, SwzOk, SwzOk-from_below, length-zip2, length-swz_l, get_or-swz_l_below, length-chunk, get_or-chunk, zip2_splat, tops_compared, map-map, zip2_of_maps, bitmask_splat}
 use lib.Lanes.{zip2, sel_l, mask_l, top, Each1, chunk, put_chunk}
 use Rattle.packet_text.specs.DigitMarks.{mark, MarksAll, marks_from, sixteen, bytes_from, byte_of, IsPair, HasLow, HasRefused}
 use Rattle.packet_text.proofs.Asking.{kept_digit, pair_read, pair_refused}

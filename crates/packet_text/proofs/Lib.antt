@@ -8,6 +8,7 @@ pub mod Cuts
 pub mod CutsThen
 pub mod Texts
 pub mod LineEnds
+pub mod LineFeeds
 pub mod Judging
 pub mod GoingOn
 pub mod AsNeeded
