@@ -1,5 +1,5 @@
 // Whole texts, line by line.
-ghost use Rattle.std.specs.Prelude.{◌≤◌, length};
+ghost use Rattle.std.specs.Prelude.{◌≡◌, ◌≤◌, ◌*◌, length};
 
 use hex::{decode_to_slice, encode};
 use otn_ports::{InPlaceOf, ListedSink, ListedSource, MemSource, OutPlaceOf, Source, Written};
@@ -71,6 +71,44 @@ fn pairs_are_what_the_library_says(rt: HostRuntime) -> Result<(), Fail> {
         }
     }
     assert_eq!(rt; count, 13 * 13);
+    Ok(())
+}
+
+// Whether the pairs and the library say the same of digits.
+fn agree(pairs: &DigitPairs, digits: &[u8], kept: &mut [u8], said: &mut [u8]) -> bool
+    requires { length digits.now ≡ 2 * length kept.old }
+{
+    let taken = pairs.decode(digits, kept);
+    let is_hex = decode_to_slice(digits, said).is_ok();
+    taken == is_hex && (!taken || &*kept == &*said)
+}
+
+#[test]
+fn blocks_are_what_the_library_says(rt: HostRuntime) -> Result<(), Fail> {
+    let alloc = rt.alloc();
+    let pairs = DigitPairs::new(alloc).map_err(|_memory| AllocError)?;
+    let mut digits = [b'7'; 70];
+    let (mut kept, mut said) = ([0_u8; 35], [0_u8; 35]);
+    // each byte at each place of two blocks and one that overlaps
+    for at in 0..70_usize {
+        for byte in 0..=255_u8 {
+            digits[at] = byte;
+            assert!(rt; agree(&pairs, &digits, &mut kept, &mut said));
+        }
+        digits[at] = b'0' + (at % 10) as u8;
+    }
+    // each pair at a place of these
+    for first in 0..=255_u8 {
+        for second in 0..=255_u8 {
+            let at = 2 * ((first as usize + second as usize) % 35);
+            let before = [digits[at], digits[at + 1]];
+            digits[at] = first;
+            digits[at + 1] = second;
+            assert!(rt; agree(&pairs, &digits, &mut kept, &mut said));
+            digits[at] = before[0];
+            digits[at + 1] = before[1];
+        }
+    }
     Ok(())
 }
 
@@ -238,6 +276,8 @@ fn kept_lines_are_what_the_library_makes(rt: HostRuntime) -> Result<(), Fail> {
         (255, 256),
         (0x9A, 0xAB),
         (7, 7),
+        (240, 256),
+        (0x3A, 0x7B),
         (0, 256),
     ] {
         let (text, n) = kept_line(alloc, &all[from..to])?;

@@ -37,6 +37,10 @@ impl Pipe {
     }
 }
 
+// The most, in bytes, is a client's on all eight slots of a line: 869,320. These are the two bursts, and the two of the line's
+// source, each of 8 * 15,233; of that source also a row of 30,464 and a ring of 8; of the framer a frame of 15,296 and a GFP
+// frame of 65,539; of the text a block of 4,096, a line of 135,151, two packets of 65,527, and the marks of 256 digits. The
+// paces and what each of these is told by come to it.
 fn pipe_of(alloc: Global, x: &Connection) -> Result<Pipe, Memory>
     requires fit { IsFit x.now }
     ensures { IfOk result (IsPipeOf x.now) }

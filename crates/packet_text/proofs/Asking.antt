@@ -1,81 +1,91 @@
--- What the library says of pairs of digits, and what is kept of it.
-use Rattle.std.proofs.Common.{◌≡◌, ◌<◌, ◌≤◌, ◌+◌, ◌*◌, ◌-◌, inl, inr, ℕ, List, [], ◌∷◌, length, take, slice_index, Option, Some, None, Result, Ok, Err, arith, refl, sym, ap, ◌∙◌}
-use Rattle.std.proofs.lemmas.Bool.{cases_lt}
+-- What the library says of a digit, and what is kept of it.
+use Rattle.std.proofs.Common.{◌≡◌, ◌<◌, ◌≤◌, ◌+◌, ◌*◌, ◌/◌, ◌%◌, ◌==◌, ◌⊎◌, inl, inr, ℕ, true, List, [], ◌∷◌, slice_index, bit_or, Option, Some, None, Result, Ok, Err, arith, refl, sym, ap, ◌∙◌}
 use Rattle.std.specs.Result.{result_unwrap_or}
-use Rattle.hex.specs.Hex.{hex_digit_value, digit_or_error, pair_value, decode_sized, decode_pairs, ◌>>=◌}
+use Rattle.std.proofs.lemmas.Bool.{agree_below_at, eqb-true}
+use Rattle.hex.specs.Hex.{hex_digit_value, digit_or_error, decode_sized, decode_pairs, ◌>>=◌}
 use Rattle.hex.specs.declared.error.FromHexError.{FromHexError}
-use Rattle.std.proofs.lemmas.List.{length-take-le, get_or_append_left, get_or-append_right, get_or-take}
-use borrow.Rule.Slice.PartMut.{put_mid}
-use Rattle.packet_text.specs.PairAnswers.{as_number, AnswersFor, AnswersBelow}
+use Rattle.packet_text.specs.DigitMarks.{marked, mark, byte_of, IsPair, IsRefused}
 
 -- the pair whose digits have these values
-abbrev pub of_values : ℕ → ℕ → ℕ → Option ℕ → Option ℕ → Result ℕ FromHexError
+abbrev of_values : ℕ → ℕ → ℕ → Option ℕ → Option ℕ → Result ℕ FromHexError
 of_values high low i x y = digit_or_error high i x >>= (λ h. digit_or_error low (i + 1) y >>= (λ l. Ok (h * 16 + l)))
-
-value_small : (c v : ℕ) → hex_digit_value c ≡ Some v → v < 16
-value_small c v h = grind (arith)
-
--- a byte that is kept is the library's, wherever the pair stands
-pub kept_byte : (high low i a : ℕ) → a < 256 → a ≡ as_number (pair_value high low 0) → pair_value high low i ≡ Ok a
-kept_byte high low i a small h = by_values (hex_digit_value high) (hex_digit_value low) h
-  where
-    by_values : (x y : Option ℕ) → a ≡ as_number (of_values high low 0 x y) → of_values high low i x y ≡ Ok a
-    by_values (Some v) (Some w) e = ap Ok (sym e)
-    by_values (Some v) None e = absurd (omega arith)
-    by_values None (Some w) e = absurd (omega arith)
-    by_values None None e = absurd (omega arith)
-
--- what is kept as no byte is refused, wherever the pair stands
-pub kept_refusal : (high low i a : ℕ) → 256 ≤ a → a ≡ as_number (pair_value high low 0) → (e : FromHexError) × (pair_value high low i ≡ Err e)
-kept_refusal high low i a large h = by_values (hex_digit_value high) (hex_digit_value low) refl refl h
-  where
-    by_values : (x y : Option ℕ) → hex_digit_value high ≡ x → hex_digit_value low ≡ y → a ≡ as_number (of_values high low 0 x y) → (e : FromHexError) × (of_values high low i x y ≡ Err e)
-    by_values (Some v) (Some w) ex ey e = absurd (let p = value_small high v ex in let q = value_small low w ey in omega (arith, e, p, q))
-    by_values (Some v) None ex ey e = (_, refl)
-    by_values None (Some w) ex ey e = (_, refl)
-    by_values None None ex ey e = (_, refl)
 
 -- the bytes of one pair
 abbrev one : Result ℕ FromHexError → Result (List ℕ) FromHexError
 one r = r >>= (λ byte. Ok (byte ∷ []))
 
-pair_is : (a b : ℕ) → decode_sized (a ∷ b ∷ []) 1 ≡ one (pair_value a b 0)
+value_small : (c v : ℕ) → hex_digit_value c ≡ Some v → v < 16
+value_small c v h = grind (arith)
+
+-- a digit behind 0
+behind_zero : (c : ℕ) → decode_sized (48 ∷ c ∷ []) 1 ≡ one (of_values 48 c 0 (Some 0) (hex_digit_value c))
 unfolding decode_pairs
-pair_is a b = refl
+behind_zero c = refl
 
--- the library's byte for a pair
-pub asked_ok : (a b : ℕ) (bytes : List ℕ) → decode_sized (a ∷ b ∷ []) 1 ≡ Ok bytes → slice_index bytes 0 ≡ as_number (pair_value a b 0)
-asked_ok a b bytes h = by_answer (pair_value a b 0) (sym (pair_is a b) ∙ h)
+kept_value : (v : ℕ) → v < 16 → bit_or v 128 ≡ 128 + v
+kept_value v h = eqb-true _ _ (agree_below_at (λ v. bit_or v 128 == 128 + v) (λ v. true) 16 v refl h)
+
+-- the library's value of a digit
+pub asked_ok : (c : ℕ) (bytes : List ℕ) → decode_sized (48 ∷ c ∷ []) 1 ≡ Ok bytes → bit_or (slice_index bytes 0) 128 ≡ mark c
+unfolding mark
+asked_ok c bytes h = by_value (hex_digit_value c) refl (sym (behind_zero c) ∙ h)
   where
-    by_answer : (r : Result ℕ FromHexError) → one r ≡ Ok bytes → slice_index bytes 0 ≡ as_number r
-    by_answer (Ok byte) e = sym (ap (λ (q : Result (List ℕ) FromHexError). slice_index (result_unwrap_or q []) 0) e)
-    by_answer (Err x) e = cc e
+    by_value : (x : Option ℕ) → hex_digit_value c ≡ x → one (of_values 48 c 0 (Some 0) x) ≡ Ok bytes → bit_or (slice_index bytes 0) 128 ≡ marked x
+    by_value (Some v) e k =
+        let found : slice_index bytes 0 ≡ 0 + v = sym (ap (λ (q : Result (List ℕ) FromHexError). slice_index (result_unwrap_or q []) 0) k) in
+        let same : slice_index bytes 0 ≡ v = omega (arith, found) in
+        ap (λ n. bit_or n 128) same ∙ kept_value v (value_small c v e)
+    by_value None e k = cc k
 
--- the library's refusal of a pair
-pub asked_err : (a b : ℕ) (x : FromHexError) → decode_sized (a ∷ b ∷ []) 1 ≡ Err x → 256 ≡ as_number (pair_value a b 0)
-asked_err a b x h = by_answer (pair_value a b 0) (sym (pair_is a b) ∙ h)
+-- the library's refusal
+pub asked_err : (c : ℕ) (x : FromHexError) → decode_sized (48 ∷ c ∷ []) 1 ≡ Err x → 0 ≡ mark c
+unfolding mark
+asked_err c x h = by_value (hex_digit_value c) refl (sym (behind_zero c) ∙ h)
   where
-    by_answer : (r : Result ℕ FromHexError) → one r ≡ Err x → 256 ≡ as_number r
-    by_answer (Ok byte) e = cc e
-    by_answer (Err y) e = refl
+    by_value : (v : Option ℕ) → hex_digit_value c ≡ v → one (of_values 48 c 0 (Some 0) v) ≡ Err x → 0 ≡ marked v
+    by_value (Some v) e k = cc k
+    by_value None e k = refl
 
--- the pairs that end with one byte more are kept
-pub row_kept : (table row : List ℕ) (n k : ℕ) → 256 * n + 256 ≤ length table → length row ≡ 256 → AnswersBelow n table → AnswersFor n row → AnswersBelow (n + 1) (put_mid (256 * n) k table row)
-row_kept table row n k room size below last = record { at = at_place }
+-- a digit, by what is kept
+pub kept_digit : (c : ℕ) → 128 ≤ mark c → (v : ℕ) × (hex_digit_value c ≡ Some v) × (v < 16) × (mark c ≡ 128 + v)
+unfolding mark
+kept_digit c h = by_value (hex_digit_value c) refl h
   where
-    front : List ℕ
-    front = take (256 * n) table
+    by_value : (x : Option ℕ) → hex_digit_value c ≡ x → 128 ≤ marked x → (v : ℕ) × (x ≡ Some v) × (v < 16) × (marked x ≡ 128 + v)
+    by_value (Some v) e k = (v, refl, value_small c v e, refl)
+    by_value None e k = absurd (omega (arith, k))
 
-    at_place : (first second : ℕ) → first < 256 → second < n + 1 → slice_index (put_mid (256 * n) k table row) (first + 256 * second) ≡ as_number (pair_value first second 0)
-    at_place first second f s =
-        let long : length front ≡ 256 * n = length-take-le (256 * n) table (omega (arith, room)) in
-        elim (cases_lt second n) [
-          | inl before ↦
-              let early : first + 256 * second < 256 * n = omega (arith, f, before) in
-              get_or_append_left front _ 0 (first + 256 * second) (omega (arith, early, long)) ∙ get_or-take (256 * n) table (first + 256 * second) 0 early ∙ below.at first second f before
-          | inr after ↦
-              let same : second ≡ n = omega (arith, s, after) in
-              let here : first + 256 * second - 256 * n ≡ first = rw same (omega arith) in
-              get_or-append_right front _ (256 * n) (first + 256 * second) 0 long (rw same (omega arith))
-              ∙ rw here (get_or_append_left row _ 0 first (omega (arith, size, f)) ∙ last.at first f ∙ rw same refl)
-        ]
+-- no digit, by what is kept
+pub kept_none : (c : ℕ) → mark c < 128 → hex_digit_value c ≡ None
+unfolding mark
+kept_none c h = by_value (hex_digit_value c) h
+  where
+    by_value : (x : Option ℕ) → marked x < 128 → x ≡ None
+    by_value (Some v) k = absurd (omega (arith, k))
+    by_value None k = refl
+
+joined_values : (v w : ℕ) → v < 16 → w < 16 → byte_of (128 + v) (128 + w) ≡ v * 16 + w
+joined_values v w f g =
+    let at : byte_of (128 + (16 * v + w) / 16) (128 + (16 * v + w) % 16) ≡ (16 * v + w) / 16 * 16 + (16 * v + w) % 16 =
+    eqb-true _ _ (agree_below_at (λ n. byte_of (128 + n / 16) (128 + n % 16) == n / 16 * 16 + n % 16) (λ n. true) 256 (16 * v + w) refl (omega (arith, f, g))) in
+    let high : (16 * v + w) / 16 ≡ v = omega (arith, g) in
+    let low : (16 * v + w) % 16 ≡ w = omega (arith, g) in
+    rw (high, low) at at
+
+-- two digits, by what is kept of them
+pub pair_read : (high low : ℕ) → 128 ≤ mark high → 128 ≤ mark low → IsPair high low (byte_of (mark high) (mark low))
+pair_read high low h l =
+    let p = kept_digit high h in
+    let q = kept_digit low l in
+    record { at = λ place. rw (p.1, q.1, p.3, q.3) (ap Ok (sym (joined_values p.0 q.0 p.2 q.2))) }
+
+refused_values : (high low place : ℕ) (x y : Option ℕ) → (x ≡ None) ⊎ (y ≡ None) → (e : FromHexError) × (of_values high low place x y ≡ Err e)
+refused_values high low place None y h = (_, refl)
+refused_values high low place (Some v) None h = (_, refl)
+refused_values high low place (Some v) (Some w) (inl h) = cc h
+refused_values high low place (Some v) (Some w) (inr h) = cc h
+
+-- two bytes of which one is no digit
+pub pair_refused : (high low : ℕ) → (mark high < 128) ⊎ (mark low < 128) → IsRefused high low
+pair_refused high low (inl h) = record { at = λ place. refused_values high low place (hex_digit_value high) (hex_digit_value low) (inl (kept_none high h)) }
+pair_refused high low (inr h) = record { at = λ place. refused_values high low place (hex_digit_value high) (hex_digit_value low) (inr (kept_none low h)) }

@@ -1,12 +1,14 @@
 pub mod Lists
 pub mod Asking
-pub mod LookingUp
-pub mod KeptDigits
+pub mod DigitBlocks
+pub mod DigitLanes
+pub mod ByteBlocks
 pub mod LineBytes
 pub mod Cuts
 pub mod CutsThen
 pub mod Texts
 pub mod LineEnds
+pub mod LineFeeds
 pub mod Judging
 pub mod GoingOn
 pub mod AsNeeded

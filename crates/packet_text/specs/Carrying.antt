@@ -1,5 +1,6 @@
 -- Bytes that go on with a line.
-use Rattle.std.specs.Prelude.{◌≡◌, ◌<◌, ◌+◌, ℕ, false, List, ◌∷◌, ◌++◌, length, take, drop, slice_index}
+use Rattle.std.specs.Prelude.{◌≡◌, ◌<◌, ◌+◌, ◌==◌, ℕ, false, List, ◌∷◌, ◌++◌, map, length, take, drop, slice_index}
+use Rattle.std.specs.Simd.Lanes.{mask_l}
 use Rattle.packet_text.specs.TextLines.{has_lf}
 
 -- the first LF is byte n
@@ -19,3 +20,7 @@ pub record Carried (old bytes : List ℕ) (n : ℕ) (new : List ℕ) : Type 0 wh
   pub line : new ≡ old ++ take n bytes
   pub clean : has_lf (take n bytes) ≡ false
   pub parts : bytes ≡ take n bytes ++ 10 ∷ drop (n + 1) bytes
+
+-- a bit for each LF, the first the lowest
+abbrev pub lf_bits : List ℕ → ℕ
+lf_bits bytes = mask_l (map (λ x. x == 10) bytes)

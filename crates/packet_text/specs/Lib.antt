@@ -1,7 +1,6 @@
 pub mod TextLines
 pub mod PacketText
-pub mod PairAnswers
-pub mod ByteAnswers
+pub mod DigitMarks
 pub mod Carrying
 pub mod Blocks
 pub mod Cutting

@@ -1,29 +1,30 @@
-// The hex digits of each byte, and a packet's line by them.
-ghost use Rattle.std.specs.Prelude.{◌≡◌, ◌+◌, ◌*◌, ◌≤◌, ◌∷◌, ◌++◌, [], length, drop};
-ghost use Rattle.std.specs.Int.{to_le_bytes, w16};
-ghost use Rattle.hex.specs.Hex.{encode_lower};
+// The hex digits of bytes, and a packet's line by them.
+ghost use Rattle.std.specs.Prelude.{◌≡◌, ◌+◌, ◌*◌, ◌≤◌, ◌++◌, length, take, drop};
+ghost use Rattle.hex.specs.Hex.{encode_lower, lower_digits};
 ghost use Rattle.packet_text.specs.PacketText.{packet_line};
-ghost use Rattle.packet_text.specs.ByteAnswers.{DigitsAll};
 
+use crate::lanes::{BLOCK, encode_block};
 use crate::writing::{end_line, put_digits};
+use std::simd::u8x16;
 
-// Bytes that there are.
-const BYTES: usize = 256;
+// Bytes with each digit once, in order.
+const EACH_DIGIT: [u8; 8] = [0x01, 0x23, 0x45, 0x67, 0x89, 0xab, 0xcd, 0xef];
 
-/// The two digits, in lower case, that the library `hex` writes for each byte, asked once and kept.
+/// The sixteen digits, in lower case, that the library `hex` writes, asked once and kept.
 #[derive(Drop)]
 pub struct ByteDigits {
-    // Those of a byte stand at its value, the first as the low byte.
-    answers: [u16; BYTES],
-    ghost right: { DigitsAll answers },
+    // By their value.
+    digits: [u8; 16],
+    ghost right: { digits ≡ lower_digits },
 }
 
 impl ByteDigits {
-    /// Asks for all bytes.
+    /// Asks for all digits.
+    #[tactic(auto, using(crate::proofs::ByteBlocks::each_digit))]
     pub fn new() -> ByteDigits {
-        let mut answers = [0u16; BYTES];
-        ask_all(&mut answers);
-        ByteDigits { answers }
+        let mut digits = [0; 16];
+        put_digits(&EACH_DIGIT, &mut digits);
+        ByteDigits { digits }
     }
 
     /// Puts a packet's line at the front of the slice: its hex digits, in lower case, and LF. Says how many bytes the line has.
@@ -38,36 +39,26 @@ impl ByteDigits {
         end_line(n, text)
     }
 
-    // Fills the slice with a packet's digits.
-    #[tactic(auto, using(crate::proofs::KeptDigits::byte_put, crate::proofs::KeptDigits::all_put))]
+    // Fills the slice with a packet's digits, block by block.
+    #[tactic(auto, using(crate::proofs::ByteBlocks::none_put, crate::proofs::ByteBlocks::more_put))]
     fn encode(&self, packet: &[u8], digits: &mut [u8])
         requires { length digits.old ≡ 2 * length packet.now }
         ensures { digits.new ≡ encode_lower packet.now }
     {
-        for i in 0..packet.len() {
-            // Both stores become one.
-            let pair = self.answers[usize::from(packet[i])].to_le_bytes();
-            digits[2 * i] = pair[0];
-            digits[2 * i + 1] = pair[1];
+        let table = u8x16::from_array(self.digits);
+        let blocks = packet.len() / BLOCK;
+        for block in 0..blocks {
+            encode_block(table, packet, digits, BLOCK * block);
         }
+        encode_rest(packet, digits, BLOCK * blocks);
     }
 }
 
-// Asks for all bytes, one by one.
-fn ask_all(answers: &mut [u16])
-    requires { length answers.old ≡ 256 }
-    ensures { DigitsAll answers.new }
+// Writes the digits of the bytes from `at` on, by the library.
+fn encode_rest(packet: &[u8], digits: &mut [u8], at: usize)
+    requires at { at ≤ length packet.now }
+    requires room { length digits.old ≡ 2 * length packet.now }
+    ensures { digits.new ≡ take (2 * at) digits.old ++ encode_lower (drop at packet.now) }
 {
-    for byte in 0..BYTES {
-        answers[byte] = ask(byte as u8);
-    }
-}
-
-// Asks for a byte.
-fn ask(byte: u8) -> u16
-    ensures { to_le_bytes w16 result ≡ encode_lower (byte ∷ []) }
-{
-    let mut digits = [0; 2];
-    put_digits(&[byte], &mut digits);
-    u16::from_le_bytes(digits)
+    put_digits(&packet[at..], &mut digits[2 * at..]);
 }

@@ -5,6 +5,7 @@ mod byte_digits;
 mod cutter;
 mod digits;
 mod found;
+mod lanes;
 mod laws;
 mod line;
 mod line_feed;

@@ -1,7 +1,9 @@
 // The end of a line.
-ghost use Rattle.std.specs.Prelude.{◌≡◌, ◌≤◌, true, false, length, take, MatchOption};
+ghost use Rattle.std.specs.Prelude.{◌≡◌, ◌<◌, ◌≤◌, true, false, length, take, slice_index, MatchOption};
 ghost use Rattle.packet_text.specs.TextLines.{has_lf};
-ghost use Rattle.packet_text.specs.Carrying.{IsFirstLf};
+ghost use Rattle.packet_text.specs.Carrying.{IsFirstLf, lf_bits};
+
+use std::simd::prelude::*;
 
 const LF: u8 = b'\n';
 
@@ -12,29 +14,42 @@ const PIECE: usize = 64;
 pub(crate) fn first_lf(bytes: &[u8]) -> Option<usize>
     ensures { MatchOption result (has_lf bytes.now ≡ false) (IsFirstLf bytes.now) }
 {
-    let before = pass_over(bytes);
+    let mut before = 0;
+    while bytes.len() - before >= PIECE {
+        let clean = clean_bytes(&bytes[before..before + PIECE]);
+        if clean < PIECE {
+            return Some(before + clean);
+        }
+        before += PIECE;
+    }
     match next_lf(&bytes[before..]) {
         Some(n) => Some(before + n),
         None => None,
     }
 }
 
-// How many bytes at the front have no LF, as far as it is seen piece by piece.
-fn pass_over(bytes: &[u8]) -> usize
-    ensures within { result ≤ length bytes.now }
-    ensures clean { has_lf (take result bytes.now) ≡ false }
+// How many bytes of a piece are before its first LF: all where it has none.
+fn clean_bytes(piece: &[u8]) -> usize
+    requires { length piece.now ≡ 64 }
+    ensures within { result ≤ 64 }
+    ensures clean { has_lf (take result piece.now) ≡ false }
+    ensures stops { result < 64 → slice_index piece.now result ≡ 10 }
 {
-    let mut at = 0;
-    while bytes.len() - at >= PIECE && has_none(&bytes[at..at + PIECE]) {
-        at += PIECE;
+    let found = lf_lanes(piece);
+    if found == 0 {
+        return PIECE;
     }
-    at
+    found.trailing_zeros() as usize
 }
 
-fn has_none(piece: &[u8]) -> bool
-    ensures { result ≡ true → has_lf piece.now ≡ false }
+// A bit for each LF of a piece.
+fn lf_lanes(piece: &[u8]) -> u64
+    requires { length piece.now ≡ 64 }
+    ensures { result ≡ lf_bits piece.now }
 {
-    !piece.contains(&LF)
+    u8x64::from_slice(piece)
+        .simd_eq(u8x64::splat(LF))
+        .to_bitmask()
 }
 
 // The place of the first LF, byte by byte.

@@ -1,99 +1,104 @@
 // What pairs of hex digits are worth.
-ghost use Rattle.std.specs.Prelude.{◌≡◌, ◌≤◌, ◌+◌, ◌*◌, nat_lt, slice_index, length, vec_len, if◌then◌else◌, Some, None};
-ghost use Rattle.hex.specs.Hex.{decode_of, pair_value};
+ghost use Rattle.std.specs.Prelude.{◌≡◌, ◌≤◌, ◌<◌, ◌+◌, ◌*◌, ℕ, true, false, length, vec_len, slice_index, if◌then◌else◌, Some, None};
+ghost use Rattle.hex.specs.Hex.{decode_of};
 ghost use Rattle.packet_text.specs.PacketText.{decoded};
-ghost use Rattle.packet_text.specs.PairAnswers.{as_number, AnswersFor, AnswersAll};
+ghost use Rattle.packet_text.specs.DigitMarks.{mark, MarksAll, marks_from, IsPair, HasRefused};
 
-use hex::FromHex;
+use crate::lanes::{BLOCK, Rows, decode_block, load};
+use hex::{FromHex, decode_to_slice};
 use otn_base::Memory;
 use std::alloc::Global;
 
 // Bytes that there are.
 const BYTES: usize = 256;
 
-// In place of a byte, where two bytes are no digits.
-const REFUSED: u16 = 256;
-
 const ZERO: u8 = b'0';
 
-/// What every two bytes are worth as hex digits of either case: the answers of the library `hex`, asked once and kept.
+// Stands with the value of a digit.
+const DIGIT: u8 = 128;
+
+/// What every byte is worth as a hex digit of either case: the answers of the library `hex`, asked once and kept.
 #[derive(Drop)]
 pub struct DigitPairs {
-    // That for two digits stands at the first and 256 times the second.
-    answers: Vec<u16>,
-    ghost size: { vec_len answers ≡ 65536 },
-    ghost right: { AnswersAll answers.items },
+    // By the byte: of a digit its value and 128, of another byte 0.
+    marks: Vec<u8>,
+    ghost size: { vec_len marks ≡ 256 },
+    ghost right: { MarksAll marks.items },
 }
 
 impl DigitPairs {
-    /// Asks for all pairs. All memory, 128 KiB, is taken here.
+    /// Asks for all bytes. All memory, 256 bytes, is taken here.
     pub fn new(alloc: Global) -> Result<DigitPairs, Memory> {
-        let mut answers = vec![in alloc; 0u16; BYTES * BYTES]?;
-        ask_all(&mut answers);
-        Ok(DigitPairs { answers })
+        let mut marks = vec![in alloc; 0u8; BYTES]?;
+        ask_all(&mut marks);
+        Ok(DigitPairs { marks })
     }
 
     /// Writes the bytes that hex digits say, two of them a byte, to the slice, and says whether they are digits; if not, the
     /// slice's content is open.
-    #[tactic(auto, using(crate::proofs::LookingUp::looked_on, crate::proofs::LookingUp::looked_up))]
     pub fn decode(&self, digits: &[u8], bytes: &mut [u8]) -> bool
         requires { length digits.now ≡ 2 * length bytes.old }
         ensures { decoded (decode_of digits.now) ≡ (if result then Some bytes.new else None) }
     {
-        let answers: &[u16] = &self.answers;
-        let mut all = 0;
-        for i in 0..bytes.len() {
-            let answer = answers[place_of(digits, 2 * i)];
-            bytes[i] = (answer & 0xFF) as u8;
-            all |= answer;
+        if bytes.len() < BLOCK {
+            return decode_few(digits, bytes);
         }
-        all < REFUSED
+        self.decode_blocks(digits, bytes)
+    }
+
+    // Block by block; the last overlaps the one before it.
+    #[tactic(auto, using(crate::proofs::DigitBlocks::all_read, crate::proofs::DigitBlocks::one_refused))]
+    fn decode_blocks(&self, digits: &[u8], bytes: &mut [u8]) -> bool
+        requires size { length digits.now ≡ 2 * length bytes.old }
+        requires some { 16 ≤ length bytes.old }
+        ensures { decoded (decode_of digits.now) ≡ (if result then Some bytes.new else None) }
+    {
+        let rows = self.rows();
+        let last = bytes.len() - BLOCK;
+        for block in 0..bytes.len().div_ceil(BLOCK) {
+            if !decode_block(rows, digits, bytes, (BLOCK * block).min(last)) {
+                return false;
+            }
+        }
+        true
+    }
+
+    // The rows of numerals and letters.
+    fn rows(&self) -> Rows
+        ensures numerals { result.numerals ≡ marks_from 48 }
+        ensures letters { result.letters ≡ marks_from 96 }
+    {
+        Rows {
+            numerals: load(&self.marks, 48),
+            letters: load(&self.marks, 96),
+        }
     }
 }
 
-// Asks for all pairs, by their second digit.
-#[tactic(auto, using(crate::proofs::Asking::row_kept))]
-fn ask_all(answers: &mut [u16])
-    requires { length answers.old ≡ 65536 }
-    ensures { AnswersAll answers.new }
+// By the library.
+fn decode_few(digits: &[u8], bytes: &mut [u8]) -> bool
+    requires { length digits.now ≡ 2 * length bytes.old }
+    ensures { decoded (decode_of digits.now) ≡ (if result then Some bytes.new else None) }
 {
-    for second in 0..BYTES {
-        let at = BYTES * second;
-        ask_row(second as u8, &mut answers[at..at + BYTES]);
+    decode_to_slice(digits, bytes).is_ok()
+}
+
+// Asks for all bytes, one by one.
+fn ask_all(marks: &mut [u8])
+    requires { length marks.old ≡ 256 }
+    ensures { MarksAll marks.new }
+{
+    for byte in 0..BYTES {
+        marks[byte] = ask(byte as u8);
     }
 }
 
-// Asks for the pairs that end with this byte: none is taken where it is no digit.
-fn ask_row(second: u8, row: &mut [u16])
-    requires { length row.old ≡ 256 }
-    ensures { AnswersFor second row.new }
+// Asks for a byte, as the second digit of a pair.
+fn ask(byte: u8) -> u8
+    ensures { result ≡ mark byte }
 {
-    if ask(ZERO, second) == REFUSED {
-        return row.fill(REFUSED);
+    match <[u8; 1] as FromHex>::from_hex([ZERO, byte]) {
+        Ok(bytes) => bytes[0] | DIGIT,
+        Err(_) => 0,
     }
-    for first in 0..BYTES {
-        row[first] = ask(first as u8, second);
-    }
-}
-
-// Asks for a pair.
-#[tactic(auto, using(crate::proofs::Asking::asked_ok))]
-fn ask(first: u8, second: u8) -> u16
-    ensures { result ≡ as_number (pair_value first second 0) }
-{
-    match <[u8; 1] as FromHex>::from_hex([first, second]) {
-        Ok(bytes) => u16::from(bytes[0]),
-        Err(_) => REFUSED,
-    }
-}
-
-// The place of the answer for the pair that begins there.
-fn place_of(digits: &[u8], at: usize) -> usize
-    requires { at + 2 ≤ length digits.now }
-    ensures { result ≡ slice_index digits.now at + 256 * slice_index digits.now (at + 1) }
-{
-    // The copy makes it one load.
-    let mut pair = [0; 2];
-    pair.copy_from_slice(&digits[at..at + 2]);
-    usize::from(u16::from_le_bytes(pair))
 }

@@ -1,5 +1,5 @@
 -- What is in hand, and what it makes of the text.
-use Rattle.std.proofs.Common.{◌≡◌, ◌≢◌, ◌<◌, ◌≤◌, ◌+◌, ℕ, Bool, true, false, not, nat_lt, List, [], ◌++◌, length, take, drop, Some, None, arith, refl, sym, ap, ◌∙◌, length-drop, append-nil, append_assoc}
+use Rattle.std.proofs.Common.{◌≡◌, ◌≢◌, ◌<◌, ◌≤◌, ◌+◌, ℕ, zero, suc, Bool, true, false, not, nat_lt, List, [], ◌++◌, length, take, drop, Some, None, arith, refl, sym, ap, ◌∙◌, length-drop, append-nil, append_assoc}
 use Rattle.std.proofs.lemmas.Bool.{and_parts, and_from}
 use Rattle.std.proofs.lemmas.Bool.Decides.{nat_tests}
 use Rattle.std.proofs.lemmas.List.{length-take-le, take_at, take-append-drop}
@@ -80,3 +80,28 @@ drop_every n xs h = let size = length-drop n xs in no_bytes (drop n xs) (omega a
 
 pub given_all : (line line' : List ℕ) (n : ℕ) → line' ≡ drop n line → length line ≤ n → line' ≡ []
 given_all line line' n rest all = rest ∙ drop_every n line all
+
+-- lines given behind those before
+pub given_on : (whole was into w t left : List ℕ) (d n : ℕ) → d ≤ length into → n ≤ length w → whole ≡ take d into ++ was → was ≡ take n w ++ left
+    → whole ≡ take (d + n) (take d into ++ (w ++ t)) ++ left
+given_on whole was into w t left d n fits some parts step =
+    parts ∙ ap (λ l. take d into ++ l) step ∙ sym (append_assoc (take d into) (take n w) left) ∙ ap (λ l. l ++ left) (sym (front into w t d n fits some))
+
+-- the front of a line given
+pub line_given : (line line' text into new : List ℕ) (n : ℕ) → n ≤ length line → new ≡ take n line ++ drop n into → line' ≡ drop n line → line ++ text ≡ take n new ++ (line' ++ text)
+line_given line line' text into new n some put rest =
+    let piece : take n new ≡ take n line = ap (take n) put ∙ take_at (take n line) (drop n into) n (length-take-le n line some) in
+    rw (piece, rest) (ap (λ l. l ++ text) (sym (take-append-drop n line)) ∙ append_assoc (take n line) (drop n line) text)
+
+-- a line put, of the whole record at the front
+pub line_put : (order : ByteOrder) (line hand line' hand' put : List ℕ) (size : ℕ) → line ≡ [] → line' ≡ line → is_whole_record order hand ≡ true → captured order hand ≡ size
+    → put ≡ packet_line (take size (drop 16 hand)) → hand' ≡ drop (16 + size) hand
+    → (coming : List ℕ) → line ++ text_from (Records order) (hand ++ coming) ≡ put ++ (line' ++ text_from (Records order) (hand' ++ coming))
+line_put order line hand line' hand' put size none same whole is made rest coming =
+    sym (line_made order line hand hand' put size none whole is made rest coming) ∙ ap (λ l. put ++ (l ++ text_from (Records order) (hand' ++ coming))) (sym (same ∙ none))
+
+-- nothing put, or something
+pub put_or_not : (n : ℕ) (into : List ℕ) (P Q : List ℕ → List ℕ) → (n ≡ 0 → (coming : List ℕ) → P coming ≡ Q coming) → (0 < n → (coming : List ℕ) → P coming ≡ take n into ++ Q coming)
+    → (coming : List ℕ) → P coming ≡ take n into ++ Q coming
+put_or_not zero into P Q none some = none refl
+put_or_not (suc n) into P Q none some = some (omega arith)

@@ -1,4 +1,6 @@
 // The bytes at the front of a capture's records.
+ghost use Rattle.std.specs.Prelude.{◌≡◌, ◌≤◌, ◌-◌, nat_le, length};
+ghost use Rattle.pcap_packets.specs.CaptureText.{captured};
 ghost use Rattle.pcap_packets.specs.Captures.{IsFront};
 
 use crate::order::{ByteOrder, number_at};
@@ -27,12 +29,28 @@ pub(crate) fn front_of(order: ByteOrder, bytes: &[u8]) -> Front
     if bytes.len() < RECORD_HEADER {
         return Front::Waits;
     }
-    let size = number_at(order, bytes, 8) as usize;
+    let size = captured_bytes(order, bytes);
     if size > MOST_PACKET {
         return Front::Bad;
     }
-    if bytes.len() - RECORD_HEADER < size {
+    if !has_packet(bytes, size) {
         return Front::Waits;
     }
     Front::Whole(size)
+}
+
+// How many bytes of its packet the record at the front has.
+fn captured_bytes(order: ByteOrder, bytes: &[u8]) -> usize
+    requires { 16 ≤ length bytes.now }
+    ensures { result ≡ captured order bytes.now }
+{
+    number_at(order, bytes, 8) as usize
+}
+
+// Whether so many bytes of a packet are behind the header of the record.
+fn has_packet(bytes: &[u8], size: usize) -> bool
+    requires { 16 ≤ length bytes.now }
+    ensures { result ≡ nat_le size (length bytes.now - 16) }
+{
+    bytes.len() - RECORD_HEADER >= size
 }

@@ -141,8 +141,7 @@ impl Held {
         ensures front { self.new.at ≡ 0 }
     {
         self.push(&TIME);
-        let size = (digits.len() / 2) as u32;
-        let size_bytes = size.to_le_bytes();
+        let size_bytes = packet_size(digits).to_le_bytes();
         self.push(&size_bytes);
         self.push(&size_bytes);
         self.push_packet(pairs, digits);
@@ -236,6 +235,14 @@ fn put_at(bytes: &[u8], at: usize, buffer: &mut [u8])
     ensures { take (at + length bytes.now) buffer.new ≡ take at buffer.old ++ bytes.now }
 {
     buffer[at..at + bytes.len()].copy_from_slice(bytes);
+}
+
+// How many bytes the packet has that digits say.
+fn packet_size(digits: &[u8]) -> u32
+    requires { length digits.now ≤ 262144 }
+    ensures { result ≡ length digits.now / 2 }
+{
+    (digits.len() / 2) as u32
 }
 
 // Puts the bytes that digits say into a buffer, from `at` on.

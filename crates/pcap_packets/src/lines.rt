@@ -57,11 +57,90 @@ impl CaptureLines {
         ensures bytes { (coming : List ℕ) → lines_left self.old coming ≡ take result into.new ++ lines_left self.new coming }
         ensures none { result ≡ 0 → 0 < length into.old → held self.old.line ≡ [] }
     {
-        let mut done = self.line.give(into);
-        while done < into.len() && self.next() {
-            done += self.line.give(&mut into[done..]);
+        let done = self.line.give(into);
+        if done == into.len() {
+            return done;
+        }
+        done + self.give_lines(&mut into[done..])
+    }
+
+    // Gives lines where none is in hand: whole ones, and then the front of one that has no room.
+    fn give_lines(&mut self, into: &mut [u8]) -> usize
+        requires empty { held self.old.line ≡ [] }
+        ensures bound { result ≤ length into.old }
+        ensures bytes { (coming : List ℕ) → lines_left self.old coming ≡ take result into.new ++ lines_left self.new coming }
+    {
+        let done = self.put_lines(into);
+        if done < into.len() && self.next() {
+            return done + self.line.give(&mut into[done..]);
         }
         done
+    }
+
+    // Puts whole lines into the slice, as many as there are and as it has room for.
+    fn put_lines(&mut self, into: &mut [u8]) -> usize
+        requires empty { held self.old.line ≡ [] }
+        ensures bound { result ≤ length into.old }
+        ensures bytes { (coming : List ℕ) → lines_left self.old coming ≡ take result into.new ++ lines_left self.new coming }
+        ensures empty { held self.new.line ≡ [] }
+    {
+        match self.stage {
+            Stage::Records(order) => self.put_records(order, into),
+            _ => 0,
+        }
+    }
+
+    fn put_records(&mut self, order: ByteOrder, into: &mut [u8]) -> usize
+        requires records { self.old.stage ≡ Stage.Records order }
+        requires empty { held self.old.line ≡ [] }
+        ensures bound { result ≤ length into.old }
+        ensures bytes { (coming : List ℕ) → lines_left self.old coming ≡ take result into.new ++ lines_left self.new coming }
+        ensures empty { held self.new.line ≡ [] }
+    {
+        let mut done = 0;
+        loop {
+            let more = self.put_next(order, &mut into[done..]);
+            if more == 0 {
+                return done;
+            }
+            done += more;
+        }
+    }
+
+    // Puts the line of the record at the front, where that is whole and there is room for the line, and says how many bytes.
+    fn put_next(&mut self, order: ByteOrder, into: &mut [u8]) -> usize
+        requires records { self.old.stage ≡ Stage.Records order }
+        requires empty { held self.old.line ≡ [] }
+        ensures bound { result ≤ length into.old }
+        ensures bytes { (coming : List ℕ) → lines_left self.old coming ≡ take result into.new ++ lines_left self.new coming }
+        ensures empty { held self.new.line ≡ [] }
+        ensures stage { self.new.stage ≡ self.old.stage }
+    {
+        match front_of(order, self.hand.bytes()) {
+            Front::Whole(size) => self.put_line(size, into),
+            _ => 0,
+        }
+    }
+
+    // The same of the whole record at the front, whose packet has so many bytes.
+    fn put_line(&mut self, size: usize, into: &mut [u8]) -> usize
+        requires whole { 16 + size ≤ length (held self.old.hand) }
+        requires fits { size ≤ 65527 }
+        ensures bound { result ≤ length into.old }
+        ensures none { result ≡ 0 → self.new ≡ self.old }
+        ensures put { 0 < result → take result into.new ≡ packet_line (take size (drop 16 (held self.old.hand))) }
+        ensures hand { 0 < result → held self.new.hand ≡ drop (16 + size) (held self.old.hand) }
+        ensures line { self.new.line ≡ self.old.line }
+        ensures stage { self.new.stage ≡ self.old.stage }
+    {
+        if into.len() <= 2 * size {
+            return 0;
+        }
+        let end = RECORD_HEADER + size;
+        let packet = &self.hand.bytes()[RECORD_HEADER..end];
+        let count = self.digits.put_line(packet, into);
+        self.hand.pass(end);
+        count
     }
 
     /// Asks the source until a line is in hand or the text is over. Failed as the source does; the text to come is the same.

@@ -33,7 +33,8 @@ impl<S: Sink> PcapSink<S> {
     ghost use Rattle.pcap_packets.specs.Written.{capture_of, packets_written};
     ghost use Rattle.pcap_packets.specs.Laws.{ReadsBack};
 
-    /// Writes a capture to this sink, which has got nothing. All memory, 384 KiB, is taken here.
+    /// Writes a capture to this sink, which has got nothing. All memory, 256 KiB and a little, is taken
+    /// here.
     pub fn new(alloc: Global, inner: S) -> Result<PcapSink<S>, Memory>
         requires { IfSome (S.got inner) (λ got. got ≡ []) }
         ensures got { IfOk result (λ sink. written_got S.got sink ≡ option_map (λ _. []) (S.got inner)) }

@@ -1,5 +1,6 @@
-use Rattle.packet_text.specs.PairAnswers.{AnswersBelow}
+use Rattle.std.proofs.Common.{◌≡◌, ◌<◌, ℕ, slice_index}
+use Rattle.packet_text.specs.DigitMarks.{mark}
 use Rattle.packet_text.proofs.pairs.ask_all.Given as goal
 
-abbrev pub invariant-loop-second : goal.invariant-loop-second
-invariant-loop-second l = AnswersBelow l.second l.answers
+abbrev pub invariant-loop-byte : goal.invariant-loop-byte
+invariant-loop-byte l = (byte : ℕ) → byte < l.byte → slice_index l.marks byte ≡ mark byte

@@ -1,6 +1,6 @@
-use Rattle.std.proofs.Common.{◌≡◌, ◌*◌, ◌++◌, take, drop}
-use Rattle.hex.specs.Hex.{encode_lower}
+use Rattle.std.proofs.Common.{◌*◌}
+use Rattle.packet_text.proofs.ByteBlocks.{Put}
 use Rattle.packet_text.proofs.byte_digits.ByteDigits.encode.Given as goal
 
-abbrev pub invariant-loop-i : goal.invariant-loop-i
-invariant-loop-i l = take (2 * l.i) l.digits ++ encode_lower (drop l.i l.packet) ≡ encode_lower l.packet
+abbrev pub invariant-loop-block : goal.invariant-loop-block
+invariant-loop-block l = Put l.packet l.digits (16 * l.block)
