@@ -1,3 +1,4 @@
+pub mod ClientLists
 pub mod Texts
 pub mod Sizes
 pub mod Channels
@@ -11,5 +12,6 @@ pub mod Lists
 pub mod Ends
 pub mod Finish
 pub mod BundleEnds
+pub mod AskedAtEnd
 pub mod Ran
 pub mod Turning

@@ -10,6 +10,7 @@ pub mod PlacesAnswered
 pub mod PlanChecks
 pub mod Protected
 pub mod ProtectTable
+pub mod BundleTable
 pub mod UnbundleTable
 pub mod PullCarried
 pub mod PullDamaged

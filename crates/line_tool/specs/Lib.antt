@@ -14,6 +14,7 @@ pub mod PlanCheck
 pub mod PlanReading
 pub mod PlanRuns
 pub mod ProtectLaws
+pub mod BundleLaws
 pub mod UnbundleLaws
 pub mod PullCarried
 pub mod PullDamaged

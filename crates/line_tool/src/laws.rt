@@ -11,6 +11,7 @@ ghost use Rattle.line_tool.specs.Device.{Device, line_zero};
 ghost use Rattle.line_tool.specs.Headline.{IsCarried, IsIsolated, IsOfAPlan, IsThrough, LeavesOthers, LooksNotAhead};
 ghost use Rattle.line_tool.specs.PlanCheck.{CheckEnds};
 ghost use Rattle.line_tool.specs.ProtectLaws.{ProtectIsComplete, ProtectsWhatWasGiven};
+ghost use Rattle.line_tool.specs.BundleLaws.{BundleIsComplete, BundlesWhatWasGiven};
 ghost use Rattle.line_tool.specs.UnbundleLaws.{UnbundleIsComplete, UnbundlesWhatWasGiven};
 ghost use Rattle.line_tool.specs.PullCarried.{BeginsWithWhatIsCarried, IsTheWholeGroups, HasWhatIsCarriedAfterDamage};
 ghost use Rattle.line_tool.specs.PullDamaged.{WritesAsIfRepeated};
@@ -77,6 +78,12 @@ pub fn protect_of_given()
     ensures { ProtectsWhatWasGiven }
 {}
 
+/// `bundle`, by all bytes that its clients had to give, where they tell them: what was due to line output 0, what the report got, how the
+/// command ended, and what was read of each client.
+pub fn bundle_of_given()
+    ensures { BundlesWhatWasGiven }
+{}
+
 /// `unbundle`, by all bytes that line input 0 had to give, where it tells them: what was due to each client output, what the report got, how the
 /// command ended, and how many bytes were taken.
 pub fn unbundle_of_given()
@@ -91,8 +98,8 @@ pub fn check_of_text()
 
 /// Where no count of faults rose or stands at its end, and the line was not dead, a command is Done or Unfinished, `check` Done or
 /// Plan; or there was no memory. So is `run`, of the places that its plan uses, or Plan (`run`): Unfinished exactly where a line has more
-/// than its turns want, or a client is not spent (`ends`); and `protect`, of its three places, and `unbundle`, of its line and
-/// all client outputs.
+/// than its turns want, or a client is not spent (`ends`); and `protect`, of its three places, `bundle`, of its
+/// clients and its line output, and `unbundle`, of its line and all client outputs.
 pub fn without_faults()
     ensures slot { (slot : ℕ) (old new : Device) (answer : Status) → LineAnswers (SlotRan slot) old new answer
         → IsWell old.report.faults new.report.faults → IsWell (line_zero old).faults (line_zero new).faults → (line_zero old).state ≢ Dead
@@ -106,6 +113,7 @@ pub fn without_faults()
     ensures run { RunIsComplete }
     ensures ends { RunEndsByInputs }
     ensures protect { ProtectIsComplete }
+    ensures bundle { BundleIsComplete }
     ensures unbundle { UnbundleIsComplete }
 {}
 

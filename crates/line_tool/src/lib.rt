@@ -37,9 +37,9 @@ mod words;
 
 pub use damage::damaged_lines;
 pub use laws::{
-    check_of_text, forms_are_apart, headline, headline_of_any_inputs, protect_of_given,
-    pull_of_carried, pull_of_given, pull_of_one_damaged, pull_two_worlds, run_of_text,
-    slot_of_given, slot_two_worlds, unbundle_of_given, without_faults,
+    bundle_of_given, check_of_text, forms_are_apart, headline, headline_of_any_inputs,
+    protect_of_given, pull_of_carried, pull_of_given, pull_of_one_damaged, pull_two_worlds,
+    run_of_text, slot_of_given, slot_two_worlds, unbundle_of_given, without_faults,
 };
 pub use number_chooser::NumberChooser;
 pub use report::put_report;
