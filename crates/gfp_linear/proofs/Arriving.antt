@@ -10,7 +10,7 @@ use Rattle.gfp_frames.specs.GfpText.{Idle, text_of}
 use Rattle.gfp_frames.specs.Within.{areas_with, areas_within, CanCarry, CanCarryAll}
 use Rattle.gfp_frames.proofs.Arrives.{areas_found, areas-cut, areas-whole, within-end}
 use Rattle.gfp_linear.specs.ChannelFrames.{packet_area, loss_area, IsCidList}
-use Rattle.gfp_linear.specs.Weave.{ChannelText, WovenFrame, IdleFrame, PacketFrame, LossFrame, made_of, weave, woven_size, woven_within, is_frame_of, packet_of, packets_given, no_text}
+use Rattle.gfp_linear.specs.Weave.{AreCarried, ChannelText, WovenFrame, IdleFrame, PacketFrame, LossFrame, made_of, weave, woven_size, woven_within, is_frame_of, packet_of, packets_given, no_text}
 use Rattle.gfp_linear.specs.ChannelArrivals.{ChannelArrival, PacketOn, LossOn, arrivals_in, channel_arrivals}
 use Rattle.gfp_linear.specs.Laws.{arrivals_of, is_on, packet_on, packets_on, woven_arrivals, IsFront, ChannelsArrive, EachChannelArrives, FirstPacketsArrive, OthersMakeNoDifference, ArrivalsStay}
 use Rattle.gfp_frames.proofs.Grows.{areas_grow}
