@@ -1,8 +1,10 @@
 -- Lists of clients, and their texts.
-use Rattle.std.proofs.Common.{◌≡◌, ◌≢◌, ◌⊎◌, inl, inr, ◌<◌, ◌≤◌, ◌+◌, ◌-◌, ◌/◌, ◌%◌, ◌==◌, ◌∙◌, ℕ, zero, suc, true, false, All, List, [], ◌∷◌, ◌++◌, length, map, take, drop, get_or, refl, sym, ap, subst, arith, length-append, append-nil}
+use Rattle.std.proofs.Common.{◌≡◌, ◌≢◌, ◌⊎◌, inl, inr, ◌<◌, ◌≤◌, ◌+◌, ◌-◌, ◌/◌, ◌%◌, ◌==◌, ◌∙◌, ℕ, zero, suc, true, false, All, List, [], ◌∷◌, ◌++◌, length, map, take, drop, get_or, refl, sym, ap, subst, arith, length-append, length-drop, append-nil}
 use Rattle.std.specs.Fmt.{decimal}
 use Rattle.std.specs.List.{join_with_byte, slice_split, position_or_len, before_first, after_first}
 use Rattle.std.specs.Str.Parse.{digits_value}
+use Rattle.std.proofs.Math.Seq.{take-length}
+use Rattle.std.proofs.lemmas.List.{drop-drop}
 use Rattle.std.proofs.lemmas.Bool.{cases_lt}
 use Rattle.std.proofs.lemmas.Bool.Decides.{nat_tests}
 use Rattle.std.proofs.lemmas.Fmt.{decimal_digit, decimal_step, decimal_injective, decimal_is_IsNumeral}
@@ -15,7 +17,7 @@ use Rattle.bundle_command.proofs.Finish.{few_channels}
 
 -- ---- how many there are
 
-few_clients : (clients : List ℕ) → IsClientList clients → length clients ≤ 16
+pub few_clients : (clients : List ℕ) → IsClientList clients → length clients ≤ 16
 few_clients [] h = omega arith
 few_clients (client ∷ clients) h =
     let last = few_channels (client ∷ clients) (length clients) h (omega arith) in
@@ -150,14 +152,25 @@ map-push : (done : List ℕ) (n : ℕ) (rest : List (List ℕ)) → map decimal 
 map-push [] n rest = refl
 map-push (first ∷ done) n rest = ap (λ parts. decimal first ∷ parts) (map-push done n rest)
 
+-- what stands behind a comma
+pub behind_comma : (rest from : List ℕ) (comma : ℕ) → from ≡ take (length rest - comma) (drop comma rest) → comma < length rest → take (length from - 1) (drop 1 from) ≡ drop (comma + 1) rest
+behind_comma rest from comma is less =
+    let size : length (drop comma rest) ≡ length rest - comma = length-drop comma rest in
+    let all : from ≡ drop comma rest = is ∙ ap (λ n. take n (drop comma rest)) (sym size) ∙ take-length (drop comma rest) in
+    let one = length-drop 1 (drop comma rest) in
+    let long = ap length all in
+    let left : length from - 1 ≡ length (drop 1 (drop comma rest)) = omega (arith, one, long) in
+    ap (λ xs. take (length from - 1) (drop 1 xs)) all ∙ ap (λ n. take n (drop 1 (drop comma rest))) left ∙ take-length (drop 1 (drop comma rest))
+    ∙ drop-drop 1 comma rest
+
 -- one more is read, and its comma
 pub read_on : (text done rest now : List ℕ) (comma n : ℕ) → ReadSo text done rest → comma ≡ position_or_len (λ byte. byte == 44) rest → comma < length rest → take comma rest ≡ decimal n
-    → n < 16 → now ≡ done ++ n ∷ [] → ReadSo text now (drop (comma + 1) rest)
-read_on text done rest now comma n read is less first few same = record {
+    → n < 16 → now ≡ done ++ n ∷ [] → (next : List ℕ) → next ≡ drop (comma + 1) rest → ReadSo text now next
+read_on text done rest now comma n read is less first few same next later = subst (ReadSo text now) (sym later) (record {
   parts = read.parts ∙ ap (λ parts. map decimal done ++ parts) (comma_left rest comma is less ∙ ap (λ part. part ∷ slice_split (λ byte. byte == 44) (drop (comma + 1) rest)) first)
       ∙ sym (map-push done n (slice_split (λ byte. byte == 44) (drop (comma + 1) rest))) ∙ ap (λ ns. map decimal ns ++ slice_split (λ byte. byte == 44) (drop (comma + 1) rest)) (sym same);
   numbers = subst AreNumbers (sym same) (All-push (λ n. n < 16) done n read.numbers few);
-}
+})
 
 -- the last one is read
 last_parts : (text done rest now : List ℕ) (comma n : ℕ) → ReadSo text done rest → comma ≡ position_or_len (λ byte. byte == 44) rest → length rest ≤ comma → rest ≡ decimal n
@@ -190,6 +203,5 @@ values_back (client ∷ clients) few =
     ∙ ap (λ ns. client ∷ ns) (values_back clients (All-tail (λ n. n < 16) client clients few))
 
 pub clients_back : (clients : List ℕ) → IsClientList clients → numbers_in (clients_text clients) ≡ clients
+unfolding numbers_in
 clients_back clients h = ap (map (digits_value 10)) (parts_of_text (clients_text clients) clients h refl) ∙ values_back clients (numbers_of clients h)
-
-pub ruleset numbers = (one_digit, two_digits)

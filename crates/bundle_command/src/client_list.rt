@@ -7,6 +7,7 @@ ghost use Rattle.bundle_command.specs.BundleLeft.{IsClientList};
 ghost use Rattle.bundle_command.specs.ClientText.{clients_text};
 
 use arrayvec::ArrayVec;
+use itoa::Buffer;
 use otn_base::limits::CLIENTS;
 use std::marker::Model;
 
@@ -56,7 +57,8 @@ impl ClientList {
         let mut comma = comma_in(rest);
         while comma < rest.len() {
             push_client(&mut list, &rest[..comma])?;
-            rest = &rest[comma + 1..];
+            let behind = &rest[comma..];
+            rest = &behind[1..];
             comma = comma_in(rest);
         }
         push_client(&mut list, rest)?;
@@ -102,15 +104,16 @@ fn push_client(list: &mut ArrayVec<u8, CLIENTS>, text: &[u8]) -> Option<()>
     list.try_push(client_of(text)?).ok()
 }
 
-// The client whose number, 0 to 15, this text is.
-#[tactic(auto, using(crate::proofs::ClientLists::numbers))]
+// The client whose number, 0 to 15, this text is in decimal.
 fn client_of(text: &[u8]) -> Option<u8>
     ensures client { IfSome result (λ n. (text.now ≡ decimal n) × (n < CLIENTS)) }
     ensures none { IfNone result ((n : ℕ) → text.now ≡ decimal n → n < CLIENTS → ⊥) }
 {
-    match text {
-        [digit @ b'0'..=b'9'] => Some(*digit - b'0'),
-        [b'1', digit @ b'0'..=b'5'] => Some(*digit - b'0' + 10),
-        _ => None,
+    let mut digits = Buffer::new();
+    for client in 0..CLIENTS as u8 {
+        if digits.format(client).as_bytes() == text {
+            return Some(client);
+        }
     }
+    None
 }

@@ -36,7 +36,7 @@ parts_many bytes zero = refl
 parts_many bytes (suc t) = length-append (parts_of bytes t) _ ∙ (let e = parts_many bytes t in omega arith)
 
 -- each has as many bytes as an ODU0 has in a turn
-parts_sizes : (bytes : List ℕ) (turns : ℕ) → 15168 * turns ≤ length bytes → lengths_of (parts_of bytes turns) ≡ replicate turns 15168
+pub parts_sizes : (bytes : List ℕ) (turns : ℕ) → 15168 * turns ≤ length bytes → lengths_of (parts_of bytes turns) ≡ replicate turns 15168
 unfolding parts_of
 parts_sizes bytes zero long = refl
 parts_sizes bytes (suc t) long =
