@@ -110,7 +110,7 @@ emitted_is b cids texts turns t frames file some within =
 
 -- ---- what arrives
 
-arrived_is : (b : ℕ) (cids : List ℕ) (texts : List ChannelText) (turns t : ℕ) (frames : List (List ℕ)) → IsTributaryFile b first_slot (channel_turns cids texts turns) (8 * turns) frames → t ≤ turns
+arrived_is : (b : ℕ) (cids : List ℕ) (texts : List ChannelText) (turns t : ℕ) (frames : List (List ℕ)) → IsTributaryFile b first_slot (channel_turns cids texts turns) (8 * turns) frames → 1 ≤ turns → t ≤ turns + 1
     → arrived_before (concat frames) t ≡ woven_arrivals cids texts (payload_sent turns) (payload_whole (t - 2))
 arrived_is b cids texts turns t frames file some within =
     ap client_arrivals (emitted_is b cids texts turns t frames file some within)

@@ -5,6 +5,7 @@ use Rattle.std.specs.List.{concat}
 use Rattle.std.proofs.Math.Seq.{take-length, take-add}
 use Rattle.std.proofs.lemmas.List.{length-take-le, map-append, take-take}
 use Rattle.std.proofs.lemmas.List.Folds.{concat-append}
+use Rattle.std.proofs.lemmas.List.Sums.{sum_by-append}
 use Rattle.gfp_linear.specs.ChannelArrivals.{channel_arrivals}
 use Rattle.gfp_linear.specs.Laws.{woven_arrivals}
 use Rattle.gfp_linear.specs.Weave.{ChannelText, made_of, weave, weave_text}
@@ -56,14 +57,17 @@ sent_equal n zero within = sum_none (replicate n 15168)
     sum_none : (xs : List ℕ) → sum (take 0 xs) ≡ 0
     sum_none xs = refl
 sent_equal zero (suc k) within = absurd (omega arith)
-sent_equal (suc n) (suc k) within = let e = sent_equal n k (omega arith) in omega (arith, e)
+sent_equal (suc n) (suc k) within =
+    let e = sent_equal n k (omega arith) in
+    let one : sent (replicate (suc n) 15168) (suc k) ≡ 15168 + sent (replicate n 15168) k = sum_by-append (λ n. n) (15168 ∷ []) (take k (replicate n 15168)) in
+    omega (arith, e, one)
 
 pub sent_parts : (bytes : List ℕ) (turns k : ℕ) → 15168 * turns ≤ length bytes → k ≤ turns → sent (lengths_of (parts_of bytes turns)) k ≡ 15168 * k
 sent_parts bytes turns k long within = ap (λ p. sent p k) (parts_sizes bytes turns long) ∙ sent_equal turns k within
 
 -- ---- the stream
 
-stream_text : (cids : List ℕ) (texts : List ChannelText) (n : ℕ) → List ℕ
+abbrev stream_text : (cids : List ℕ) → (texts : List ChannelText) → (n : ℕ) → List ℕ
 stream_text cids texts n = concat (client_frames [] (frames_begun n) (weave_text cids texts (payload_begun n)))
 
 pub stream_size : (cids : List ℕ) (texts : List ChannelText) (n : ℕ) → length (channel_stream cids texts n) ≡ n
@@ -79,7 +83,7 @@ WovenSize = (cids : List ℕ) (texts : List ChannelText) (n : ℕ) → length (w
 
 pub front_arrives : (cids : List ℕ) (texts : List ChannelText) (n k : ℕ) → k ≤ n → length (weave_text cids texts (payload_begun n)) ≡ payload_begun n
     → client_arrivals (take k (channel_stream cids texts n)) ≡ woven_arrivals cids texts (payload_begun n) (15232 * (k / 15296))
-unfolding client_arrivals
+unfolding client_arrivals channel_arrivals
 front_arrives cids texts n k within size =
     let text = weave_text cids texts (payload_begun n) in
     let whole = text_of (map (made_of cids) (weave texts (payload_begun n))) in
