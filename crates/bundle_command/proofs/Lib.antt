@@ -4,6 +4,7 @@ pub mod Sizes
 pub mod Channels
 pub mod Asked
 pub mod Given
+pub mod Idles
 pub mod Frames
 pub mod Within
 pub mod AtEnd
