@@ -4,7 +4,7 @@ _otn() {
     local word=${COMP_WORDS[COMP_CWORD]} words=
     case $COMP_CWORD,${COMP_WORDS[1]} in
         # a command stands in this list, and with the words after it below
-        1,*) words="check run slot pull protect unbundle trial --rules --help --version" ;;
+        1,*) words="check run slot pull protect bundle unbundle trial --rules --help --version" ;;
         2,run) words="--order --pcap" ;;
         2,slot | 2,pull | 3,pull | 2,protect | 3,protect) words="1 2 3 4 5 6 7 8" ;;
     esac

@@ -151,8 +151,8 @@ static size_t draw(size_t below)
 static void by_chance(void)
 {
     static const char *const words[] = { "run", "run --order 3", "slot 3", "pull 1 3", "protect 1 3 2 1",
-                                         "unbundle 2" };
-    struct given in = of_text(words[draw(6)], across);
+                                         "unbundle 2", "bundle 0,5 2" };
+    struct given in = of_text(words[draw(7)], across);
     size_t length = draw(400000), at = 0;
     free(in.inputs);
     in.inputs = memory(length);

@@ -63,7 +63,7 @@ more_live Live ended e = refl
 more_live Empty ended e = absurd (cc)
 more_live Dead ended e = absurd (cc)
 
-none_ended : (s : State) (ended : Bool) → ended ≡ true → more_by s ended ≡ false
+pub none_ended : (s : State) (ended : Bool) → ended ≡ true → more_by s ended ≡ false
 none_ended Live ended e = ap not e
 none_ended Empty ended e = refl
 none_ended Dead ended e = refl

@@ -24,7 +24,7 @@ use Rattle.bundle_command.proofs.Sizes.{bytes-none, bytes-push, end_first}
 pub stands_ready : (clients : List ℕ) (first now : BaysView) (given : List ℕ) (weaving : Weaving) → WeavingStands clients first now given weaving → WeavingReady clients first now given weaving
 stands_ready clients first now given weaving h = record { taken = h.taken; at = h.at; has = h.has; unsettled = h.unsettled; begun = (let b = h.begun in omega arith) }
 
-sat_sum : (g k : ℕ) → saturated (saturated g + k) ≡ saturated (g + k)
+pub sat_sum : (g k : ℕ) → saturated (saturated g + k) ≡ saturated (g + k)
 sat_sum g k = omega arith
 
 -- some bytes of the frame in hand

@@ -1,8 +1,10 @@
+pub mod ClientLists
 pub mod Texts
 pub mod Sizes
 pub mod Channels
 pub mod Asked
 pub mod Given
+pub mod Idles
 pub mod Frames
 pub mod Within
 pub mod AtEnd
@@ -11,5 +13,6 @@ pub mod Lists
 pub mod Ends
 pub mod Finish
 pub mod BundleEnds
+pub mod AskedAtEnd
 pub mod Ran
 pub mod Turning

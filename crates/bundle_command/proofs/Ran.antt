@@ -20,7 +20,7 @@ use Rattle.tributary_line.specs.FeedTurn.{FeedStands, FeedView}
 use Rattle.tributary_line.specs.TributaryFile.{AreTributaryFrames}
 use Rattle.bundle_command.specs.ChannelInput.{texts_of}
 use Rattle.bundle_command.specs.BundleStream.{IsFinished, begun_of, channel_stream, channel_turns, first_slot, lines_told, parts_of, payload_sent, payload_whole}
-use Rattle.bundle_command.specs.BundleLeft.{BundleRan, IsCut, LeftOf, MayBeInput, OutputDue, Tells, place_of}
+use Rattle.bundle_command.specs.BundleLeft.{BundleRan, IsCut, LeftOf, MayBeInput, OutputDue, Tells, WasAsked, place_of}
 use Rattle.bundle_command.specs.Channels.{ChannelAt, ChannelStands, HasChannel, IsBadLine, MayShowAll, StandsSo, woven_bytes}
 use Rattle.bundle_command.specs.Settled.{IsEnded, IsSettled, ended_by, is_dead, lines_of}
 use Rattle.bundle_command.specs.declared.channel.Channel.{Channel}
@@ -29,6 +29,7 @@ use Rattle.bundle_command.specs.declared.channel.Standing.TheVariants as standin
 use Rattle.otn_ports.specs.declared.ended.Ended.{Ended}
 use Rattle.otn_ports.specs.declared.ended.Ended.TheVariants.{ReportFault, Memory}
 use Rattle.bundle_command.specs.declared.weaving.Weaving.{Weaving}
+use Rattle.bundle_command.proofs.AskedAtEnd.{was_asked}
 use Rattle.bundle_command.proofs.BundleEnds.{Known, channel_at, cut_of, is_finished, is_gt, is_le, few_bytes, lines_are, of_cut, open_one, sat_high, sat_low, and_false, and_true, by_false}
 use Rattle.bundle_command.proofs.Ends.{input_left, may_show, more_by}
 use Rattle.bundle_command.proofs.Finish.{EndsAs, ends_by, not_finished, stream_at}
@@ -150,7 +151,7 @@ ran clients turns first last report told gone left given count weaving feed ende
               (sat_high settled.has.end (payload_whole turns) (subst (λ e. payload_whole turns < e) settled.has.end_is (is_gt weaving.end (payload_whole turns) late))) done
         ])))
 
-    left_of : (inputs : ℕ → ClientInput) → MayShowAll weaving.channels.items settled.taken inputs → LeftOf clients turns first last report told ended settled.taken inputs
+    left_of : (inputs : ℕ → ClientInput) → MayShowAll weaving.channels.items settled.taken inputs → LeftOf clients turns first last report told ended settled.taken (λ c. more_of (slice_get weaving.channels.items c) (place_of clients last c).state) inputs
     left_of inputs shows =
         let texts = texts_of (length clients) inputs in
         let weaves = settled.has.weave inputs shows in
@@ -182,6 +183,12 @@ ran clients turns first last report told gone left given count weaving feed ende
                     (subst (λ ps. asked_for (lines_view k.0.lines).answer (length (packets_given c settled.at.frames ++ at.beyond)) ≤ length ps + 1) (sym (known.stream.begun c))
                     (asked_most k.0.standing (packets_given c settled.at.frames) at.beyond (lines_view k.0.lines).answer at.so)) at.text.read,
               );
+          asked = λ c here.
+              let k = channel_at clients weaving.channels.items c settled.has.many here in
+              let at = (settled.has.each c k.0 k.1).stands in
+              subst (λ m. WasAsked (length (begun_of clients texts turns c)) m (settled.taken c)) (sym (more_is weaving.channels.items c k.0 (place_of clients last c).state k.1))
+              (subst (λ (ps : List (List ℕ)). WasAsked (length ps) (more_by (place_of clients last c).state (lines_view k.0.lines).ended) (settled.taken c)) (sym (known.stream.begun c))
+              (was_asked k.0.standing (place_of clients first c) (place_of clients last c) (settled.taken c) (packets_given c settled.at.frames) at.beyond (lines_view k.0.lines) (settled.over c k.0 k.1 here) at.so at.text));
           cut = λ other. (ends inputs known (outcome_ended outcome other)).cut;
           unfinished = λ other. (ends inputs known (outcome_ended outcome other)).unfinished;
         }

@@ -2,14 +2,15 @@
 use Rattle.std.proofs.Common.{◌≡◌, ◌≢◌, ◌⊎◌, inl, inr, ◌<◌, ◌≤◌, ◌+◌, ◌-◌, ◌*◌, ℕ, zero, suc, Bool, true, false, cond, List, [], ◌∷◌, ◌++◌, length, map, take, get_or, refl, sym, ap, subst, ◌∙◌, append-nil, append_assoc, length-append, arith}
 use Rattle.std.proofs.Math.Seq.{take-append_seam}
 use Rattle.std.proofs.lemmas.Bool.{cases_lt, lt-ltb, le-ltb}
+use Rattle.std.proofs.lemmas.List.{length-take-le}
 use Rattle.std.proofs.lemmas.Grind.{flat_map-append}
 use Rattle.gfp_frames.specs.GfpText.{Frame, text_of}
 use Rattle.gfp_frames.specs.Within.{frame_size}
 use Rattle.gfp_linear.specs.Laws.{IsFront}
-use Rattle.gfp_linear.specs.Weave.{WovenFrame, IdleFrame, PacketFrame, LossFrame, made_of, packet_of, packets_given, woven_size, woven_within}
+use Rattle.gfp_linear.specs.Weave.{ChannelText, WovenFrame, IdleFrame, PacketFrame, LossFrame, made_of, packet_of, packets_given, weave, weave_text, woven_size, woven_within}
 use Rattle.gfp_linear.specs.Weaver.{WeaverState, Woven, HasWoven}
 use Rattle.gfp_linear.proofs.ChannelAreas.{packet_area_size, loss_area_size}
-use Rattle.gfp_linear.proofs.Weaves.{given-push}
+use Rattle.gfp_linear.proofs.Weaves.{given-push, weave-length}
 use Rattle.odu_client.proofs.GfpTexts.{total, length-text}
 use Rattle.bundle_command.specs.BundleStream.{woven_begun}
 use Rattle.bundle_command.specs.Channels.{EndsWithPacket, PacketsEnd, woven_bytes}
@@ -54,6 +55,15 @@ pub many_bytes : (cids : List ℕ) (frames : List WovenFrame) → 4 * length fra
 unfolding woven_bytes
 many_bytes cids [] = omega arith
 many_bytes cids (frame ∷ frames) = (let e = many_bytes cids frames in let s = size_some cids frame in omega arith)
+
+-- n frames and one have n bytes at least
+pub weave_text_size : (cids : List ℕ) (texts : List ChannelText) (n : ℕ) → length (weave_text cids texts n) ≡ n
+weave_text_size cids texts n =
+    let frames = weave texts n in
+    let size = length-text (map (made_of cids) frames) ∙ bytes-total cids frames in
+    let least = many_bytes cids frames in
+    let many = weave-length texts n in
+    length-take-le n (text_of (map (made_of cids) frames)) (omega (arith, size, least, many))
 
 -- ---- the last packet
 

@@ -183,6 +183,19 @@ abbrev pub left_to_ask : (hand : List ℕ) → (count asked : ℕ) → ℕ
 left_to_ask [] count asked = suc (count - asked)
 left_to_ask (byte ∷ hand) count asked = 0
 
+-- a channel that gives no frame any more: its text is over, and its client is not lost
+abbrev pub is_over : Standing → Bool
+is_over Ended = true
+is_over Bad = true
+is_over Fresh = false
+is_over Going = false
+is_over Lost = false
+is_over More = false
+
+-- all are so
+pub record AreOver (channels : List Channel) : Type 0 where
+  pub each : (c : ℕ) (channel : Channel) → HasChannel channels c channel → is_over channel.standing ≡ true
+
 -- ---- steps
 
 -- this is the channel that is asked

@@ -1,5 +1,5 @@
 // The stream of all channels: which one gives the next frame, and its bytes.
-ghost use Rattle.std.specs.Prelude.{◌≡◌, ◌≢◌, ◌<◌, ◌≤◌, ◌+◌, ◌++◌, ℕ, List, [], IfOk, length, take, vec_len};
+ghost use Rattle.std.specs.Prelude.{◌≡◌, ◌≢◌, ◌<◌, ◌≤◌, ◌+◌, ◌++◌, ℕ, List, [], true, IfOk, length, take, vec_len};
 ghost use Rattle.frame_geometry.specs.Places.{payload_row_of};
 ghost use Rattle.otn_base.specs.declared.limits.TheConstants.{CLIENT_COLUMNS, CLIENT_PAYLOAD_BYTES, PAYLOAD_COLUMNS};
 ghost use Rattle.otn_ports.specs.Racks.{bays_view};
@@ -8,7 +8,7 @@ ghost use Rattle.odu_client.specs.AlignedRuns.{payload_of};
 ghost use Rattle.bundle_command.specs.BundleLeft.{IsClientList};
 ghost use Rattle.gfp_linear.specs.Weaver.{HasWoven, woven_first};
 ghost use Rattle.packet_text.specs.LinesStand.{lines_view};
-ghost use Rattle.bundle_command.specs.Channels.{AreFresh, AreOpen, ChannelAsked, HasChannel, IsAsked, IsReady, IsTold, GoesRound, WeavingStands, WeavingReady};
+ghost use Rattle.bundle_command.specs.Channels.{AreFresh, AreOpen, AreOver, ChannelAsked, HasChannel, IsAsked, IsReady, IsTold, GoesRound, WeavingStands, WeavingReady, is_over};
 ghost use Rattle.bundle_command.specs.Framed.{OnlyInputs};
 
 use crate::channel::{Channel, Standing};
@@ -101,8 +101,52 @@ impl Weaving {
         }
     }
 
-    // The next bytes of one frame: how many.
+    // The next bytes of the stream: how many. Once no channel gives a frame any more, and none is in hand, all of them are idle frames.
     fn step<I: Source, O: Sink>(&mut self, bays: &mut Rack<I, O>, into: &mut [u8]) -> usize
+        requires ready { IsReady (bays_view I.Source O.Sink bays.old) self.old }
+        requires room { 1 ≤ length into.old }
+        ensures some { 1 ≤ result }
+        ensures within { result ≤ length into.old }
+        ensures size { length into.new ≡ length into.old }
+        ensures stands { (clients : List ℕ) (first : BaysView) (given : List ℕ) → WeavingStands clients first (bays_view I.Source O.Sink bays.old) given self.old
+            → WeavingStands clients first (bays_view I.Source O.Sink bays.new) (given ++ take result into.new) self.new }
+        ensures ready { IsReady (bays_view I.Source O.Sink bays.new) self.new }
+        ensures alone { OnlyInputs (bays_view I.Source O.Sink bays.old) (bays_view I.Source O.Sink bays.new) }
+    {
+        if self.is_idle() {
+            return self.give_idle(into);
+        }
+        self.step_frame(bays, into)
+    }
+
+    // Whether no frame is in hand, and no channel gives one any more.
+    fn is_idle(&self) -> bool
+        ensures idle { result ≡ true → self.now.maker.maker.hand ≡ [] }
+        ensures over { result ≡ true → AreOver self.now.channels.items }
+    {
+        if self.maker.next_asked().is_none() {
+            return false;
+        }
+        are_over(&self.channels)
+    }
+
+    // Idle frames, as many bytes as there is room for: so many.
+    fn give_idle(&mut self, into: &mut [u8]) -> usize
+        requires idle { self.old.maker.maker.hand ≡ [] }
+        requires over { AreOver self.old.channels.items }
+        requires room { 1 ≤ length into.old }
+        ensures count { result ≡ length into.old }
+        ensures size { length into.new ≡ length into.old }
+        ensures stands { (clients : List ℕ) (first now : BaysView) (given : List ℕ) → WeavingReady clients first now given self.old
+            → WeavingStands clients first now (given ++ into.new) self.new }
+    {
+        self.maker.give_idle(into);
+        self.given = self.given.saturating_add(into.len() as u64);
+        into.len()
+    }
+
+    // The next bytes of one frame: how many.
+    fn step_frame<I: Source, O: Sink>(&mut self, bays: &mut Rack<I, O>, into: &mut [u8]) -> usize
         requires ready { IsReady (bays_view I.Source O.Sink bays.old) self.old }
         requires room { 1 ≤ length into.old }
         ensures some { 1 ≤ result }
@@ -180,6 +224,31 @@ impl Weaving {
         self.end = self
             .given
             .saturating_add(packet.len() as u64 + FRAME_OVERHEAD);
+    }
+}
+
+// Whether the text of each channel is over, and none of its clients is lost.
+fn are_over(channels: &[Channel]) -> bool
+    ensures { result ≡ true → AreOver channels.now }
+{
+    for channel in channels {
+        if !is_over(channel.standing) {
+            return false;
+        }
+    }
+    true
+}
+
+fn is_over(standing: Standing) -> bool
+    ensures { result ≡ is_over standing }
+{
+    match standing {
+        Standing::Ended => true,
+        Standing::Bad => true,
+        Standing::Fresh => false,
+        Standing::Going => false,
+        Standing::Lost => false,
+        Standing::More => false,
     }
 }
 

@@ -4,9 +4,10 @@ use Rattle.std.specs.Str.Parse.{digits_value}
 use Rattle.otn_base.specs.LineSlots.{LineSlots}
 use Rattle.otn_base.specs.declared.line_kind.LineKind.{LineKind}
 use Rattle.otn_base.specs.declared.line_kind.LineKind.TheVariants.{Otu2}
+use Rattle.bundle_command.proofs.ClientLists.{clients_back, numbers_in}
 use Rattle.command_words.specs.Words.{IsForm, digit, slots_text}
 use Rattle.command_words.specs.declared.words.Command.{Command}
-use Rattle.command_words.specs.declared.words.Command.TheVariants.{Slot, Pull, Check, Run, RunOrdered, RunCaptures, Trial, Protect, Unbundle}
+use Rattle.command_words.specs.declared.words.Command.TheVariants.{Slot, Pull, Check, Run, RunOrdered, RunCaptures, Trial, Protect, Bundle, Unbundle}
 
 abbrev is_word : List ℕ → List ℕ → Bool
 is_word [] [] = true
@@ -56,6 +57,11 @@ protect_in (port ∷ slots ∷ []) = None
 protect_in (port ∷ slots ∷ turns ∷ []) = None
 protect_in (port ∷ slots ∷ turns ∷ wait ∷ rest) = Some (Protect (digit_in port) (line_slots (list_in slots)) (digits_value 10 turns) (digits_value 10 wait))
 
+abbrev bundle_in : List (List ℕ) → Option Command
+bundle_in [] = None
+bundle_in (clients ∷ []) = None
+bundle_in (clients ∷ turns ∷ rest) = Some (Bundle (numbers_in clients) (digits_value 10 turns))
+
 abbrev unbundle_in : List (List ℕ) → Option Command
 unbundle_in [] = None
 unbundle_in (turns ∷ rest) = Some (Unbundle (digits_value 10 turns))
@@ -70,6 +76,7 @@ command_in (name ∷ rest) =
     else if is_word name (codes "run") then run_in rest
     else if is_word name (codes "trial") then trial_in rest
     else if is_word name (codes "protect") then protect_in rest
+    else if is_word name (codes "bundle") then bundle_in rest
     else if is_word name (codes "unbundle") then unbundle_in rest
     else None
 
@@ -104,6 +111,7 @@ says words (Protect port slots turns wait) h =
     ∙ ap (λ s. Some (Protect port s (digits_value 10 h.0) (digits_value 10 h.1))) (slots_back slots h.5)
     ∙ ap (λ n. Some (Protect port slots n (digits_value 10 h.1))) h.7.0.2
     ∙ ap (λ n. Some (Protect port slots turns n)) h.8.2
+says words (Bundle clients turns) h = ap command_in h.1 ∙ ap (λ ns. Some (Bundle ns (digits_value 10 h.0))) (clients_back clients h.2) ∙ ap (λ n. Some (Bundle clients n)) h.3.0.2
 says words (Unbundle turns) h = ap command_in h.1 ∙ ap (λ n. Some (Unbundle n)) h.2.0.2
 
 pub one_form : (words : List (List ℕ)) (a b : Command) → IsForm words a → IsForm words b → a ≡ b

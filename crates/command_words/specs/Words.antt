@@ -5,9 +5,11 @@ use Rattle.std.specs.declared.alloc.Global.{Global}
 use Rattle.otn_base.specs.SlotList.{IsSlotList}
 use Rattle.otn_base.specs.declared.limits.TheConstants.{MOST_TURNS, OTU2_SLOTS}
 use Rattle.otn_base.specs.declared.line_kind.LineKind.TheVariants.{Otu2}
+use Rattle.bundle_command.specs.BundleLeft.{IsClientList}
+use Rattle.bundle_command.specs.ClientText.{clients_text}
 use Rattle.command_words.specs.declared.words.TheConstants.{NUMBER_DIGITS, TURN_DIGITS}
 use Rattle.command_words.specs.declared.words.Command.{Command}
-use Rattle.command_words.specs.declared.words.Command.TheVariants.{Slot, Pull, Check, Run, RunOrdered, RunCaptures, Trial, Protect, Unbundle}
+use Rattle.command_words.specs.declared.words.Command.TheVariants.{Slot, Pull, Check, Run, RunOrdered, RunCaptures, Trial, Protect, Bundle, Unbundle}
 
 -- the bytes of each word
 abbrev pub texts : List (String Global) → List (List ℕ)
@@ -48,6 +50,7 @@ IsForm words (Trial number) = (text : List ℕ) × (words ≡ codes "trial" ∷ 
 IsForm words (Protect port slots turns wait) =
     (turns_text : List ℕ) × (wait_text : List ℕ) × (words ≡ codes "protect" ∷ digit port ∷ slots_text slots.list ∷ turns_text ∷ wait_text ∷ [])
     × (1 ≤ port) × (port ≤ OTU2_SLOTS) × (slots.kind ≡ Otu2) × IsSlotList OTU2_SLOTS slots.list × IsTurnsText turns_text turns × IsWaitText wait_text wait
+IsForm words (Bundle clients turns) = (text : List ℕ) × (words ≡ codes "bundle" ∷ clients_text clients ∷ text ∷ []) × IsClientList clients × IsTurnsText text turns
 IsForm words (Unbundle turns) = (text : List ℕ) × (words ≡ codes "unbundle" ∷ text ∷ []) × IsTurnsText text turns
 
 -- words that are the form of no command

@@ -5,6 +5,7 @@ ghost use Rattle.otn_base.specs.declared.limits.TheConstants.{OTU2_SLOTS};
 ghost use Rattle.command_words.specs.Words.{IsForm, IsNoForm, IsNumberText, IsTurnsText, IsWaitText, texts, digit, slots_text};
 
 use arrayvec::ArrayVec;
+use bundle_command::ClientList;
 use otn_base::limits::{MOST_TURNS, OTU2_SLOTS};
 use otn_base::{LineKind, Slots};
 
@@ -28,6 +29,8 @@ pub enum Command {
     /// `protect PORT K,K T N`: the tributary of this port, 1 to 8, and these slots of line inputs 0 and 1, of which the better one goes to
     /// line output 0, for T turns, 1 to 16,384; N turns of a working line that is Up again bring it back, 0 to 16,384, and 0 never does.
     Protect(u8, Slots, u32, u32),
+    /// `bundle C,C T`: the packets of these clients, as the channels of the tributary of port 1 and slot 1 of line output 0, for T turns, 1 to 16,384.
+    Bundle(ClientList, u32),
     /// `unbundle T`: the channels of the tributary of port 1 and slot 1 of line input 0, which go to client outputs, for T turns, 1 to 16,384.
     Unbundle(u32),
 }
@@ -122,6 +125,7 @@ fn command_with_two(name: &str, word: &str, other: &str) -> Option<Command>
     match name {
         "pull" => pull_command(word, other),
         "run" => run_command(word, other),
+        "bundle" => clients_command(word, other),
         _ => None,
     }
 }
@@ -196,6 +200,15 @@ fn run_command(option: &str, number: &str) -> Option<Command>
         "--order" => Some(Command::RunOrdered(number_of_digits(number)?)),
         _ => None,
     }
+}
+
+// The command `bundle` with these words after it.
+fn clients_command(clients: &str, turns: &str) -> Option<Command>
+    ensures form { IfSome result (IsForm (codes "bundle" ∷ clients.now ∷ turns.now ∷ [])) }
+    ensures no_form { IfNone result (IsNoForm (codes "bundle" ∷ clients.now ∷ turns.now ∷ [])) }
+{
+    let clients = ClientList::of_text(clients.as_bytes())?;
+    Some(Command::Bundle(clients, turns_of_digits(turns)?))
 }
 
 // The command `protect` with these words after it.

@@ -10,7 +10,7 @@ use Rattle.gfp_frames.specs.GfpText.{Idle, text_of}
 use Rattle.gfp_frames.specs.Within.{areas_with, areas_within, CanCarry, CanCarryAll}
 use Rattle.gfp_frames.proofs.Arrives.{areas_found, areas-cut, areas-whole, within-end}
 use Rattle.gfp_linear.specs.ChannelFrames.{packet_area, loss_area, IsCidList}
-use Rattle.gfp_linear.specs.Weave.{ChannelText, WovenFrame, IdleFrame, PacketFrame, LossFrame, made_of, weave, woven_size, woven_within, is_frame_of, packet_of, packets_given, no_text}
+use Rattle.gfp_linear.specs.Weave.{AreCarried, ChannelText, WovenFrame, IdleFrame, PacketFrame, LossFrame, made_of, weave, woven_size, woven_within, is_frame_of, packet_of, packets_given, no_text}
 use Rattle.gfp_linear.specs.ChannelArrivals.{ChannelArrival, PacketOn, LossOn, arrivals_in, channel_arrivals}
 use Rattle.gfp_linear.specs.Laws.{arrivals_of, is_on, packet_on, packets_on, woven_arrivals, IsFront, ChannelsArrive, EachChannelArrives, FirstPacketsArrive, OthersMakeNoDifference, ArrivalsStay}
 use Rattle.gfp_frames.proofs.Grows.{areas_grow}
@@ -159,17 +159,22 @@ all_packets cids c (frame ∷ frames) h here among =
     ∙ ap (λ y. y ++ packets_on k (flat_map (arrivals_of cids) frames)) (one_packet cids c frame h here (All-head (IsAmong (length cids)) frame frames among))
     ∙ ap (λ y. packet_of c frame ++ y) (all_packets cids c frames h here (All-tail (IsAmong (length cids)) frame frames among))
 
-given_within : (cids : List ℕ) (texts : List ChannelText) (m n c : ℕ) → IsFront (packets_given c (woven_within cids n (weave texts m))) (packets_given c (weave texts m))
+pub given_within : (cids : List ℕ) (texts : List ChannelText) (m n c : ℕ) → IsFront (packets_given c (woven_within cids n (weave texts m))) (packets_given c (weave texts m))
 given_within cids texts m n c =
     let front = within_front cids n (weave texts m) in
     (packets_given c front.0, ap (packets_given c) front.1 ∙ flat_map-append (packet_of c) (woven_within cids n (weave texts m)) front.0)
 
+-- the packets that arrive on a channel are those of its own frames
+pub packets_arrive : (cids : List ℕ) (texts : List ChannelText) (m n c : ℕ) → IsCidList cids → length texts ≡ length cids → All AreCarried texts → c < length cids
+    → packets_on (get_or cids c 0) (woven_arrivals cids texts m n) ≡ packets_given c (woven_within cids n (weave texts m))
+packets_arrive cids texts m n c h size carried here =
+    ap (packets_on (get_or cids c 0)) (channels_arrive cids texts m n carried) ∙ all_packets cids c (woven_within cids n (weave texts m)) h here (within_among cids texts m n size (omega arith))
+
 pub first_arrive : FirstPacketsArrive
 first_arrive cids texts m n c h size carried here =
     let P : List (List ℕ) → Type 0 = λ ps. IsFront ps (get_or texts c no_text).packets in
-    let same : packets_on (get_or cids c 0) (woven_arrivals cids texts m n) ≡ packets_given c (woven_within cids n (weave texts m)) =
-    ap (packets_on (get_or cids c 0)) (channels_arrive cids texts m n carried) ∙ all_packets cids c (woven_within cids n (weave texts m)) h here (within_among cids texts m n size (omega arith)) in
-    subst P (sym same) (front_on (packets_given c (woven_within cids n (weave texts m))) (packets_given c (weave texts m)) (get_or texts c no_text).packets (given_within cids texts m n c) (weave_front texts m c))
+    subst P (sym (packets_arrive cids texts m n c h size carried here))
+    (front_on (packets_given c (woven_within cids n (weave texts m))) (packets_given c (weave texts m)) (get_or texts c no_text).packets (given_within cids texts m n c) (weave_front texts m c))
 
 pub others_make_none : OthersMakeNoDifference
 others_make_none cids texts others m n k l c h size other_size carried other_carried here same =

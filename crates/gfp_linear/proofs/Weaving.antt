@@ -1,5 +1,5 @@
 -- The steps of a maker.
-use Rattle.std.proofs.Common.{length-append, ◌≡◌, ◌≢◌, ℕ, zero, suc, ◌+◌, ◌-◌, ◌%◌, ◌<◌, ◌≤◌, List, [], ◌∷◌, ◌++◌, Bool, true, false, cond, Option, Some, None, length, take, get_or, replicate, map, reverse, refl, ap, ◌∙◌, sym, subst, arith, inl, inr, add-one}
+use Rattle.std.proofs.Common.{length-append, append-nil, append_assoc, ◌≡◌, ◌≢◌, ℕ, zero, suc, ◌+◌, ◌-◌, ◌/◌, ◌%◌, ◌<◌, ◌≤◌, List, [], ◌∷◌, ◌++◌, Bool, true, false, cond, Option, Some, None, length, take, get_or, replicate, map, reverse, refl, ap, ◌∙◌, sym, subst, arith, inl, inr, add-one}
 use Rattle.std.specs.Prelude.{◌==◌, ◌||◌, nat_lt, slice_set}
 use Rattle.std.specs.List.{list_any}
 use Rattle.std.proofs.lemmas.List.{map-append, reverse-append, get_or-map, get_or-set_same, get_or-set_other, length-map, length-set, length-replicate, get_or-replicate}
@@ -8,12 +8,12 @@ use Rattle.std.proofs.lemmas.Bool.{cases_lt, lt-ltb, le-ltb, false≢true, eq-eq
 use Rattle.std.proofs.lemmas.Bool.Decides.{nat_tests}
 use Rattle.gfp_scrambler.specs.Register.{scrambled}
 use Rattle.gfp_frames.specs.GfpText.{Frame, Idle}
-use Rattle.gfp_frames.specs.Maker.{MakerState, HasMade, made_frame}
+use Rattle.gfp_frames.specs.Maker.{MakerState, HasMade, idles_begun, made_frame}
 use Rattle.gfp_frames.specs.CoreHeader.{core_header}
 use Rattle.gfp_frames.proofs.Texts.{frame_made, idle_made, header_size, header_some}
 use Rattle.gfp_linear.specs.ChannelFrames.{packet_area, loss_area, IsCidList}
 use Rattle.gfp_linear.specs.Weave.{WovenFrame, IdleFrame, PacketFrame, LossFrame, made_of, is_loss_of, giver_or, giver_after, last_giver, is_loss_late, loss_due, asked_first}
-use Rattle.gfp_linear.specs.Weaver.{idle_put, WeaverState, Woven, woven_first, channel_at, woven_on, wait_behind, wait_of, packet_put, loss_put, HasWoven}
+use Rattle.gfp_linear.specs.Weaver.{idle_put, WeaverState, Woven, woven_first, channel_at, woven_on, wait_behind, wait_of, packet_put, loss_put, idles_on, HasWoven}
 
 -- ---- what the frames so far say, one frame later
 
@@ -174,6 +174,60 @@ idle_woven cids at given old new woven none last is =
       sizes = length-map old.waits (λ wait. wait - 1) ∙ woven.sizes;
       waits = quiet_waits cids at.frames IdleFrame old.waits (λ d. refl) woven.sizes woven.waits;
     }))
+
+-- no channel gives anything more: idle frames
+more_idles : (frames : List WovenFrame) (k : ℕ) → frames ++ replicate (suc k) IdleFrame ≡ (frames ++ IdleFrame ∷ []) ++ replicate k IdleFrame
+more_idles frames k = sym (append_assoc frames (IdleFrame ∷ []) (replicate k IdleFrame))
+
+made-idles : (cids : List ℕ) (frames : List WovenFrame) (k : ℕ) → map (made_of cids) (frames ++ replicate k IdleFrame) ≡ map (made_of cids) frames ++ replicate k Idle
+made-idles cids frames k = map-append (made_of cids) frames (replicate k IdleFrame) ∙ ap (λ fs. map (made_of cids) frames ++ fs) (all_idle k)
+  where
+    all_idle : (k : ℕ) → map (made_of cids) (replicate k IdleFrame) ≡ replicate k Idle
+    all_idle zero = refl
+    all_idle (suc k) = ap (λ fs. Idle ∷ fs) (all_idle k)
+
+giver-idles : (frames : List WovenFrame) (k : ℕ) → last_giver (frames ++ replicate k IdleFrame) ≡ last_giver frames
+giver-idles frames zero = ap last_giver (append-nil frames)
+giver-idles frames (suc k) = ap last_giver (more_idles frames k) ∙ giver-idles (frames ++ IdleFrame ∷ []) k ∙ giver-push frames IdleFrame
+
+wait-idles : (c : ℕ) (frames : List WovenFrame) (k : ℕ) → wait_of c (frames ++ replicate k IdleFrame) ≡ wait_of c frames - k
+wait-idles c frames zero = ap (wait_of c) (append-nil frames) ∙ (let e : wait_of c frames ≡ wait_of c frames - 0 = omega arith in e)
+wait-idles c frames (suc k) =
+    let one = wait-push c frames IdleFrame in
+    ap (wait_of c) (more_idles frames k) ∙ wait-idles c (frames ++ IdleFrame ∷ []) k ∙ (let e : wait_of c (frames ++ IdleFrame ∷ []) - k ≡ wait_of c frames - suc k = omega (arith, one) in e)
+
+pub idles_woven : (cids : List ℕ) (at : Woven) (given bytes : List ℕ) (k : ℕ) (old new : WeaverState) (maker : MakerState) → HasWoven cids at given old
+    → HasMade (map (made_of cids) at.frames ++ replicate k Idle) (given ++ bytes) maker → new ≡ record old { waits = map (λ wait. wait - k) old.waits; maker = maker; asked = 0 }
+    → HasWoven cids (idles_on k at) (given ++ bytes) new
+idles_woven cids at given bytes k old new maker woven made is =
+    let Q : WeaverState → Type 0 = λ s. HasWoven cids (idles_on k at) (given ++ bytes) s in
+    let R : List Frame → Type 0 = λ fs. HasMade fs (given ++ bytes) maker in
+    subst Q (sym is) (record {
+      made = subst R (sym (made-idles cids at.frames k)) made;
+      same = woven.same;
+      first = woven.first ∙ ap (asked_first (length cids)) (sym (giver-idles at.frames k));
+      others = refl;
+      sizes = length-map old.waits (λ wait. wait - k) ∙ woven.sizes;
+      waits = λ c here.
+          let size = woven.sizes in
+          get_or-map (λ wait. wait - k) old.waits c 0 0 (omega (arith, size, here)) ∙ ap (λ n. n - k) (woven.waits c here) ∙ sym (wait-idles c at.frames k);
+    })
+
+-- the same, of a state that is seen in two ways
+pub idles_given : (cids : List ℕ) (at : Woven) (given bytes waits : List ℕ) (n k : ℕ) (old mid : WeaverState) (maker : MakerState) → HasWoven cids at given old → old.maker.hand ≡ [] → old ≡ mid
+    → ((frames : List Frame) (given : List ℕ) → HasMade frames given mid.maker → HasMade (frames ++ replicate (idles_begun mid.maker.hand n) Idle) (given ++ bytes) maker)
+    → waits ≡ map (λ wait. wait - k) mid.waits → k ≡ (n + 3) / 4
+    → HasWoven cids (idles_on ((n + 3) / 4) at) (given ++ bytes) (record { cids = mid.cids; waits = waits; maker = maker; first = mid.first; asked = 0 })
+idles_given cids at given bytes waits n k old mid maker woven none seen makes passed count =
+    let here = subst (HasWoven cids at given) seen woven in
+    let empty : mid.maker.hand ≡ [] = ap (λ (s : WeaverState). s.maker.hand) (sym seen) ∙ none in
+    let many : idles_begun mid.maker.hand n ≡ (n + 3) / 4 = ap (λ h. idles_begun h n) empty ∙ (let e : (n - 0 + 3) / 4 ≡ (n + 3) / 4 = omega arith in e) in
+    let made = subst (λ k. HasMade (map (made_of cids) at.frames ++ replicate k Idle) (given ++ bytes) maker) many (makes (map (made_of cids) at.frames) given here.made) in
+    idles_woven cids at given bytes ((n + 3) / 4) mid (record { cids = mid.cids; waits = waits; maker = maker; first = mid.first; asked = 0 }) maker here made
+    (with_waits (passed ∙ ap (λ k. map (λ wait. wait - k) mid.waits) count))
+  where
+    with_waits : {ws : List ℕ} → waits ≡ ws → ◌≡◌ {A = WeaverState} (record { cids = mid.cids; waits = waits; maker = maker; first = mid.first; asked = 0 }) (record { cids = mid.cids; waits = ws; maker = maker; first = mid.first; asked = 0 })
+    with_waits e = rw e refl
 
 -- bytes of the frame in hand
 pub gives_woven : (cids : List ℕ) (at : Woven) (given bytes : List ℕ) (old new : WeaverState) (maker : MakerState) → HasWoven cids at given old → HasMade (map (made_of cids) at.frames) (given ++ bytes) maker → new ≡ record old { maker = maker }

@@ -1,5 +1,5 @@
 -- A maker of the frames of several channels, as contracts see it.
-use Rattle.std.specs.Prelude.{◌≡◌, ℕ, ◌+◌, ◌-◌, ◌%◌, ◌<◌, nat_lt, if◌then◌else◌, List, [], ◌∷◌, ◌++◌, Option, Some, None, length, map, reverse, slice_index, slice_set}
+use Rattle.std.specs.Prelude.{replicate, ◌≡◌, ℕ, ◌+◌, ◌-◌, ◌%◌, ◌<◌, nat_lt, if◌then◌else◌, List, [], ◌∷◌, ◌++◌, Option, Some, None, length, map, reverse, slice_index, slice_set}
 use Rattle.gfp_frames.specs.CoreHeader.{core_header}
 use Rattle.gfp_frames.specs.Maker.{MakerState, HasMade, made_frame}
 use Rattle.gfp_linear.specs.ChannelFrames.{packet_area, loss_area}
@@ -31,6 +31,10 @@ channel_at count at = asked_after count (last_giver at.frames) at.others
 abbrev pub woven_on : (count : ℕ) → Woven → Option WovenFrame → Woven
 woven_on count at (Some frame) = record { frames = at.frames ++ frame ∷ []; others = 0 }
 woven_on count at None = if nat_lt (at.others + 1) count then record { frames = at.frames; others = at.others + 1 } else record { frames = at.frames ++ IdleFrame ∷ []; others = 0 }
+
+-- no channel gives a frame any more, and so many idle frames begin
+abbrev pub idles_on : (idles : ℕ) → Woven → Woven
+idles_on idles at = record { frames = at.frames ++ replicate idles IdleFrame; others = 0 }
 
 -- how many frames have to pass before a channel's next loss frame, by the frames so far, the last one first
 abbrev pub wait_behind : (channel : ℕ) → List WovenFrame → ℕ

@@ -1,8 +1,8 @@
 // The frames of several channels in one stream.
-ghost use Rattle.std.specs.Prelude.{◌≡◌, ◌≢◌, ℕ, ◌+◌, ◌-◌, ◌%◌, ◌<◌, ◌≤◌, min, List, [], ◌∷◌, ◌++◌, IsNone, IfNone, IfSome, IfOk, Some, None, length, take, drop, map, replicate, true, false, slice_index, vec_len};
+ghost use Rattle.std.specs.Prelude.{◌≡◌, ◌≢◌, ℕ, ◌+◌, ◌-◌, ◌/◌, ◌%◌, ◌<◌, ◌≤◌, min, List, [], ◌∷◌, ◌++◌, IsNone, IfNone, IfSome, IfOk, Some, None, length, take, drop, map, replicate, true, false, slice_index, vec_len};
 ghost use Rattle.gfp_linear.specs.ChannelFrames.{IsCidList};
 ghost use Rattle.gfp_linear.specs.Weave.{WovenFrame, PacketFrame, loss_due};
-ghost use Rattle.gfp_linear.specs.Weaver.{WeaverState, Woven, woven_first, woven_on, channel_at, idle_put, given_on, packet_put, loss_put, HasWoven};
+ghost use Rattle.gfp_linear.specs.Weaver.{WeaverState, Woven, woven_first, woven_on, channel_at, idle_put, given_on, packet_put, loss_put, idles_on, HasWoven};
 
 use crate::area::{append_loss_area, append_packet_area};
 use gfp_frames::GfpMaker;
@@ -12,6 +12,9 @@ use std::marker::Model;
 
 /// Bytes of a payload area at most.
 const MOST_AREA: usize = 65_535;
+
+/// Bytes of an idle frame.
+const IDLE_BYTES: usize = 4;
 
 /// How many frames pass between two loss frames of a channel at least.
 const LOSS_PAUSE: u32 = 1_000;
@@ -144,6 +147,18 @@ impl ChannelMaker {
     {
         self.maker.give(into)
     }
+
+    /// No channel gives anything for these bytes: idle frames, of which the last may stay in hand in part. No channel is asked for them.
+    pub fn give_idle(&mut self, into: &mut [u8])
+        requires { self.old.maker.hand ≡ [] }
+        ensures woven { (cids : List ℕ) (at : Woven) (given : List ℕ) → HasWoven cids at given self.old →
+            HasWoven cids (idles_on ((length into.old + 3) / 4) at) (given ++ into.new) self.new }
+        ensures size { length into.new ≡ length into.old }
+    {
+        let idles = idles_for(into.len());
+        self.maker.fill(into);
+        self.pass_idles(idles);
+    }
 }
 
 impl ChannelMaker {
@@ -163,6 +178,14 @@ impl ChannelMaker {
         self.maker.offer_idle();
         self.asked = 0;
         pass_frame(&mut self.waits);
+    }
+
+    // So many idle frames began: no channel was asked since.
+    fn pass_idles(&mut self, idles: usize)
+        ensures { self.new ≡ record self.old { waits = map (λ wait. wait - idles) self.old.waits; asked = 0 } }
+    {
+        self.asked = 0;
+        pass_frames(&mut self.waits, idles);
     }
 
     // The frame of a channel's packet is in hand.
@@ -223,6 +246,33 @@ fn are_cids(cids: &[u8]) -> bool
     ensures no { result ≡ false → IsCidList cids.now → ⊥ }
 {
     !cids.is_empty() && cids.windows(2).all(|pair| pair[0] < pair[1])
+}
+
+// How many idle frames begin in so many bytes.
+fn idles_for(bytes: usize) -> usize
+    ensures { result ≡ (bytes + 3) / 4 }
+{
+    bytes.div_ceil(IDLE_BYTES)
+}
+
+// So many frames pass.
+fn pass_frames(waits: &mut [u32], count: usize)
+    ensures { waits.new ≡ map (λ wait. wait - count) waits.old }
+{
+    for wait in waits.iter_mut() {
+        *wait = after_frames(*wait, count);
+    }
+}
+
+// What is left to wait for once so many frames have passed.
+fn after_frames(wait: u32, count: usize) -> u32
+    ensures { result ≡ wait - count }
+{
+    if (wait as usize) < count {
+        0
+    } else {
+        wait - count as u32
+    }
 }
 
 // One frame passes.

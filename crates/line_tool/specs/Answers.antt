@@ -5,6 +5,7 @@ use Rattle.otn_ports.specs.declared.ended.Ended.{Ended}
 use Rattle.otn_ports.specs.declared.ended.Ended.TheVariants as ending
 use Rattle.protect_selector.specs.ProtectLeft.{ProtectRan}
 use Rattle.protect_selector.specs.Protecting.{OnlyProtected, ends_of}
+use Rattle.bundle_command.specs.BundleLeft.{BundleRan, OnlyBundled}
 use Rattle.unbundle_command.specs.Unbundling.{OnlyUnbundled}
 use Rattle.unbundle_command.specs.UnbundleLeft.{UnbundleRan}
 use Rattle.tributary_model.specs.Places.{Tributary}
@@ -14,7 +15,7 @@ use Rattle.command_base.specs.AnswerWords.{CountsBy}
 use Rattle.command_base.specs.declared.status.Status.{Status}
 use Rattle.command_base.specs.declared.status.Status.TheVariants.{ReportFault}
 use Rattle.command_words.specs.declared.words.Command.{Command}
-use Rattle.command_words.specs.declared.words.Command.TheVariants.{Slot, Pull, Check, Run, RunOrdered, RunCaptures, Trial, Protect, Unbundle}
+use Rattle.command_words.specs.declared.words.Command.TheVariants.{Slot, Pull, Check, Run, RunOrdered, RunCaptures, Trial, Protect, Bundle, Unbundle}
 use Rattle.line_commands.specs.PullReport.{tributary}
 use Rattle.run_command.specs.RunAnswers.{RunAnswers}
 use Rattle.trial_command.specs.TrialAnswers.{TrialAnswers}
@@ -38,6 +39,11 @@ pub record PlacesAnswers (Only : (old new : BaysView) → Type 0) (Ran : (old ne
 abbrev pub Protects : (own : Tributary) → (turns wait : ℕ) → (old new : Device) → Ended → Type 0
 Protects own turns wait old new ended = ProtectRan own turns wait (ends_of old.bays old.report) (ends_of new.bays new.report) ended
 
+-- ---- `bundle C,C T`: the packets of these clients go to line output 0, as the channels of its slot 1
+
+abbrev pub Bundles : (clients : List ℕ) (turns : ℕ) → (old new : Device) → Ended → Type 0
+Bundles clients turns old new ended = BundleRan clients turns old.bays new.bays old.report new.report ended
+
 -- ---- `unbundle T`: the channels of slot 1 of line input 0 go to client outputs
 
 abbrev pub Unbundles : (turns : ℕ) → (old new : Device) → Ended → Type 0
@@ -54,6 +60,7 @@ Answers (RunOrdered number) old new asked asked_now status = RunAnswers old new 
 Answers RunCaptures old new asked asked_now status = RunAnswers old new asked asked_now status
 Answers (Trial number) old new asked asked_now status = TrialAnswers number old.report new.report asked asked_now status
 Answers (Protect port slots turns wait) old new asked asked_now status = PlacesAnswers OnlyProtected (Protects (tributary port slots.list) turns wait) old new status
+Answers (Bundle clients turns) old new asked asked_now status = PlacesAnswers (OnlyBundled clients) (Bundles clients turns) old new status
 Answers (Unbundle turns) old new asked asked_now status = PlacesAnswers OnlyUnbundled (Unbundles turns) old new status
 
 -- the commands that leave the plan's source alone, those that leave the places alone, and those that leave the chooser alone
@@ -66,6 +73,7 @@ LeavesPlan (RunOrdered number) = ⊥
 LeavesPlan RunCaptures = ⊥
 LeavesPlan (Trial number) = Unit {0}
 LeavesPlan (Protect port slots turns wait) = Unit {0}
+LeavesPlan (Bundle clients turns) = Unit {0}
 LeavesPlan (Unbundle turns) = Unit {0}
 
 abbrev pub LeavesBays : Command → Type 0
@@ -77,6 +85,7 @@ LeavesBays (RunOrdered number) = ⊥
 LeavesBays RunCaptures = ⊥
 LeavesBays (Trial number) = Unit {0}
 LeavesBays (Protect port slots turns wait) = ⊥
+LeavesBays (Bundle clients turns) = ⊥
 LeavesBays (Unbundle turns) = ⊥
 
 abbrev pub LeavesChooser : Command → Type 0
@@ -88,4 +97,5 @@ LeavesChooser (RunOrdered number) = ⊥
 LeavesChooser RunCaptures = ⊥
 LeavesChooser (Trial number) = ⊥
 LeavesChooser (Protect port slots turns wait) = Unit {0}
+LeavesChooser (Bundle clients turns) = Unit {0}
 LeavesChooser (Unbundle turns) = Unit {0}

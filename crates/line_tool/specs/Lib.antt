@@ -1,5 +1,6 @@
 pub mod Answers
 pub mod ProtectLaws
+pub mod BundleLaws
 pub mod UnbundleLaws
 pub use Rattle.command_base.specs.AnswerWords
 pub use Rattle.command_base.specs.Beyond

@@ -4,7 +4,7 @@
 //! - `laws`: what no call shows by itself, of all commands, and of those that end turn by turn.
 //!
 //! Each command is a crate of its own, whose laws are passed on here: `line_commands` (`slot`, `pull`), `check_command`, `run_command`,
-//! `trial_command`, `protect_selector`, `unbundle_command`.
+//! `trial_command`, `protect_selector`, `bundle_command`, `unbundle_command`.
 #![tactic(auto)]
 
 mod laws;
@@ -13,7 +13,7 @@ mod top;
 pub use check_command::check_of_text;
 pub use command_base::Status;
 pub use command_words::{Command, command_of, forms_are_apart, order_of, takes_captures};
-pub use laws::{protect_of_given, unbundle_of_given, without_faults};
+pub use laws::{bundle_of_given, protect_of_given, unbundle_of_given, without_faults};
 pub use line_commands::{
     pull_of_carried, pull_of_given, pull_of_one_damaged, pull_two_worlds, slot_of_given,
     slot_two_worlds,

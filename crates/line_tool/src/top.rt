@@ -6,6 +6,7 @@ ghost use Rattle.command_base.specs.AnswerWords.{IsRefusal};
 ghost use Rattle.command_words.specs.Words.{IsForm, IsNoForm, texts};
 ghost use Rattle.command_words.specs.declared.words.Command.{Command};
 
+use bundle_command::bundle;
 use check_command::{check_plan, status_of_check};
 use command_base::{Status, status_of};
 use command_words::{Command, command_of};
@@ -37,6 +38,9 @@ use unbundle_command::unbundle;
 /// `protect PORT K,K T N` takes the tributary of these slots and this port of line inputs 0 and 1, working and protection, and puts the
 /// better one on line output 0, in each of T turns; it writes a line for each switch. A write of the report that fails ends it at once; else the
 /// answer is Cut where one of the three places is dead, Unfinished where a line has more than T turns want, and Done.
+/// `bundle C,C T` puts the packets of these clients, as channels of a linear extension header, in an ODU0 in slot 1 and port 1 of line output 0, in
+/// each of T turns; then it writes how many packets of each are begun, with ReportFault where that fails. Else the answer is Cut where the
+/// line output or one of the clients is dead, Unfinished where a client has more than is carried whole, and Done.
 /// `unbundle T` takes the tributary of slot 1 and port 1 of line input 0 in each of T turns, and writes the packets that arrive on its channels 0 to 15 to
 /// the client outputs of these numbers; then it writes how many packets and losses arrived on each, with ReportFault where that fails. Else the
 /// answer is Cut where the line is dead, or a client output of whose channel a packet arrived, Unfinished where the line has more than T turns
@@ -92,6 +96,9 @@ pub fn run<P: Source, K: Sink, C: Chooser, I: Source, O: Sink>(
         Some(Command::Trial(seed)) => status_of_trial(run_trial(alloc, seed, chooser, report)),
         Some(Command::Protect(port, slots, turns, wait)) => {
             status_of(protect(alloc, port, &slots, turns, wait, bays, report))
+        }
+        Some(Command::Bundle(clients, turns)) => {
+            status_of(bundle(alloc, clients.as_slice(), turns, bays, report))
         }
         Some(Command::Unbundle(turns)) => status_of(unbundle(alloc, turns, bays, report)),
         None => Status::Words,

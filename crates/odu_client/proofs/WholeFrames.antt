@@ -251,26 +251,32 @@ text_front packets fcs a b less =
     ap (λ k. take a (take k t)) n ∙ ap (take a) (take-add a (b - a) t) ∙ take_at (take a t) (take (b - a) (drop a t)) a size
     ∙ given_is_stream packets fcs b (take a t) maker made ∙ ap (gfp_text packets fcs) size
 
+-- of the first bytes of frames one run arrives: the payload of those that are whole
+pub frames_arrive : (sapi : List ℕ) (m n : ℕ) (given : List ℕ) → n / 15296 ≤ m → 15232 * m ≤ length given
+    → runs_of (arrivals (take n (concat (client_frames sapi m given)))) ≡ take (15232 * (n / 15296)) given ∷ []
+frames_arrive sapi m n given within long =
+    let k = n / 15296 in
+    let r = n % 15296 in
+    let more : m ≡ k + (m - k) = omega (arith, within) in
+    let front = client_frames sapi k given in
+    let split = fewer_frames sapi k (m - k) given in
+    let all : client_frames sapi m given ≡ front ++ split.rest = ap (λ x. client_frames sapi x given) more ∙ split.parts in
+    let n_is : n ≡ 15296 * k + r = omega arith in
+    let front_size : length (concat front) ≡ 15296 * k = joined_size sapi k given in
+    let bytes : take n (concat (client_frames sapi m given)) ≡ concat front ++ take r (concat split.rest) =
+    ap (λ fs. take n (concat fs)) all ∙ ap (take n) (concat-append front split.rest) ∙ ap (λ x. take x (concat front ++ concat split.rest)) (n_is ∙ ap (λ x. x + r) (sym front_size))
+    ∙ take-append-add (concat front) (concat split.rest) r in
+    let good_all : AllGood (front ++ split.rest) = (let P : List (List ℕ) → Type 0 = AllGood in subst P all (frames_good sapi m given)) in
+    let part = part_of split.rest r (omega arith) (good_front front split.rest good_all) in
+    let arrived = all_arrive front (take r (concat split.rest)) (frames_good sapi k given) part in
+    ap (λ b. runs_of (arrivals b)) bytes ∙ ap runs_of arrived ∙ one_run front ∙ ap (λ p. p ∷ []) (frames_payload sapi k given (omega (arith, long, more)))
+
 pub whole_frames_arrive : PacketsArrive
 unfolding client_stream arriving_packets
 whole_frames_arrive = λ sapi packets fcs n can.
     let k = n / 15296 in
-    let r = n % 15296 in
     let m = frames_begun n in
     let g = gfp_text packets fcs (15232 * m) in
     let size : length g ≡ 15232 * m = text_size packets fcs (15232 * m) in
-    let more : m ≡ k + (m - k) = omega arith in
-    let front = client_frames sapi k g in
-    let split = fewer_frames sapi k (m - k) g in
-    let all : client_frames sapi m g ≡ front ++ split.rest = ap (λ x. client_frames sapi x g) more ∙ split.parts in
-    let n_is : n ≡ 15296 * k + r = omega arith in
-    let front_size : length (concat front) ≡ 15296 * k = joined_size sapi k g in
-    let bytes : take n (concat (client_frames sapi m g)) ≡ concat front ++ take r (concat split.rest) =
-    ap (λ fs. take n (concat fs)) all ∙ ap (take n) (concat-append front split.rest) ∙ ap (λ x. take x (concat front ++ concat split.rest)) (n_is ∙ ap (λ x. x + r) (sym front_size))
-    ∙ take-append-add (concat front) (concat split.rest) r in
-    let good_all : AllGood (front ++ split.rest) = (let P : List (List ℕ) → Type 0 = AllGood in subst P all (frames_good sapi m g)) in
-    let part = part_of split.rest r (omega arith) (good_front front split.rest good_all) in
-    let arrived = all_arrive front (take r (concat split.rest)) (frames_good sapi k g) part in
-    let payload : payloads front ≡ gfp_text packets fcs (15232 * k) = frames_payload sapi k g (omega arith) ∙ text_front packets fcs (15232 * k) (15232 * m) (omega arith) in
-    ap (λ b. flat_map delivered (runs_of (arrivals b))) bytes ∙ ap (λ a. flat_map delivered (runs_of a)) arrived ∙ ap (flat_map delivered) (one_run front)
-    ∙ append-nil (delivered (payloads front)) ∙ ap delivered payload ∙ stream_arrives packets fcs (15232 * k) can
+    let payload : take (15232 * k) g ≡ gfp_text packets fcs (15232 * k) = text_front packets fcs (15232 * k) (15232 * m) (omega arith) in
+    ap (flat_map delivered) (frames_arrive sapi m n g (omega arith) (omega (arith, size))) ∙ append-nil (delivered (take (15232 * k) g)) ∙ ap delivered payload ∙ stream_arrives packets fcs (15232 * k) can

@@ -16,6 +16,8 @@ usage: otn check            whether plan.toml is a plan, and of how many connect
                             puts the better one of line-0.in, working, and line-1.in, protection, on line-0.out, of the
                             tributary of PORT and K,K, in each of T turns; N turns of a working line that is up again
                             bring it back, 0 never does
+       otn bundle C,C T     puts the packets of client-CC.in, of clients C, 0 to 15 and rising, with commas between them,
+                            on line-0.out, as channels in slot 1, in T turns, and tells how many it began of each
        otn unbundle T       writes the packets of channels 0 to 15, which slot 1 of line-0.in has in T turns, to
                             client-00.out to client-15.out, and how many came on each
        otn trial N          carries packets drawn from the number N through four nodes in a row, in memory

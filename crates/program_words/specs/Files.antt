@@ -1,10 +1,11 @@
 -- The files of the current folder, and which of them each command reads and writes.
 use Rattle.std.specs.Prelude.{◌≡◌, ◌++◌, ◌⊎◌, ◌<◌, ◌/◌, ◌%◌, nat_lt, ◌==◌, ℕ, zero, suc, Bool, true, false, List, [], ◌∷◌, codes, filter}
 use Rattle.std.specs.Fmt.{decimal}
+use Rattle.std.specs.List.{list_any}
 use Rattle.otn_base.specs.declared.limits.TheConstants.{LINES, CLIENTS}
 use Rattle.command_words.specs.Words.{IsForm, IsNoForm}
 use Rattle.command_words.specs.declared.words.Command.{Command}
-use Rattle.command_words.specs.declared.words.Command.TheVariants.{Slot, Pull, Check, Run, RunOrdered, RunCaptures, Trial, Protect, Unbundle}
+use Rattle.command_words.specs.declared.words.Command.TheVariants.{Slot, Pull, Check, Run, RunOrdered, RunCaptures, Trial, Protect, Bundle, Unbundle}
 use Rattle.program_words.specs.declared.files.InputFile.{InputFile}
 use Rattle.program_words.specs.declared.files.InputFile.TheVariants.{Line as line-in, Text as text-in, Capture as capture-in}
 use Rattle.program_words.specs.declared.files.OutputFile.{OutputFile}
@@ -61,6 +62,12 @@ is_line_below count (line-in n) = nat_lt n count
 is_line_below count (text-in n) = false
 is_line_below count (capture-in n) = false
 
+-- whether it is the packet text of one of these clients
+abbrev pub is_text_of : List ℕ → InputFile → Bool
+is_text_of clients (line-in n) = false
+is_text_of clients (text-in n) = list_any (λ client. client == n) clients
+is_text_of clients (capture-in n) = false
+
 -- whether it is the file of a line or a packet text
 abbrev pub is_plain_in : InputFile → Bool
 is_plain_in (line-in n) = true
@@ -91,8 +98,8 @@ is_first_line_out (line-out n) = n == 0
 is_first_line_out (text-out n) = false
 is_first_line_out (capture-out n) = false
 
--- whether a command reads this file: `slot`, `pull` and `unbundle` line input 0, `protect` line inputs 0 and 1, a run all inputs,
--- and all others none
+-- whether a command reads this file: `slot`, `pull` and `unbundle` line input 0, `protect` line inputs 0 and 1,
+-- `bundle` the packet texts of its clients, a run all inputs, and all others none
 abbrev pub is_read : Command → InputFile → Bool
 is_read (Slot slot) file = is_line_below 1 file
 is_read (Pull port slots) file = is_line_below 1 file
@@ -102,9 +109,10 @@ is_read (RunOrdered number) file = is_plain_in file
 is_read RunCaptures file = true
 is_read (Trial number) file = false
 is_read (Protect port slots turns wait) file = is_line_below 2 file
+is_read (Bundle clients turns) file = is_text_of clients file
 is_read (Unbundle turns) file = is_line_below 1 file
 
--- whether a command writes this file: a run all outputs, `protect` line output 0, `unbundle` the packet texts, and all others none
+-- whether a command writes this file: a run all outputs, `protect` and `bundle` line output 0, `unbundle` the packet texts, and all others none
 abbrev pub is_written : Command → OutputFile → Bool
 is_written (Slot slot) file = false
 is_written (Pull port slots) file = false
@@ -114,6 +122,7 @@ is_written (RunOrdered number) file = is_plain_out file
 is_written RunCaptures file = is_captured_out file
 is_written (Trial number) file = false
 is_written (Protect port slots turns wait) file = is_first_line_out file
+is_written (Bundle clients turns) file = is_first_line_out file
 is_written (Unbundle turns) file = is_text_out file
 
 -- the commands that read the plan
@@ -126,6 +135,7 @@ IsOfPlan (RunOrdered number) = Unit {0}
 IsOfPlan RunCaptures = Unit {0}
 IsOfPlan (Trial number) = ⊥
 IsOfPlan (Protect port slots turns wait) = ⊥
+IsOfPlan (Bundle clients turns) = ⊥
 IsOfPlan (Unbundle turns) = ⊥
 
 -- the files that a command reads, in the order in which they are opened, and those that it writes

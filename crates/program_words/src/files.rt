@@ -1,9 +1,10 @@
 // The files of the current folder, and which of them each command reads and writes.
-ghost use Rattle.std.specs.Prelude.{◌≡◌, ◌++◌, ◌∷◌, [], true, false, IfOk, All, codes, filter, string_bytes};
+ghost use Rattle.std.specs.Prelude.{◌≡◌, ◌==◌, ◌++◌, ◌∷◌, [], true, false, IfOk, All, codes, filter, string_bytes};
+ghost use Rattle.std.specs.List.{list_any};
 ghost use Rattle.command_words.specs.Words.{IsForm, texts};
 ghost use Rattle.command_words.specs.declared.words.Command.{Command};
 ghost use Rattle.program_words.specs.Files.{AreRead, AreWritten, IsInput, IsOfPlan, IsOutput, ReadsPlan};
-ghost use Rattle.program_words.specs.Files.{files_read, files_written, is_line_below, is_read, is_written};
+ghost use Rattle.program_words.specs.Files.{files_read, files_written, is_line_below, is_read, is_text_of, is_written};
 ghost use Rattle.program_words.specs.Files.{client_name, input_name, output_name};
 
 use command_words::{Command, command_of};
@@ -170,6 +171,7 @@ fn reads(command: &Command, file: InputFile) -> bool
         Command::Run | Command::RunOrdered(_) => !matches!(file, InputFile::Capture(_)),
         Command::RunCaptures => true,
         Command::Protect(..) => is_line_below(file, 2),
+        Command::Bundle(clients, _) => is_text_of(file, clients.as_slice()),
         Command::Check | Command::Trial(_) => false,
     }
 }
@@ -184,6 +186,22 @@ fn is_line_below(file: InputFile, count: u8) -> bool
     }
 }
 
+// Whether it is the packet text of one of these clients.
+fn is_text_of(file: InputFile, clients: &[u8]) -> bool
+    ensures { result ≡ is_text_of clients.now file }
+{
+    match file {
+        InputFile::Text(n) => is_listed(clients, n),
+        InputFile::Line(_) | InputFile::Capture(_) => false,
+    }
+}
+
+fn is_listed(clients: &[u8], n: u8) -> bool
+    ensures { result ≡ list_any (λ client. client == n) clients.now }
+{
+    clients.iter().any(|&client| client == n)
+}
+
 // Whether the command writes this file.
 fn writes(command: &Command, file: OutputFile) -> bool
     ensures { result ≡ is_written command.now file }
@@ -191,7 +209,7 @@ fn writes(command: &Command, file: OutputFile) -> bool
     match command {
         Command::Run | Command::RunOrdered(_) => !matches!(file, OutputFile::Capture(_)),
         Command::RunCaptures => !matches!(file, OutputFile::Text(_)),
-        Command::Protect(..) => matches!(file, OutputFile::Line(0)),
+        Command::Protect(..) | Command::Bundle(..) => matches!(file, OutputFile::Line(0)),
         Command::Unbundle(_) => matches!(file, OutputFile::Text(_)),
         Command::Slot(_) | Command::Pull(..) | Command::Check | Command::Trial(_) => false,
     }
@@ -205,6 +223,6 @@ fn is_of_plan(command: &Command) -> bool
     match command {
         Command::Check | Command::Run | Command::RunOrdered(_) | Command::RunCaptures => true,
         Command::Slot(_) | Command::Pull(..) | Command::Protect(..) | Command::Trial(_) => false,
-        Command::Unbundle(_) => false,
+        Command::Bundle(..) | Command::Unbundle(_) => false,
     }
 }

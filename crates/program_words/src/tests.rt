@@ -63,9 +63,9 @@ fn words_of(alloc: Global, line: &str) -> Result<Vec<String>, AllocError> {
 fn files_of_command_lines(rt: HostRuntime) -> Result<(), Fail> {
     let alloc = rt.alloc();
     let lines =
-        "run|run --pcap|run --order 3|slot 1|pull 1 3|protect 1 3 20 4|unbundle 8|check|trial 7|run --ordr 3|--help";
-    let counts = [20, 36, 20, 1, 1, 2, 1, 0, 0, 0, 0];
-    let outputs = [20, 20, 20, 0, 0, 1, 16, 0, 0, 0, 0];
+        "run|run --pcap|run --order 3|slot 1|pull 1 3|protect 1 3 20 4|bundle 0,5 8|unbundle 8|check|trial 7|run --ordr 3|--help";
+    let counts = [20, 36, 20, 1, 1, 2, 2, 1, 0, 0, 0, 0];
+    let outputs = [20, 20, 20, 0, 0, 1, 1, 16, 0, 0, 0, 0];
     for ((line, inputs), outputs) in lines.split('|').zip(counts).zip(outputs) {
         let words = words_of(alloc, line)?;
         assert_eq!(rt; input_files(alloc, &words)?.len(), inputs, "{line}");

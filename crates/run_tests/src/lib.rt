@@ -1,6 +1,8 @@
-//! Tests of the command `run`, over the library `line_tool`: whole runs of plans over ports in memory.
+//! Tests of the top call, over the library `line_tool`: whole runs of plans, and of channels, over ports in memory.
 #![tactic(auto)]
 
+#[cfg(test)]
+mod channels;
 #[cfg(test)]
 mod damage;
 #[cfg(test)]

@@ -1,7 +1,8 @@
 -- What the frames of the file of one tributary show of it.
-use Rattle.std.proofs.Common.{◌≡◌, ◌<◌, ◌≤◌, ◌+◌, ◌-◌, ◌*◌, ◌/◌, ◌%◌, ℕ, List, [], Some, length, take, get_or, sym, ap, ◌∙◌, subst, arith}
-use Rattle.std.specs.Prelude.{option_map}
+use Rattle.std.proofs.Common.{◌≡◌, ◌<◌, ◌≤◌, ◌+◌, ◌-◌, ◌*◌, ◌/◌, ◌%◌, ℕ, suc, cond, refl, List, [], Option, Some, None, length, take, drop, get_or, sym, ap, ◌∙◌, subst, arith}
+use Rattle.std.specs.Prelude.{nat_lt, option_map}
 use Rattle.std.specs.List.{concat}
+use Rattle.std.proofs.lemmas.Bool.{lt-ltb}
 use Rattle.std.proofs.lemmas.Option.{slice_get-get_or}
 use Rattle.std.proofs.Math.Nat.{mod-eq_of_lt, div-eq_of_lt, mul-add-div, mul-add-mod_self_left, div-add-mod}
 use Rattle.line_side.specs.LineFile.{frame_at, mfas_of, whole_frames}
@@ -10,10 +11,10 @@ use Rattle.line_side.proofs.LineFiles.{frame_of}
 use Rattle.line_side.proofs.Made.{frames_size}
 use Rattle.line_side.proofs.Mfas.{index_mfas, length_mfas}
 use Rattle.msi_table.specs.Marks.{msi_byte}
-use Rattle.multiframe.specs.LineTurns.{multiframe}
+use Rattle.multiframe.specs.LineTurns.{Lock, LineState, Hunting, Locked, Ended, Outcome, CutShort, Lost, Whole, after_hunt, after_outcome, after_turn, kept_if, line_state, lock_of, multiframe, multiframe_at, outcome_of, wrong_count}
 use Rattle.tributary_model.specs.Carries.{number_in}
 use Rattle.tributary_model.specs.Laws.{IsTributary}
-use Rattle.tributary_model.specs.Places.{Tributary, Taken, byte_at, IsOwnMsi}
+use Rattle.tributary_model.specs.Places.{Tributary, Taken, byte_at, turn_view, IsOwnMsi}
 use Rattle.tributary_model.specs.Puts.{IsPut, lengths_of}
 use Rattle.tributary_model.specs.Sending.{IsSent, ShowsTurn, Sends}
 use Rattle.tributary_model.proofs.PutApart.{stays_where_kept}
@@ -94,6 +95,44 @@ file_has b own turns count t frames low file few =
     let all = length_mfas (concat frames) in
     let many = put_whole b own turns count frames file in
     has_multiframe own.line_slots (mfas_of (concat frames)) t low (omega arith) (file_goes_on b own turns count frames file)
+
+-- ---- behind the last one
+
+-- a turn behind a whole multiframe is cut short where too few frames are left
+cut_behind : (size : ℕ) (ms : List ℕ) (t : ℕ) (lock : Lock) → multiframe size ms t ≡ Some lock → length ms < lock.frame + size + size → multiframe size ms (suc t) ≡ None
+unfolding line_state
+cut_behind size ms t lock has few = go (line_state size ms t) has
+  where
+    short : (l : Lock) → l.frame ≡ lock.frame + size → multiframe_at size ms (Some l) ≡ None
+    short l at = ap (λ b. kept_if (cond b CutShort (cond (nat_lt (size / 2) (wrong_count l.expected (take size (drop l.frame ms)))) Lost Whole)) l) (lt-ltb (length ms) (l.frame + size) (omega (arith, few, at)))
+
+    by_outcome : (l : Lock) (o : Outcome) → kept_if o l ≡ Some lock → multiframe_at size ms (lock_of size ms (after_outcome size l o)) ≡ None
+    by_outcome l CutShort kept = absurd (cc)
+    by_outcome l Lost kept = absurd (cc)
+    by_outcome l Whole kept =
+        let same : l ≡ lock = cc in
+        short (record { frame = l.frame + size; expected = (l.expected + size) % 256 }) (ap (λ (x : Lock). x.frame + size) same)
+
+    hunted : (i : ℕ) (o : Option Lock) → multiframe_at size ms o ≡ Some lock → multiframe_at size ms (lock_of size ms (after_hunt size ms i o)) ≡ None
+    hunted i None kept = absurd (cc)
+    hunted i (Some l) kept = by_outcome l (outcome_of size ms l) kept
+
+    go : (was : LineState) → multiframe_at size ms (lock_of size ms was) ≡ Some lock → multiframe_at size ms (lock_of size ms (after_turn size ms was)) ≡ None
+    go (Hunting i) kept = hunted i (lock_of size ms (Hunting i)) kept
+    go (Locked l) kept = by_outcome l (outcome_of size ms l) kept
+    go Ended kept = absurd (cc)
+
+-- so the turn behind the last of the file shows nothing
+pub shows_nothing_behind : (b : ℕ) (own : Tributary) (turns frames : List (List ℕ)) (u : ℕ) → 2 ≤ own.line_slots → IsTributaryFile b own turns (own.line_slots * (u + 1)) frames → view_at own (concat frames) (suc u) ≡ None
+unfolding view_at
+shows_nothing_behind b own turns frames u low file =
+    let size = own.line_slots in
+    let ms = mfas_of (concat frames) in
+    let next = next_turn size u in
+    let all = length_mfas (concat frames) in
+    let many = put_whole b own turns (size * (u + 1)) frames file in
+    let has = file_has b own turns (size * (u + 1)) u frames low file (omega arith) in
+    ap (λ o. turn_view own (option_map (frames_of size (concat frames)) o)) (cut_behind size ms u (lock_at size u) has (omega (arith, next, all, many, low)))
 
 -- ---- the MSI byte
 

@@ -23,7 +23,7 @@ high_slot (suc i) h = absurd (omega (arith, h))
 one_slot : IsSlotList 8 (1 ∷ [])
 one_slot = record { taken = omega arith; low = low_slot; high = high_slot; rising = λ i next. absurd (omega (arith, next)) }
 
-first_is : IsTributary first_slot
+pub first_is : IsTributary first_slot
 first_is = is_tributary (record { kind = Otu2; list = 1 ∷ [] }) 1 one_slot
 
 emitted_apart : (line other : List ℕ) (t : ℕ) → AgreeOnTributary first_slot line other → emitted_before line t ≡ emitted_before other t

@@ -4,6 +4,7 @@ use Rattle.line_commands.proofs.PullTable.{pull_complete}
 use Rattle.run_command.proofs.RunLaws.{run_complete, run_ends}
 use Rattle.line_commands.proofs.SlotTable.{slot_complete}
 use Rattle.line_tool.proofs.TrialEnds.{trial_complete}
+use Rattle.line_tool.proofs.BundleTable.{bundle_complete}
 use Rattle.line_tool.proofs.UnbundleTable.{unbundle_complete}
 use Rattle.line_tool.proofs.laws.without_faults.Goals as goal
 
@@ -24,6 +25,9 @@ returns-clause-ends c = run_ends
 
 pub returns-clause-protect : goal.returns-clause-protect
 returns-clause-protect c = protect_complete
+
+pub returns-clause-bundle : goal.returns-clause-bundle
+returns-clause-bundle c = bundle_complete
 
 pub returns-clause-unbundle : goal.returns-clause-unbundle
 returns-clause-unbundle c = unbundle_complete

@@ -5,8 +5,9 @@ use Rattle.otn_ports.specs.Racks.{bays_view, with_line_in}
 use Rattle.tributary_model.specs.Places.{tributary_of}
 use Rattle.protect_selector.specs.Protecting.{ends_of, OnlyProtected}
 use Rattle.protect_selector.specs.ProtectLeft.{ProtectRan}
+use Rattle.bundle_command.specs.BundleLeft.{BundleRan, OnlyBundled}
 use Rattle.unbundle_command.specs.Unbundling.{OnlyUnbundled}
-use Rattle.line_tool.specs.Answers.{Answers, PlacesAnswers, Protects, Unbundles}
+use Rattle.line_tool.specs.Answers.{Answers, Bundles, PlacesAnswers, Protects, Unbundles}
 use Rattle.command_base.specs.Device.{device}
 use Rattle.check_command.specs.PlanCheck.{check_status}
 use Rattle.trial_command.specs.TrialAnswers.{trial_status}
@@ -14,12 +15,13 @@ use Rattle.line_commands.specs.PullReport.{tributary}
 use Rattle.run_command.specs.RunAnswers.{RunAnswers}
 use Rattle.command_base.specs.AnswerWords.{IsRefusal}
 use Rattle.command_words.specs.Words.{texts}
-use Rattle.command_words.specs.declared.words.Command.TheVariants.{Slot, Pull, Run, RunOrdered, RunCaptures, Trial, Protect, Unbundle}
+use Rattle.command_words.specs.declared.words.Command.TheVariants.{Slot, Pull, Run, RunOrdered, RunCaptures, Trial, Protect, Bundle, Unbundle}
 use Rattle.line_tool.proofs.Answered.{check_stays, line_stays, never_words, nothing_stays, pull_answered, refused_line, slot_answered}
 use Rattle.command_words.proofs.Forms.{one_form}
 use Rattle.line_tool.proofs.PlacesAnswered.{by_memory, places_answered, places_refused, places_stay, report_stays, same_places}
 use Rattle.line_tool.proofs.Protected.{of_otu2, protect_later}
 use Rattle.trial_command.proofs.TrialTold.{trial_answered, trial_later, trial_refused, trial_told}
+use Rattle.line_tool.proofs.BundleTable.{bundle_later}
 use Rattle.line_tool.proofs.UnbundleTable.{unbundle_later}
 use Rattle.line_tool.proofs.top.run.Goals as goal
 
@@ -193,6 +195,39 @@ returns-in-Some-Protect-clause-stays g c =
     (λ some. protect_later c.protect.result (tributary_of c.in-Some-Protect.slots c.in-Some-Protect.port) c.in-Some-Protect.turns c.in-Some-Protect.wait
     (ends_of (bays_view g.I.Source g.O.Sink c.args.bays.now) (sink_view g.K.Sink c.args.report.now)) (ends_of (bays_view g.I.Source g.O.Sink c.protect.new.bays) (sink_view g.K.Sink c.protect.new.report))
     (c.protect.ensures.ran some)))
+
+-- ---- `bundle`
+
+pub returns-in-Some-Bundle-clause-answers : goal.returns-in-Some-Bundle-clause-answers
+returns-in-Some-Bundle-clause-answers g c = λ command form.
+    let mine = rw c.in-Some-Bundle.field-0-is at c.in-Some-Bundle.ensures.form in
+    let old = device g.P.Source g.K.Sink g.I.Source g.O.Sink c.args.plan.now c.args.bays.now c.args.report.now in
+    let new = device g.P.Source g.K.Sink g.I.Source g.O.Sink c.args.plan.now c.bundle.new.bays c.bundle.new.report in
+    let run = places_answered (OnlyBundled c.in-Some-Bundle.clients) (Bundles c.in-Some-Bundle.clients c.in-Some-Bundle.turns) c.bundle.result old new
+    (λ none. same_places g.P.Source g.K.Sink g.I.Source g.O.Sink c.args.plan.now c.args.bays.now c.bundle.new.bays c.args.report.now c.bundle.new.report (c.bundle.ensures.memory none))
+    (λ some. subst (λ ns. Bundles ns c.in-Some-Bundle.turns old new c.bundle.result) c.as_slice.ensures.same (c.bundle.ensures.ran some)) c.bundle.ensures.cause c.bundle.ensures.well
+    (subst (λ ns. OnlyBundled ns old.bays new.bays) c.as_slice.ensures.same c.bundle.ensures.alone) in
+    subst (λ k. Answers k old new (g.C.Chooser.asked c.args.chooser.now) (g.C.Chooser.asked c.args.chooser.now) c.status_of-in-Some-Bundle.result)
+    (one_form (texts c.args.words.now) (Bundle c.in-Some-Bundle.clients c.in-Some-Bundle.turns) command mine form)
+    (subst (λ answer. PlacesAnswers (OnlyBundled c.in-Some-Bundle.clients) (Bundles c.in-Some-Bundle.clients c.in-Some-Bundle.turns) old new answer) (sym c.status_of-in-Some-Bundle.ensures) run)
+
+pub returns-in-Some-Bundle-clause-words : goal.returns-in-Some-Bundle-clause-words
+returns-in-Some-Bundle-clause-words g c = (
+  λ e. absurd (never_words c.bundle.result (sym c.status_of-in-Some-Bundle.ensures ∙ e)),
+  λ none. absurd (none (Bundle c.in-Some-Bundle.clients c.in-Some-Bundle.turns) (rw c.in-Some-Bundle.field-0-is at c.in-Some-Bundle.ensures.form)),
+)
+
+pub returns-in-Some-Bundle-clause-refused : goal.returns-in-Some-Bundle-clause-refused
+returns-in-Some-Bundle-clause-refused g c = λ refusal.
+    places_refused c.args.bays.now c.bundle.new.bays c.args.report.now c.bundle.new.report c.bundle.result c.bundle.ensures.memory (subst IsRefusal c.status_of-in-Some-Bundle.ensures refusal)
+
+pub returns-in-Some-Bundle-clause-stays : goal.returns-in-Some-Bundle-clause-stays
+returns-in-Some-Bundle-clause-stays g c =
+    places_stay g.P.Source g.K.Sink g.I.Source g.O.Sink c.args.plan.now c.args.bays.now c.bundle.new.bays c.args.report.now c.bundle.new.report
+    (by_memory c.bundle.result (SinkLater (sink_view g.K.Sink c.args.report.now) (sink_view g.K.Sink c.bundle.new.report))
+    (λ none. report_stays g.K.Sink c.args.report.now c.bundle.new.report (c.bundle.ensures.memory none).1)
+    (λ some. bundle_later c.bundle.result c.in-Some-Bundle.clients c.in-Some-Bundle.turns (bays_view g.I.Source g.O.Sink c.args.bays.now) (bays_view g.I.Source g.O.Sink c.bundle.new.bays)
+    (sink_view g.K.Sink c.args.report.now) (sink_view g.K.Sink c.bundle.new.report) (subst (λ ns. BundleRan ns c.in-Some-Bundle.turns (bays_view g.I.Source g.O.Sink c.args.bays.now) (bays_view g.I.Source g.O.Sink c.bundle.new.bays) (sink_view g.K.Sink c.args.report.now) (sink_view g.K.Sink c.bundle.new.report) c.bundle.result) c.as_slice.ensures.same (c.bundle.ensures.ran some))))
 
 -- ---- `unbundle`
 

@@ -1,0 +1,75 @@
+-- What is known of a client behind the packets that are begun.
+use Rattle.std.proofs.Common.{◌≡◌, ◌≢◌, ◌⊎◌, inl, inr, ◌<◌, ◌+◌, ℕ, Bool, true, false, List, [], ◌∷◌, ◌++◌, length, refl, sym, ap, subst, ◌∙◌, append-nil, length-append, arith}
+use Rattle.otn_ports.specs.Views.{State, Live, Dead, Empty, InView}
+use Rattle.packet_text.specs.LinesStand.{LinesView, LinesStand, Told, may_be, asked_for}
+use Rattle.packet_text.specs.PacketText.{Packets, packets_of}
+use Rattle.packet_text.specs.TextLines.{full_lines}
+use Rattle.packet_text.specs.declared.line.Line.{Line}
+use Rattle.packet_text.specs.declared.line.Line.TheVariants as line
+use Rattle.bundle_command.specs.BundleLeft.{TellsBehind, WasAsked}
+use Rattle.bundle_command.specs.Channels.{IsBadLine, StandsSo}
+use Rattle.bundle_command.specs.declared.channel.Standing.{Standing}
+use Rattle.bundle_command.specs.declared.channel.Standing.TheVariants as standing
+use Rattle.bundle_command.proofs.Ends.{more_by, none_ended}
+
+-- the lines came to an end
+at_end : (packets : ℕ) (taken : List ℕ) (state : State) (ended : Bool) → ended ≡ true → WasAsked packets (more_by state ended) taken
+at_end packets taken state ended e = inr (inl (none_ended state ended e))
+
+-- a packet came that was not given
+has_more : (first last : InView) (taken packet : List ℕ) (given : List (List ℕ)) (view : LinesView) → LinesStand first last taken (given ++ packet ∷ []) view → view.answer ≡ line.Packet
+    → WasAsked (length given) (more_by last.state view.ended) taken
+has_more first last taken packet given view h answer = by view.ended refl
+  where
+    many : view.ended ≡ false → length given < length (packets_of (full_lines taken)).packets
+    many e =
+        let told = subst (λ a. Told a (given ++ packet ∷ []) (packets_of (full_lines taken))) answer
+        (h.told (full_lines taken) (subst (λ b. may_be b view.answer taken (full_lines taken)) (sym e) (subst (λ a. may_be false a taken (full_lines taken)) (sym answer)
+        (record { rest = []; parts = sym (append-nil (full_lines taken)) })))) in
+        let size = ap (λ (ps : Packets). length ps.packets) told.parts in
+        let both = length-append (given ++ packet ∷ []) told.later.packets in
+        let one = length-append given (packet ∷ []) in
+        omega (arith, size, both, one)
+
+    by : (ended : Bool) → view.ended ≡ ended → WasAsked (length given) (more_by last.state view.ended) taken
+    by true e = at_end (length given) taken last.state view.ended e
+    by false e = inr (inr (inr (many e)))
+
+is_bad : (first last : InView) (taken : List ℕ) (packets : ℕ) (given : List (List ℕ)) (view : LinesView) → LinesStand first last taken given view → IsBadLine view.answer
+    → WasAsked packets (more_by last.state view.ended) taken
+is_bad first last taken packets given view h bad = by view.answer refl bad
+  where
+    by_ended : (n : ℕ) → view.answer ≡ line.Bad n → (ended : Bool) → view.ended ≡ ended → WasAsked packets (more_by last.state view.ended) taken
+    by_ended n a true e = at_end packets taken last.state view.ended e
+    by_ended n a false e = inr (inr (inl (h.shown n a e)))
+
+    by : (a : Line) → view.answer ≡ a → IsBadLine a → WasAsked packets (more_by last.state view.ended) taken
+    by line.Packet e is = absurd is
+    by line.End e is = absurd is
+    by (line.Bad n) e is = by_ended n e view.ended refl
+    by line.Lost e is = absurd is
+
+-- nothing was asked for
+none_asked : (first last : InView) (taken : List ℕ) (given beyond : List (List ℕ)) (view : LinesView) → given ≡ [] → beyond ≡ [] → view.answer ≡ line.Packet → LinesStand first last taken (given ++ beyond) view
+    → WasAsked (length given) (more_by last.state view.ended) taken
+none_asked first last taken given beyond view e f answer h =
+    let nothing : length (given ++ beyond) ≡ 0 = ap length (ap (λ g. g ++ beyond) e ∙ f) in
+    let asked : asked_for view.answer (length (given ++ beyond)) ≡ 0 = ap (λ a. asked_for a (length (given ++ beyond))) answer ∙ nothing in
+    elim h.read.fewer [
+      | inl none ↦ inl (ap length e, none)
+      | inr less ↦ absurd (omega (arith, less, asked))
+    ]
+
+-- once it is settled
+pub was_asked : (s : Standing) (first last : InView) (taken : List ℕ) (given beyond : List (List ℕ)) (view : LinesView) → s ≢ standing.Going → StandsSo s given beyond view.answer
+    → LinesStand first last taken (given ++ beyond) view → WasAsked (length given) (more_by last.state view.ended) taken
+was_asked standing.Fresh first last taken given beyond view over so h = none_asked first last taken given beyond view so.0 so.1 so.2 h
+was_asked standing.Going first last taken given beyond view over so h = absurd (over refl)
+was_asked standing.Ended first last taken given beyond view over so h = at_end (length given) taken last.state view.ended (h.ended so.1)
+was_asked standing.Bad first last taken given beyond view over (inl (none, bad)) h = is_bad first last taken (length given) (given ++ beyond) view h bad
+was_asked standing.Bad first last taken given beyond view over (inr (packet, is, long, answer)) h =
+    has_more first last taken packet given view (subst (λ b. LinesStand first last taken (given ++ b) view) is h) answer
+was_asked standing.Lost first last taken given beyond view over so h =
+    inr (inl (ap (λ s. more_by s view.ended) (h.lost so.1).1))
+was_asked standing.More first last taken given beyond view over (packet, is, answer) h =
+    has_more first last taken packet given view (subst (λ b. LinesStand first last taken (given ++ b) view) is h) answer

@@ -1,0 +1,3 @@
+mod Emitted
+mod Stream
+mod ComesOut
