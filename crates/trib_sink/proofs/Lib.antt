@@ -8,3 +8,4 @@ pub mod Msi
 pub mod Frames
 pub mod Stands
 pub mod Ends
+mod Pairing

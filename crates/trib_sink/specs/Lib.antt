@@ -3,3 +3,4 @@ pub mod Rows
 pub mod Following
 pub mod Watching
 pub mod Sink
+pub mod Pairs

@@ -9,6 +9,7 @@ ghost use Rattle.tributary_model.specs.Stretches.{state_after};
 ghost use Rattle.tributary_model.specs.Emission.{emission};
 ghost use Rattle.tributary_model.specs.Machine.{state_of_standing};
 ghost use Rattle.trib_sink.specs.Following.{most_of};
+ghost use Rattle.trib_sink.specs.Pairs.{pair_after, pair_of_standing};
 
 use crate::arrivals::{message_so_far, note_msi};
 use crate::follower::Follower;
@@ -78,6 +79,14 @@ impl TribSink {
         ensures { AfterAnyTurns self.now (λ own past frames. result ≡ state_after own past) }
     {
         state_of(self.follower.standing())
+    }
+
+    /// Cm and CnD of the last turn that ended, where the sink is Up after it: the pair of its message, or where that
+    /// was damaged the pair of the turn before it.
+    pub fn pair(&self) -> Option<(u16, u16)>
+        ensures { AfterAnyTurns self.now (λ own past frames. result ≡ pair_after own past) }
+    {
+        pair_of(self.follower.standing())
     }
 
     /// Its slots.
@@ -207,5 +216,15 @@ fn state_of(standing: Standing) -> SinkState
         Standing::Waiting(_) => SinkState::Waiting,
         Standing::Down => SinkState::Down,
         Standing::Up(_) => SinkState::Up,
+    }
+}
+
+// The pair of numbers of the last turn, where the sink is Up.
+fn pair_of(standing: Standing) -> Option<(u16, u16)>
+    ensures { result ≡ pair_of_standing standing }
+{
+    match standing {
+        Standing::Up(said) => Some((said.number, said.rest)),
+        _ => None,
     }
 }
