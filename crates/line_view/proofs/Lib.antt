@@ -1,0 +1,7 @@
+mod Steps
+mod Pieces
+mod TurnMoving
+mod Texts
+mod TurnCount
+mod Runs
+mod Begin
