@@ -1,6 +1,6 @@
 -- The pieces of a turn, with the sinks on the line.
-use Rattle.std.proofs.Common.{◌≡◌, ◌<◌, ◌≤◌, ◌+◌, ◌∙◌, ℕ, true, false, List, [], ◌∷◌, ◌++◌, Option, Some, None, slice_get, refl, sym, ap, subst, add-one, append-nil, append_assoc, arith}
-use Rattle.std.specs.Prelude.{is_some, IfSome, map}
+use Rattle.std.proofs.Common.{◌≡◌, ◌<◌, ◌+◌, ◌∙◌, ℕ, true, false, List, [], ◌∷◌, ◌++◌, Option, Some, None, refl, sym, ap, subst, add-one, append-nil, append_assoc}
+use Rattle.std.specs.Prelude.{is_some, IfSome}
 use Rattle.otn_base.specs.LineSlots.{slots_of}
 use Rattle.otn_ports.specs.Views.{InView}
 use Rattle.line_side.specs.LineForm.{LineForm, size_of}
@@ -10,11 +10,11 @@ use Rattle.line_side.specs.MayBe.{MayBe}
 use Rattle.multiframe.specs.LineTurns.{Lock, line_state}
 use Rattle.multiframe.specs.TurnPieces.{in_hand}
 use Rattle.otn_base.specs.LineSlots.{LineSlots}
-use Rattle.tributary_model.specs.Places.{Tributary, Taken, View}
+use Rattle.tributary_model.specs.Places.{Taken}
 use Rattle.trib_sink.specs.Sink.{StandsAfter}
 use Rattle.device_model.specs.LineViews.{views_until}
 use Rattle.device_model.specs.TurnFrames.{member_of, frames_in}
-use Rattle.line_view.specs.Viewing.{IsInStep, HasSeen, ViewStands, ViewMoves}
+use Rattle.line_view.specs.Viewing.{IsInStep, ViewStands, ViewMoves}
 use Rattle.line_view.specs.Watching.{EachWatched, TookFrame, own_of}
 use Rattle.line_view.specs.declared.watched.Watched.{Watched}
 use Rattle.line_view.proofs.Steps.{was_there, same_own, same_owns}

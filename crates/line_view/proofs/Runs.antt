@@ -1,5 +1,5 @@
 -- The turns of a view, and how it ends.
-use Rattle.std.proofs.Common.{◌≡◌, ◌≢◌, ◌<◌, ◌≤◌, ◌+◌, ◌*◌, ◌%◌, ◌∙◌, ◌⊎◌, ℕ, Bool, true, false, List, [], ◌++◌, Some, length, slice_get, ltb, refl, sym, ap, subst, inl, inr, arith, append-nil, append_assoc, length-append}
+use Rattle.std.proofs.Common.{◌≡◌, ◌≢◌, ◌<◌, ◌≤◌, ◌+◌, ◌*◌, ◌%◌, ◌∙◌, ◌⊎◌, ℕ, Bool, true, false, List, [], ◌++◌, length, ltb, refl, sym, ap, subst, inl, inr, arith, append-nil, append_assoc, length-append}
 use Rattle.std.specs.Prelude.{map}
 use Rattle.std.specs.List.{flat_map, range_with_len}
 use Rattle.std.proofs.lemmas.Bool.{ltb-true, ltb-false}
@@ -22,15 +22,15 @@ use Rattle.line_side.specs.declared.ending.Ending.{Ending}
 use Rattle.line_side.specs.declared.ending.Ending.TheVariants.{Open, Seen, Died}
 use Rattle.multiframe.specs.LineTurns.{line_state, has_ended}
 use Rattle.tributary_model.specs.Places.{Tributary}
-use Rattle.line_view.specs.ViewRuns.{MayFollow, written_of, ViewEnded, lines_of, TurnRun, AnswerRun, FinishRun}
-use Rattle.line_view.specs.ViewText.{seen_at, head_line, end_line, turn_text, turns_of, view_text}
+use Rattle.line_view.specs.ViewRuns.{MayFollow, ViewEnded, lines_of, TurnRun, FinishRun}
+use Rattle.line_view.specs.ViewText.{head_line, end_line, turn_text, turns_of, view_text}
 use Rattle.line_view.specs.Viewing.{ViewStands}
 use Rattle.line_view.specs.Watching.{own_of}
 use Rattle.line_view.specs.declared.told.TurnSeen.{TurnSeen}
 use Rattle.line_view.specs.declared.viewing.After.{After}
 use Rattle.line_view.specs.declared.viewing.After.TheVariants as next
 use Rattle.line_view.specs.declared.watched.Watched.{Watched}
-use Rattle.line_view.proofs.Texts.{writes_none, writes_twice, part_of_more, lines_are, turns-more}
+use Rattle.line_view.proofs.Texts.{writes_twice, part_of_more, lines_are, turns-more}
 use Rattle.line_view.proofs.TurnCount.{turns_first, turns_all, turn_count}
 
 -- the text up to a turn

@@ -1,12 +1,11 @@
 -- The text of a view, as it is written.
-use Rattle.std.proofs.Common.{◌≡◌, ◌⊎◌, ◌<◌, ◌≤◌, ◌+◌, ◌∙◌, ℕ, zero, suc, true, false, List, [], ◌∷◌, ◌++◌, Some, length, take, drop, get_or, slice_get, refl, sym, ap, subst, arith, append-nil, append_assoc, length-append, add-one}
+use Rattle.std.proofs.Common.{◌≡◌, ◌<◌, ◌≤◌, ◌+◌, ◌∙◌, ℕ, zero, suc, List, [], ◌∷◌, ◌++◌, Some, length, take, drop, get_or, slice_get, refl, sym, ap, subst, arith, append-nil, length-append, add-one}
 use Rattle.std.specs.Prelude.{map}
 use Rattle.std.specs.List.{flat_map, range_with_len}
 use Rattle.std.proofs.Math.Seq.{take-append-add, take-length}
 use Rattle.std.proofs.lemmas.Grind.{flat_map-append}
 use Rattle.std.proofs.lemmas.List.{take-append-drop, take-append-le}
 use Rattle.std.proofs.lemmas.Option.{same_Some, slice_get_read, slice_get_within}
-use Rattle.otn_ports.proofs.GivenLaws.{has_failed_since}
 use Rattle.otn_ports.proofs.PortLaws.{sink_got_none, sink_got_twice}
 use Rattle.otn_ports.specs.Bytes.{HasFailed}
 use Rattle.otn_ports.specs.PortViews.{SinkGot, SinkView, SinkWrites}
@@ -16,7 +15,6 @@ use Rattle.line_side.specs.LineForm.{LineForm}
 use Rattle.line_view.specs.ViewRuns.{lines_of}
 use Rattle.line_view.specs.ViewText.{seen_at, told_at, turn_line, tributary_line, turn_text}
 use Rattle.line_view.specs.Watching.{own_of}
-use Rattle.line_view.specs.declared.told.Told.{Told}
 use Rattle.line_view.specs.declared.told.TurnSeen.{TurnSeen}
 use Rattle.line_view.specs.declared.watched.Watched.{Watched}
 

@@ -1,7 +1,6 @@
 -- The turns that a view tells, as they are done.
 use Rattle.std.proofs.Common.{◌≡◌, ◌<◌, ◌≤◌, ◌+◌, ◌-◌, ◌∙◌, ◌⊎◌, inl, inr, ℕ, zero, suc, Bool, true, false, cond, not, List, [], ◌∷◌, ◌++◌, length, filter, refl, ap, subst, arith, append-nil}
-use Rattle.std.specs.List.{flat_map, range_with_len}
-use Rattle.std.proofs.lemmas.Grind.{flat_map-append}
+use Rattle.std.specs.List.{range_with_len}
 use Rattle.std.proofs.lemmas.List.FromFn.{length-range_with_len}
 use Rattle.multiframe.specs.LineTurns.{LineState, Hunting, Locked, Ended, line_state, after_turn, has_ended}
 use Rattle.line_view.specs.ViewText.{turns_of}

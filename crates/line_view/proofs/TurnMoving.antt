@@ -1,6 +1,6 @@
 -- A turn of the sinks on a line, from its pieces.
-use Rattle.std.proofs.Common.{◌≡◌, ◌+◌, ◌∙◌, ℕ, Bool, true, false, List, [], ◌∷◌, ◌++◌, Option, Some, slice_get, refl, sym, ap, subst, add-one}
-use Rattle.std.specs.Prelude.{is_some, IsTrue}
+use Rattle.std.proofs.Common.{◌≡◌, ◌+◌, ◌∙◌, ℕ, Bool, true, false, List, [], ◌∷◌, ◌++◌, Some, slice_get, refl, sym, ap, subst, add-one}
+use Rattle.std.specs.Prelude.{IsTrue}
 use Rattle.otn_base.specs.LineSlots.{LineSlots, slots_of}
 use Rattle.otn_ports.specs.Views.{InView}
 use Rattle.line_side.specs.LineForm.{LineForm, size_of}
@@ -9,16 +9,15 @@ use Rattle.line_side.specs.LineNumbers.{numbers_of}
 use Rattle.line_side.specs.LineStands.{LineView, LineStands, TurnEnded, frames_taken}
 use Rattle.line_side.specs.MayBe.{MayBe}
 use Rattle.line_side.specs.declared.counts.LineCounts.{LineCounts}
-use Rattle.multiframe.specs.LineTurns.{LineState, Hunting, Locked, Ended, line_state, multiframe, has_ended}
-use Rattle.tributary_model.specs.Places.{Tributary, Taken, View}
-use Rattle.trib_sink.specs.Sink.{StandsAfter, ended_view}
+use Rattle.multiframe.specs.LineTurns.{LineState, Hunting, Locked, Ended, line_state, has_ended}
+use Rattle.tributary_model.specs.Places.{Tributary}
+use Rattle.trib_sink.specs.Sink.{StandsAfter}
 use Rattle.device_model.proofs.TurnFrames.{frames_none, turn_frames}
 use Rattle.device_model.specs.LineViews.{view_at, views_until}
 use Rattle.device_model.specs.TurnFrames.{frames_in}
 use Rattle.line_view.specs.ViewText.{counts_between, seen_at, told_of, told_at}
-use Rattle.line_view.specs.Viewing.{IsInStep, ViewStands, ViewMoves, TurnMoves}
+use Rattle.line_view.specs.Viewing.{IsInStep, ViewMoves, TurnMoves}
 use Rattle.line_view.specs.Watching.{EachWatched, EndedTurn, own_of}
-use Rattle.line_view.specs.declared.told.Told.{Told}
 use Rattle.line_view.specs.declared.told.TurnCounts.{TurnCounts}
 use Rattle.line_view.specs.declared.told.TurnSeen.{TurnSeen}
 use Rattle.line_view.specs.declared.watched.Watched.{Watched}

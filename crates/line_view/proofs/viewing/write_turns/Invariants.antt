@@ -1,4 +1,4 @@
-use Rattle.std.proofs.Common.{◌≡◌, false, List, [], length}
+use Rattle.std.proofs.Common.{◌≡◌, false, [], length}
 use Rattle.std.specs.Prelude.{map}
 use Rattle.otn_ports.specs.InPlace.{in_view}
 use Rattle.otn_ports.specs.PortViews.{sink_view}
