@@ -5,3 +5,4 @@ mod Texts
 mod TurnCount
 mod Runs
 mod Begin
+mod Telling

@@ -3,3 +3,4 @@ pub mod Watching
 pub mod Viewing
 pub mod ViewRuns
 pub mod Beyond
+pub mod Laws

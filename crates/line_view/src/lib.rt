@@ -5,9 +5,11 @@
 //! - `watched`: its sink on the line, and `told` what a turn says of the line and of it.
 //! - `turns`: the turns of the line with the sinks on it.
 //! - `lines`, `words`: the lines of the text and their words.
+//! - `laws`: what is proved of views.
 #![tactic(auto)]
 
 mod beyond;
+mod laws;
 mod lines;
 mod shown;
 mod told;
@@ -16,6 +18,7 @@ mod viewing;
 mod watched;
 mod words;
 
+pub use laws::what_is_told;
 pub use lines::{LINE_BYTES, put_number, put_slots};
 pub use shown::Shown;
 pub use told::{Told, TurnCounts, TurnSeen};
