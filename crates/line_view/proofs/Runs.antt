@@ -318,7 +318,7 @@ turns_end Unfinished form owns first was now t line watched old gained new h few
           ending = line.reader.ending;
           ended_as = λ _. subst (EndedAs line.reader.ending) (sym s.3) h.stands.line_is.ending;
           report = λ rest none. last_line written.Whole form owns first was t line watched old gained new h few last f.wrote (through_mask form.scrambled (h.taken ++ rest)) (alone form.scrambled line.reader.ending h.taken rest none);
-          ends = (f.answer.ends.0, subst (λ n. 0 < n) (taken_seen form owns first was t line watched old gained h s.0) s.1);
+          ends = (f.answer.ends.0, subst (λ n. 0 < n) (taken_seen form owns first was t line watched old gained h s.0) s.1, s.0);
         }
     by_end (inr u) =
         let alive = was_alive was now f.answer.came f.answer.gave f.answer.ends.0 in
@@ -339,7 +339,7 @@ turns_end Unfinished form owns first was now t line watched old gained new h few
                 over = λ closed. absurd (closed open_now);
                 parts = ap (through_mask form.scrambled) (append_assoc h.taken f.answer.came rest);
               });
-          ends = (f.answer.ends.0, one_more (length h.taken) (length (h.taken ++ f.answer.came)) count.0 count.1 size);
+          ends = (f.answer.ends.0, one_more (length h.taken) (length (h.taken ++ f.answer.came)) count.0 count.1 size, open_now);
         }
 turns_end Cut form owns first was now t line watched old gained new h few last f = record {
   taken = h.taken;

@@ -13,7 +13,7 @@ use Rattle.line_side.specs.LineForm.{LineForm, through_mask}
 use Rattle.line_side.specs.LineStands.{LineView}
 use Rattle.line_side.specs.Reader.{EndedAs}
 use Rattle.line_side.specs.declared.ending.Ending.{Ending}
-use Rattle.line_side.specs.declared.ending.Ending.TheVariants.{Seen}
+use Rattle.line_side.specs.declared.ending.Ending.TheVariants.{Open, Seen}
 use Rattle.tributary_model.specs.Places.{Tributary}
 use Rattle.line_view.specs.ViewText.{view_text, end_line, turn_line, tributary_line}
 use Rattle.line_view.specs.Viewing.{TurnMoves}
@@ -35,14 +35,19 @@ written_of Unfinished = written.Whole
 written_of Cut = written.Whole
 written_of Memory = written.Whole
 
+-- bytes stand behind the last whole frame: the end of the place was seen, or where more may follow it was not
+abbrev pub EndsBehind : (more : Bool) → Ending → Type 0
+EndsBehind false ending = ending ≡ Seen
+EndsBehind true ending = ending ≡ Open
+
 -- What an answer says of the bytes taken: Done where the line has ended with a whole frame, Unfinished where bytes stand behind its last whole frame
 -- or it has more than the turns take, and Cut where its place is dead.
-abbrev pub ViewEnds : Ended → (more : Bool) → (taken : List ℕ) → (now : InView) → Type 0
-ViewEnds Done more taken now = (now.state ≢ Dead) × (more ≡ false) × (length taken % LINE_FRAME_BYTES ≡ 0)
-ViewEnds Unfinished more taken now = (now.state ≢ Dead) × (0 < length taken % LINE_FRAME_BYTES)
-ViewEnds Cut more taken now = now.state ≡ Dead
-ViewEnds ReportFault more taken now = Unit {0}
-ViewEnds Memory more taken now = ⊥
+abbrev pub ViewEnds : Ended → Ending → (more : Bool) → (taken : List ℕ) → (now : InView) → Type 0
+ViewEnds Done ending more taken now = (now.state ≢ Dead) × (more ≡ false) × (length taken % LINE_FRAME_BYTES ≡ 0)
+ViewEnds Unfinished ending more taken now = (now.state ≢ Dead) × (0 < length taken % LINE_FRAME_BYTES) × EndsBehind more ending
+ViewEnds Cut ending more taken now = now.state ≡ Dead
+ViewEnds ReportFault ending more taken now = Unit {0}
+ViewEnds Memory ending more taken now = ⊥
 
 -- A view from the line and the report as they were to how they are. Where no more bytes may follow, a live line has answered its end. The
 -- report gained the text of the view, all of it or, where a write failed, a part of it from the front.
@@ -54,7 +59,7 @@ pub record ViewEnded (form : LineForm) (owns : List Tributary) (first now : InVi
   pub ending : Ending
   pub ended_as : ended ≢ ReportFault → EndedAs ending now
   pub report : (rest : List ℕ) → MayFollow more rest → SinkWrites (written_of ended) old (view_text form owns ending (through_mask form.scrambled (taken ++ rest))) new
-  pub ends : ViewEnds ended more taken now
+  pub ends : ViewEnds ended ending more taken now
 
 -- the lines of a turn: its own, and one of each tributary
 unfoldable pub lines_of : (number : ℕ) → TurnSeen → List Watched → List ℕ
