@@ -3,6 +3,7 @@ mod Pieces
 mod TurnMoving
 mod Texts
 mod TurnCount
+mod Wanting
 mod Runs
 mod Begin
 mod Telling

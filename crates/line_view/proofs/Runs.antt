@@ -4,6 +4,9 @@ use Rattle.std.specs.Prelude.{map}
 use Rattle.std.specs.List.{flat_map, range_with_len}
 use Rattle.std.proofs.lemmas.Bool.{ltb-true, ltb-false}
 use Rattle.std.proofs.lemmas.Grind.{flat_map-append}
+use Rattle.otn_base.specs.LineSlots.{slots_of}
+use Rattle.otn_base.specs.declared.line_kind.LineKind.{LineKind}
+use Rattle.otn_base.specs.declared.line_kind.LineKind.TheVariants.{Otu2, Otu3}
 use Rattle.otn_ports.proofs.GivenLaws.{gave_none, gave_twice}
 use Rattle.otn_ports.specs.Given.{Gave}
 use Rattle.otn_ports.specs.PortViews.{SinkView, SinkWrites}
@@ -13,6 +16,7 @@ use Rattle.otn_ports.specs.declared.drain.Written.{Written}
 use Rattle.otn_ports.specs.declared.drain.Written.TheVariants as written
 use Rattle.otn_ports.specs.declared.ended.Ended.{Ended}
 use Rattle.otn_ports.specs.declared.ended.Ended.TheVariants.{Done, Unfinished, Cut, ReportFault, Memory}
+use Rattle.line_side.proofs.Frames.{length_parts}
 use Rattle.line_side.specs.LineFile.{mfas_of}
 use Rattle.line_side.specs.LineForm.{LineForm, size_of, through_mask}
 use Rattle.line_side.specs.LineStands.{LineView}
@@ -22,7 +26,7 @@ use Rattle.line_side.specs.declared.ending.Ending.{Ending}
 use Rattle.line_side.specs.declared.ending.Ending.TheVariants.{Open, Seen, Died}
 use Rattle.multiframe.specs.LineTurns.{line_state, has_ended}
 use Rattle.tributary_model.specs.Places.{Tributary}
-use Rattle.line_view.specs.ViewRuns.{MayFollow, ViewEnded, lines_of, TurnRun, FinishRun}
+use Rattle.line_view.specs.ViewRuns.{MayFollow, frames_wanted, bytes_taken, ViewEnded, lines_of, TurnRun, FinishRun}
 use Rattle.line_view.specs.ViewText.{head_line, end_line, turn_text, turns_of, view_text}
 use Rattle.line_view.specs.Viewing.{ViewStands}
 use Rattle.line_view.specs.Watching.{own_of}
@@ -31,6 +35,7 @@ use Rattle.line_view.specs.declared.viewing.After.{After}
 use Rattle.line_view.specs.declared.viewing.After.TheVariants as next
 use Rattle.line_view.specs.declared.watched.Watched.{Watched}
 use Rattle.line_view.proofs.Texts.{writes_twice, part_of_more, lines_are, turns-more}
+use Rattle.line_view.proofs.Wanting.{TookWanted, took_wanted, closed_least, open_least, more_least}
 use Rattle.line_view.proofs.TurnCount.{turns_first, turns_all, turn_count}
 
 -- the text up to a turn
@@ -198,6 +203,7 @@ head_lost form owns first old new wrote = record {
       (part_of_more old new (text_until form owns given 0) text.0
       (subst (λ xs. SinkWrites written.Lost old xs new) (sym (append-nil (head_line form.kind form.scrambled))) wrote));
   ends = tt;
+  took = λ no. absurd (no refl);
 }
 
 -- with a write of a turn that failed
@@ -221,6 +227,7 @@ turns_lost form owns first was now t line later olds news old gained new h last 
       (subst (λ xs. SinkWrites written.Lost old xs new) (turn_lines form owns first now h.taken t line later olds news gained new next.ReportFailed h.owns_are run given may)
       (writes_twice written.Lost old gained new (text_until form owns given t) (lines_of (t + 1) run.seen news) (h.report given earlier) run.wrote)));
   ends = tt;
+  took = λ no. absurd (no refl);
 }
 
 -- the last line is written, or a part of it
@@ -264,18 +271,53 @@ was_alive was now came gave alive dead =
 open_ends : (ending : Ending) (now : InView) → ending ≡ Open → EndedAs ending now
 open_ends ending now e = record { died = λ f. absurd (let g : Open ≡ Died = sym e ∙ f in cc); seen = λ f. absurd (let g : Open ≡ Seen = sym e ∙ f in cc) }
 
+some_frames : (kind : LineKind) → 1 ≤ slots_of kind
+some_frames Otu2 = omega arith
+some_frames Otu3 = omega arith
+
+-- what the turns wanted was taken
+took_of : (form : LineForm) (owns : List Tributary) (first was : InView) (t : ℕ) (line : LineView) (watched : List Watched) (old gained : SinkView)
+    → (h : TurnsSoFar form owns first was t line watched old gained) → t ≤ 16384
+    → ((given : List ℕ) → MayBe form.scrambled line.reader.ending h.taken given → (has_ended (line_state (size_of form) (mfas_of given) t) ≡ true) ⊎ (t ≡ 16384))
+    → line.pieces ≡ 0 → (given : List ℕ) → MayBe form.scrambled line.reader.ending h.taken given → TookWanted (size_of form) given h.taken line.reader
+took_of form owns first was t line watched old gained h few last none given may =
+    took_wanted (size_of form) given h.taken t line (some_frames form.kind) (h.stands.line_is.is_line given may) none (turn_count (size_of form) (mfas_of given) t few (h.unended given may) (last given may))
+
+took_alone : (form : LineForm) (owns : List Tributary) (first was : InView) (t : ℕ) (line : LineView) (watched : List Watched) (old gained : SinkView)
+    → (h : TurnsSoFar form owns first was t line watched old gained) → t ≤ 16384
+    → ((given : List ℕ) → MayBe form.scrambled line.reader.ending h.taken given → (has_ended (line_state (size_of form) (mfas_of given) t) ≡ true) ⊎ (t ≡ 16384))
+    → line.pieces ≡ 0 → (rest : List ℕ) → rest ≡ [] → length h.taken ≡ bytes_taken (size_of form) (through_mask form.scrambled (h.taken ++ rest))
+took_alone form owns first was t line watched old gained h few last none rest nil = by_ending line.reader.ending refl
+  where
+    given : List ℕ
+    given = through_mask form.scrambled (h.taken ++ rest)
+
+    took : TookWanted (size_of form) given h.taken line.reader
+    took = took_of form owns first was t line watched old gained h few last none given (alone form.scrambled line.reader.ending h.taken rest nil)
+
+    closed : line.reader.ending ≢ Open → length h.taken ≡ bytes_taken (size_of form) given
+    closed ended = let o = took.over ended in closed_least (length h.taken) (length given) (frames_wanted (size_of form) given) o.0 o.1
+
+    by_ending : (e : Ending) → line.reader.ending ≡ e → length h.taken ≡ bytes_taken (size_of form) given
+    by_ending Open e =
+        let long = length_parts form.scrambled h.taken [] rest in
+        let none_more : length rest ≡ 0 = ap length nil in
+        open_least (length h.taken) (length given) (frames_wanted (size_of form) given) (took.still e) (omega (arith, long, none_more))
+    by_ending Seen e = closed (λ f. cc)
+    by_ending Died e = closed (λ f. cc)
+
 -- how the view ends with an answer
 pub turns_end : (ended : Ended) (form : LineForm) (owns : List Tributary) (first was now : InView) (t : ℕ) (line : LineView) (watched : List Watched) (old gained new : SinkView)
     → (h : TurnsSoFar form owns first was t line watched old gained) → t ≤ 16384
     → ((given : List ℕ) → MayBe form.scrambled line.reader.ending h.taken given → (has_ended (line_state (size_of form) (mfas_of given) t) ≡ true) ⊎ (t ≡ 16384))
-    → FinishRun t line was now gained new ended → ViewEnded form owns first now old new ended
-turns_end Done form owns first was now t line watched old gained new h few last f = by_end f.answer.ends.2
+    → line.pieces ≡ 0 → FinishRun t line was now gained new ended → ViewEnded form owns first now old new ended
+turns_end Done form owns first was now t line watched old gained new h few last none f = by_end f.answer.ends.2
   where
     gave : Gave first h.taken now
     gave = subst (λ xs. Gave first xs now) (ap (λ xs. h.taken ++ xs) f.answer.ends.1 ∙ append-nil h.taken) (gave_twice first was now h.taken f.answer.came h.stands.line_is.gave f.answer.gave)
 
     text : (rest : List ℕ) → rest ≡ [] → SinkWrites written.Whole old (view_text form owns line.reader.ending (through_mask form.scrambled (h.taken ++ rest))) new
-    text rest none = last_line written.Whole form owns first was t line watched old gained new h few last f.wrote (through_mask form.scrambled (h.taken ++ rest)) (alone form.scrambled line.reader.ending h.taken rest none)
+    text rest nil = last_line written.Whole form owns first was t line watched old gained new h few last f.wrote (through_mask form.scrambled (h.taken ++ rest)) (alone form.scrambled line.reader.ending h.taken rest nil)
 
     by_end : ((line.reader.ending ≡ Seen) × (line.reader.rest ≡ 0) × (now ≡ was)) ⊎ ((line.reader.ending ≢ Seen) × HasEnded now.left now.ended) → ViewEnded form owns first now old new Done
     by_end (inl s) =
@@ -289,6 +331,7 @@ turns_end Done form owns first was now t line watched old gained new h few last 
           ended_as = λ _. subst (EndedAs line.reader.ending) (sym s.2) h.stands.line_is.ending;
           report = text;
           ends = (f.answer.ends.0, refl, sym (taken_seen form owns first was t line watched old gained h s.0) ∙ s.1);
+          took = λ _ rest nil. took_alone form owns first was t line watched old gained h few last none rest nil;
         }
     by_end (inr u) =
         let alive = was_alive was now f.answer.came f.answer.gave f.answer.ends.0 in
@@ -303,8 +346,9 @@ turns_end Done form owns first was now t line watched old gained new h few last 
           ended_as = λ _. open_ends line.reader.ending now open_now;
           report = text;
           ends = (f.answer.ends.0, refl, open_count (length h.taken) count.0 count.1);
+          took = λ _ rest nil. took_alone form owns first was t line watched old gained h few last none rest nil;
         }
-turns_end Unfinished form owns first was now t line watched old gained new h few last f = by_end f.answer.ends.1
+turns_end Unfinished form owns first was now t line watched old gained new h few last none f = by_end f.answer.ends.1
   where
     by_end : ((line.reader.ending ≡ Seen) × (0 < line.reader.rest) × (f.answer.came ≡ []) × (now ≡ was)) ⊎ ((line.reader.ending ≢ Seen) × (length f.answer.came ≡ 1))
         → ViewEnded form owns first now old new Unfinished
@@ -317,8 +361,9 @@ turns_end Unfinished form owns first was now t line watched old gained new h few
           over = λ _ live. subst (λ (v : InView). HasEnded v.left v.ended) (sym s.3) (h.stands.line_is.over closed (ap (λ (v : InView). v.state) (sym s.3) ∙ live));
           ending = line.reader.ending;
           ended_as = λ _. subst (EndedAs line.reader.ending) (sym s.3) h.stands.line_is.ending;
-          report = λ rest none. last_line written.Whole form owns first was t line watched old gained new h few last f.wrote (through_mask form.scrambled (h.taken ++ rest)) (alone form.scrambled line.reader.ending h.taken rest none);
+          report = λ rest nil. last_line written.Whole form owns first was t line watched old gained new h few last f.wrote (through_mask form.scrambled (h.taken ++ rest)) (alone form.scrambled line.reader.ending h.taken rest nil);
           ends = (f.answer.ends.0, subst (λ n. 0 < n) (taken_seen form owns first was t line watched old gained h s.0) s.1, s.0);
+          took = λ _ rest nil. took_alone form owns first was t line watched old gained h few last none rest nil;
         }
     by_end (inr u) =
         let alive = was_alive was now f.answer.came f.answer.gave f.answer.ends.0 in
@@ -340,22 +385,33 @@ turns_end Unfinished form owns first was now t line watched old gained new h few
                 parts = ap (through_mask form.scrambled) (append_assoc h.taken f.answer.came rest);
               });
           ends = (f.answer.ends.0, one_more (length h.taken) (length (h.taken ++ f.answer.came)) count.0 count.1 size, open_now);
+          took = λ _ rest follow.
+              let given = through_mask form.scrambled ((h.taken ++ f.answer.came) ++ rest) in
+              let took = took_of form owns first was t line watched old gained h few last none given
+              (record {
+                rest = f.answer.came ++ rest;
+                over = λ closed. absurd (closed open_now);
+                parts = ap (through_mask form.scrambled) (append_assoc h.taken f.answer.came rest);
+              }) in
+              let long = length_parts form.scrambled (h.taken ++ f.answer.came) [] rest in
+              more_least (length h.taken) (length (h.taken ++ f.answer.came)) (length given) (frames_wanted (size_of form) given) (took.still open_now) size (omega (arith, long));
         }
-turns_end Cut form owns first was now t line watched old gained new h few last f = record {
+turns_end Cut form owns first was now t line watched old gained new h few last none f = record {
   taken = h.taken;
   gave = subst (λ xs. Gave first xs now) (ap (λ xs. h.taken ++ xs) f.answer.ends.1 ∙ append-nil h.taken) (gave_twice first was now h.taken f.answer.came h.stands.line_is.gave f.answer.gave);
   more = false;
   over = λ _ live. let e : Dead ≡ Live = sym f.answer.ends.0 ∙ live in absurd (cc);
   ending = line.reader.ending;
   ended_as = λ _. record { died = λ _. f.answer.ends.0; seen = λ seen. by_place f.answer.ends.2 seen };
-  report = λ rest none. last_line written.Whole form owns first was t line watched old gained new h few last f.wrote (through_mask form.scrambled (h.taken ++ rest)) (alone form.scrambled line.reader.ending h.taken rest none);
+  report = λ rest nil. last_line written.Whole form owns first was t line watched old gained new h few last f.wrote (through_mask form.scrambled (h.taken ++ rest)) (alone form.scrambled line.reader.ending h.taken rest nil);
   ends = f.answer.ends.0;
+  took = λ _ rest nil. took_alone form owns first was t line watched old gained h few last none rest nil;
 }
   where
     by_place : (now ≡ was) ⊎ (line.reader.ending ≢ Seen) → line.reader.ending ≡ Seen → now.state ≢ Dead
     by_place (inl same) seen = subst (λ (v : InView). v.state ≢ Dead) (sym same) (h.stands.line_is.ending.seen seen)
     by_place (inr other) seen = absurd (other seen)
-turns_end ReportFault form owns first was now t line watched old gained new h few last f = record {
+turns_end ReportFault form owns first was now t line watched old gained new h few last none f = record {
   taken = h.taken;
   gave = subst (λ xs. Gave first xs now) (ap (λ xs. h.taken ++ xs) f.answer.ends.0 ∙ append-nil h.taken) (gave_twice first was now h.taken f.answer.came h.stands.line_is.gave f.answer.gave);
   more = may_come line.reader.ending;
@@ -365,5 +421,6 @@ turns_end ReportFault form owns first was now t line watched old gained new h fe
   report = λ rest follow.
       last_line written.Lost form owns first was t line watched old gained new h few last f.wrote (through_mask form.scrambled (h.taken ++ rest)) (follows form.scrambled line.reader.ending h.taken rest follow);
   ends = tt;
+  took = λ no. absurd (no refl);
 }
-turns_end Memory form owns first was now t line watched old gained new h few last f = absurd f.answer.ends
+turns_end Memory form owns first was now t line watched old gained new h few last none f = absurd f.answer.ends

@@ -1,5 +1,5 @@
 -- How a view goes: what it took of its line, what its report gained, and why it ended.
-use Rattle.std.specs.Prelude.{◌≡◌, ◌≢◌, ◌<◌, ◌⊎◌, ◌+◌, ◌%◌, ℕ, Bool, true, false, List, [], ◌++◌, length, flat_map}
+use Rattle.std.specs.Prelude.{◌≡◌, ◌≢◌, ◌<◌, ◌⊎◌, ◌+◌, ◌*◌, ◌%◌, min, ℕ, Bool, true, false, List, [], ◌++◌, length, flat_map}
 use Rattle.otn_base.specs.declared.limits.TheConstants.{LINE_FRAME_BYTES}
 use Rattle.otn_ports.specs.Given.{Gave}
 use Rattle.otn_ports.specs.PortViews.{SinkView, SinkWrites}
@@ -9,13 +9,15 @@ use Rattle.otn_ports.specs.declared.drain.Written.{Written}
 use Rattle.otn_ports.specs.declared.drain.Written.TheVariants as written
 use Rattle.otn_ports.specs.declared.ended.Ended.{Ended}
 use Rattle.otn_ports.specs.declared.ended.Ended.TheVariants.{Done, Unfinished, Cut, ReportFault, Memory}
-use Rattle.line_side.specs.LineForm.{LineForm, through_mask}
+use Rattle.line_side.specs.LineFile.{mfas_of}
+use Rattle.line_side.specs.LineForm.{LineForm, size_of, through_mask}
 use Rattle.line_side.specs.LineStands.{LineView}
 use Rattle.line_side.specs.Reader.{EndedAs}
 use Rattle.line_side.specs.declared.ending.Ending.{Ending}
 use Rattle.line_side.specs.declared.ending.Ending.TheVariants.{Open, Seen}
+use Rattle.multiframe.specs.LineTurns.{wanted}
 use Rattle.tributary_model.specs.Places.{Tributary}
-use Rattle.line_view.specs.ViewText.{view_text, end_line, turn_line, tributary_line}
+use Rattle.line_view.specs.ViewText.{turns_of, view_text, end_line, turn_line, tributary_line}
 use Rattle.line_view.specs.Viewing.{TurnMoves}
 use Rattle.line_view.specs.declared.told.TurnSeen.{TurnSeen}
 use Rattle.line_view.specs.declared.viewing.After.{After}
@@ -34,6 +36,14 @@ written_of Done = written.Whole
 written_of Unfinished = written.Whole
 written_of Cut = written.Whole
 written_of Memory = written.Whole
+
+-- how many frames the turns of a line of these bytes want: all that their rule looks at, those among them that are not whole included
+abbrev pub frames_wanted : (size : ℕ) → (given : List ℕ) → ℕ
+frames_wanted size given = wanted size (mfas_of given) (length (turns_of size (mfas_of given)))
+
+-- how many bytes a view takes of a line: these frames and the one byte more that it asks for, or all where there are fewer
+abbrev pub bytes_taken : (size : ℕ) → (given : List ℕ) → ℕ
+bytes_taken size given = min (length given) (LINE_FRAME_BYTES * frames_wanted size given + 1)
 
 -- bytes stand behind the last whole frame: the end of the place was seen, or where more may follow it was not
 abbrev pub EndsBehind : (more : Bool) → Ending → Type 0
@@ -60,6 +70,7 @@ pub record ViewEnded (form : LineForm) (owns : List Tributary) (first now : InVi
   pub ended_as : ended ≢ ReportFault → EndedAs ending now
   pub report : (rest : List ℕ) → MayFollow more rest → SinkWrites (written_of ended) old (view_text form owns ending (through_mask form.scrambled (taken ++ rest))) new
   pub ends : ViewEnds ended ending more taken now
+  pub took : ended ≢ ReportFault → (rest : List ℕ) → MayFollow more rest → length taken ≡ bytes_taken (size_of form) (through_mask form.scrambled (taken ++ rest))
 
 -- the lines of a turn: its own, and one of each tributary
 unfoldable pub lines_of : (number : ℕ) → TurnSeen → List Watched → List ℕ

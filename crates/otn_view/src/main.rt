@@ -1,7 +1,7 @@
-//! `otn-view`, what a line carries, turn by turn: hands the file of the line and standard output to the one call that does all the
+//! `otn_view`, what a line carries, turn by turn: hands the file of the line and standard output to the one call that does all the
 //! work, and ends with the code of its answer.
 //!
-//! `otn-view FILE [otu3] [scrambled] PORT:K,K ..` shows the line of the file, an OTU2 that is not scrambled where the words
+//! `otn_view FILE [otu3] [scrambled] PORT:K,K ..` shows the line of the file, an OTU2 that is not scrambled where the words
 //! do not say otherwise, and the tributaries of these ports and slots.
 #![tactic(auto)]
 
@@ -22,7 +22,7 @@ mod words;
 fn main(rt: HostRuntime) -> ExitCode {
     let status = serve(&rt).unwrap_or(Status::Memory);
     if status != Status::Done {
-        let _ = eprintln!(rt; "otn-view: {status}");
+        let _ = eprintln!(rt; "otn_view: {status}");
     }
     exit_code(&status)
 }

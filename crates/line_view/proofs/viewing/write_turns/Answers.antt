@@ -68,7 +68,7 @@ returns-in-LineEnded g c = λ stands.
     c.loop-t.watched.items c.write_turn.new.watched.items
     (sink_view g.K.Sink c.args.report.now) (sink_view g.K.Sink c.loop-t.report) (sink_view g.K.Sink c.write_turn.new.report) true next.LineEnded h.0 h.1 run run.wrote in
     turns_end c.finish.result form (map own_of c.args.watched.now.items) first now (in_view g.I.Source c.finish.new.place) (c.loop-t.t + 1) c.write_turn.new.line c.write_turn.new.watched.items
-    (sink_view g.K.Sink c.args.report.now) (sink_view g.K.Sink c.write_turn.new.report) (sink_view g.K.Sink c.finish.new.report) k.0 (omega (arith, c.loop-t-test.true)) (λ given may. inl (k.1 given may)) c.finish.ensures
+    (sink_view g.K.Sink c.args.report.now) (sink_view g.K.Sink c.write_turn.new.report) (sink_view g.K.Sink c.finish.new.report) k.0 (omega (arith, c.loop-t-test.true)) (λ given may. inl (k.1 given may)) c.in-LineEnded.ensures.between c.finish.ensures
 
 pub returns : goal.returns
 returns g c = λ stands.
@@ -80,4 +80,4 @@ returns g c = λ stands.
     turns_end c.finish-2.result form (map own_of c.args.watched.now.items) first now (in_view g.I.Source c.finish-2.new.place) 16384 c.loop-t.line c.loop-t.watched.items
     (sink_view g.K.Sink c.args.report.now) (sink_view g.K.Sink c.loop-t.report) (sink_view g.K.Sink c.finish-2.new.report)
     (subst (λ n. TurnsSoFar form (map own_of c.args.watched.now.items) first now n c.loop-t.line c.loop-t.watched.items (sink_view g.K.Sink c.args.report.now) (sink_view g.K.Sink c.loop-t.report)) last h.0)
-    (omega arith) (λ given may. inr refl) c.finish-2.ensures
+    (omega arith) (λ given may. inr refl) c.loop-t.invariant.between c.finish-2.ensures
