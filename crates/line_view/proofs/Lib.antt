@@ -1,0 +1,9 @@
+mod Steps
+mod Pieces
+mod TurnMoving
+mod Texts
+mod TurnCount
+mod Wanting
+mod Runs
+mod Begin
+mod Telling

@@ -1,0 +1,426 @@
+-- The turns of a view, and how it ends.
+use Rattle.std.proofs.Common.{◌≡◌, ◌≢◌, ◌<◌, ◌≤◌, ◌+◌, ◌*◌, ◌%◌, ◌∙◌, ◌⊎◌, ℕ, Bool, true, false, List, [], ◌++◌, length, ltb, refl, sym, ap, subst, inl, inr, arith, append-nil, append_assoc, length-append}
+use Rattle.std.specs.Prelude.{map}
+use Rattle.std.specs.List.{flat_map, range_with_len}
+use Rattle.std.proofs.lemmas.Bool.{ltb-true, ltb-false}
+use Rattle.std.proofs.lemmas.Grind.{flat_map-append}
+use Rattle.otn_base.specs.LineSlots.{slots_of}
+use Rattle.otn_base.specs.declared.line_kind.LineKind.{LineKind}
+use Rattle.otn_base.specs.declared.line_kind.LineKind.TheVariants.{Otu2, Otu3}
+use Rattle.otn_ports.proofs.GivenLaws.{gave_none, gave_twice}
+use Rattle.otn_ports.specs.Given.{Gave}
+use Rattle.otn_ports.specs.PortViews.{SinkView, SinkWrites}
+use Rattle.otn_ports.specs.Reads.{HasEnded}
+use Rattle.otn_ports.specs.Views.{Live, Dead, InView}
+use Rattle.otn_ports.specs.declared.drain.Written.{Written}
+use Rattle.otn_ports.specs.declared.drain.Written.TheVariants as written
+use Rattle.otn_ports.specs.declared.ended.Ended.{Ended}
+use Rattle.otn_ports.specs.declared.ended.Ended.TheVariants.{Done, Unfinished, Cut, ReportFault, Memory}
+use Rattle.line_side.proofs.Frames.{length_parts}
+use Rattle.line_side.specs.LineFile.{mfas_of}
+use Rattle.line_side.specs.LineForm.{LineForm, size_of, through_mask}
+use Rattle.line_side.specs.LineStands.{LineView}
+use Rattle.line_side.specs.MayBe.{MayBe}
+use Rattle.line_side.specs.Reader.{EndedAs, rest_of}
+use Rattle.line_side.specs.declared.ending.Ending.{Ending}
+use Rattle.line_side.specs.declared.ending.Ending.TheVariants.{Open, Seen, Died}
+use Rattle.multiframe.specs.LineTurns.{line_state, has_ended}
+use Rattle.tributary_model.specs.Places.{Tributary}
+use Rattle.line_view.specs.ViewRuns.{MayFollow, frames_wanted, bytes_taken, ViewEnded, lines_of, TurnRun, FinishRun}
+use Rattle.line_view.specs.ViewText.{head_line, end_line, turn_text, turns_of, view_text}
+use Rattle.line_view.specs.Viewing.{ViewStands}
+use Rattle.line_view.specs.Watching.{own_of}
+use Rattle.line_view.specs.declared.told.TurnSeen.{TurnSeen}
+use Rattle.line_view.specs.declared.viewing.After.{After}
+use Rattle.line_view.specs.declared.viewing.After.TheVariants as next
+use Rattle.line_view.specs.declared.watched.Watched.{Watched}
+use Rattle.line_view.proofs.Texts.{writes_twice, part_of_more, lines_are, turns-more}
+use Rattle.line_view.proofs.Wanting.{TookWanted, took_wanted, closed_least, open_least, more_least}
+use Rattle.line_view.proofs.TurnCount.{turns_first, turns_all, turn_count}
+
+-- the text up to a turn
+abbrev pub text_until : LineForm → List Tributary → (given : List ℕ) → (t : ℕ) → List ℕ
+text_until form owns given t = head_line form.kind form.scrambled ++ flat_map (turn_text form owns given) (range_with_len 0 t)
+
+-- the turns so far: t of them, and the line had not ended before any
+pub record TurnsSoFar (form : LineForm) (owns : List Tributary) (first now : InView) (t : ℕ) (line : LineView) (watched : List Watched) (old new : SinkView) : Type 0 where
+  pub taken : List ℕ
+  pub stands : ViewStands form first now taken t line watched
+  pub owns_are : map own_of watched ≡ owns
+  pub report : (given : List ℕ) → MayBe form.scrambled line.reader.ending taken given → SinkWrites written.Whole old (text_until form owns given t) new
+  pub unended : (given : List ℕ) → MayBe form.scrambled line.reader.ending taken given → (s : ℕ) → s < t → has_ended (line_state (size_of form) (mfas_of given) s) ≡ false
+
+-- whether the line has ended after these turns
+abbrev pub HasLast : (form : LineForm) → (t : ℕ) → (line : LineView) → (taken : List ℕ) → Bool → Type 0
+HasLast form t line taken ended = (given : List ℕ) → MayBe form.scrambled line.reader.ending taken given → has_ended (line_state (size_of form) (mfas_of given) t) ≡ ended
+
+-- a line hunts before its first turn
+first_open : (size : ℕ) (ms : List ℕ) → has_ended (line_state size ms 0) ≡ false
+unfolding line_state
+first_open size ms = refl
+
+-- before the first turn, behind the line of the line
+pub turns_none : (form : LineForm) (first : InView) (line : LineView) (watched : List Watched) (old new : SinkView) → ((first : InView) → ViewStands form first first [] 0 line watched)
+    → SinkWrites written.Whole old (head_line form.kind form.scrambled) new
+    → (h : TurnsSoFar form (map own_of watched) first first 0 line watched old new) × HasLast form 0 line h.taken false
+turns_none form first line watched old new stands wrote = (
+  record {
+    taken = [];
+    stands = stands first;
+    owns_are = refl;
+    report = λ given may. subst (λ xs. SinkWrites written.Whole old xs new) (sym (append-nil (head_line form.kind form.scrambled))) wrote;
+    unended = λ given may s before. absurd (omega (arith, before));
+  },
+  λ given may. first_open (size_of form) (mfas_of given),
+)
+
+-- a number below t + 1 is below t, or is t
+last_or_before : (s t : ℕ) → s < t + 1 → (s < t) ⊎ (s ≡ t)
+last_or_before s t within = by_test (ltb s t) refl
+  where
+    by_test : (b : Bool) → ltb s t ≡ b → (s < t) ⊎ (s ≡ t)
+    by_test true e = inl (ltb-true s t e)
+    by_test false e = let above = ltb-false s t e in inr (omega (arith, above, within))
+
+-- the line had not ended before turn t + 1 either
+still_unended : (size : ℕ) (ms : List ℕ) (t : ℕ) → ((s : ℕ) → s < t → has_ended (line_state size ms s) ≡ false) → has_ended (line_state size ms t) ≡ false
+    → (s : ℕ) → s < t + 1 → has_ended (line_state size ms s) ≡ false
+still_unended size ms t before last s within = by_place (last_or_before s t within)
+  where
+    by_place : (s < t) ⊎ (s ≡ t) → has_ended (line_state size ms s) ≡ false
+    by_place (inl less) = before s less
+    by_place (inr same) = ap (λ k. has_ended (line_state size ms k)) same ∙ last
+
+-- the lines of one turn more
+text_more : (form : LineForm) (owns : List Tributary) (given : List ℕ) (t : ℕ) (watched : List Watched) (seen : TurnSeen) → map own_of watched ≡ owns
+    → lines_of (t + 1) seen watched ≡ turn_text form (map own_of watched) given t → text_until form owns given t ++ lines_of (t + 1) seen watched ≡ text_until form owns given (t + 1)
+text_more form owns given t watched seen same lines =
+    let head = head_line form.kind form.scrambled in
+    let turns = flat_map (turn_text form owns given) (range_with_len 0 t) in
+    ap (λ xs. (head ++ turns) ++ xs) (lines ∙ ap (λ os. turn_text form os given t) same)
+    ∙ append_assoc head turns (turn_text form owns given t)
+    ∙ ap (λ xs. head ++ xs) (sym (turns-more (turn_text form owns given) t))
+
+-- what one turn more says, of what the line may have
+turn_lines : (form : LineForm) (owns : List Tributary) (first now : InView) (taken : List ℕ) (t : ℕ) (line later : LineView) (olds news : List Watched) (old new : SinkView) (answer : After)
+    → map own_of olds ≡ owns → (run : TurnRun form first now taken t line later olds news old new answer)
+    → (given : List ℕ) → MayBe form.scrambled later.reader.ending (taken ++ run.moves.came) given
+    → text_until form owns given t ++ lines_of (t + 1) run.seen news ≡ text_until form owns given (t + 1)
+turn_lines form owns first now taken t line later olds news old new answer same run given may =
+    text_more form owns given t news run.seen (run.moves.owns ∙ same)
+    (lines_are form given t news run.seen (run.moves.seen_is given may) (run.moves.told given may) (λ i one at. (run.moves.stands.step i one at).port))
+
+-- a turn more, after which the line has ended or not
+pub turns_more : (form : LineForm) (owns : List Tributary) (first was now : InView) (t : ℕ) (line later : LineView) (olds news : List Watched) (old gained new : SinkView) (ended : Bool) (answer : After)
+    → (h : TurnsSoFar form owns first was t line olds old gained) → HasLast form t line h.taken false
+    → (run : TurnRun form first now h.taken t line later olds news gained new answer) → SinkWrites written.Whole gained (lines_of (t + 1) run.seen news) new × (run.seen.ended ≡ ended)
+    → (k : TurnsSoFar form owns first now (t + 1) later news old new) × HasLast form (t + 1) later k.taken ended
+turns_more form owns first was now t line later olds news old gained new ended answer h last run wrote = (
+  record {
+    taken = h.taken ++ run.moves.came;
+    stands = run.moves.stands;
+    owns_are = run.moves.owns ∙ h.owns_are;
+    report = λ given may.
+        subst (λ xs. SinkWrites written.Whole old xs new) (turn_lines form owns first now h.taken t line later olds news gained new answer h.owns_are run given may)
+        (writes_twice written.Whole old gained new (text_until form owns given t) (lines_of (t + 1) run.seen news) (h.report given (run.moves.earlier given may)) wrote.0);
+    unended = λ given may.
+        let earlier = run.moves.earlier given may in
+        still_unended (size_of form) (mfas_of given) t (h.unended given earlier) (last given earlier);
+  },
+  λ given may. sym (ap (λ (s : TurnSeen). s.ended) (run.moves.seen_is given may)) ∙ wrote.1,
+)
+
+-- ---- how it ends
+
+-- whether more may come of a line
+abbrev pub may_come : Ending → Bool
+may_come Open = true
+may_come Seen = false
+may_come Died = false
+
+follows : (scrambled : Bool) (ending : Ending) (taken rest : List ℕ) → MayFollow (may_come ending) rest → MayBe scrambled ending taken (through_mask scrambled (taken ++ rest))
+follows scrambled Open taken rest follow = record { rest = rest; over = λ closed. absurd (closed refl); parts = refl }
+follows scrambled Seen taken rest follow = record { rest = rest; over = λ closed. follow; parts = refl }
+follows scrambled Died taken rest follow = record { rest = rest; over = λ closed. follow; parts = refl }
+
+closed_is : (ending : Ending) → may_come ending ≡ false → ending ≢ Open
+closed_is Open e = absurd (cc)
+closed_is Seen e = λ f. cc
+closed_is Died e = λ f. cc
+
+open_is : (ending : Ending) → ending ≢ Seen → ending ≢ Died → ending ≡ Open
+open_is Open a b = refl
+open_is Seen a b = absurd (a refl)
+open_is Died a b = absurd (b refl)
+
+alone : (scrambled : Bool) (ending : Ending) (taken rest : List ℕ) → rest ≡ [] → MayBe scrambled ending taken (through_mask scrambled (taken ++ rest))
+alone scrambled ending taken rest none = record { rest = rest; over = λ _. none; parts = refl }
+
+-- the first lines of the text
+text_first : (form : LineForm) (owns : List Tributary) (ending : Ending) (given : List ℕ) (n : ℕ) → n ≤ 16384
+    → ((s : ℕ) → s < n → has_ended (line_state (size_of form) (mfas_of given) s) ≡ false)
+    → (rest : List ℕ) × (text_until form owns given n ++ rest ≡ view_text form owns ending given)
+unfolding view_text
+text_first form owns ending given n few going =
+    let turns = turns_first (size_of form) (mfas_of given) n few going in
+    let head = head_line form.kind form.scrambled in
+    let end = end_line (length (turns_of (size_of form) (mfas_of given))) (rest_of ending given) in
+    let some = flat_map (turn_text form owns given) (range_with_len 0 n) in
+    let more = flat_map (turn_text form owns given) turns.0 in (
+      more ++ end,
+      append_assoc head some (more ++ end) ∙ ap (λ xs. head ++ xs) (sym (append_assoc some more end))
+          ∙ ap (λ xs. head ++ (xs ++ end)) (sym (flat_map-append (turn_text form owns given) (range_with_len 0 n) turns.0))
+          ∙ ap (λ ts. head ++ (flat_map (turn_text form owns given) ts ++ end)) (sym turns.1),
+    )
+
+-- and the whole text
+text_all : (form : LineForm) (owns : List Tributary) (ending : Ending) (given : List ℕ) (n : ℕ) → n ≤ 16384
+    → ((s : ℕ) → s < n → has_ended (line_state (size_of form) (mfas_of given) s) ≡ false) → (has_ended (line_state (size_of form) (mfas_of given) n) ≡ true) ⊎ (n ≡ 16384)
+    → text_until form owns given n ++ end_line n (rest_of ending given) ≡ view_text form owns ending given
+unfolding view_text
+text_all form owns ending given n few going last =
+    let head = head_line form.kind form.scrambled in
+    let some = flat_map (turn_text form owns given) (range_with_len 0 n) in
+    append_assoc head some (end_line n (rest_of ending given))
+    ∙ ap (λ ts. head ++ (flat_map (turn_text form owns given) ts ++ end_line n (rest_of ending given))) (sym (turns_all (size_of form) (mfas_of given) n few going last))
+    ∙ ap (λ k. head ++ (flat_map (turn_text form owns given) (turns_of (size_of form) (mfas_of given)) ++ end_line k (rest_of ending given)))
+    (sym (turn_count (size_of form) (mfas_of given) n few going last))
+
+-- with a write of the head that failed
+pub head_lost : (form : LineForm) (owns : List Tributary) (first : InView) (old new : SinkView) → SinkWrites written.Lost old (head_line form.kind form.scrambled) new
+    → ViewEnded form owns first first old new ReportFault
+head_lost form owns first old new wrote = record {
+  taken = [];
+  gave = gave_none first;
+  more = true;
+  over = λ e. absurd (cc);
+  ending = Open;
+  ended_as = λ no. absurd (no refl);
+  report = λ rest follow.
+      let given = through_mask form.scrambled ([] ++ rest) in
+      let text = text_first form owns Open given 0 (omega arith) (λ s less. absurd (omega (arith, less))) in
+      subst (λ xs. SinkWrites written.Lost old xs new) text.1
+      (part_of_more old new (text_until form owns given 0) text.0
+      (subst (λ xs. SinkWrites written.Lost old xs new) (sym (append-nil (head_line form.kind form.scrambled))) wrote));
+  ends = tt;
+  took = λ no. absurd (no refl);
+}
+
+-- with a write of a turn that failed
+pub turns_lost : (form : LineForm) (owns : List Tributary) (first was now : InView) (t : ℕ) (line later : LineView) (olds news : List Watched) (old gained new : SinkView)
+    → (h : TurnsSoFar form owns first was t line olds old gained) → HasLast form t line h.taken false → t < 16384
+    → TurnRun form first now h.taken t line later olds news gained new next.ReportFailed → ViewEnded form owns first now old new ReportFault
+turns_lost form owns first was now t line later olds news old gained new h last few run = record {
+  taken = h.taken ++ run.moves.came;
+  gave = run.moves.stands.line_is.gave;
+  more = may_come later.reader.ending;
+  over = λ none live. run.moves.stands.line_is.over (closed_is later.reader.ending none) live;
+  ending = later.reader.ending;
+  ended_as = λ no. absurd (no refl);
+  report = λ rest follow.
+      let given = through_mask form.scrambled ((h.taken ++ run.moves.came) ++ rest) in
+      let may = follows form.scrambled later.reader.ending (h.taken ++ run.moves.came) rest follow in
+      let earlier = run.moves.earlier given may in
+      let text = text_first form owns later.reader.ending given (t + 1) (omega (arith, few)) (still_unended (size_of form) (mfas_of given) t (h.unended given earlier) (last given earlier)) in
+      subst (λ xs. SinkWrites written.Lost old xs new) text.1
+      (part_of_more old new (text_until form owns given (t + 1)) text.0
+      (subst (λ xs. SinkWrites written.Lost old xs new) (turn_lines form owns first now h.taken t line later olds news gained new next.ReportFailed h.owns_are run given may)
+      (writes_twice written.Lost old gained new (text_until form owns given t) (lines_of (t + 1) run.seen news) (h.report given earlier) run.wrote)));
+  ends = tt;
+  took = λ no. absurd (no refl);
+}
+
+-- the last line is written, or a part of it
+last_line : (result : Written) (form : LineForm) (owns : List Tributary) (first was : InView) (t : ℕ) (line : LineView) (watched : List Watched) (old gained new : SinkView)
+    → (h : TurnsSoFar form owns first was t line watched old gained) → t ≤ 16384
+    → ((given : List ℕ) → MayBe form.scrambled line.reader.ending h.taken given → (has_ended (line_state (size_of form) (mfas_of given) t) ≡ true) ⊎ (t ≡ 16384))
+    → SinkWrites result gained (end_line t line.reader.rest) new
+    → (given : List ℕ) → MayBe form.scrambled line.reader.ending h.taken given → SinkWrites result old (view_text form owns line.reader.ending given) new
+last_line result form owns first was t line watched old gained new h few last wrote given may =
+    subst (λ xs. SinkWrites result old xs new) (text_all form owns line.reader.ending given t few (h.unended given may) (last given may))
+    (writes_twice result old gained new (text_until form owns given t) (end_line t (rest_of line.reader.ending given)) (h.report given may)
+    (subst (λ r. SinkWrites result gained (end_line t r) new) (h.stands.line_is.is_line given may).read.rest wrote))
+
+-- so many bytes were taken
+open_count : (n k : ℕ) → n ≡ 16320 * k → n % 16320 ≡ 0
+open_count n k e = omega (arith, e)
+
+one_more : (n m k : ℕ) → n ≡ 16320 * k → m ≡ n + 1 → 0 < m % 16320
+one_more n m k a b = omega (arith, a, b)
+
+taken_open : (form : LineForm) (owns : List Tributary) (first was : InView) (t : ℕ) (line : LineView) (watched : List Watched) (old gained : SinkView)
+    → (h : TurnsSoFar form owns first was t line watched old gained) → line.reader.ending ≡ Open → (k : ℕ) × (length h.taken ≡ 16320 * k)
+taken_open form owns first was t line watched old gained h open_now =
+    let read = (h.stands.line_is.is_line (through_mask form.scrambled (h.taken ++ [])) (alone form.scrambled line.reader.ending h.taken [] refl)).read in
+    (_, (read.still open_now).0)
+
+taken_seen : (form : LineForm) (owns : List Tributary) (first was : InView) (t : ℕ) (line : LineView) (watched : List Watched) (old gained : SinkView)
+    → (h : TurnsSoFar form owns first was t line watched old gained) → line.reader.ending ≡ Seen → line.reader.rest ≡ length h.taken % 16320
+taken_seen form owns first was t line watched old gained h seen =
+    let given = through_mask form.scrambled (h.taken ++ []) in
+    let read = (h.stands.line_is.is_line given (alone form.scrambled line.reader.ending h.taken [] refl)).read in
+    let closed : line.reader.ending ≢ Open = λ e. let f : Seen ≡ Open = sym seen ∙ e in absurd (cc) in
+    read.rest ∙ ap (λ e. rest_of e given) seen ∙ ap (λ n. n % 16320) (sym (read.over closed).1)
+
+-- a place that is not dead was not dead before
+was_alive : (was now : InView) (came : List ℕ) → Gave was came now → now.state ≢ Dead → was.state ≢ Dead
+was_alive was now came gave alive dead =
+    let idle : was.state ≢ Live = λ live. let e : Dead ≡ Live = sym dead ∙ live in absurd (cc) in
+    alive (ap (λ (v : InView). v.state) (gave.idle idle).0 ∙ dead)
+
+open_ends : (ending : Ending) (now : InView) → ending ≡ Open → EndedAs ending now
+open_ends ending now e = record { died = λ f. absurd (let g : Open ≡ Died = sym e ∙ f in cc); seen = λ f. absurd (let g : Open ≡ Seen = sym e ∙ f in cc) }
+
+some_frames : (kind : LineKind) → 1 ≤ slots_of kind
+some_frames Otu2 = omega arith
+some_frames Otu3 = omega arith
+
+-- what the turns wanted was taken
+took_of : (form : LineForm) (owns : List Tributary) (first was : InView) (t : ℕ) (line : LineView) (watched : List Watched) (old gained : SinkView)
+    → (h : TurnsSoFar form owns first was t line watched old gained) → t ≤ 16384
+    → ((given : List ℕ) → MayBe form.scrambled line.reader.ending h.taken given → (has_ended (line_state (size_of form) (mfas_of given) t) ≡ true) ⊎ (t ≡ 16384))
+    → line.pieces ≡ 0 → (given : List ℕ) → MayBe form.scrambled line.reader.ending h.taken given → TookWanted (size_of form) given h.taken line.reader
+took_of form owns first was t line watched old gained h few last none given may =
+    took_wanted (size_of form) given h.taken t line (some_frames form.kind) (h.stands.line_is.is_line given may) none (turn_count (size_of form) (mfas_of given) t few (h.unended given may) (last given may))
+
+took_alone : (form : LineForm) (owns : List Tributary) (first was : InView) (t : ℕ) (line : LineView) (watched : List Watched) (old gained : SinkView)
+    → (h : TurnsSoFar form owns first was t line watched old gained) → t ≤ 16384
+    → ((given : List ℕ) → MayBe form.scrambled line.reader.ending h.taken given → (has_ended (line_state (size_of form) (mfas_of given) t) ≡ true) ⊎ (t ≡ 16384))
+    → line.pieces ≡ 0 → (rest : List ℕ) → rest ≡ [] → length h.taken ≡ bytes_taken (size_of form) (through_mask form.scrambled (h.taken ++ rest))
+took_alone form owns first was t line watched old gained h few last none rest nil = by_ending line.reader.ending refl
+  where
+    given : List ℕ
+    given = through_mask form.scrambled (h.taken ++ rest)
+
+    took : TookWanted (size_of form) given h.taken line.reader
+    took = took_of form owns first was t line watched old gained h few last none given (alone form.scrambled line.reader.ending h.taken rest nil)
+
+    closed : line.reader.ending ≢ Open → length h.taken ≡ bytes_taken (size_of form) given
+    closed ended = let o = took.over ended in closed_least (length h.taken) (length given) (frames_wanted (size_of form) given) o.0 o.1
+
+    by_ending : (e : Ending) → line.reader.ending ≡ e → length h.taken ≡ bytes_taken (size_of form) given
+    by_ending Open e =
+        let long = length_parts form.scrambled h.taken [] rest in
+        let none_more : length rest ≡ 0 = ap length nil in
+        open_least (length h.taken) (length given) (frames_wanted (size_of form) given) (took.still e) (omega (arith, long, none_more))
+    by_ending Seen e = closed (λ f. cc)
+    by_ending Died e = closed (λ f. cc)
+
+-- how the view ends with an answer
+pub turns_end : (ended : Ended) (form : LineForm) (owns : List Tributary) (first was now : InView) (t : ℕ) (line : LineView) (watched : List Watched) (old gained new : SinkView)
+    → (h : TurnsSoFar form owns first was t line watched old gained) → t ≤ 16384
+    → ((given : List ℕ) → MayBe form.scrambled line.reader.ending h.taken given → (has_ended (line_state (size_of form) (mfas_of given) t) ≡ true) ⊎ (t ≡ 16384))
+    → line.pieces ≡ 0 → FinishRun t line was now gained new ended → ViewEnded form owns first now old new ended
+turns_end Done form owns first was now t line watched old gained new h few last none f = by_end f.answer.ends.2
+  where
+    gave : Gave first h.taken now
+    gave = subst (λ xs. Gave first xs now) (ap (λ xs. h.taken ++ xs) f.answer.ends.1 ∙ append-nil h.taken) (gave_twice first was now h.taken f.answer.came h.stands.line_is.gave f.answer.gave)
+
+    text : (rest : List ℕ) → rest ≡ [] → SinkWrites written.Whole old (view_text form owns line.reader.ending (through_mask form.scrambled (h.taken ++ rest))) new
+    text rest nil = last_line written.Whole form owns first was t line watched old gained new h few last f.wrote (through_mask form.scrambled (h.taken ++ rest)) (alone form.scrambled line.reader.ending h.taken rest nil)
+
+    by_end : ((line.reader.ending ≡ Seen) × (line.reader.rest ≡ 0) × (now ≡ was)) ⊎ ((line.reader.ending ≢ Seen) × HasEnded now.left now.ended) → ViewEnded form owns first now old new Done
+    by_end (inl s) =
+        let closed : line.reader.ending ≢ Open = λ e. let f : Seen ≡ Open = sym s.0 ∙ e in absurd (cc) in
+        record {
+          taken = h.taken;
+          gave = gave;
+          more = false;
+          over = λ _ live. subst (λ (v : InView). HasEnded v.left v.ended) (sym s.2) (h.stands.line_is.over closed (ap (λ (v : InView). v.state) (sym s.2) ∙ live));
+          ending = line.reader.ending;
+          ended_as = λ _. subst (EndedAs line.reader.ending) (sym s.2) h.stands.line_is.ending;
+          report = text;
+          ends = (f.answer.ends.0, refl, sym (taken_seen form owns first was t line watched old gained h s.0) ∙ s.1);
+          took = λ _ rest nil. took_alone form owns first was t line watched old gained h few last none rest nil;
+        }
+    by_end (inr u) =
+        let alive = was_alive was now f.answer.came f.answer.gave f.answer.ends.0 in
+        let open_now = open_is line.reader.ending u.0 (λ died. alive (h.stands.line_is.ending.died died)) in
+        let count = taken_open form owns first was t line watched old gained h open_now in
+        record {
+          taken = h.taken;
+          gave = gave;
+          more = false;
+          over = λ _ live. u.1;
+          ending = line.reader.ending;
+          ended_as = λ _. open_ends line.reader.ending now open_now;
+          report = text;
+          ends = (f.answer.ends.0, refl, open_count (length h.taken) count.0 count.1);
+          took = λ _ rest nil. took_alone form owns first was t line watched old gained h few last none rest nil;
+        }
+turns_end Unfinished form owns first was now t line watched old gained new h few last none f = by_end f.answer.ends.1
+  where
+    by_end : ((line.reader.ending ≡ Seen) × (0 < line.reader.rest) × (f.answer.came ≡ []) × (now ≡ was)) ⊎ ((line.reader.ending ≢ Seen) × (length f.answer.came ≡ 1))
+        → ViewEnded form owns first now old new Unfinished
+    by_end (inl s) =
+        let closed : line.reader.ending ≢ Open = λ e. let f : Seen ≡ Open = sym s.0 ∙ e in absurd (cc) in
+        record {
+          taken = h.taken;
+          gave = subst (λ xs. Gave first xs now) (ap (λ xs. h.taken ++ xs) s.2 ∙ append-nil h.taken) (gave_twice first was now h.taken f.answer.came h.stands.line_is.gave f.answer.gave);
+          more = false;
+          over = λ _ live. subst (λ (v : InView). HasEnded v.left v.ended) (sym s.3) (h.stands.line_is.over closed (ap (λ (v : InView). v.state) (sym s.3) ∙ live));
+          ending = line.reader.ending;
+          ended_as = λ _. subst (EndedAs line.reader.ending) (sym s.3) h.stands.line_is.ending;
+          report = λ rest nil. last_line written.Whole form owns first was t line watched old gained new h few last f.wrote (through_mask form.scrambled (h.taken ++ rest)) (alone form.scrambled line.reader.ending h.taken rest nil);
+          ends = (f.answer.ends.0, subst (λ n. 0 < n) (taken_seen form owns first was t line watched old gained h s.0) s.1, s.0);
+          took = λ _ rest nil. took_alone form owns first was t line watched old gained h few last none rest nil;
+        }
+    by_end (inr u) =
+        let alive = was_alive was now f.answer.came f.answer.gave f.answer.ends.0 in
+        let open_now = open_is line.reader.ending u.0 (λ died. alive (h.stands.line_is.ending.died died)) in
+        let count = taken_open form owns first was t line watched old gained h open_now in
+        let size : length (h.taken ++ f.answer.came) ≡ length h.taken + 1 = length-append h.taken f.answer.came ∙ ap (λ n. length h.taken + n) u.1 in
+        record {
+          taken = h.taken ++ f.answer.came;
+          gave = gave_twice first was now h.taken f.answer.came h.stands.line_is.gave f.answer.gave;
+          more = true;
+          over = λ e. absurd (cc);
+          ending = line.reader.ending;
+          ended_as = λ _. open_ends line.reader.ending now open_now;
+          report = λ rest follow.
+              last_line written.Whole form owns first was t line watched old gained new h few last f.wrote (through_mask form.scrambled ((h.taken ++ f.answer.came) ++ rest))
+              (record {
+                rest = f.answer.came ++ rest;
+                over = λ closed. absurd (closed open_now);
+                parts = ap (through_mask form.scrambled) (append_assoc h.taken f.answer.came rest);
+              });
+          ends = (f.answer.ends.0, one_more (length h.taken) (length (h.taken ++ f.answer.came)) count.0 count.1 size, open_now);
+          took = λ _ rest follow.
+              let given = through_mask form.scrambled ((h.taken ++ f.answer.came) ++ rest) in
+              let took = took_of form owns first was t line watched old gained h few last none given
+              (record {
+                rest = f.answer.came ++ rest;
+                over = λ closed. absurd (closed open_now);
+                parts = ap (through_mask form.scrambled) (append_assoc h.taken f.answer.came rest);
+              }) in
+              let long = length_parts form.scrambled (h.taken ++ f.answer.came) [] rest in
+              more_least (length h.taken) (length (h.taken ++ f.answer.came)) (length given) (frames_wanted (size_of form) given) (took.still open_now) size (omega (arith, long));
+        }
+turns_end Cut form owns first was now t line watched old gained new h few last none f = record {
+  taken = h.taken;
+  gave = subst (λ xs. Gave first xs now) (ap (λ xs. h.taken ++ xs) f.answer.ends.1 ∙ append-nil h.taken) (gave_twice first was now h.taken f.answer.came h.stands.line_is.gave f.answer.gave);
+  more = false;
+  over = λ _ live. let e : Dead ≡ Live = sym f.answer.ends.0 ∙ live in absurd (cc);
+  ending = line.reader.ending;
+  ended_as = λ _. record { died = λ _. f.answer.ends.0; seen = λ seen. by_place f.answer.ends.2 seen };
+  report = λ rest nil. last_line written.Whole form owns first was t line watched old gained new h few last f.wrote (through_mask form.scrambled (h.taken ++ rest)) (alone form.scrambled line.reader.ending h.taken rest nil);
+  ends = f.answer.ends.0;
+  took = λ _ rest nil. took_alone form owns first was t line watched old gained h few last none rest nil;
+}
+  where
+    by_place : (now ≡ was) ⊎ (line.reader.ending ≢ Seen) → line.reader.ending ≡ Seen → now.state ≢ Dead
+    by_place (inl same) seen = subst (λ (v : InView). v.state ≢ Dead) (sym same) (h.stands.line_is.ending.seen seen)
+    by_place (inr other) seen = absurd (other seen)
+turns_end ReportFault form owns first was now t line watched old gained new h few last none f = record {
+  taken = h.taken;
+  gave = subst (λ xs. Gave first xs now) (ap (λ xs. h.taken ++ xs) f.answer.ends.0 ∙ append-nil h.taken) (gave_twice first was now h.taken f.answer.came h.stands.line_is.gave f.answer.gave);
+  more = may_come line.reader.ending;
+  over = λ none live. subst (λ (v : InView). HasEnded v.left v.ended) (sym f.answer.ends.1) (h.stands.line_is.over (closed_is line.reader.ending none) (ap (λ (v : InView). v.state) (sym f.answer.ends.1) ∙ live));
+  ending = line.reader.ending;
+  ended_as = λ no. absurd (no refl);
+  report = λ rest follow.
+      last_line written.Lost form owns first was t line watched old gained new h few last f.wrote (through_mask form.scrambled (h.taken ++ rest)) (follows form.scrambled line.reader.ending h.taken rest follow);
+  ends = tt;
+  took = λ no. absurd (no refl);
+}
+turns_end Memory form owns first was now t line watched old gained new h few last none f = absurd f.answer.ends

@@ -1,0 +1,108 @@
+-- The text of a view, as it is written.
+use Rattle.std.proofs.Common.{◌≡◌, ◌<◌, ◌≤◌, ◌+◌, ◌∙◌, ℕ, zero, suc, List, [], ◌∷◌, ◌++◌, Some, length, take, drop, get_or, slice_get, refl, sym, ap, subst, arith, append-nil, length-append, add-one}
+use Rattle.std.specs.Prelude.{map}
+use Rattle.std.specs.List.{flat_map, range_with_len}
+use Rattle.std.proofs.Math.Seq.{take-append-add, take-length}
+use Rattle.std.proofs.lemmas.Grind.{flat_map-append}
+use Rattle.std.proofs.lemmas.List.{take-append-drop, take-append-le}
+use Rattle.std.proofs.lemmas.Option.{same_Some, slice_get_read, slice_get_within}
+use Rattle.otn_ports.proofs.PortLaws.{sink_got_none, sink_got_twice}
+use Rattle.otn_ports.specs.Bytes.{HasFailed}
+use Rattle.otn_ports.specs.PortViews.{SinkGot, SinkView, SinkWrites}
+use Rattle.otn_ports.specs.declared.drain.Written.{Written}
+use Rattle.otn_ports.specs.declared.drain.Written.TheVariants as written
+use Rattle.line_side.specs.LineForm.{LineForm}
+use Rattle.line_view.specs.ViewRuns.{lines_of}
+use Rattle.line_view.specs.ViewText.{seen_at, told_at, turn_line, tributary_line, turn_text}
+use Rattle.line_view.specs.Watching.{own_of}
+use Rattle.line_view.specs.declared.told.TurnSeen.{TurnSeen}
+use Rattle.line_view.specs.declared.watched.Watched.{Watched}
+
+-- ---- writes one after another
+
+pub writes_none : (port : SinkView) → SinkWrites written.Whole port [] port
+writes_none port = (sink_got_none port, refl)
+
+-- all of these bytes, and then all or a part of those
+pub writes_twice : (result : Written) (first was is : SinkView) (xs ys : List ℕ) → SinkWrites written.Whole first xs was → SinkWrites result was ys is → SinkWrites result first (xs ++ ys) is
+writes_twice written.Whole first was is xs ys h k = (sink_got_twice first was is xs ys h.0 k.0, k.1 ∙ h.1)
+writes_twice written.Lost first was is xs ys h (n, less, got, failed) =
+    let part : take (length xs + n) (xs ++ ys) ≡ xs ++ take n ys = take-append-add xs ys n in (
+      length xs + n,
+      (let long = length-append xs ys in omega (arith, less, long)),
+      subst (λ t. SinkGot first t is) (sym part) (sink_got_twice first was is xs (take n ys) h.0 got),
+      subst (λ f. HasFailed f is.faults) h.1 failed,
+    )
+
+-- a part of these bytes is a part of more
+pub part_of_more : (first is : SinkView) (xs ys : List ℕ) → SinkWrites written.Lost first xs is → SinkWrites written.Lost first (xs ++ ys) is
+part_of_more first is xs ys (n, less, got, failed) =
+    let part : take n (xs ++ ys) ≡ take n xs = take-append-le n xs ys (omega (arith, less)) in (
+      n,
+      (let long = length-append xs ys in omega (arith, less, long)),
+      subst (λ t. SinkGot first t is) (sym part) got,
+      failed,
+    )
+
+-- ---- the lines of tributaries
+
+take_on : {A : Type 0} (xs : List A) (i : ℕ) (x : A) → slice_get xs i ≡ Some x → take (i + 1) xs ≡ take i xs ++ x ∷ []
+take_on [] i x known = absurd (let less = slice_get_within [] i x known in omega arith)
+take_on (y ∷ xs) zero x known = ap (λ z. z ∷ []) (same_Some y x known)
+take_on (y ∷ xs) (suc i) x known = ap (λ n. take n (y ∷ xs)) (let e : suc i + 1 ≡ suc (i + 1) = omega arith in e) ∙ ap (λ t. y ∷ t) (take_on xs i x known)
+
+pub flat_on : {A : Type 0} (f : A → List ℕ) (xs : List A) (i : ℕ) (x : A) → slice_get xs i ≡ Some x → flat_map f (take (i + 1) xs) ≡ flat_map f (take i xs) ++ f x
+flat_on f xs i x known =
+    ap (flat_map f) (take_on xs i x known) ∙ flat_map-append f (take i xs) (x ∷ []) ∙ ap (λ t. flat_map f (take i xs) ++ t) (append-nil (f x))
+
+-- all, where no more are left
+pub flat_all : {A : Type 0} (f : A → List ℕ) (xs : List A) (i : ℕ) → length xs ≤ i → i ≤ length xs → flat_map f (take i xs) ≡ flat_map f xs
+flat_all f xs i most least = ap (flat_map f) (ap (λ n. take n xs) (let e : i ≡ length xs = omega arith in e) ∙ take-length xs)
+
+-- those of the first ones, the next, and the others
+pub flat_parts : {A : Type 0} (f : A → List ℕ) (xs : List A) (i : ℕ) (x : A) → slice_get xs i ≡ Some x
+    → flat_map f xs ≡ (flat_map f (take i xs) ++ f x) ++ flat_map f (drop (i + 1) xs)
+flat_parts f xs i x known =
+    ap (flat_map f) (sym (take-append-drop (i + 1) xs)) ∙ flat_map-append f (take (i + 1) xs) (drop (i + 1) xs)
+    ∙ ap (λ t. t ++ flat_map f (drop (i + 1) xs)) (flat_on f xs i x known)
+
+pub known_item : {A : Type 0} (xs : List A) (i : ℕ) (item : A) → i < length xs → item ≡ get_or xs i item → slice_get xs i ≡ Some item
+known_item xs i item less is = slice_get_read xs (length xs) i item refl less is
+
+-- ---- the lines of a turn
+
+each_line : (given : List ℕ) (t : ℕ) (watched : List Watched) → ((i : ℕ) (one : Watched) → slice_get watched i ≡ Some one → one.told ≡ told_at (own_of one) given t)
+    → ((i : ℕ) (one : Watched) → slice_get watched i ≡ Some one → one.port ≡ one.sink.port)
+    → flat_map (λ one. tributary_line one.port one.sink.slots.list one.told) watched ≡ flat_map (λ own. tributary_line own.port own.slots (told_at own given t)) (map own_of watched)
+each_line given t [] told ports = refl
+each_line given t (one ∷ watched) told ports =
+    let rest = flat_map (λ one. tributary_line one.port one.sink.slots.list one.told) watched in
+    ap (λ p. tributary_line p one.sink.slots.list one.told ++ rest) (ports 0 one refl)
+    ∙ ap (λ x. tributary_line one.sink.port one.sink.slots.list x ++ rest) (told 0 one refl)
+    ∙ ap (λ xs. tributary_line one.sink.port one.sink.slots.list (told_at (own_of one) given t) ++ xs)
+    (each_line given t watched (λ i x at. told (suc i) x at) (λ i x at. ports (suc i) x at))
+
+-- they are what the definition says
+pub lines_are : (form : LineForm) (given : List ℕ) (t : ℕ) (watched : List Watched) (seen : TurnSeen) → seen ≡ seen_at form given t
+    → ((i : ℕ) (one : Watched) → slice_get watched i ≡ Some one → one.told ≡ told_at (own_of one) given t)
+    → ((i : ℕ) (one : Watched) → slice_get watched i ≡ Some one → one.port ≡ one.sink.port)
+    → lines_of (t + 1) seen watched ≡ turn_text form (map own_of watched) given t
+unfolding lines_of turn_text
+lines_are form given t watched seen same told ports =
+    ap (λ s. turn_line (t + 1) s ++ flat_map (λ one. tributary_line one.port one.sink.slots.list one.told) watched) same
+    ∙ ap (λ xs. turn_line (t + 1) (seen_at form given t) ++ xs) (each_line given t watched told ports)
+
+-- ---- turns one after another
+
+range-more : (a n : ℕ) → range_with_len a (suc n) ≡ range_with_len a n ++ (a + n) ∷ []
+range-more a zero = ap (λ x. x ∷ []) (omega arith)
+range-more a (suc n) =
+    let next : a + 1 + n ≡ a + suc n = omega arith in
+    ap (λ xs. a ∷ xs) (range-more (a + 1) n ∙ ap (λ x. range_with_len (a + 1) n ++ x ∷ []) next)
+
+pub turns-more : (f : ℕ → List ℕ) (n : ℕ) → flat_map f (range_with_len 0 (n + 1)) ≡ flat_map f (range_with_len 0 n) ++ f n
+turns-more f n =
+    let last : 0 + n ≡ n = omega arith in
+    ap (λ k. flat_map f (range_with_len 0 k)) (add-one n) ∙ ap (flat_map f) (range-more 0 n)
+    ∙ flat_map-append f (range_with_len 0 n) ((0 + n) ∷ []) ∙ ap (λ xs. flat_map f (range_with_len 0 n) ++ xs) (append-nil (f (0 + n)))
+    ∙ ap (λ k. flat_map f (range_with_len 0 n) ++ f k) last

@@ -1,0 +1,8 @@
+use Rattle.line_view.proofs.Telling.{tells_the_same, tells_all_bytes}
+use Rattle.line_view.proofs.laws.what_is_told.Goals as goal
+
+pub returns-clause-same : goal.returns-clause-same
+returns-clause-same c = tells_the_same
+
+pub returns-clause-bytes : goal.returns-clause-bytes
+returns-clause-bytes c = tells_all_bytes

@@ -1,0 +1,15 @@
+use Rattle.std.proofs.Common.{◌≡◌, ℕ, List}
+use Rattle.otn_ports.specs.InPlace.{in_view}
+use Rattle.otn_ports.specs.Views.{InView}
+use Rattle.line_side.specs.LineForm.{LineForm}
+use Rattle.line_view.specs.Viewing.{ViewStands, ViewMoves}
+use Rattle.line_view.proofs.turns.take_frames.Given as goal
+
+-- the pieces so far
+abbrev pub invariant-loop : goal.invariant-loop
+invariant-loop g l = record {
+  pieces : l.line.pieces ≡ l.counter;
+  kind : l.line.kind ≡ l.fn.kind;
+  moves : (form : LineForm) (first : InView) (taken : List ℕ) (t : ℕ) → ViewStands form first (in_view g.I.Source l.fn.place) taken t l.fn.line l.fn.watched.items
+      → ViewMoves form first (in_view g.I.Source l.place) taken t l.fn.line l.line l.fn.watched.items l.watched.items;
+}

@@ -1,0 +1,19 @@
+use Rattle.std.proofs.Common.{◌≡◌, ◌+◌, rules, subst}
+use Rattle.otn_ports.specs.PortViews.{SinkWrites, sink_view}
+use Rattle.otn_ports.specs.declared.drain.Written.TheVariants as written
+use Rattle.line_view.specs.ViewRuns.{lines_of}
+use Rattle.line_view.proofs.viewing.write_turn.Goals as goal
+
+pub returns-then-eq-clause-run : goal.returns-then-eq-clause-run
+returns-then-eq-clause-run g c = λ form first taken h.
+    let old = sink_view g.K.Sink c.args.report.now in
+    let new = sink_view g.K.Sink c.write_lines.new.report in
+    let seen = c.do_turn-seen.result in
+    let lost : c.write_lines.result ≡ written.Lost = search rules in
+    record {
+      seen = seen;
+      moves = c.do_turn-seen.ensures.moves form first taken c.args.t h;
+      wrote =
+          subst (λ r. SinkWrites r old (lines_of (c.args.t + 1) seen c.do_turn-seen.new.watched.items) new) lost
+          (subst (λ xs. SinkWrites c.write_lines.result old (lines_of (c.args.t + 1) seen xs) new) c.as_slice.ensures.value c.write_lines.ensures);
+    }

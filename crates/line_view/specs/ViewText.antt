@@ -1,0 +1,134 @@
+-- What a view says of a line, as text: a line for the line itself, then for each turn one of the turn and one of each tributary, and a
+-- last one where the turns are over.
+use Rattle.std.specs.Prelude.{ℕ, ◌+◌, ◌-◌, nat_lt, not, Bool, true, false, List, [], ◌∷◌, ◌++◌, Option, Some, None, codes, length, filter, is_some}
+use Rattle.std.specs.Fmt.{decimal}
+use Rattle.std.specs.List.{flat_map, range_with_len}
+use Rattle.otn_base.specs.declared.limits.TheConstants.{MOST_TURNS}
+use Rattle.otn_base.specs.declared.line_kind.LineKind.{LineKind}
+use Rattle.otn_base.specs.declared.line_kind.LineKind.TheVariants.{Otu2, Otu3}
+use Rattle.line_side.specs.LineFile.{mfas_of}
+use Rattle.line_side.specs.LineForm.{LineForm, size_of}
+use Rattle.line_side.specs.LineNumbers.{numbers_of}
+use Rattle.line_side.specs.Reader.{rest_of}
+use Rattle.line_side.specs.declared.counts.LineCounts.{LineCounts}
+use Rattle.line_side.specs.declared.ending.Ending.{Ending}
+use Rattle.line_side.specs.declared.ending.Ending.TheVariants.{Open}
+use Rattle.maintenance_signals.specs.Stream.{signal_byte}
+use Rattle.maintenance_signals.specs.declared.signal.Signal.TheVariants.{Ais}
+use Rattle.multiframe.specs.LineTurns.{line_state, multiframe, has_ended}
+use Rattle.tributary_model.specs.Emission.{emission}
+use Rattle.tributary_model.specs.Places.{Tributary, View}
+use Rattle.tributary_model.specs.Stretches.{state_after}
+use Rattle.tributary_model.specs.declared.turns.SinkState.{SinkState}
+use Rattle.tributary_model.specs.declared.turns.SinkState.TheVariants.{Waiting, Up, Down}
+use Rattle.trib_sink.specs.Pairs.{pair_after}
+use Rattle.device_model.specs.LineViews.{view_at, views_until}
+use Rattle.line_view.specs.declared.told.Told.{Told}
+use Rattle.line_view.specs.declared.told.TurnCounts.{TurnCounts}
+use Rattle.line_view.specs.declared.told.TurnSeen.{TurnSeen}
+
+-- ---- what a turn says
+
+-- how much the numbers of a line grew
+abbrev pub counts_between : (was is : LineCounts) → TurnCounts
+counts_between was is = record {
+  frames = is.frames - was.frames;
+  lead_in = is.lead_in - was.lead_in;
+  lost = is.lost - was.lost;
+  fas = is.fas - was.fas;
+  sm = is.sm - was.sm;
+  pm = is.pm - was.pm;
+}
+
+-- Turn t + 1 of a line of these bytes: whether the line has ended with it, whether it has a multiframe, and how much the line's numbers grew
+-- in it.
+abbrev pub seen_at : LineForm → (given : List ℕ) → (t : ℕ) → TurnSeen
+seen_at form given t = record {
+  ended = has_ended (line_state (size_of form) (mfas_of given) (t + 1));
+  whole = is_some (multiframe (size_of form) (mfas_of given) t);
+  counts = counts_between (numbers_of form Open given t 0) (numbers_of form Open given (t + 1) 0);
+}
+
+-- The turn of this view after these, of a tributary: how its sink stands after it, the pair of its numbers, and how many bytes it emitted in it.
+abbrev pub told_of : Tributary → List (Option View) → Option View → Told
+told_of own past view = record {
+  state = state_after own (view ∷ past);
+  pair = pair_after own (view ∷ past);
+  bytes = length (emission own (signal_byte Ais) past view);
+}
+
+-- the same of turn t + 1 of a line of these bytes
+unfoldable pub told_at : Tributary → (given : List ℕ) → (t : ℕ) → Told
+told_at own given t = told_of own (views_until own given t) (view_at own given t)
+
+-- ---- words
+
+abbrev pub kind_word : LineKind → List ℕ
+kind_word Otu2 = codes "otu2"
+kind_word Otu3 = codes "otu3"
+
+abbrev pub mask_word : (scrambled : Bool) → List ℕ
+mask_word false = codes "plain"
+mask_word true = codes "scrambled"
+
+-- a turn with which the line ended; with its multiframe; that lost it; or in which none was found
+abbrev pub align_word : (ended whole lost : Bool) → List ℕ
+align_word true whole lost = codes "end"
+align_word false true lost = codes "whole"
+align_word false false true = codes "lost"
+align_word false false false = codes "none"
+
+abbrev pub state_word : SinkState → List ℕ
+state_word Waiting = codes "waiting"
+state_word Up = codes "up"
+state_word Down = codes "down"
+
+-- numbers of slots, with commas between them
+abbrev pub slots_text : List ℕ → List ℕ
+slots_text [] = []
+slots_text (k ∷ slots) = decimal k ++ flat_map (λ s. codes "," ++ decimal s) slots
+
+-- Cm and CnD, or a mark for each where the tributary is not up
+abbrev pub pair_text : Option (ℕ × ℕ) → List ℕ
+pair_text None = codes " cm - cnd -"
+pair_text (Some pair) = codes " cm " ++ decimal (pair.0) ++ codes " cnd " ++ decimal (pair.1)
+
+-- ---- lines
+
+-- the line: its kind, and whether it is scrambled
+abbrev pub head_line : LineKind → (scrambled : Bool) → List ℕ
+head_line kind scrambled = codes "line " ++ kind_word kind ++ codes " " ++ mask_word scrambled ++ codes "\n"
+
+-- a turn, with its number
+unfoldable pub turn_line : (number : ℕ) → TurnSeen → List ℕ
+turn_line number seen =
+    codes "turn " ++ decimal number ++ codes " " ++ align_word seen.ended seen.whole (nat_lt 0 seen.counts.lost)
+    ++ codes " frames " ++ decimal seen.counts.frames ++ codes " lead-in " ++ decimal seen.counts.lead_in ++ codes " fas " ++ decimal seen.counts.fas
+    ++ codes " sm " ++ decimal seen.counts.sm ++ codes " pm " ++ decimal seen.counts.pm ++ codes "\n"
+
+-- a tributary in a turn
+unfoldable pub tributary_line : (port : ℕ) → (slots : List ℕ) → Told → List ℕ
+tributary_line port slots told =
+    codes "tributary - port " ++ decimal port ++ codes " slots " ++ slots_text slots ++ codes " " ++ state_word told.state ++ pair_text told.pair
+    ++ codes " bytes " ++ decimal told.bytes ++ codes "\n"
+
+-- the end: how many turns were done, and how many bytes came after the last whole frame
+abbrev pub end_line : (turns rest : ℕ) → List ℕ
+end_line turns rest = codes "end turns " ++ decimal turns ++ codes " rest " ++ decimal rest ++ codes "\n"
+
+-- ---- the whole
+
+-- turn t + 1: its line, and one for each tributary
+unfoldable pub turn_text : LineForm → List Tributary → (given : List ℕ) → (t : ℕ) → List ℕ
+turn_text form owns given t = turn_line (t + 1) (seen_at form given t) ++ flat_map (λ own. tributary_line own.port own.slots (told_at own given t)) owns
+
+-- The turns that are told, each said by the number of turns before it: 16,384 at most, and none after the one in which the line ended.
+-- The list has the MFAS bytes of the line's whole frames.
+unfoldable pub turns_of : (size : ℕ) → (mfas : List ℕ) → List ℕ
+turns_of size ms = filter (λ t. not (has_ended (line_state size ms t))) (range_with_len 0 MOST_TURNS)
+
+-- What a view says of a line of these bytes, through its mask, that ended so, and of these tributaries on it, in this order.
+unfoldable pub view_text : LineForm → List Tributary → Ending → (given : List ℕ) → List ℕ
+view_text form owns ending given =
+    head_line form.kind form.scrambled ++ (flat_map (turn_text form owns given) (turns_of (size_of form) (mfas_of given))
+    ++ end_line (length (turns_of (size_of form) (mfas_of given))) (rest_of ending given))

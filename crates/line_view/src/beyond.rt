@@ -1,0 +1,22 @@
+// After the most that a command reads: whether the line has more.
+ghost use Rattle.std.specs.Prelude.{◌≢◌};
+ghost use Rattle.otn_ports.specs.InPlace.{in_view};
+ghost use Rattle.otn_ports.specs.Views.{Dead};
+ghost use Rattle.line_view.specs.Beyond.{ByteRun};
+
+use otn_ports::{Ended, InPlaceOf, Source, ask_byte};
+
+/// Asks a line for one byte more: Unfinished where it comes, Done where the line has ended, Cut where the read failed.
+pub(crate) fn ask_for_more<I: Source>(line: &mut InPlaceOf<I>) -> Ended
+    requires alive { (in_view I.Source line.old).state ≢ Dead }
+    ensures { ByteRun (in_view I.Source line.old) (in_view I.Source line.new) result }
+{
+    if ask_byte(line) {
+        return Ended::Unfinished;
+    }
+    match line {
+        InPlaceOf::Dead(..) => Ended::Cut,
+        InPlaceOf::Live(..) => Ended::Done,
+        InPlaceOf::Empty => Ended::Done,
+    }
+}

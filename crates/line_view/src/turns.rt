@@ -1,0 +1,78 @@
+// The turns of a line, with the sinks on it.
+ghost use Rattle.std.specs.Prelude.{◌≡◌, ◌<◌, ◌+◌, ◌*◌, ℕ, List, length};
+ghost use Rattle.otn_base.specs.LineSlots.{slots_of};
+ghost use Rattle.otn_base.specs.declared.limits.TheConstants.{GROUPS, MOST_SLOTS};
+ghost use Rattle.otn_ports.specs.InPlace.{in_view};
+ghost use Rattle.otn_ports.specs.Views.{InView};
+ghost use Rattle.line_side.specs.LineForm.{LineForm};
+ghost use Rattle.line_view.specs.Viewing.{ViewStands, ViewMoves, TurnMoves};
+
+use crate::told::{TurnSeen, counts_between};
+use crate::watched::{Watched, end_each, take_each};
+use otn_base::LineKind;
+use otn_ports::{InPlaceOf, Source};
+
+/// Does a turn of a line of this kind, of which no piece is done, and says what was seen of the line in it.
+pub(crate) fn do_turn<I: Source>(
+    kind: LineKind,
+    line: &mut line_side::LineIn,
+    watched: &mut Vec<Watched>,
+    room: &mut [u8],
+    place: &mut InPlaceOf<I>,
+) -> TurnSeen
+    requires kind { line.old.kind ≡ kind }
+    requires between { line.old.pieces ≡ 0 }
+    requires room { length room.old ≡ MOST_SLOTS * (GROUPS + 1) }
+    ensures moves { (form : LineForm) (first : InView) (taken : List ℕ) (t : ℕ) → ViewStands form first (in_view I.Source place.old) taken t line.old watched.old.items
+        → TurnMoves form first (in_view I.Source place.new) taken t line.old line.new watched.old.items watched.new.items result }
+    ensures kind { line.new.kind ≡ kind }
+    ensures between { line.new.pieces ≡ 0 }
+    ensures room { length room.new ≡ length room.old }
+{
+    let was = line.counts();
+    take_frames(kind, line, watched, place);
+    let whole = line.end_turn();
+    end_each(watched, whole, room);
+    TurnSeen {
+        ended: line.ended(),
+        whole,
+        counts: counts_between(was, line.counts()),
+    }
+}
+
+// The pieces of a turn.
+fn take_frames<I: Source>(
+    kind: LineKind,
+    line: &mut line_side::LineIn,
+    watched: &mut Vec<Watched>,
+    place: &mut InPlaceOf<I>,
+)
+    requires kind { line.old.kind ≡ kind }
+    requires between { line.old.pieces ≡ 0 }
+    ensures moves { (form : LineForm) (first : InView) (taken : List ℕ) (t : ℕ) → ViewStands form first (in_view I.Source place.old) taken t line.old watched.old.items
+        → ViewMoves form first (in_view I.Source place.new) taken t line.old line.new watched.old.items watched.new.items }
+    ensures kind { line.new.kind ≡ kind }
+    ensures pieces { line.new.pieces ≡ slots_of kind }
+{
+    for _ in 0..kind.slots() {
+        take_piece(line, watched, place);
+    }
+}
+
+// A piece of a turn.
+fn take_piece<I: Source>(
+    line: &mut line_side::LineIn,
+    watched: &mut Vec<Watched>,
+    place: &mut InPlaceOf<I>,
+)
+    requires { line.old.pieces < slots_of line.old.kind }
+    ensures moves { (form : LineForm) (first : InView) (taken : List ℕ) (t : ℕ) → ViewStands form first (in_view I.Source place.old) taken t line.old watched.old.items
+        → ViewMoves form first (in_view I.Source place.new) taken t line.old line.new watched.old.items watched.new.items }
+    ensures kind { line.new.kind ≡ line.old.kind }
+    ensures pieces { line.new.pieces ≡ line.old.pieces + 1 }
+{
+    if !line.piece(place) {
+        return;
+    }
+    take_each(watched, line.frame(), line.expected());
+}
