@@ -32,21 +32,25 @@ impl Source for NamedSource {
     }
 }
 
-// A line of ten frames of bytes 0, one more than a turn that hunts in vain looks at.
-fn line(alloc: Global, name: u8, last: &Rc<Cell<u8>>) -> Result<NamedSource, Memory> {
+fn zeros(alloc: Global, n: usize) -> Result<MemSource, Memory> {
+    Ok(MemSource::new(vec![in alloc; 0u8; n]?))
+}
+
+// A line of so many bytes 0.
+fn line(alloc: Global, n: usize, name: u8, last: &Rc<Cell<u8>>) -> Result<NamedSource, Memory> {
     Ok(NamedSource {
-        bytes: MemSource::new(vec![in alloc; 0u8; 163_200]?),
+        bytes: zeros(alloc, n)?,
         name,
         last: last.clone()?,
     })
 }
 
-// A run of the plan over line inputs 0 and 1: how it ended, and which of the two was called last.
-fn last_called(alloc: Global, text: &[u8]) -> Result<(Option<Outcome>, u8), Memory> {
+// A run of the plan over line inputs 0 and 1, of so many bytes each: how it ended, and which of the two was called last.
+fn last_called(alloc: Global, text: &[u8], n: usize) -> Result<(Option<Outcome>, u8), Memory> {
     let last = Rc::new(alloc, Cell::new(9_u8))?;
     let mut bays: Rack<NamedSource, MemSink> = Rack::new(alloc)?;
-    bays.set_line_in(0, InPlaceOf::Live(line(alloc, 0, &last)?, 0));
-    bays.set_line_in(1, InPlaceOf::Live(line(alloc, 1, &last)?, 0));
+    bays.set_line_in(0, InPlaceOf::Live(line(alloc, n, 0, &last)?, 0));
+    bays.set_line_in(1, InPlaceOf::Live(line(alloc, n, 1, &last)?, 0));
     let plan = match Plan::read(alloc, text) {
         Ok(plan) => plan,
         Err(_) => return Ok((None, 9)),
@@ -67,8 +71,9 @@ const FALLING: &[u8] =
 #[test]
 fn lines_are_asked_in_the_order_of_their_numbers(rt: HostRuntime) -> Result<(), Fail> {
     let alloc = rt.alloc();
+    // Ten frames each: one more than a turn that hunts in vain looks at.
     for text in [RISING, FALLING] {
-        let (outcome, last) = last_called(alloc, text)?;
+        let (outcome, last) = last_called(alloc, text, 163_200)?;
         assert_eq!(rt; outcome, Some(Outcome::Unfinished));
         assert_eq!(rt; last, 1);
     }
