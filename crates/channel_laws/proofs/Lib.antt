@@ -1,3 +1,4 @@
 mod Emitted
 mod Stream
 mod ComesOut
+mod Carried
