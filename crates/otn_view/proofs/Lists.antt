@@ -15,6 +15,7 @@ pub first_word : (words : List (String Global)) (first : String Global) (word : 
 first_word [] first word some is same = absurd (omega (arith, some))
 first_word (x ∷ xs) first word some is same =
     ap (λ w. string_bytes w ∷ texts xs) (sym is) ∙ ap (λ w. w ∷ texts xs) same ∙ ap (λ ws. word ∷ texts ws) (sym (take-length xs))
+    ∙ ap (λ n. word ∷ texts (take n xs)) (let e : length xs ≡ suc (length xs) - 1 = omega arith in e)
 
 pub known_item : {A : Type 0} (xs : List A) (i : ℕ) (item : A) → i < length xs → item ≡ get_or xs i item → slice_get xs i ≡ Some item
 known_item xs i item less is = slice_get_read xs (length xs) i item refl less is
