@@ -315,10 +315,13 @@ def _library() -> ctypes.CDLL:
 
 
 def _memory(size: int) -> mmap.mmap:
-    # (memory of the system's own, so that only what is written is ever made)
+    # (memory of the system's own, so that only what is written is ever made; in large pages where the system has them)
     if sys.platform == "win32":
         return mmap.mmap(-1, size)
-    return mmap.mmap(-1, size, flags=mmap.MAP_PRIVATE | mmap.MAP_ANONYMOUS)
+    made = mmap.mmap(-1, size, flags=mmap.MAP_PRIVATE | mmap.MAP_ANONYMOUS)
+    if hasattr(mmap, "MADV_HUGEPAGE") and size >= 1 << 22:
+        made.madvise(mmap.MADV_HUGEPAGE)
+    return made
 
 
 def _inputs(lines: Optional[Mapping[int, Bytes]], clients: Optional[Mapping[int, Client]]) -> Dict[int, bytes]:
