@@ -1,5 +1,5 @@
 -- What each command answers for, over all that the top call is handed: as it was, and as it is.
-use Rattle.std.specs.Prelude.{◌≡◌, ◌≢◌, ℕ}
+use Rattle.std.specs.Prelude.{◌≡◌, ◌≢◌, ℕ, List}
 use Rattle.otn_ports.specs.Views.{BaysView}
 use Rattle.otn_ports.specs.declared.ended.Ended.{Ended}
 use Rattle.otn_ports.specs.declared.ended.Ended.TheVariants as ending
