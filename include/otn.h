@@ -18,9 +18,9 @@
  * does any proof speak of the program that calls: it has to keep the rules below.
  *
  * HOW IT IS CALLED. It takes bytes with their length, and calls the system for nothing but memory (malloc, realloc,
- * free), all of which it gives back. It keeps nothing from one call to the next, has no global state and starts no
- * thread: threads may call it side by side, each with memory of its own to be written to. Call it from no signal
- * handler.
+ * free, and on Linux advice on the pages of large blocks), all of which it gives back. It keeps nothing from one call to
+ * the next, has no global state and starts no thread: threads may call it side by side, each with memory of its own to be
+ * written to. Call it from no signal handler.
  *
  * - Each pointer points to as many bytes or numbers as the length behind it says, aligned for its type.
  * - No pointer is null, not for a length of 0 either: point to anything then.
@@ -62,6 +62,10 @@
 extern "C" {
 #endif
 
+/* The version of this header, and of the library that it is for. It rises with each change of how a call is made or of
+ * what it answers. */
+#define OTN_VERSION 1
+
 /* How many inputs a call has, and how many outputs: lines 0 to 3 first, then clients 0 to 15. */
 #define OTN_PORTS 20
 /* The number, among the inputs or the outputs, of line n and of client n. */
@@ -90,6 +94,10 @@ struct otn_answer {
     size_t report;   /* how many bytes the report has */
     size_t outputs;  /* how many bytes all outputs have together */
 };
+
+/* The version of the library that is linked. It is OTN_VERSION where that is the one that this header is for: a program
+ * that loads libotn.so asks before its first call. */
+uint32_t otn_version(void);
 
 /* Carries out a command, and answers one of `enum otn_code`.
  *

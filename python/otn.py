@@ -65,10 +65,12 @@ from dataclasses import dataclass, field
 from typing import Dict, List, Mapping, Optional, Sequence, Tuple, Union
 
 __all__ = [
-    "CLIENTS", "FRAME", "LINES", "MULTIFRAME", "RULES", "ClientIn", "ClientOut", "LineIn", "LineOut", "Records",
-    "Result", "Status", "call", "check", "packets", "protect", "pull", "run", "slot", "text", "trial",
+    "CLIENTS", "FRAME", "LINES", "MULTIFRAME", "RULES", "VERSION", "ClientIn", "ClientOut", "LineIn", "LineOut",
+    "Records", "Result", "Status", "call", "check", "packets", "protect", "pull", "run", "slot", "text", "trial",
+    "version",
 ]
 
+VERSION = 1  #: the version of the library that this file is for (OTN_VERSION of include/otn.h)
 LINES = 4  #: how many lines go in, and how many go out: 0 to 3
 CLIENTS = 16  #: how many clients there are: 0 to 15
 FRAME = 16_320  #: the bytes of a frame of a line
@@ -309,9 +311,23 @@ def _library() -> ctypes.CDLL:
     except OSError as why:
         raise OSError(f"{why} (library/build python makes it; OTN_LIBRARY says where it is)") from why
     read, write, number = ctypes.c_char_p, ctypes.c_void_p, ctypes.c_size_t
+    library.otn_version.restype = ctypes.c_uint32
+    library.otn_version.argtypes = []
+    if library.otn_version() != VERSION:
+        raise OSError(f"{path} is of version {library.otn_version()}, and otn.py is for version {VERSION}")
     library.otn_run.restype = ctypes.c_uint32
     library.otn_run.argtypes = [read, number] * 3 + [write, number, read, number] + [write, number] * 3 + [write]
     return library
+
+
+def version() -> int:
+    """The version of the library that is loaded. It is `VERSION`: another one is refused when it is loaded.
+
+    >>> import otn
+    >>> otn.version() == otn.VERSION
+    True
+    """
+    return int(_library().otn_version())
 
 
 def _memory(size: int) -> mmap.mmap:

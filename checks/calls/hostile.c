@@ -43,6 +43,7 @@ static void no_calls(void)
         behind[n] = n == 19 ? 4 : 3;
         most[n] = SIZE_MAX;
     }
+    want(otn_version() == OTN_VERSION, "the version of the header");
     want(code_of("slot 3", 6, ends, 20, 20, 20) == OTN_UNFINISHED, "a call");
     want(code_of("slot 3", 6, ends, 19, 20, 20) == OTN_NO_CALL, "19 ends");
     want(code_of("slot 3", 6, ends, 21, 20, 20) == OTN_NO_CALL, "21 ends");

@@ -3,3 +3,4 @@ pub mod Calls
 pub mod Growing
 pub mod Lent
 pub mod Places
+pub mod Version

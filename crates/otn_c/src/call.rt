@@ -6,11 +6,10 @@ ghost use Rattle.otn_c.specs.Calls.{CallEnds, Called, IsHandedOut, IsNoCall, Tel
 
 use crate::answer::Answer;
 use crate::answered::answer;
+use crate::awaited::{Awaited, known_outputs};
 use crate::blocks::put;
-use crate::growing_sink::Beside;
 use crate::outputs::{PORTS, put_outputs};
 use crate::places::{Places, places_of};
-use crate::retiring::kept_beside;
 use crate::words::words_of;
 use crate::{GrowingSink, SliceSource};
 use line_tool::Status;
@@ -86,8 +85,8 @@ fn call(
     let Some(list) = words_of(alloc, words)? else {
         return Ok(NO_CALL);
     };
-    let beside = kept_beside(alloc, &list, plan)?;
-    let Some(mut bays) = places_of(alloc, inputs, ends, present, &beside)? else {
+    let known = known_outputs(alloc, &list, plan, ends)?;
+    let Some(mut bays) = places_of(alloc, inputs, ends, present, &known)? else {
         return Ok(NO_CALL);
     };
     let mut got = GrowingSink::new(alloc);
@@ -95,7 +94,7 @@ fn call(
     let code = hand_out(
         status,
         &bays,
-        &beside,
+        &known,
         &got,
         outputs,
         output_ends,
@@ -109,7 +108,7 @@ fn call(
 fn hand_out(
     status: Status,
     bays: &Places<'_>,
-    beside: &[Option<Beside>],
+    awaited: &[Awaited],
     got: &GrowingSink,
     outputs: &mut [u8],
     output_ends: &mut [usize],
@@ -121,7 +120,7 @@ fn hand_out(
         (bays_view ⟦<SliceSource<'static> as Source>⟧ ⟦<GrowingSink as Sink>⟧ bays.now) (sink_view ⟦<GrowingSink as Sink>⟧ got.now)
         told.new outputs.new output_ends.new report.new) }
 {
-    let Some(total) = put_outputs(bays, beside, outputs, output_ends) else {
+    let Some(total) = put_outputs(bays, awaited, outputs, output_ends) else {
         return Err(Memory);
     };
     let bytes = got.bytes();

@@ -1,5 +1,5 @@
 // A sink in memory that grows.
-ghost use Rattle.std.specs.Prelude.{◌≡◌, ◌≢◌, ◌≤◌, ◌++◌, [], true, Some, IfOk, OnErr, length, take};
+ghost use Rattle.std.specs.Prelude.{◌≡◌, ◌≢◌, ◌≤◌, ◌++◌, [], true, Some, IfOk, OnOk, OnErr, length, take};
 ghost use Rattle.otn_ports.specs.Bytes.{sent, faults_after, HasFailed};
 ghost use Rattle.otn_ports.specs.Writes.{IsWriting};
 
@@ -34,14 +34,15 @@ impl GrowingSink {
         }
     }
 
-    /// One that got nothing yet, and puts what it gets there too.
-    pub(crate) fn with(alloc: Global, beside: Beside) -> GrowingSink
+    /// One that got nothing yet. So much room is made for it at once, where there is memory for that, and else as bytes come. What it gets is kept
+    /// beside it too, where a place for that is given.
+    pub(crate) fn with(alloc: Global, room: usize, beside: Option<Beside>) -> GrowingSink
         ensures got { growing_got result ≡ [] }
         ensures faults { growing_faults result ≡ 0 }
     {
         GrowingSink {
-            kept: Vec::new(alloc),
-            beside: Some(beside),
+            kept: room_for(alloc, room),
+            beside,
             failed: 0,
         }
     }
@@ -59,18 +60,50 @@ impl GrowingSink {
         ensures got { growing_got self.new ≡ growing_got self.old ++ sent result bytes.now }
         ensures faults { growing_faults self.new ≡ growing_faults self.old }
     {
-        if let Some(beside) = &self.beside {
-            keep(beside, bytes)?;
-        }
+        let before = self.kept.len();
         match self.kept.extend_from_slice(bytes) {
-            Ok(()) => Ok(bytes.len()),
+            Ok(()) => self.put_beside(before, bytes),
             Err(_) => Err(Failed),
+        }
+    }
+
+    // Puts the bytes that came behind the first ones beside the sink too; where there is no memory for that it lets go of them.
+    fn put_beside(&mut self, before: usize, bytes: &[u8]) -> Result<usize, Failed>
+        requires { before ≤ length (growing_got self.old) }
+        ensures all { IfOk result (λ n. n ≡ length bytes.now) }
+        ensures kept { OnOk result (growing_got self.new ≡ growing_got self.old) }
+        ensures lost { OnErr result (growing_got self.new ≡ take before (growing_got self.old)) }
+        ensures faults { growing_faults self.new ≡ growing_faults self.old }
+    {
+        match keep(&self.beside, bytes) {
+            Ok(()) => Ok(bytes.len()),
+            Err(Failed) => {
+                self.kept.truncate(before);
+                Err(Failed)
+            }
         }
     }
 }
 
-// Appends these bytes.
-fn keep(beside: &Beside, bytes: &[u8]) -> Result<(), Failed> {
+// Room for so many bytes, or none yet where there is no memory for it.
+fn room_for(alloc: Global, room: usize) -> Vec<u8>
+    ensures { result.items ≡ [] }
+{
+    match Vec::with_capacity(alloc, room) {
+        Ok(kept) => kept,
+        Err(_) => Vec::new(alloc),
+    }
+}
+
+// Appends these bytes to what is kept beside, where there is such a place.
+fn keep(beside: &Option<Beside>, bytes: &[u8]) -> Result<(), Failed> {
+    match beside {
+        Some(beside) => append(beside, bytes),
+        None => Ok(()),
+    }
+}
+
+fn append(beside: &Beside, bytes: &[u8]) -> Result<(), Failed> {
     let mut kept = beside.try_borrow_mut().map_err(|_| Failed)?;
     kept.extend_from_slice(bytes).map_err(|_| Failed)
 }

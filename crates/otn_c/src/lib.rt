@@ -4,10 +4,11 @@
 //! - `answer`: what it tells beside the bytes.
 //! - `answered`: its words, answered over places in memory.
 //! - `places`, `outputs`: the places of its inputs and outputs, and what the outputs got.
+//! - `awaited`: what is known of the outputs before a run.
 //! - `blocks`: parts that lie one behind the other in one slice.
 //! - `growing_sink`: a sink in memory that grows.
-//! - `retiring`: what was kept of outputs whose places a plan retires.
 //! - `slice_source`: a source over bytes that are lent.
+//! - `version`: the version of the library.
 //! - `words`: the words of a line.
 #![tactic(auto)]
 
@@ -16,13 +17,14 @@ ghost use Rattle.otn_c.specs.Calls.{Called, IsNoCall, SlotOverBytes, no_call, no
 
 mod answer;
 mod answered;
+mod awaited;
 mod blocks;
 mod call;
 mod growing_sink;
 mod outputs;
 mod places;
-mod retiring;
 mod slice_source;
+mod version;
 mod words;
 
 pub use answer::Answer;
@@ -31,6 +33,7 @@ pub use growing_sink::GrowingSink;
 use line_tool::slot_of_given;
 pub use slice_source::SliceSource;
 use std::alloc::Global;
+pub use version::otn_version;
 
 /// Does all that the program does, over the bytes that it is handed.
 ///

@@ -4,6 +4,7 @@ ghost use Rattle.otn_ports.specs.OutPlace.{out_view};
 ghost use Rattle.otn_ports.specs.Racks.{bays_view};
 ghost use Rattle.otn_c.specs.Places.{IsPut, IsPutAny, IsPutOf, OutUpTo, output_at};
 
+use crate::awaited::Awaited;
 use crate::blocks::put;
 use crate::growing_sink::Beside;
 use crate::places::Places;
@@ -19,7 +20,7 @@ pub(crate) const PORTS: usize = LINES + CLIENTS;
 /// none where it is no number of this machine.
 pub(crate) fn put_outputs(
     bays: &Places<'_>,
-    beside: &[Option<Beside>],
+    awaited: &[Awaited],
     block: &mut [u8],
     ends: &mut [usize],
 ) -> Option<usize>
@@ -30,7 +31,7 @@ pub(crate) fn put_outputs(
 {
     let mut total = 0;
     for n in 0..PORTS {
-        let end = put_output(bays, beside, n, block, total)?;
+        let end = put_output(bays, awaited, n, block, total)?;
         ends[n] = end;
         total = end;
     }
@@ -40,7 +41,7 @@ pub(crate) fn put_outputs(
 // Puts what output n got behind the first `at` bytes of the block, and answers where it ends.
 fn put_output(
     bays: &Places<'_>,
-    beside: &[Option<Beside>],
+    awaited: &[Awaited],
     n: usize,
     block: &mut [u8],
     at: usize,
@@ -52,14 +53,18 @@ fn put_output(
     if n < LINES {
         return put_place(bays.line_out(n as u8), None, block, at);
     }
-    let client = n - LINES;
-    put_place(bays.client_out(client as u8), beside.get(client), block, at)
+    put_place(
+        bays.client_out((n - LINES) as u8),
+        awaited.get(n),
+        block,
+        at,
+    )
 }
 
 // Puts what the port of a place got, or what was kept beside it where that is there no more.
 fn put_place(
     place: &OutPlaceOf<GrowingSink>,
-    beside: Option<&Option<Beside>>,
+    awaited: Option<&Awaited>,
     block: &mut [u8],
     at: usize,
 ) -> Option<usize>
@@ -68,18 +73,35 @@ fn put_place(
 {
     match place.kept() {
         Some(bytes) => put_bytes(block, at, bytes),
-        None => put_beside(beside, block, at),
+        None => put_beside(awaited, block, at),
     }
 }
 
 // Puts what was kept beside a place: nothing where nothing was.
-fn put_beside(beside: Option<&Option<Beside>>, block: &mut [u8], at: usize) -> Option<usize>
+fn put_beside(awaited: Option<&Awaited>, block: &mut [u8], at: usize) -> Option<usize>
     ensures length { length block.new ≡ length block.old }
     ensures put { IfSome result (IsPutAny at block.old block.new) }
 {
-    let Some(Some(beside)) = beside else {
-        return put_bytes(block, at, &[]);
-    };
+    match awaited {
+        Some(awaited) => put_kept(&awaited.beside, block, at),
+        None => put_bytes(block, at, &[]),
+    }
+}
+
+fn put_kept(beside: &Option<Beside>, block: &mut [u8], at: usize) -> Option<usize>
+    ensures length { length block.new ≡ length block.old }
+    ensures put { IfSome result (IsPutAny at block.old block.new) }
+{
+    match beside {
+        Some(beside) => put_shared(beside, block, at),
+        None => put_bytes(block, at, &[]),
+    }
+}
+
+fn put_shared(beside: &Beside, block: &mut [u8], at: usize) -> Option<usize>
+    ensures length { length block.new ≡ length block.old }
+    ensures put { IfSome result (IsPutAny at block.old block.new) }
+{
     match beside.try_borrow() {
         Ok(bytes) => put_bytes(block, at, bytes.as_slice()),
         Err(_) => None,

@@ -1,14 +1,15 @@
 // The places of a call, in memory.
-ghost use Rattle.std.specs.Prelude.{◌≡◌, ◌<◌, ℕ, IfOk, MatchOption, length};
+ghost use Rattle.std.specs.Prelude.{◌≡◌, ◌<◌, ℕ, [], IfOk, MatchOption, length};
 ghost use Rattle.otn_ports.specs.InPlace.{in_view};
 ghost use Rattle.otn_ports.specs.OutPlace.{out_view};
 ghost use Rattle.otn_ports.specs.Racks.{bays_view};
 ghost use Rattle.line_tool.specs.TrialRuns.{waiting};
 ghost use Rattle.otn_c.specs.Blocks.{IsNoPart};
+ghost use Rattle.otn_c.specs.Growing.{growing_got, growing_faults};
 ghost use Rattle.otn_c.specs.Places.{OpensWith, HasNoPart, LinesUpTo, ClientsUpTo, input_at};
 
+use crate::awaited::Awaited;
 use crate::blocks::part;
-use crate::growing_sink::Beside;
 use crate::{GrowingSink, SliceSource};
 use otn_base::Memory;
 use otn_base::limits::{CLIENTS, LINES};
@@ -18,14 +19,14 @@ use std::alloc::Global;
 /// Places in memory, whose outputs grow.
 pub(crate) type Places<'a> = Rack<SliceSource<'a>, GrowingSink>;
 
-/// The places of a call with these inputs, whose flags say which are there, and of which client outputs bytes are kept beside them. None
-/// where an input is no part of the block.
+/// The places of a call with these inputs, whose flags say which are there, and with what is known of its outputs. None where an input is no
+/// part of the block.
 pub(crate) fn places_of<'a>(
     alloc: Global,
     block: &'a [u8],
     ends: &[usize],
     present: &[u8],
-    beside: &[Option<Beside>],
+    awaited: &[Awaited],
 ) -> Result<Option<Places<'a>>, Memory>
     requires ends { length ends.now ≡ 20 }
     requires present { length present.now ≡ 20 }
@@ -33,10 +34,10 @@ pub(crate) fn places_of<'a>(
         (λ bays. OpensWith present.now block.now ends.now (bays_view ⟦<SliceSource<'static> as Source>⟧ ⟦<GrowingSink as Sink>⟧ bays))) }
 {
     let mut bays = Rack::new(alloc)?;
-    let Some(()) = fill_lines(alloc, &mut bays, block, ends, present)? else {
+    let Some(()) = fill_lines(alloc, &mut bays, block, ends, present, awaited)? else {
         return Ok(None);
     };
-    let Some(()) = fill_clients(alloc, &mut bays, block, ends, present, beside)? else {
+    let Some(()) = fill_clients(alloc, &mut bays, block, ends, present, awaited)? else {
         return Ok(None);
     };
     Ok(Some(bays))
@@ -49,6 +50,7 @@ fn fill_lines<'a>(
     block: &'a [u8],
     ends: &[usize],
     present: &[u8],
+    awaited: &[Awaited],
 ) -> Result<Option<()>, Memory>
     requires ends { length ends.now ≡ 20 }
     requires present { length present.now ≡ 20 }
@@ -60,7 +62,7 @@ fn fill_lines<'a>(
             return Ok(None);
         };
         bays.set_line_in(n, place);
-        bays.set_line_out(n, output(alloc));
+        bays.set_line_out(n, output(alloc, awaited.get(n as usize))?);
     }
     Ok(Some(()))
 }
@@ -72,7 +74,7 @@ fn fill_clients<'a>(
     block: &'a [u8],
     ends: &[usize],
     present: &[u8],
-    beside: &[Option<Beside>],
+    awaited: &[Awaited],
 ) -> Result<Option<()>, Memory>
     requires ends { length ends.now ≡ 20 }
     requires present { length present.now ≡ 20 }
@@ -84,7 +86,7 @@ fn fill_clients<'a>(
             return Ok(None);
         };
         bays.set_client_in(n, place);
-        bays.set_client_out(n, output_with(alloc, beside.get(n as usize))?);
+        bays.set_client_out(n, output(alloc, awaited.get(LINES + n as usize))?);
     }
     Ok(Some(()))
 }
@@ -109,24 +111,28 @@ fn input<'a>(
 }
 
 // The place of an output that got nothing yet.
-fn output(alloc: Global) -> OutPlaceOf<GrowingSink>
-    ensures { out_view ⟦<GrowingSink as Sink>⟧ result ≡ waiting }
-{
-    OutPlaceOf::Live(GrowingSink::new(alloc), 0)
-}
-
-// The same, with its bytes kept beside it too, where there is such a place.
-fn output_with(
-    alloc: Global,
-    beside: Option<&Option<Beside>>,
-) -> Result<OutPlaceOf<GrowingSink>, Memory>
+fn output(alloc: Global, awaited: Option<&Awaited>) -> Result<OutPlaceOf<GrowingSink>, Memory>
     ensures { IfOk result (λ place. out_view ⟦<GrowingSink as Sink>⟧ place ≡ waiting) }
 {
-    match beside {
-        Some(Some(beside)) => {
-            let sink = GrowingSink::with(alloc, beside.clone()?);
+    match awaited {
+        Some(awaited) => {
+            let sink = sink_of(alloc, awaited)?;
             Ok(OutPlaceOf::Live(sink, 0))
         }
-        _ => Ok(output(alloc)),
+        None => Ok(OutPlaceOf::Live(GrowingSink::new(alloc), 0)),
+    }
+}
+
+// A sink of which this is known.
+fn sink_of(alloc: Global, awaited: &Awaited) -> Result<GrowingSink, Memory>
+    ensures got { IfOk result (λ sink. growing_got sink ≡ []) }
+    ensures faults { IfOk result (λ sink. growing_faults sink ≡ 0) }
+{
+    match &awaited.beside {
+        Some(beside) => {
+            let shared = beside.clone()?;
+            Ok(GrowingSink::with(alloc, awaited.room, Some(shared)))
+        }
+        None => Ok(GrowingSink::with(alloc, awaited.room, None)),
     }
 }
