@@ -8,16 +8,17 @@ use Rattle.otn_ports.specs.InPlace.{in_view}
 use Rattle.otn_ports.specs.OutPlace.{out_view}
 use Rattle.otn_ports.specs.Racks.{bays_view, with_line_out, with_client_in, with_client_out, IsVacant}
 use Rattle.otn_ports.specs.Views.{BaysView, no_input, line_in_at, line_out_at, client_in_at, client_out_at}
-use Rattle.otn_ports.specs.contracts.mem_sink.MemSinkSink.TheImpl as sink
 use Rattle.otn_ports.specs.contracts.mem_source.MemSourceSource.TheImpl as source
+use Rattle.otn_ports.specs.declared.sink.Sink as sink
 use Rattle.otn_ports.specs.declared.bays.Rack.{Rack}
 use Rattle.otn_ports.specs.declared.in_place.InPlaceOf.{InPlaceOf}
 use Rattle.otn_ports.specs.declared.in_place.InPlaceOf.TheVariants as input
-use Rattle.otn_ports.specs.declared.mem_sink.MemSink.{MemSink}
 use Rattle.otn_ports.specs.declared.mem_source.MemSource.{MemSource}
 use Rattle.otn_ports.specs.declared.out_place.OutPlaceOf.{OutPlaceOf}
 use Rattle.otn_ports.specs.declared.out_place.OutPlaceOf.TheVariants as output
 use Rattle.otn_ports.proofs.BaysLaws.{line_out_set, client_in_set, only_client_in, client_out_set, only_client_out}
+use Rattle.bounded_ports.specs.contracts.bounded_sink.BoundedSinkSink.TheImpl as bounded
+use Rattle.bounded_ports.specs.declared.bounded_sink.BoundedSink.{BoundedSink}
 use Rattle.plan_file.specs.declared.plan.Plan.{Plan}
 use Rattle.device_model.specs.Moments.{over_ports, pieces_of}
 use Rattle.device_model.specs.Report.{Numbers}
@@ -26,9 +27,19 @@ use Rattle.packet_text.specs.PacketText.{hex_text}
 use Rattle.trial_plans.specs.TrialDraw.{packets_of_trial}
 use Rattle.trial_plans.specs.TrialPlans.{trial_plan}
 use Rattle.trial_command.specs.TrialRuns.{holding, waiting, ReadsWell, RunWent}
+use Rattle.trial_command.specs.declared.places.TheConstants.{FILE_ROOM, TEXT_ROOM}
+use denote.Param.{number}
 
-abbrev pub view : Rack MemSource MemSink → BaysView
-view rack = bays_view source.ghosts sink.ghosts rack
+-- sinks for a line's file, and for a client's text
+abbrev pub file_sink : sink.Ghosts (BoundedSink FILE_ROOM)
+file_sink = bounded.ghosts (number FILE_ROOM)
+
+abbrev pub text_sink : sink.Ghosts (BoundedSink TEXT_ROOM)
+text_sink = bounded.ghosts (number TEXT_ROOM)
+
+-- places in memory with sinks of any kind
+abbrev pub view : {K : Type 0} → sink.Ghosts K → Rack MemSource K → BaysView
+view k rack = bays_view source.ghosts k rack
 
 -- ---- a run
 
@@ -39,8 +50,8 @@ calm (input.Live port number ∷ places) zero = refl
 calm (input.Dead sealed number ∷ places) zero = refl
 calm (place ∷ places) (suc n) = calm places n
 
-reads_well : (rack : Rack MemSource MemSink) → ReadsWell (view rack)
-reads_well rack = record { lines = λ a. calm rack.line_in.items a; clients = λ n. calm rack.client_in.items n }
+reads_well : {K : Type 0} (k : sink.Ghosts K) (rack : Rack MemSource K) → ReadsWell (view k rack)
+reads_well k rack = record { lines = λ a. calm rack.line_in.items a; clients = λ n. calm rack.client_in.items n }
 
 pieces : (run : ℕ) → run < 4 → over_ports (pieces_of (trial_plan run)) * 16 ≡ 256
 unfolding over_ports pieces_of
@@ -50,14 +61,14 @@ pieces (suc (suc zero)) h = refl
 pieces (suc (suc (suc zero))) h = refl
 pieces (suc (suc (suc (suc n)))) h = absurd (omega arith)
 
-pub run_went : (run : ℕ) (first : BaysView) (last : Rack MemSource MemSink) (plan : Plan) (numbers : Numbers) (asked now left : ℕ) → run < 4 → plan ≡ trial_plan run
-    → (takings : Takings) × RunLeft plan first (view last) takings numbers → left ≡ over_ports (pieces_of plan) * plan.turns → now ≡ raised asked left
-    → RunWent run first (view last) asked now
-run_went run first last plan numbers asked now left few is went all each = record {
+pub run_went : {K : Type 0} (k : sink.Ghosts K) (run : ℕ) (first : BaysView) (last : Rack MemSource K) (plan : Plan) (numbers : Numbers) (asked now left : ℕ) → run < 4 → plan ≡ trial_plan run
+    → (takings : Takings) × RunLeft plan first (view k last) takings numbers → left ≡ over_ports (pieces_of plan) * plan.turns → now ≡ raised asked left
+    → RunWent run first (view k last) asked now
+run_went k run first last plan numbers asked now left few is went all each = record {
   takings = went.0;
   numbers = numbers;
-  left = subst (λ p. RunLeft p first (view last) went.0 numbers) is went.1;
-  well = reads_well last;
+  left = subst (λ p. RunLeft p first (view k last) went.0 numbers) is went.1;
+  well = reads_well k last;
   asked_each = each ∙ ap (raised asked) (all ∙ ap (λ (p : Plan). over_ports (pieces_of p) * p.turns) is ∙ pieces run few);
 }
 
@@ -66,10 +77,10 @@ run_went run first last plan numbers asked now left few is went all each = recor
 some_place : {A : Type 0} (l : List A) (n : ℕ) (d : A) → n < length l → slice_get l n ≡ Some (get_or l n d)
 some_place l n d h = slice_get-get_or l n d h
 
-client_in_known : (rack : Rack MemSource MemSink) (n : ℕ) → n < 16 → n < length rack.client_in.items
+client_in_known : {K : Type 0} (rack : Rack MemSource K) (n : ℕ) → n < 16 → n < length rack.client_in.items
 client_in_known rack n few = (let all = rack.all in let ok = rack.client_in.ok in omega arith)
 
-client_out_known : (rack : Rack MemSource MemSink) (n : ℕ) → n < 16 → n < length rack.client_out.items
+client_out_known : {K : Type 0} (rack : Rack MemSource K) (n : ℕ) → n < 16 → n < length rack.client_out.items
 client_out_known rack n few = (let all = rack.all in let ok = rack.client_out.ok in omega arith)
 
 below_or_same : (m n : ℕ) → m < n + 1 → (m < n) ⊎ (m ≡ n)
@@ -84,39 +95,39 @@ pub record FirstUpTo (number n : ℕ) (bays : BaysView) : Type 0 where
   pub clients : (c : ℕ) → c < n → client_in_at bays c ≡ holding (hex_text (packets_of_trial number c))
   pub out : line_out_at bays 0 ≡ waiting
 
-pub first_none : (number : ℕ) (rack new : Rack MemSource MemSink) (place : OutPlaceOf MemSink) → IsVacant rack → out_view sink.ghosts place ≡ waiting → new ≡ with_line_out rack 0 place → FirstUpTo number 0 (view new)
-first_none number rack new place vacant is set = subst (λ r. FirstUpTo number 0 (view r)) (sym set) record {
+pub first_none : {K : Type 0} (k : sink.Ghosts K) (number : ℕ) (rack new : Rack MemSource K) (place : OutPlaceOf K) → IsVacant rack → out_view k place ≡ waiting → new ≡ with_line_out rack 0 place → FirstUpTo number 0 (view k new)
+first_none k number rack new place vacant is set = subst (λ r. FirstUpTo number 0 (view k r)) (sym set) record {
   clients = λ c h. absurd (omega arith);
-  out = line_out_set source.ghosts sink.ghosts rack 0 output.Empty place (ap (λ l. slice_get l 0) vacant.line_out) ∙ is;
+  out = line_out_set source.ghosts k rack 0 output.Empty place (ap (λ l. slice_get l 0) vacant.line_out) ∙ is;
 }
 
-pub next_client : (number n : ℕ) (rack new : Rack MemSource MemSink) (place : InPlaceOf MemSource) → n < 8 → FirstUpTo number n (view rack)
-    → in_view source.ghosts place ≡ holding (hex_text (packets_of_trial number n)) → new ≡ with_client_in rack n place → FirstUpTo number (n + 1) (view new)
-next_client number n rack new place few before is set = subst (λ r. FirstUpTo number (n + 1) (view r)) (sym set) record {
+pub next_client : {K : Type 0} (k : sink.Ghosts K) (number n : ℕ) (rack new : Rack MemSource K) (place : InPlaceOf MemSource) → n < 8 → FirstUpTo number n (view k rack)
+    → in_view source.ghosts place ≡ holding (hex_text (packets_of_trial number n)) → new ≡ with_client_in rack n place → FirstUpTo number (n + 1) (view k new)
+next_client k number n rack new place few before is set = subst (λ r. FirstUpTo number (n + 1) (view k r)) (sym set) record {
   clients = λ m h. by_place m (below_or_same m n h);
   out = before.out;
 }
   where
-    by_place : (m : ℕ) → (m < n) ⊎ (m ≡ n) → client_in_at (view (with_client_in rack n place)) m ≡ holding (hex_text (packets_of_trial number m))
-    by_place m (inl less) = (only_client_in source.ghosts sink.ghosts rack n place).client_in m (let other : m ≢ n = omega arith in other) ∙ before.clients m less
+    by_place : (m : ℕ) → (m < n) ⊎ (m ≡ n) → client_in_at (view k (with_client_in rack n place)) m ≡ holding (hex_text (packets_of_trial number m))
+    by_place m (inl less) = (only_client_in source.ghosts k rack n place).client_in m (let other : m ≢ n = omega arith in other) ∙ before.clients m less
     by_place m (inr same) =
-        subst (λ k. client_in_at (view (with_client_in rack n place)) k ≡ holding (hex_text (packets_of_trial number k))) (sym same)
-        (client_in_set source.ghosts sink.ghosts rack n (get_or rack.client_in.items n input.Empty) place (some_place rack.client_in.items n input.Empty (client_in_known rack n (omega arith))) ∙ is)
+        subst (λ i. client_in_at (view k (with_client_in rack n place)) i ≡ holding (hex_text (packets_of_trial number i))) (sym same)
+        (client_in_set source.ghosts k rack n (get_or rack.client_in.items n input.Empty) place (some_place rack.client_in.items n input.Empty (client_in_known rack n (omega arith))) ∙ is)
 
 -- the places of the last run, of which the first n clients have room
 pub record LastUpTo (file : List ℕ) (n : ℕ) (bays : BaysView) : Type 0 where
   pub line : line_in_at bays 0 ≡ holding file
   pub clients : (c : ℕ) → c < n → client_out_at bays c ≡ waiting
 
-pub next_room : (file : List ℕ) (n : ℕ) (rack new : Rack MemSource MemSink) (place : OutPlaceOf MemSink) → n < 8 → LastUpTo file n (view rack)
-    → out_view sink.ghosts place ≡ waiting → new ≡ with_client_out rack n place → LastUpTo file (n + 1) (view new)
-next_room file n rack new place few before is set = subst (λ r. LastUpTo file (n + 1) (view r)) (sym set) record {
+pub next_room : {K : Type 0} (k : sink.Ghosts K) (file : List ℕ) (n : ℕ) (rack new : Rack MemSource K) (place : OutPlaceOf K) → n < 8 → LastUpTo file n (view k rack)
+    → out_view k place ≡ waiting → new ≡ with_client_out rack n place → LastUpTo file (n + 1) (view k new)
+next_room k file n rack new place few before is set = subst (λ r. LastUpTo file (n + 1) (view k r)) (sym set) record {
   line = before.line;
   clients = λ m h. by_place m (below_or_same m n h);
 }
   where
-    by_place : (m : ℕ) → (m < n) ⊎ (m ≡ n) → client_out_at (view (with_client_out rack n place)) m ≡ waiting
-    by_place m (inl less) = (only_client_out source.ghosts sink.ghosts rack n place).client_out m (let other : m ≢ n = omega arith in other) ∙ before.clients m less
+    by_place : (m : ℕ) → (m < n) ⊎ (m ≡ n) → client_out_at (view k (with_client_out rack n place)) m ≡ waiting
+    by_place m (inl less) = (only_client_out source.ghosts k rack n place).client_out m (let other : m ≢ n = omega arith in other) ∙ before.clients m less
     by_place m (inr same) =
-        subst (λ k. client_out_at (view (with_client_out rack n place)) k ≡ waiting) (sym same)
-        (client_out_set source.ghosts sink.ghosts rack n (get_or rack.client_out.items n output.Empty) place (some_place rack.client_out.items n output.Empty (client_out_known rack n (omega arith))) ∙ is)
+        subst (λ i. client_out_at (view k (with_client_out rack n place)) i ≡ waiting) (sym same)
+        (client_out_set source.ghosts k rack n (get_or rack.client_out.items n output.Empty) place (some_place rack.client_out.items n output.Empty (client_out_known rack n (omega arith))) ∙ is)

@@ -8,7 +8,7 @@ use Rattle.std.proofs.lemmas.List.Elements.{All-head, All-tail}
 use Rattle.std.proofs.lemmas.List.Sums.{sum_by-cons}
 use Rattle.hex.specs.Hex.{encode_lower, lower_digits, is_hex_digit}
 use Rattle.hex.proofs.HexLemmas.{length-encode_with, decode_of-encode_lower, decode_of-ok}
-use Rattle.otn_ports.specs.Views.{Live, OutView, BaysView, client_out_at}
+use Rattle.otn_ports.specs.Views.{OutView, BaysView, client_out_at}
 use Rattle.packet_text.specs.Laws.{IsPacket}
 use Rattle.packet_text.specs.PacketText.{packet_line, hex_text}
 use Rattle.trial_command.specs.TrialReport.{feed, lines_in, bytes_in, bytes_of, client_line, text_line, client_lines}
@@ -62,7 +62,7 @@ lines_of_packet packet is =
     let clean = digits_in (encode_lower packet) (decode_of-ok (encode_lower packet) packet (decode_of-encode_lower packet is.bytes)).1 in
     lines_append (encode_lower packet) (10 ∷ []) ∙ (let e : lines_in (encode_lower packet) + 1 ≡ 1 = omega arith in e)
 
-long_packet : (packet : List ℕ) → length (packet_line packet) ≡ 2 * length packet + 1
+pub long_packet : (packet : List ℕ) → length (packet_line packet) ≡ 2 * length packet + 1
 long_packet packet = let size = length-encode_with lower_digits packet in length-append (encode_lower packet) (10 ∷ []) ∙ omega arith
 
 pub lines_of_text : (packets : List (List ℕ)) → All IsPacket packets → lines_in (hex_text packets) ≡ length packets
@@ -101,11 +101,11 @@ lines_after : (packets : (c : ℕ) → List (List ℕ)) (n : ℕ) → client_lin
 unfolding client_lines
 lines_after packets n = ap (client_lines packets) (add-one n)
 
-pub next_told : (n : ℕ) (bays : BaysView) (place : OutView) (text line lines more : List ℕ) → n < 8 → ClientsTold n bays lines → client_out_at bays n ≡ place → place.state ≡ Live → place.got ≡ Some text
+pub next_told : (n : ℕ) (bays : BaysView) (place : OutView) (text line lines more : List ℕ) → n < 8 → ClientsTold n bays lines → client_out_at bays n ≡ place → place.got ≡ Some text
     → line ≡ text_line n text → more ≡ lines ++ line → ClientsTold (n + 1) bays more
-next_told n bays place text line lines more few before is live got told push = record {
+next_told n bays place text line lines more few before is got told push = record {
   told = λ packets came.
-      let due = came.each n few (ap (λ (v : OutView). v.state) is ∙ live) in
+      let due = came.each n few in
       let same : text ≡ hex_text (packets n) = (let e : Some text ≡ Some (hex_text (packets n)) = sym got ∙ ap (λ (v : OutView). v.got) (sym is) ∙ due in cc) in
       push
       ∙ ap (λ l. l ++ line) (before.told packets came)

@@ -1,5 +1,5 @@
 -- What each run of the trial made, by what it left.
-use Rattle.std.proofs.Common.{◌≡◌, ◌≤◌, ◌<◌, ◌==◌, ◌⊎◌, inl, inr, ℕ, zero, suc, Bool, true, false, List, [], ◌++◌, map, Option, None, Some, refl, sym, ap, ◌∙◌, subst, arith, append-nil}
+use Rattle.std.proofs.Common.{◌≡◌, ◌≤◌, ◌<◌, ◌+◌, ◌*◌, ◌==◌, ◌⊎◌, inl, inr, ℕ, zero, suc, Bool, true, false, List, [], ◌∷◌, ◌++◌, length, length-append, map, Option, None, Some, refl, sym, ap, ◌∙◌, subst, arith, append-nil}
 use Rattle.std.specs.Prelude.{All}
 use Rattle.std.specs.List.{concat, Contains, list_any, range_with_len}
 use Rattle.std.proofs.lemmas.Bool.{cases_lt}
@@ -8,7 +8,8 @@ use Rattle.std.proofs.lemmas.List.Elements.{All-from_get_or}
 use Rattle.std.proofs.lemmas.List.Folds.{list_any_none}
 use Rattle.std.proofs.lemmas.List.FromFn.{length-map-range_with_len, get_or-map-range_with_len}
 use Rattle.otn_base.specs.declared.kind.PortName.TheVariants as port
-use Rattle.otn_ports.specs.Bytes.{before, after}
+use Rattle.bounded_ports.specs.Full.{FailsFull}
+use Rattle.otn_ports.specs.Bytes.{before, after, HasFailed}
 use Rattle.otn_ports.specs.Given.{Lives}
 use Rattle.otn_ports.specs.Reads.{HasEnded}
 use Rattle.otn_ports.specs.Views.{State, Live, InView, OutView, BaysView, line_in_at, line_out_at, client_in_at, client_out_at}
@@ -20,12 +21,13 @@ use Rattle.device_model.specs.Report.{Numbers}
 use Rattle.device_model.specs.Through.{Inputs}
 use Rattle.device_model.specs.LineAsked.{MayHave, InputLeft}
 use Rattle.node_core.specs.RunLeft.{Takings, MayBeInputs, OutputLeft, RunLeft}
+use Rattle.line_side.specs.LineOutput.{FramePut, AreLineFrames}
 use Rattle.odu_client.specs.ClientInput.{AtEnd, input_given}
 use Rattle.packet_text.specs.PacketText.{hex_text}
 use Rattle.packet_text.proofs.ReadingBack.{reads_back}
 use Rattle.trial_plans.specs.TrialDraw.{packets_of_trial}
 use Rattle.trial_plans.specs.TrialPlans.{trial_connection, trial_plan}
-use Rattle.trial_command.specs.TrialRuns.{holding, waiting, ReadsWell, FirstPlaces, MiddlePlaces, LastPlaces, RunWent, FirstRan, MiddleRan, LastRan}
+use Rattle.trial_command.specs.TrialRuns.{holding, waiting, ReadsWell, FirstPlaces, MiddlePlaces, LastPlaces, RunWent, FirstRan, MiddleRan, LastRan, GotAll, last_text}
 use Rattle.trial_plans.proofs.TrialDraw.{trial_is_packets}
 
 -- ---- the ports that a plan uses
@@ -99,6 +101,38 @@ made_whole first last due went file is left live got =
     let same : file ≡ went = (let e : Some file ≡ Some went = sym got ∙ now in cc) in
     same ∙ sym (append-nil went) ∙ ap (λ r. went ++ r) (sym (left.whole live)) ∙ left.parts
 
+went_in_all : (first last : OutView) (due went : List ℕ) → first ≡ waiting → OutputLeft first due went last → last.got ≡ Some went
+went_in_all first last due went is left =
+    let gained = left.gained in
+    let sends = gained.sends in
+    let gains : last.got ≡ after first.got went = sends.got in
+    gains ∙ ap (λ l. after l went) (ap (λ (v : OutView). v.got) is)
+
+has_failed : (old new : ℕ) → HasFailed old new → 0 < new
+has_failed old new (inl more) = omega arith
+has_failed old new (inr most) = omega arith
+
+-- a place to which fewer bytes are due than it has room for lives
+still_lives : (room : ℕ) (first last : OutView) (due went : List ℕ) → first ≡ waiting → OutputLeft first due went last
+    → ((got : List ℕ) → 0 < last.faults → last.got ≡ Some got → length got ≡ room) → length due < room → last.state ≡ Live
+still_lives room first last due went is left full few = by_state left.gained.state
+  where
+    by_state : Lives first.state last.state first.faults last.faults → last.state ≡ Live
+    by_state (inl same) = same.0 ∙ ap (λ (v : OutView). v.state) is
+    by_state (inr (was, dead, failed)) =
+        let many : length went ≡ room = full went (has_failed first.faults last.faults failed) (went_in_all first last due went is left) in
+        let parts : length (went ++ left.rest) ≡ length due = ap length left.parts in
+        let both = length-append went left.rest in
+        absurd (omega arith)
+
+file_size : (n : ℕ) (before : List (List ℕ)) (puts : List FramePut) (made : List (List ℕ)) → AreLineFrames n before puts made → length (concat made) ≡ 16320 * length puts
+file_size n before [] [] h = refl
+file_size n before (put ∷ puts) (frame ∷ made) h =
+    let rest = file_size n (before ++ frame ∷ []) puts made h.1 in
+    omega (arith, length-append frame (concat made), h.0.size, rest)
+file_size n before (put ∷ puts) [] h = absurd h
+file_size n before [] (frame ∷ made) h = absurd h
+
 record Made (run : ℕ) (inputs : Inputs) (file : List ℕ) : Type 0 where
   frames : List (List ℕ)
   made : IsLineFile (trial_plan run) inputs run 128 frames
@@ -117,6 +151,21 @@ file_made run first last takings numbers inputs file left may used waits live go
       made = due.file;
       is = made_whole (line_out_at first run) (line_out_at last run) line.due (ran.went.line run) file waits line.left live got ∙ due.bytes;
     }
+
+file_lives : (room run : ℕ) (first last : BaysView) (takings : Takings) (numbers : Numbers) (inputs : Inputs) → RunLeft (trial_plan run) first last takings numbers
+    → MayBeInputs (trial_plan run) first last takings inputs → uses (trial_plan run) (port.LineOut run) ≡ true
+    → line_out_at first run ≡ waiting → FailsFull room last → 2088960 < room → (line_out_at last run).state ≡ Live
+file_lives room run first last takings numbers inputs left may used waits full few =
+    let ran = left.of_inputs inputs may in
+    let outputs = ran.outputs in
+    let line = outputs.line run used in
+    let due = line.is_due in
+    let file = due.file in
+    let puts = file.are_put in
+    let long : length (concat due.frames) ≡ 16320 * length file.puts = file_size run [] file.puts due.frames file.are_frames in
+    let many : length file.puts ≡ 128 = puts.many in
+    let bytes : length line.due ≡ length (concat due.frames) = ap length due.bytes in
+    still_lives room (line_out_at first run) (line_out_at last run) line.due (ran.went.line run) waits line.left (full.line run) (omega arith)
 
 -- ---- the first run
 
@@ -157,6 +206,13 @@ first_ran number first last file asked asked_now places went live got =
     let made = file_made 0 first last went.takings went.numbers (first_inputs number) file went.left may refl places.out live got in
     record { inputs = first_inputs number; frames = made.frames; clients = λ c h. refl; made = made.made; is = made.is; asked_each = went.asked_each }
 
+pub first_lives : (room number : ℕ) (first last : BaysView) (asked asked_now : ℕ) → FirstPlaces number first → RunWent 0 first last asked asked_now
+    → FailsFull room last → 2088960 < room → (line_out_at last 0).state ≡ Live
+unfolding first_inputs
+first_lives room number first last asked asked_now places went full few =
+    let may = first_may number first last went.takings went.numbers places went.left went.well in
+    file_lives room 0 first last went.takings went.numbers (first_inputs number) went.left may refl places.out full few
+
 -- ---- a run that reads a line
 
 line_inputs : (read : List ℕ) → Inputs
@@ -191,6 +247,27 @@ third_ran first last read file asked asked_now places went live got =
     let made = file_made 2 first last went.takings went.numbers (line_inputs read) file went.left may refl places.out live got in
     record { inputs = line_inputs read; frames = made.frames; line = refl; made = made.made; is = made.is; asked_each = went.asked_each }
 
+second_lives : (room : ℕ) (first last : BaysView) (read : List ℕ) (asked asked_now : ℕ) → MiddlePlaces 1 read first → RunWent 1 first last asked asked_now
+    → FailsFull room last → 2088960 < room → (line_out_at last 1).state ≡ Live
+unfolding line_inputs
+second_lives room first last read asked asked_now places went full few =
+    let may = line_may 1 read first last went.takings went.numbers (λ a k. refl) (λ n k. refl) refl places.line went.left went.well in
+    file_lives room 1 first last went.takings went.numbers (line_inputs read) went.left may refl places.out full few
+
+third_lives : (room : ℕ) (first last : BaysView) (read : List ℕ) (asked asked_now : ℕ) → MiddlePlaces 2 read first → RunWent 2 first last asked asked_now
+    → FailsFull room last → 2088960 < room → (line_out_at last 2).state ≡ Live
+unfolding line_inputs
+third_lives room first last read asked asked_now places went full few =
+    let may = line_may 2 read first last went.takings went.numbers (λ a k. refl) (λ n k. refl) refl places.line went.left went.well in
+    file_lives room 2 first last went.takings went.numbers (line_inputs read) went.left may refl places.out full few
+
+pub middle_lives : (room run : ℕ) (first last : BaysView) (read : List ℕ) (asked asked_now : ℕ) → 1 ≤ run → run ≤ 2 → MiddlePlaces run read first
+    → RunWent run first last asked asked_now → FailsFull room last → 2088960 < room → (line_out_at last run).state ≡ Live
+middle_lives room zero first last read asked asked_now least most places went full few = absurd (omega arith)
+middle_lives room (suc zero) first last read asked asked_now least most places went full few = second_lives room first last read asked asked_now places went full few
+middle_lives room (suc (suc zero)) first last read asked asked_now least most places went full few = third_lives room first last read asked asked_now places went full few
+middle_lives room (suc (suc (suc n))) first last read asked asked_now least most places went full few = absurd (omega arith)
+
 pub middle_ran : (run : ℕ) (first last : BaysView) (read file : List ℕ) (asked asked_now : ℕ) → 1 ≤ run → run ≤ 2 → MiddlePlaces run read first → RunWent run first last asked asked_now
     → (line_out_at last run).state ≡ Live → (line_out_at last run).got ≡ Some file → MiddleRan run read file asked asked_now
 middle_ran zero first last read file asked asked_now least most places went live got = absurd (omega arith)
@@ -200,9 +277,20 @@ middle_ran (suc (suc (suc n))) first last read file asked asked_now least most p
 
 -- ---- the last run
 
-pub last_ran : (first last : BaysView) (read : List ℕ) (asked asked_now : ℕ) → LastPlaces read first → RunWent 3 first last asked asked_now → LastRan read last asked asked_now
+got_all : (room : ℕ) (first last : OutView) (due sent : List ℕ) → first ≡ waiting → OutputLeft first due sent last
+    → ((got : List ℕ) → 0 < last.faults → last.got ≡ Some got → length got ≡ room) → length due < room → GotAll last due
+got_all room first last due sent is left full few = record {
+  live = live;
+  got = went_in_all first last due sent is left ∙ ap Some (sym (append-nil sent) ∙ ap (λ r. sent ++ r) (sym (left.whole live)) ∙ left.parts);
+}
+  where
+    live : last.state ≡ Live
+    live = still_lives room first last due sent is left full few
+
+pub last_ran : (room : ℕ) (first last : BaysView) (read : List ℕ) (asked asked_now : ℕ) → LastPlaces read first → RunWent 3 first last asked asked_now → FailsFull room last
+    → LastRan room read last asked asked_now
 unfolding line_inputs
-last_ran first last read asked asked_now places went =
+last_ran room first last read asked asked_now places went full =
     let inputs = line_inputs read in
     let may = line_may 3 read first last went.takings went.numbers (λ a k. refl) (λ n k. refl) refl places.line went.left went.well in
     let ran = went.left.of_inputs inputs may in
@@ -210,18 +298,11 @@ last_ran first last read asked asked_now places went =
     record {
       inputs = inputs;
       line = refl;
-      clients = λ c h live.
+      clients = λ c h few.
           let client = outputs.client (trial_connection 3 c) c (known_client 3 c h) refl in
           let same : client_out_at last c ≡ client.was = client.place in
-          let now : client.was.state ≡ Live = ap (λ (v : OutView). v.state) (sym same) ∙ live in
-          ap (λ (v : OutView). v.got) same ∙ got_whole (client_out_at first c) client.was _ (ran.went.client c) (places.clients c h) client.left now;
+          let Full : OutView → Type 0 = λ v. (got : List ℕ) → 0 < v.faults → v.got ≡ Some got → length got ≡ room in
+          subst (λ v. GotAll v (last_text inputs c)) (sym same)
+          (got_all room (client_out_at first c) client.was (last_text inputs c) (ran.went.client c) (places.clients c h) client.left (subst Full same (full.client c)) few);
       asked_each = went.asked_each;
     }
-  where
-    got_whole : (first last : OutView) (due sent : List ℕ) → first ≡ waiting → OutputLeft first due sent last → last.state ≡ Live → last.got ≡ Some due
-    got_whole first last due sent is left live =
-        let gained = left.gained in
-        let sends = gained.sends in
-        let gains : last.got ≡ after first.got sent = sends.got in
-        let empty : first.got ≡ Some [] = ap (λ (v : OutView). v.got) is in
-        gains ∙ ap (λ l. after l sent) empty ∙ ap Some (sym (append-nil sent) ∙ ap (λ r. sent ++ r) (sym (left.whole live)) ∙ left.parts)

@@ -1,5 +1,5 @@
 -- The runs of the trial, over places in memory.
-use Rattle.std.specs.Prelude.{◌≡◌, ℕ, ◌<◌, ◌*◌, false, true, List, [], Some, All}
+use Rattle.std.specs.Prelude.{◌≡◌, ℕ, ◌<◌, ◌*◌, false, true, List, [], Some, All, length}
 use Rattle.std.specs.List.{concat}
 use Rattle.otn_ports.specs.Bytes.{raised}
 use Rattle.otn_ports.specs.Views.{Live, InView, OutView, BaysView, line_in_at, line_out_at, client_in_at, client_out_at}
@@ -78,19 +78,32 @@ pub record MiddleRan (run : ℕ) (read file : List ℕ) (asked asked_now : ℕ) 
   pub is : file ≡ concat frames
   pub asked_each : asked_now ≡ raised asked run_pieces
 
--- the last run, which read a file as line input 0: each client whose place lives got the text that is due to it
-pub record LastRan (read : List ℕ) (last : BaysView) (asked asked_now : ℕ) : Type 0 where
+-- the text that is due to client c of the last run
+abbrev pub last_text : Inputs → (c : ℕ) → List ℕ
+last_text inputs c = text_by (trial_connection 3 c) (own_input inputs (trial_connection 3 c)) trial_turns
+
+-- a live place whose port got these bytes
+pub record GotAll (place : OutView) (bytes : List ℕ) : Type 0 where
+  pub live : place.state ≡ Live
+  pub got : place.got ≡ Some bytes
+
+-- the last run, which read a file as line input 0, with so much room for each text: each client whose text has fewer bytes than that got it, and its
+-- place lives
+pub record LastRan (room : ℕ) (read : List ℕ) (last : BaysView) (asked asked_now : ℕ) : Type 0 where
   pub inputs : Inputs
   pub line : inputs.line 0 ≡ read
-  pub clients : (c : ℕ) → c < trial_clients → (client_out_at last c).state ≡ Live
-      → (client_out_at last c).got ≡ Some (text_by (trial_connection 3 c) (own_input inputs (trial_connection 3 c)) trial_turns)
+  pub clients : (c : ℕ) → c < trial_clients → length (last_text inputs c) < room → GotAll (client_out_at last c) (last_text inputs c)
   pub asked_each : asked_now ≡ raised asked run_pieces
 
 -- ---- what came to the clients
 
--- each client whose place lives got the text of these packets
+-- the place of each client lives
+abbrev pub AllClientsLive : BaysView → Type 0
+AllClientsLive bays = (c : ℕ) → c < trial_clients → (client_out_at bays c).state ≡ Live
+
+-- each client got the text of these packets
 pub record GotPackets (bays : BaysView) (packets : (c : ℕ) → List (List ℕ)) : Type 0 where
-  pub each : (c : ℕ) → c < trial_clients → (client_out_at bays c).state ≡ Live → (client_out_at bays c).got ≡ Some (hex_text (packets c))
+  pub each : (c : ℕ) → c < trial_clients → (client_out_at bays c).got ≡ Some (hex_text (packets c))
   pub are : (c : ℕ) → c < trial_clients → All IsPacket (packets c)
 
 -- these are the lines of the first n clients, whatever packets came

@@ -3,15 +3,17 @@ ghost use Rattle.std.specs.Prelude.{◌≡◌, ◌≤◌, ◌<◌, IfOk};
 ghost use Rattle.otn_ports.specs.Racks.{bays_view};
 ghost use Rattle.trial_command.specs.TrialRuns.{RunWent, FirstRan, MiddleRan, LastRan};
 
-use crate::places::{Memories, file_of, first_places, last_places, middle_places};
+use crate::places::{
+    Memories, TEXT_ROOM, TextSink, file_of, first_places, last_places, middle_places,
+};
+use bounded_ports::{BoundedSink, full_where_failed};
 use node_core::{Node, carry_node};
 use otn_base::Memory;
-use otn_ports::{Chooser, MemSink, MemSource, Sink, Source};
+use otn_ports::{Chooser, MemSource, Sink, Source};
 use std::alloc::Global;
 use trial_plans::plan_of_run;
 
-/// The first run: the clients' packets, drawn by the number, go to line 0, whose file is the answer. Where the place of the line died, it had
-/// no room, and the answer is `Memory`.
+/// The first run: the clients' packets, drawn by the number, go to line 0, whose file is the answer.
 pub(crate) fn first_run<C: Chooser>(
     alloc: Global,
     number: u64,
@@ -21,10 +23,8 @@ pub(crate) fn first_run<C: Chooser>(
 {
     let mut bays = first_places(alloc, number)?;
     carry_run(alloc, 0, &mut bays, chooser)?;
-    match file_of(bays, 0) {
-        Some(file) => Ok(file),
-        None => Err(Memory),
-    }
+    full_where_failed(&bays);
+    Ok(file_of(bays, 0))
 }
 
 /// The second or the third run: from the file of the one before to that of the line of its number.
@@ -40,10 +40,8 @@ pub(crate) fn middle_run<C: Chooser>(
 {
     let mut bays = middle_places(alloc, run, file)?;
     carry_run(alloc, run, &mut bays, chooser)?;
-    match file_of(bays, run) {
-        Some(made) => Ok(made),
-        None => Err(Memory),
-    }
+    full_where_failed(&bays);
+    Ok(file_of(bays, run))
 }
 
 /// The last run: from the file of the third one to the clients, whose places are the answer.
@@ -51,23 +49,24 @@ pub(crate) fn last_run<C: Chooser>(
     alloc: Global,
     file: Vec<u8>,
     chooser: &mut C,
-) -> Result<Memories, Memory>
-    ensures { IfOk result (λ bays. LastRan file.items (bays_view ⟦<MemSource as Source>⟧ ⟦<MemSink as Sink>⟧ bays) (C.asked chooser.old) (C.asked chooser.new)) }
+) -> Result<Memories<TextSink>, Memory>
+    ensures { IfOk result (λ bays. LastRan TEXT_ROOM file.items (bays_view ⟦<MemSource as Source>⟧ ⟦<BoundedSink<TEXT_ROOM> as Sink>⟧ bays) (C.asked chooser.old) (C.asked chooser.new)) }
 {
     let mut bays = last_places(alloc, file)?;
     carry_run(alloc, 3, &mut bays, chooser)?;
+    full_where_failed(&bays);
     Ok(bays)
 }
 
-// Carries the plan of a run over its places.
-fn carry_run<C: Chooser>(
+// Carries the plan of a run over its places. Memory is asked for before the run, and for the plan and the node alone.
+fn carry_run<C: Chooser, K: Sink>(
     alloc: Global,
     run: u8,
-    bays: &mut Memories,
+    bays: &mut Memories<K>,
     chooser: &mut C,
 ) -> Result<(), Memory>
     requires { run < 4 }
-    ensures { IfOk result (λ _. RunWent run (bays_view ⟦<MemSource as Source>⟧ ⟦<MemSink as Sink>⟧ bays.old) (bays_view ⟦<MemSource as Source>⟧ ⟦<MemSink as Sink>⟧ bays.new)
+    ensures { IfOk result (λ _. RunWent run (bays_view ⟦<MemSource as Source>⟧ K.Sink bays.old) (bays_view ⟦<MemSource as Source>⟧ K.Sink bays.new)
         (C.asked chooser.old) (C.asked chooser.new)) }
 {
     let plan = plan_of_run(alloc, run)?;

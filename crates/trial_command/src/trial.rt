@@ -4,14 +4,15 @@ ghost use Rattle.otn_ports.specs.PortViews.{sink_view};
 ghost use Rattle.otn_ports.specs.Racks.{bays_view};
 ghost use Rattle.trial_command.specs.TrialAnswers.{TrialRan, trial_status};
 ghost use Rattle.trial_plans.specs.TrialPlans.{trial_clients};
-ghost use Rattle.trial_command.specs.TrialRuns.{ClientsTold};
+ghost use Rattle.trial_command.specs.TrialRuns.{AllClientsLive, ClientsTold};
 
 use crate::carried::{first_run, last_run, middle_run};
 use crate::lines::{line_of_check, line_of_client};
-use crate::places::{Memories, text_of};
+use crate::places::{Memories, TEXT_ROOM, TextSink, text_of};
+use bounded_ports::BoundedSink;
 use command_base::Status;
 use otn_base::Memory;
-use otn_ports::{Chooser, MemSink, MemSource, Sink, Source, Written, write_whole};
+use otn_ports::{Chooser, MemSource, Sink, Source, Written, write_whole};
 use std::alloc::Global;
 use trial_plans::CLIENTS;
 
@@ -27,8 +28,8 @@ pub fn status_of_trial(answer: Result<Written, Memory>) -> Status
 }
 
 /// Draws packets for eight clients by the number, carries them through four nodes in a row over ports in memory, in an order that the chooser
-/// says, and writes the checks of the three line files and what came back. A place of the trial that died had no room: the answer is `Memory`
-/// then, as it is for want of memory. After `Memory` the report is as it was; the chooser may have been asked by then.
+/// says, and writes the checks of the three line files and what came back. No output of the trial is ever full, so none dies, and `Memory` is
+/// answered for want of memory alone. After it the report is as it was; the chooser may have been asked by then.
 pub fn run_trial<C: Chooser, K: Sink>(
     alloc: Global,
     number: u64,
@@ -49,15 +50,14 @@ pub fn run_trial<C: Chooser, K: Sink>(
     Ok(write_whole(report, text.as_bytes()))
 }
 
-// The lines of the clients, by the texts that they got.
-fn lines_of_clients(alloc: Global, bays: &Memories) -> Result<String, Memory>
-    ensures { IfOk result (λ lines. ClientsTold trial_clients (bays_view ⟦<MemSource as Source>⟧ ⟦<MemSink as Sink>⟧ bays.now) (string_bytes lines)) }
+// The lines of the clients, by the texts that they got. All their places live.
+fn lines_of_clients(alloc: Global, bays: &Memories<TextSink>) -> Result<String, Memory>
+    requires { AllClientsLive (bays_view ⟦<MemSource as Source>⟧ ⟦<BoundedSink<TEXT_ROOM> as Sink>⟧ bays.now) }
+    ensures { IfOk result (λ lines. ClientsTold trial_clients (bays_view ⟦<MemSource as Source>⟧ ⟦<BoundedSink<TEXT_ROOM> as Sink>⟧ bays.now) (string_bytes lines)) }
 {
     let mut lines = String::new(alloc);
     for c in 0..CLIENTS {
-        let Some(text) = text_of(bays.client_out(c)) else {
-            return Err(Memory);
-        };
+        let text = text_of(bays.client_out(c));
         let line = line_of_client(alloc, c, text)?;
         lines.push_str(&line)?;
     }

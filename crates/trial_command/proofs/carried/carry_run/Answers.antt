@@ -1,5 +1,4 @@
 use Rattle.otn_ports.specs.Racks.{bays_view}
-use Rattle.otn_ports.specs.contracts.mem_sink.MemSinkSink.TheImpl as sink
 use Rattle.otn_ports.specs.contracts.mem_source.MemSourceSource.TheImpl as source
 use Rattle.node_core.specs.NodeView.{left_of}
 use Rattle.node_core.specs.RunNumbers.{numbers_of_run}
@@ -8,6 +7,6 @@ use Rattle.trial_command.proofs.carried.carry_run.Goals as goal
 
 pub returns : goal.returns
 returns g c =
-    let first = bays_view source.ghosts sink.ghosts c.args.bays.now in
-    run_went c.args.run first c.carry_node.new.bays c.in_ok-plan.plan (numbers_of_run c.carry_node.result) (g.C.Chooser.asked c.args.chooser.now) (g.C.Chooser.asked c.carry_node.new.chooser) (left_of c.in_ok-node.node)
+    let first = bays_view source.ghosts g.K.Sink c.args.bays.now in
+    run_went g.K.Sink c.args.run first c.carry_node.new.bays c.in_ok-plan.plan (numbers_of_run c.carry_node.result) (g.C.Chooser.asked c.args.chooser.now) (g.C.Chooser.asked c.carry_node.new.chooser) (left_of c.in_ok-node.node)
     c.requires c.in_ok-plan.ensures.plan (c.carry_node.ensures.left c.in_ok-plan.plan first (c.in_ok-node.ensures.stands first)) c.in_ok-node.ensures.left c.carry_node.ensures.asked
