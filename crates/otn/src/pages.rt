@@ -37,6 +37,7 @@ A plan of one connection:
     kind = \"odu0\"
     from = { client = 0 }
     to = { line = 0, port = 1, slots = [1] }
+
 An ODUflex has kind = \"flex\" and one slot or more. The way out: from = { line = .. } and to = { client = 0 }.
 
 It ends with 0 done  1 unfinished  2 words  3 plan CODE at PLACE  4 plan fault  5 report fault  6 cut  7 memory.
