@@ -3,17 +3,18 @@ ghost use Rattle.std.specs.Prelude.{◌≡◌, ◌<◌, ◌≤◌, false, true, 
 ghost use Rattle.otn_ports.specs.Bytes.{faults_after, HasFailed};
 ghost use Rattle.otn_ports.specs.Reads.{ended_after};
 
-use crate::system::{count, read_some};
+use crate::system::{count, read_some, refuse};
 use crate::{Failed, Source};
 use std::fs::File;
-use std::io::Read;
+use std::io::{ErrorKind, Read};
 
-/// Reads a reader of the system, and doesn't tell its bytes. It counts each call that fails, and keeps whether its
-/// reader has answered that it ended. One with no reader fails at each read into a slice with room.
+/// Reads a reader of the system, and doesn't tell its bytes. It counts each call that fails, and keeps why the last one did,
+/// and whether its reader has answered that it ended. One with no reader fails at each read into a slice with room.
 #[derive(Drop)]
 pub struct ReaderSource<R> {
     reader: Option<R>,
     failed: u64,
+    fault: Option<ErrorKind>,
     ended: bool,
 }
 
@@ -32,6 +33,7 @@ impl FileSource {
         ReaderSource {
             reader: file,
             failed: 0,
+            fault: None,
             ended: false,
         }
     }
@@ -49,6 +51,7 @@ impl<R> ReaderSource<R> {
         ReaderSource {
             reader: Some(reader),
             failed: 0,
+            fault: None,
             ended: false,
         }
     }
@@ -56,7 +59,7 @@ impl<R> ReaderSource<R> {
 
 impl<R: Read + Drop> Source for ReaderSource<R> {
     ghost use Rattle.std.specs.Io.KnownBytes.{ReadConsumes};
-    ghost use Rattle.otn_ports.specs.Adapters.{reader_faults, reader_ended, has_reader, reader_bytes};
+    ghost use Rattle.otn_ports.specs.Adapters.{IsFault, reader_fault, reader_faults, reader_ended, has_reader, reader_bytes};
 
     ghost left = { λ _. None };
 
@@ -65,7 +68,8 @@ impl<R: Read + Drop> Source for ReaderSource<R> {
     ghost ended = { reader_ended };
 
     /// One call of the reader, or none for a slice with no room. What it answers is what the
-    /// reader gave, as far as the reader tells.
+    /// reader gave, as far as the reader tells. It fails where the system refuses a read, but for one that a signal
+    /// interrupts: that is made again.
     fn read(&mut self, into: &mut [u8]) -> Result<usize, Failed>
         ensures bound { IfOk result (λ n. n ≤ length into.old) }
         ensures system { ReadConsumes (reader_bytes R.remaining self.old) (reader_bytes R.remaining self.new) result into.new }
@@ -73,6 +77,7 @@ impl<R: Read + Drop> Source for ReaderSource<R> {
         ensures answered { reader_ended self.new ≡ ended_after (length into.old) result (reader_ended self.old) }
         ensures later { reader_faults self.old ≤ reader_faults self.new }
         ensures cause { OnErr result (HasFailed (reader_faults self.old) (reader_faults self.new)) }
+        ensures refused { OnErr result (IsFault (reader_fault self.new)) }
         ensures closed { has_reader self.old ≡ false → 0 < length into.old → IsErr result }
         ensures empty { length into.old ≡ 0 → (self.new ≡ self.old) × (result ≡ Ok 0) }
         ensures reader { has_reader self.new ≡ has_reader self.old }
@@ -81,8 +86,8 @@ impl<R: Read + Drop> Source for ReaderSource<R> {
             return Ok(0);
         }
         let answer = match &mut self.reader {
-            Some(reader) => read_some(reader, into).map_err(|_| Failed),
-            None => Err(Failed),
+            Some(reader) => read_some(reader, &mut self.fault, into),
+            None => Err(refuse(&mut self.fault, ErrorKind::NotFound)),
         };
         count(&mut self.failed, answer);
         self.ended |= answer == Ok(0);

@@ -1,6 +1,7 @@
 // Calls of the system, each counted where it fails.
-ghost use Rattle.std.specs.Prelude.{◌≡◌, ◌≢◌, ◌<◌, ◌≤◌, false, true, IfErr, IfOk, OnErr, length};
+ghost use Rattle.std.specs.Prelude.{◌≡◌, ◌≢◌, ◌<◌, ◌≤◌, false, true, IfOk, OnErr, length};
 ghost use Rattle.std.specs.Io.KnownBytes.{ReadConsumes, WriteAppends};
+ghost use Rattle.otn_ports.specs.Adapters.{IsFault};
 ghost use Rattle.otn_ports.specs.Bytes.{faults_after, HasFailed};
 
 use crate::Failed;
@@ -15,11 +16,24 @@ pub(crate) fn is_made_again(kind: ErrorKind) -> bool
     kind == ErrorKind::Interrupted
 }
 
+/// A refusal that is a fault: its kind is kept. That a signal interrupted the call is none.
+pub(crate) fn refuse(fault: &mut Option<ErrorKind>, kind: ErrorKind) -> Failed
+    requires fault { kind ≢ ErrorKind.Interrupted }
+    ensures kept { IsFault fault.new }
+{
+    *fault = Some(kind);
+    Failed
+}
+
 /// One read, made again where a signal interrupts it, at most 2^64-1 times. What it answers is
-/// what the reader gave, as far as the reader tells; no interrupted read is a fault.
-pub(crate) fn read_some<R: Read>(from: &mut R, into: &mut [u8]) -> Result<usize, ErrorKind>
+/// what the reader gave, as far as the reader tells; no interrupted read is a fault, whose kind is kept.
+pub(crate) fn read_some<R: Read>(
+    from: &mut R,
+    fault: &mut Option<ErrorKind>,
+    into: &mut [u8],
+) -> Result<usize, Failed>
     ensures bound { IfOk result (λ n. n ≤ length into.old) }
-    ensures fault { IfErr result (λ kind. kind ≢ ErrorKind.Interrupted) }
+    ensures fault { OnErr result (IsFault fault.new) }
     ensures bytes { ReadConsumes (R.remaining from.old) (R.remaining from.new) result into.new }
 {
     for _ in 0..u64::MAX {
@@ -28,35 +42,40 @@ pub(crate) fn read_some<R: Read>(from: &mut R, into: &mut [u8]) -> Result<usize,
             Err(e) => {
                 let kind = e.kind();
                 if !is_made_again(kind) {
-                    return Err(kind);
+                    return Err(refuse(fault, kind));
                 }
             }
         }
     }
-    Err(ErrorKind::TimedOut)
+    Err(refuse(fault, ErrorKind::TimedOut))
 }
 
 /// One write, made again where a signal interrupts it, at most 2^64-1 times. It failed where it
-/// took nothing. What it answers is what the writer took, as far as the writer tells; no interrupted write is a fault.
-pub(crate) fn write_some<W: Write>(to: &mut W, bytes: &[u8]) -> Result<usize, ErrorKind>
+/// took nothing. What it answers is what the writer took, as far as the writer tells; no interrupted write is a fault,
+/// whose kind is kept.
+pub(crate) fn write_some<W: Write>(
+    to: &mut W,
+    fault: &mut Option<ErrorKind>,
+    bytes: &[u8],
+) -> Result<usize, Failed>
     ensures bound { IfOk result (λ n. n ≤ length bytes.now) }
     ensures progress { IfOk result (λ n. 0 < n) }
-    ensures fault { IfErr result (λ kind. kind ≢ ErrorKind.Interrupted) }
+    ensures fault { OnErr result (IsFault fault.new) }
     ensures bytes { WriteAppends (W.contents to.old) (W.contents to.new) result bytes.now }
 {
     for _ in 0..u64::MAX {
         match to.write(bytes) {
-            Ok(0) => return Err(ErrorKind::WriteZero),
+            Ok(0) => return Err(refuse(fault, ErrorKind::WriteZero)),
             Ok(n) => return Ok(n),
             Err(e) => {
                 let kind = e.kind();
                 if !is_made_again(kind) {
-                    return Err(kind);
+                    return Err(refuse(fault, kind));
                 }
             }
         }
     }
-    Err(ErrorKind::TimedOut)
+    Err(refuse(fault, ErrorKind::TimedOut))
 }
 
 /// Counts an answer that is a failure. The count stops at its end.

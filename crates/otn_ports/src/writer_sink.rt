@@ -3,18 +3,19 @@ ghost use Rattle.std.specs.Prelude.{◌≡◌, ◌≢◌, ◌<◌, ◌≤◌, fa
 ghost use Rattle.otn_ports.specs.Bytes.{faults_after, HasFailed};
 ghost use Rattle.otn_ports.specs.Writes.{IsWriting};
 
-use crate::system::{count, write_some};
+use crate::system::{count, refuse, write_some};
 use crate::{Failed, Sink, Written};
 use std::fs::File;
-use std::io::{Stdout, Write};
+use std::io::{ErrorKind, Stdout, Write};
 
 /// Writes a writer of the system, and doesn't tell its bytes. It counts each call that fails, and
-/// each that takes nothing of a byte or more. One with no writer fails at each write of a byte or
-/// more.
+/// each that takes nothing of a byte or more, and keeps why the last one did. One with no writer fails at each write of a
+/// byte or more.
 #[derive(Drop)]
 pub struct WriterSink<W> {
     writer: Option<W>,
     failed: u64,
+    fault: Option<ErrorKind>,
 }
 
 /// Writes a file of the system.
@@ -34,6 +35,7 @@ impl FileSink {
         WriterSink {
             writer: file,
             failed: 0,
+            fault: None,
         }
     }
 }
@@ -61,13 +63,14 @@ impl<W> WriterSink<W> {
         WriterSink {
             writer: Some(writer),
             failed: 0,
+            fault: None,
         }
     }
 }
 
 impl<W: Write + Drop> Sink for WriterSink<W> {
     ghost use Rattle.std.specs.Io.KnownBytes.{Appends, WriteAppends};
-    ghost use Rattle.otn_ports.specs.Adapters.{writer_faults, has_writer, writer_bytes};
+    ghost use Rattle.otn_ports.specs.Adapters.{IsFault, writer_fault, writer_faults, has_writer, writer_bytes};
 
     ghost got = { λ _. None };
 
@@ -76,7 +79,8 @@ impl<W: Write + Drop> Sink for WriterSink<W> {
     ghost keeps = { λ _. false };
 
     /// One call of the writer, or none where there are no bytes. What it answers is what the
-    /// writer took, as far as the writer tells.
+    /// writer took, as far as the writer tells. It fails where the system refuses a write, but for one that a signal
+    /// interrupts: that is made again.
     fn write(&mut self, bytes: &[u8]) -> Result<usize, Failed>
         ensures bound { IfOk result (λ n. n ≤ length bytes.now) }
         ensures progress { IfOk result (λ n. 0 < length bytes.now → 0 < n) }
@@ -84,6 +88,7 @@ impl<W: Write + Drop> Sink for WriterSink<W> {
         ensures counts { writer_faults self.new ≡ faults_after (writer_faults self.old) result }
         ensures later { writer_faults self.old ≤ writer_faults self.new }
         ensures cause { OnErr result (HasFailed (writer_faults self.old) (writer_faults self.new)) }
+        ensures refused { OnErr result (IsFault (writer_fault self.new)) }
         ensures closed { has_writer self.old ≡ false → 0 < length bytes.now → IsErr result }
         ensures empty { length bytes.now ≡ 0 → (self.new ≡ self.old) × (result ≡ Ok 0) }
         ensures writer { has_writer self.new ≡ has_writer self.old }
@@ -92,8 +97,8 @@ impl<W: Write + Drop> Sink for WriterSink<W> {
             return Ok(0);
         }
         let answer = match &mut self.writer {
-            Some(writer) => write_some(writer, bytes).map_err(|_| Failed),
-            None => Err(Failed),
+            Some(writer) => write_some(writer, &mut self.fault, bytes),
+            None => Err(refuse(&mut self.fault, ErrorKind::NotFound)),
         };
         count(&mut self.failed, answer);
         answer
@@ -106,6 +111,7 @@ impl<W: Write + Drop> Sink for WriterSink<W> {
         ensures writing { IsWriting result.0 result.1 (length lines.now) }
         ensures later { writer_faults self.old ≤ writer_faults self.new }
         ensures cause { result.0 ≡ Written.Lost → HasFailed (writer_faults self.old) (writer_faults self.new) }
+        ensures refused { result.0 ≡ Written.Lost → IsFault (writer_fault self.new) }
         ensures well { result.0 ≢ Written.Lost → writer_faults self.new ≡ writer_faults self.old }
         ensures writer { has_writer self.new ≡ has_writer self.old }
     {
