@@ -12,4 +12,6 @@ pub mod Places
 pub mod TableRules
 pub mod PlanRules
 pub mod Sound
+pub mod Meaning
+pub mod Refusal
 pub mod Answer
