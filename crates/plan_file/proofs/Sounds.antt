@@ -27,14 +27,14 @@ use Rattle.plan_file.specs.Refusal.{fault_of, refusal_in, table_refusal}
 use Rattle.plan_file.specs.PlanRules.{plan_places, plan_rules, breaks_whole, breaks_alone, clashes}
 use Rattle.plan_file.specs.TableRules.{table_places, table_rules}
 use Rattle.plan_file.specs.Entry.{End, at_line, at_client, of_signal, is_line, slot_count, slots_between, Entry, Top, Outline, natural, from_seen, to_seen, seen, outline, from_of, to_of, connection_of, plan_of}
-use Rattle.plan_file.specs.declared.ends.Form.TheVariants.{Client, Line}
-use Rattle.plan_file.specs.declared.ends.Side.TheVariants.{To}
-use Rattle.plan_file.specs.Ends.{has, form_of}
+use Rattle.plan_table.specs.declared.ends.Form.TheVariants.{Client, Line}
+use Rattle.plan_table.specs.declared.ends.Side.TheVariants.{To}
+use Rattle.plan_table.specs.Ends.{has, form_of}
 use Rattle.plan_file.specs.Places.{broken_or, first_broken, places, places_from, later_places, top_place}
 use Rattle.plan_file.specs.Rules.{is_within, is_name, is_sapi, rises, is_line_list, is_placed, is_slot_list, is_same_kind, has_slots, has_equal_counts, suits, least_pace, most_pace, is_span, can_retire, breaks_name, breaks_place, breaks_slots, breaks_pace, breaks_span}
 use Rattle.plan_file.specs.Sound.{is_sound, is_no_signal, IsSoundTop, IsSound, AreSound, IsSoundOutline}
 use Rattle.plan_file.specs.Table.{entry_at, end_of, form_at, top_at, connections_at, outline_at}
-use Rattle.plan_file.specs.Lines.{line_kind, line_slots}
+use Rattle.plan_table.specs.Lines.{line_kind, line_slots}
 use Rattle.plan_file.proofs.Fitting.{within, is_within-wider, list_all-wider, pos-natural}
 use Rattle.plan_file.proofs.Places.{both_none, top_none}
 use Rattle.plan_file.proofs.Texts.{answer_of}
