@@ -4,7 +4,9 @@ use Rattle.std.specs.Prelude.{unwrap_or}
 use Rattle.std.proofs.lemmas.Bool.Decides.{nat_tests}
 use Rattle.otn_ports.specs.Bytes.{before}
 use Rattle.otn_ports.specs.Reads.{HasEnded}
-use Rattle.plan_file.specs.Answer.{plan_of_text, plan_of_table, table_of_text}
+use Rattle.plan_file.specs.Answer.{plan_of_text}
+use Rattle.plan_file.specs.Meaning.{table_of_text}
+use Rattle.plan_file.proofs.Texts.{same_table}
 use Rattle.otn_base.specs.declared.memory.Memory.{Memory as NoMemory}
 use Rattle.plan_file.specs.declared.error.PlanError.{PlanError}
 use Rattle.plan_file.specs.declared.plan.Plan.{Plan}
@@ -36,7 +38,7 @@ same_text text came (Some rest) answered e (inl ended) =
 same_text text came (Some rest) answered e (inr long) =
     let whole : text ≡ came ++ rest = ap (λ t. unwrap_or t []) e in
     let size : length text ≡ length came + length rest = ap length whole ∙ length-append came rest in
-    ap plan_of_table (too_long came (omega (arith, long)) ∙ sym (too_long text (omega (arith, long, size))))
+    same_table came text (too_long came (omega (arith, long)) ∙ sym (too_long text (omega (arith, long, size))))
 
 pub same_plan : (text came : List ℕ) (has : SourceView) → Some text ≡ before came has.left → IsAll came has → plan_of_text came ≡ plan_of_text text
 same_plan text came has e all = same_text text came has.left has.ended e all

@@ -5,7 +5,7 @@ use Rattle.otn_base.specs.declared.kind.Kind.TheVariants.{Odu0}
 use Rattle.otn_base.specs.declared.line_kind.LineKind.TheVariants.{Otu2}
 use Rattle.toml.specs.Data.{Data, string, integer, array, table, no_items, item, Members, no_members, member}
 use Rattle.plan_file.specs.declared.error.PlanError.TheVariants.{UnknownKey, MissingKey, WrongKind, Turns, SlotTwice, BadPace}
-use Rattle.plan_file.specs.Answer.{fault_of, refusal_of}
+use Rattle.plan_file.specs.Refusal.{fault_of, table_refusal}
 use Rattle.plan_file.specs.Entry.{at_line, at_client, Entry, Outline}
 
 -- ---- outlines
@@ -56,13 +56,13 @@ abbrev end : Members
 end = member (codes "client") (integer (pos 0)) no_members
 
 -- a connection without `kind`
-no_kind : refusal_of (with_turns (array (item (table (member (codes "name") (string (codes "a")) (member (codes "from") (table end) (member (codes "to") (table end) no_members)))) no_items))) ≡ Some (MissingKey, 1)
+no_kind : table_refusal (with_turns (array (item (table (member (codes "name") (string (codes "a")) (member (codes "from") (table end) (member (codes "to") (table end) no_members)))) no_items))) ≡ Some (MissingKey, 1)
 no_kind = refl
 
 -- a list with a number in place of a connection
-no_table : refusal_of (with_turns (array (item (integer (pos 5)) no_items))) ≡ Some (WrongKind, 0)
+no_table : table_refusal (with_turns (array (item (integer (pos 5)) no_items))) ≡ Some (WrongKind, 0)
 no_table = refl
 
 -- a key that is not known counts before a value that is no table
-unknown_key : refusal_of (with_turns (array (item (integer (pos 5)) (item (table (member (codes "retired") (integer (pos 1)) no_members)) no_items)))) ≡ Some (UnknownKey, 2)
+unknown_key : table_refusal (with_turns (array (item (integer (pos 5)) (item (table (member (codes "retired") (integer (pos 1)) no_members)) no_items)))) ≡ Some (UnknownKey, 2)
 unknown_key = refl

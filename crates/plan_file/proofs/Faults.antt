@@ -1,7 +1,7 @@
 -- The first rule of an outline that is broken.
 use Rattle.std.proofs.Common.{◌≡◌, ℕ, ◌≤◌, true, false, [], length, Some, nat_lt, refl, arith}
 use Rattle.std.proofs.lemmas.Bool.Decides.{nat_tests}
-use Rattle.plan_file.specs.Answer.{fault_of}
+use Rattle.plan_file.specs.Refusal.{fault_of}
 use Rattle.plan_file.specs.declared.error.PlanError.{PlanError}
 use Rattle.plan_file.specs.declared.error.PlanError.TheVariants.{Turns, TooMany}
 use Rattle.plan_file.specs.Entry.{Entry, Outline}

@@ -21,20 +21,23 @@ use Rattle.plan_file.specs.declared.error.PlanError.TheVariants.{Turns, BadName,
 use Rattle.plan_file.specs.declared.error.NoPlan.{NoPlan}
 use Rattle.plan_file.specs.declared.error.NoPlan.TheVariants.{Memory}
 use Rattle.plan_file.specs.declared.plan.Plan.{Plan}
-use Rattle.plan_file.specs.Answer.{fault_of, fault_in, accepted_or, refusal_of}
+use Rattle.plan_file.specs.Answer.{accepted_or, fault_in, plan_of_text}
+use Rattle.plan_file.specs.Meaning.{table_of_text, meaning_in}
+use Rattle.plan_file.specs.Refusal.{fault_of, refusal_in, table_refusal}
 use Rattle.plan_file.specs.PlanRules.{plan_places, plan_rules, breaks_whole, breaks_alone, clashes}
 use Rattle.plan_file.specs.TableRules.{table_places, table_rules}
 use Rattle.plan_file.specs.Entry.{End, at_line, at_client, of_signal, is_line, slot_count, slots_between, Entry, Top, Outline, natural, from_seen, to_seen, seen, outline, from_of, to_of, connection_of, plan_of}
-use Rattle.plan_file.specs.declared.ends.Form.TheVariants.{Client, Line}
-use Rattle.plan_file.specs.declared.ends.Side.TheVariants.{To}
-use Rattle.plan_file.specs.Ends.{has, form_of}
+use Rattle.plan_table.specs.declared.ends.Form.TheVariants.{Client, Line}
+use Rattle.plan_table.specs.declared.ends.Side.TheVariants.{To}
+use Rattle.plan_table.specs.Ends.{has, form_of}
 use Rattle.plan_file.specs.Places.{broken_or, first_broken, places, places_from, later_places, top_place}
 use Rattle.plan_file.specs.Rules.{is_within, is_name, is_sapi, rises, is_line_list, is_placed, is_slot_list, is_same_kind, has_slots, has_equal_counts, suits, least_pace, most_pace, is_span, can_retire, breaks_name, breaks_place, breaks_slots, breaks_pace, breaks_span}
 use Rattle.plan_file.specs.Sound.{is_sound, is_no_signal, IsSoundTop, IsSound, AreSound, IsSoundOutline}
 use Rattle.plan_file.specs.Table.{entry_at, end_of, form_at, top_at, connections_at, outline_at}
-use Rattle.plan_file.specs.Lines.{line_kind, line_slots}
+use Rattle.plan_table.specs.Lines.{line_kind, line_slots}
 use Rattle.plan_file.proofs.Fitting.{within, is_within-wider, list_all-wider, pos-natural}
 use Rattle.plan_file.proofs.Places.{both_none, top_none}
+use Rattle.plan_file.proofs.Texts.{answer_of}
 use Rattle.plan_file.proofs.SlotNumbers.{slot_parts, few_of, few_slots}
 
 -- ---- no rule is broken
@@ -274,8 +277,18 @@ unfolding fault_in
 back_without_fault top none =
     ap fault_of (outline_back (outline_at top) (outline_sound top none)) ∙ none
 
-pub accepted_without_fault : (top : Members) (answer : Result Plan NoPlan) → (answer ≢ Err Memory → answer ≡ accepted_or (plan_of (outline_at top)) (refusal_of top)) → IfOk answer (λ plan. fault_in plan ≡ None)
+pub accepted_without_fault : (top : Members) (answer : Result Plan NoPlan) → (answer ≢ Err Memory → answer ≡ accepted_or (plan_of (outline_at top)) (table_refusal top)) → IfOk answer (λ plan. fault_in plan ≡ None)
 accepted_without_fault top (Ok plan) h =
-    let (none, same) = accepted_none plan (plan_of (outline_at top)) (refusal_of top) (h (λ bad. cc)) in
+    let (none, same) = accepted_none plan (plan_of (outline_at top)) (table_refusal top) (h (λ bad. cc)) in
     rw same (back_without_fault top (later_none (first_broken (table_places top) table_rules) (fault_of (outline_at top)) none))
 accepted_without_fault top (Err refused) h = tt
+
+-- so of what a text may have as its table
+in_table : (table : Option Members) (plan : Plan) → accepted_or (meaning_in table) (refusal_in table) ≡ Ok plan → fault_in plan ≡ None
+in_table None plan e = cc
+in_table (Some top) plan e =
+    let (none, same) = accepted_none plan (plan_of (outline_at top)) (table_refusal top) (sym e) in
+    rw same (back_without_fault top (later_none (first_broken (table_places top) table_rules) (fault_of (outline_at top)) none))
+
+pub accepted_text : (text : List ℕ) (plan : Plan) → plan_of_text text ≡ Ok plan → fault_in plan ≡ None
+accepted_text text plan e = in_table (table_of_text text) plan (answer_of text (table_of_text text) refl ∙ e)

@@ -1,10 +1,11 @@
+pub use Rattle.plan_table.specs.Ends
+pub use Rattle.plan_table.specs.Keys
+pub use Rattle.plan_table.specs.Kinds
+pub use Rattle.plan_table.specs.Lines
+pub use Rattle.plan_table.specs.Values
+pub use Rattle.plan_table.specs.NumberTests
 pub mod Code
-pub mod Ends
-pub mod Keys
-pub mod KeyList
-pub mod Kinds
 pub mod Entry
-pub mod Lines
 pub mod Table
 pub mod Seen
 pub mod Rules
@@ -12,4 +13,6 @@ pub mod Places
 pub mod TableRules
 pub mod PlanRules
 pub mod Sound
+pub mod Meaning
+pub mod Refusal
 pub mod Answer

@@ -1,51 +1,23 @@
 -- The rules of a plan's values: of the number of turns, of each connection, and of two connections.
-use Rattle.std.specs.Prelude.{ℕ, ◌*◌, ◌+◌, ◌-◌, ℤ, pos, negsuc, int_lt, int_le, nat_le, ◌==◌, List, [], ◌∷◌, length, Bool, true, false, not, ◌&&◌, ◌||◌}
-use Rattle.std.specs.Int.{is_in_range, int_max, int_min}
-use Rattle.std.specs.List.{list_all, list_any}
+use Rattle.std.specs.Prelude.{ℕ, ℤ, pos, int_le, ◌==◌, List, length, Bool, true, false, not, ◌&&◌, ◌||◌}
+use Rattle.std.specs.Int.{int_max, int_min}
 use Rattle.std.specs.Ordering.{int_eq}
 use Rattle.std.specs.Str.{bytes_eq}
-use Rattle.otn_base.specs.declared.limits.TheConstants.{NOMINAL, GROUPS, MOST_PACES}
 use Rattle.otn_base.specs.declared.kind.Kind.{Kind}
 use Rattle.otn_base.specs.declared.kind.Kind.TheVariants.{Odu0, Flex}
 use Rattle.otn_base.specs.declared.line_kind.LineKind.{LineKind}
 use Rattle.otn_base.specs.declared.line_kind.LineKind.TheVariants.{Otu2, Otu3}
 use Rattle.plan_file.specs.Entry.{End, at_line, at_client, of_signal, is_line, is_client, slots_between, Entry, Top}
-use Rattle.plan_file.specs.Lines.{line_kind, line_slots}
-
--- the number is from the one bound to the other
-abbrev pub is_within : ℕ → ℕ → ℤ → Bool
-is_within least most (pos n) = nat_le least n && nat_le n most
-is_within least most (negsuc n) = false
+use Rattle.plan_table.specs.Lines.{line_kind, line_slots}
+pub use Rattle.plan_table.specs.NumberTests.{is_within, is_name_byte, is_name, is_sapi, rises, is_line_list, is_slot_list, have_common, least_pace, most_pace, is_pace}
 
 -- ---- names
-
--- a to z, 0 to 9 and -
-abbrev pub is_name_byte : ℕ → Bool
-is_name_byte byte = (is_in_range 97 122 byte || is_in_range 48 57 byte) || byte == 45
-
--- a name: 1 to 32 of these bytes
-abbrev pub is_name : List ℕ → Bool
-is_name name = (nat_le 1 (length name) && nat_le (length name) 32) && list_all is_name_byte name
-
--- a SAPI
-abbrev pub is_sapi : List ℕ → Bool
-is_sapi bytes = nat_le (length bytes) 15 && list_all (is_in_range 0x20 0x7E) bytes
 
 -- the connection's name is not a name, or its trace not a SAPI
 abbrev pub breaks_name : Entry → Bool
 breaks_name e = not (is_name e.name && is_sapi e.trace)
 
 -- ---- places
-
--- each number is greater than the one before it
-abbrev pub rises : List ℤ → Bool
-rises [] = true
-rises (first ∷ []) = true
-rises (first ∷ second ∷ rest) = int_lt first second && rises (second ∷ rest)
-
--- a list of lines, which may be empty
-abbrev pub is_line_list : List ℤ → Bool
-is_line_list lines = list_all (is_within 0 3) lines && rises lines
 
 -- one of the four lists of the top is not a list of lines
 abbrev pub breaks_lines : Top → Bool
@@ -62,10 +34,6 @@ abbrev pub breaks_place : Top → Entry → Bool
 breaks_place top e = not ((is_placed top.otu3_in e.from && is_placed top.otu3_out e.to) && (is_line e.from || is_line e.to))
 
 -- ---- slots
-
--- a list of slots of a line of so many
-abbrev pub is_slot_list : ℕ → List ℤ → Bool
-is_slot_list most slots = (nat_le 1 (length slots) && list_all (is_within 1 most) slots) && rises slots
 
 -- one kind of lines
 abbrev pub is_same_kind : LineKind → LineKind → Bool
@@ -95,20 +63,6 @@ breaks_slots top e = not ((has_slots top.otu3_in e.kind e.from && has_slots top.
 
 -- ---- the pace
 
--- the least number of bytes in a turn, on M slots
-abbrev pub least_pace : Kind → ℕ → ℕ
-least_pace Odu0 m = NOMINAL - 1
-least_pace Flex m = m
-
--- the greatest number of bytes in a turn, on M slots
-abbrev pub most_pace : Kind → ℕ → ℕ
-most_pace Odu0 m = NOMINAL + 1
-most_pace Flex m = m * GROUPS
-
--- a pace: a list of such numbers, not empty and not too long
-abbrev pub is_pace : Kind → ℕ → List ℤ → Bool
-is_pace kind m pace = (nat_le 1 (length pace) && nat_le (length pace) MOST_PACES) && list_all (is_within (least_pace kind m) (most_pace kind m)) pace
-
 -- the pace does not suit the connection's kind and its slots
 abbrev pub breaks_pace : Entry → Bool
 breaks_pace e = not (is_pace e.kind (slots_between e.from e.to) e.pace)
@@ -136,10 +90,6 @@ have_one_name e f = bytes_eq e.name f.name
 -- the greater start is at most the lesser stop
 abbrev pub meet : Entry → Entry → Bool
 meet e f = int_le (int_max e.start f.start) (int_min e.stop f.stop)
-
--- a number of both lists
-abbrev pub have_common : List ℤ → List ℤ → Bool
-have_common numbers others = list_any (λ number. list_any (int_eq number) others) numbers
 
 -- at one line, with a slot of both
 abbrev pub share_slot : End → End → Bool

@@ -1,53 +1,17 @@
 -- What the table of a plan says: the value of each key, or what stands for it where the key is not there.
-use Rattle.std.specs.Prelude.{ℕ, ◌*◌, ℤ, pos, List, [], ◌∷◌, map, Bool, true, false, if◌then◌else◌, Option, Some, unwrap_or, codes}
-use Rattle.std.specs.Option.{option_and_then, option_map_or}
-use Rattle.std.specs.Str.{bytes_eq}
-use Rattle.maintenance_signals.specs.declared.signal.Signal.{Signal}
-use Rattle.maintenance_signals.specs.declared.signal.Signal.TheVariants.{Oci, Lck}
-use Rattle.otn_base.specs.declared.limits.TheConstants.{NOMINAL}
-use Rattle.otn_base.specs.declared.kind.Kind.{Kind}
-use Rattle.otn_base.specs.declared.kind.Kind.TheVariants.{Odu0, Flex}
+use Rattle.std.specs.Prelude.{ℤ, pos, List, [], map, true, false, Option, codes}
+use Rattle.std.specs.Option.{option_map_or}
 use Rattle.otn_base.specs.declared.line_kind.LineKind.TheVariants.{Otu2}
-use Rattle.toml.specs.Data.{Data, Items, no_items, item, Members, get, get_member, as_str, as_integer, as_bool, as_array}
-use Rattle.plan_file.specs.declared.ends.Form.{Form}
-use Rattle.plan_file.specs.declared.ends.Form.TheVariants as form
-use Rattle.plan_file.specs.declared.ends.Side.TheVariants.{From, To}
-use Rattle.plan_file.specs.Ends.{TableEnd, end_at}
+use Rattle.toml.specs.Data.{Data, Members, get, get_member}
+use Rattle.plan_table.specs.declared.ends.Form.{Form}
+use Rattle.plan_table.specs.declared.ends.Form.TheVariants as form
+use Rattle.plan_table.specs.declared.ends.Side.TheVariants.{From, To}
+use Rattle.plan_table.specs.Ends.{TableEnd, end_at}
 use Rattle.plan_file.specs.Entry.{End, at_line, at_client, of_signal, Entry, Top, Outline, slots_between}
-use Rattle.plan_file.specs.Lines.{line_kind}
-
--- ---- values by their kind
-
--- the number, or else this one
-abbrev pub number_or : ℤ → Option Data → ℤ
-number_or otherwise value = unwrap_or (option_and_then as_integer value) otherwise
-
--- the truth value, or else this one
-abbrev pub truth_or : Bool → Option Data → Bool
-truth_or otherwise value = unwrap_or (option_and_then as_bool value) otherwise
-
--- the text, or the empty one
-abbrev pub text_of : Option Data → List ℕ
-text_of value = unwrap_or (option_and_then as_str value) []
-
--- the items as a list
-abbrev pub listed : Items → List Data
-listed no_items = []
-listed (item value rest) = value ∷ listed rest
-
--- the list, or the empty one
-abbrev pub list_of : Option Data → List Data
-list_of value = option_map_or listed (option_and_then as_array value) []
-
--- the numbers of a list, with 0 for what is none
-abbrev pub numbers : List Data → List ℤ
-numbers values = map (λ value. number_or (pos 0) (Some value)) values
+use Rattle.plan_table.specs.Lines.{line_kind}
+pub use Rattle.plan_table.specs.Values.{number_or, truth_or, text_of, listed, list_of, numbers, signal_of, kind_of, nominal, pace_at, numbers_at, connections_at}
 
 -- ---- the ends of a connection
-
--- the maintenance signal that the text names: `oci` is OCI, all else LCK
-abbrev pub signal_of : Option Data → Signal
-signal_of value = if bytes_eq (text_of value) (codes "oci") then Oci else Lck
 
 -- an end at a line, where these lines are OTU3
 abbrev pub line_at : List ℤ → Data → End
@@ -75,18 +39,6 @@ end_of otu3 end = option_map_or (λ (e : TableEnd). form_at otu3 e.form e.value)
 
 -- ---- a connection
 
--- the kind that the text names: `odu0`, or else `flex`
-abbrev pub kind_of : Option Data → Kind
-kind_of value = if bytes_eq (text_of value) (codes "odu0") then Odu0 else Flex
-
--- the nominal pace of M slots
-abbrev pub nominal : ℕ → List ℤ
-nominal m = pos (NOMINAL * m) ∷ []
-
--- the pace, or the nominal one of M slots
-abbrev pub pace_at : ℕ → Option Data → List ℤ
-pace_at m value = option_map_or (λ pace. numbers (list_of (Some pace))) value (nominal m)
-
 -- a connection of a plan with this top
 abbrev pub entry_at : Top → Data → Entry
 entry_at top connection =
@@ -107,10 +59,6 @@ entry_at top connection =
 
 -- ---- the whole
 
--- the numbers that the table has at the key
-abbrev pub numbers_at : List ℕ → Members → List ℤ
-numbers_at key top = numbers (list_of (get_member key top))
-
 -- the top of a plan
 abbrev pub top_at : Members → Top
 top_at top = record {
@@ -120,10 +68,6 @@ top_at top = record {
   scrambled_in = numbers_at (codes "scrambled-in") top;
   scrambled_out = numbers_at (codes "scrambled-out") top;
 }
-
--- the values of its connections
-abbrev pub connections_at : Members → List Data
-connections_at top = list_of (get_member (codes "connection") top)
 
 -- the outline of a plan
 abbrev pub outline_at : Members → Outline

@@ -3,8 +3,8 @@ use Rattle.std.specs.Prelude.{ℕ, List, [], ◌∷◌, ◌++◌, is_none, codes
 use Rattle.toml.specs.Data.{Data, Members, get_member}
 use Rattle.plan_file.specs.declared.error.PlanError.{PlanError}
 use Rattle.plan_file.specs.declared.error.PlanError.TheVariants.{UnknownKey, MissingKey, WrongKind}
-use Rattle.plan_file.specs.Keys.{has_unknown_top_key, has_unknown_key, lacks_key}
-use Rattle.plan_file.specs.Kinds.{has_kinds, has_top_kinds}
+use Rattle.plan_table.specs.Keys.{has_unknown_top_key, has_unknown_key, lacks_key}
+use Rattle.plan_table.specs.Kinds.{has_kinds, has_top_kinds}
 use Rattle.plan_file.specs.Places.{top_place, places}
 use Rattle.plan_file.specs.Table.{connections_at}
 

@@ -3,17 +3,15 @@
 //! - `plan`: a plan, how it is read, and the first rule of its values that it breaks.
 //! - `connection`, `connections`, `lines`, `name`, `pace`: what a plan is made of.
 //! - `error`: the rules by name and number, and why there is no plan.
-//! - `ends`, `keys`, `kinds`: the rules of the text's table, of its keys and of the kinds of its values.
 //! - `outline`, `rules`: a plan as the rules of its values see it, and these rules.
 //! - `read`: from the text to the table, the first broken rule, and the plan.
+//!
+//! What stands at the keys of the table, and which keys and kinds of values it may have, is of `plan_table`.
 #![tactic(auto)]
 
 mod connection;
 mod connections;
-mod ends;
 mod error;
-mod keys;
-mod kinds;
 mod lines;
 mod name;
 mod outline;

@@ -2,15 +2,11 @@
 mod end;
 mod entries;
 mod entry;
-mod field;
-mod numbers;
 mod top;
 mod whole;
 
 pub(crate) use end::End;
 pub(crate) use entries::Entries;
 pub(crate) use entry::Entry;
-pub(crate) use field::item;
-pub(crate) use numbers::Numbers;
 pub(crate) use top::Top;
-pub(crate) use whole::{Outline, connections};
+pub(crate) use whole::Outline;

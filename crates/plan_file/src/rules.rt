@@ -5,7 +5,6 @@ mod names;
 mod pace;
 mod pairs;
 mod places;
-mod range;
 mod slots;
 mod span;
 

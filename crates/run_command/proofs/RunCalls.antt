@@ -1,12 +1,11 @@
 -- What calls of `run` left, whatever their inputs may have been.
-use Rattle.std.proofs.Common.{◌≡◌, ℕ, List, None, Some, Ok, Result, refl, subst}
+use Rattle.std.proofs.Common.{◌≡◌, ℕ, List, None, Ok, Result}
 use Rattle.std.specs.List.{Contains}
-use Rattle.std.specs.Prelude.{IfOk}
-use Rattle.plan_file.specs.Answer.{fault_in, plan_of_text, plan_of_table, table_of_text}
+use Rattle.plan_file.specs.Answer.{fault_in, plan_of_text}
 use Rattle.plan_file.specs.declared.connection.Connection.{Connection}
 use Rattle.plan_file.specs.declared.error.NoPlan.{NoPlan}
 use Rattle.plan_file.specs.declared.plan.Plan.{Plan}
-use Rattle.plan_file.proofs.Sounds.{accepted_without_fault}
+use Rattle.plan_file.proofs.Sounds.{accepted_text}
 use Rattle.device_model.specs.Inputs.{AreInputs}
 use Rattle.device_model.specs.Through.{Inputs}
 use Rattle.node_core.specs.GivenRuns.{HasGiven}
@@ -25,13 +24,7 @@ use Rattle.command_base.specs.declared.status.Status.TheVariants as status
 -- ---- the plan is accepted
 
 pub accepted_plan : (text : List ℕ) (plan : Plan) → plan_of_text text ≡ Ok plan → fault_in plan ≡ None
-accepted_plan text plan e =
-    let h : IfOk (plan_of_text text) (λ p. fault_in p ≡ None) = elim (table_of_text text) as (λ table. IfOk (plan_of_table table) (λ p. fault_in p ≡ None)) [
-      | None ↦ tt
-      | Some top ↦ accepted_without_fault top (plan_of_table (Some top)) (λ e. refl)
-    ] in
-    let P : Result Plan NoPlan → Type 0 = λ r. IfOk r (λ p. fault_in p ≡ None) in
-    subst P e h
+accepted_plan text plan e = accepted_text text plan e
 
 unfoldable pub is_world : (call : Call) (has : HasCarried call) → IsWorld (world_of call has)
 is_world call has = record { accepted = accepted_plan call.text call.plan has.is_plan; left = has.ran.left; may_be = has.may_be }

@@ -1,17 +1,14 @@
 // An end of a connection.
-ghost use Rattle.std.specs.Prelude.{◌≡◌, codes};
-ghost use Rattle.toml.specs.Data.{get};
+ghost use Rattle.std.specs.Prelude.{◌≡◌};
 ghost use Rattle.toml.specs.View.{view};
 ghost use Rattle.plan_file.specs.Entry.{from_seen, to_seen};
-ghost use Rattle.plan_file.specs.Table.{line_at, client_at, form_at, signal_of};
+ghost use Rattle.plan_file.specs.Table.{line_at, client_at, form_at};
 ghost use Rattle.plan_file.specs.Seen.{end_in, numbers_in};
 
 use crate::connection::{FromEnd, ToEnd};
-use crate::ends::Form;
-use crate::outline::field::{list_or_empty, number_or, text_or_empty};
-use crate::outline::numbers::Numbers;
 use maintenance_signals::Signal;
 use otn_base::LineKind;
+use plan_table::{Form, Numbers, list_or_empty, number_or, signal_at};
 use toml::Value;
 
 /// An end of a connection: a line with its tributary port, the kind of lines that the slots are for, and
@@ -87,15 +84,5 @@ impl<'a> End<'a> {
             }
             ToEnd::Client(client) => End::Client(i64::from(*client)),
         }
-    }
-}
-
-fn signal_at(from: &Value) -> Signal
-    ensures { result ≡ signal_of (get (codes "signal") (view from.now)) }
-{
-    if text_or_empty(from.get("signal")) == "oci" {
-        Signal::Oci
-    } else {
-        Signal::Lck
     }
 }

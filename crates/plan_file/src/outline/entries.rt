@@ -4,8 +4,8 @@ ghost use Rattle.plan_file.specs.Seen.{entries_in, entry_in};
 
 use crate::connection::Connection;
 use crate::outline::entry::Entry;
-use crate::outline::field::item;
 use crate::outline::top::Top;
+use plan_table::item;
 use toml::Value;
 
 /// The connections in order: those of a list of tables in a plan with this top, or those of a plan.

@@ -1,19 +1,17 @@
 // A connection as the rules see it.
-ghost use Rattle.std.specs.Prelude.{◌≡◌, ℕ, codes};
+ghost use Rattle.std.specs.Prelude.{◌≡◌, codes};
 ghost use Rattle.toml.specs.Data.{get};
 ghost use Rattle.toml.specs.View.{view};
-ghost use Rattle.plan_file.specs.Ends.{end_at};
+ghost use Rattle.plan_table.specs.Ends.{end_at};
 ghost use Rattle.plan_file.specs.Entry.{slots_between};
-ghost use Rattle.plan_file.specs.Table.{kind_of, number_or, end_of, pace_at};
+ghost use Rattle.plan_file.specs.Table.{number_or, end_of};
 ghost use Rattle.plan_file.specs.Seen.{end_in, entry_in, numbers_in, pace_in, top_in};
 
 use crate::connection::Connection;
-use crate::ends::{Side, end_at};
 use crate::outline::end::End;
-use crate::outline::field::{list_or_empty, number_or, text_or_empty, truth_or};
-use crate::outline::numbers::Numbers;
 use crate::outline::top::Top;
 use otn_base::{Kind, LineKind};
+use plan_table::{Numbers, Side, end_at, kind_at, number_or, pace_at, text_or_empty, truth_or};
 use toml::Value;
 
 /// A connection: that of a table in a plan with this top, or that of a plan.
@@ -117,16 +115,6 @@ impl<'a> Entry<'a> {
     }
 }
 
-fn kind_at(table: &Value) -> Kind
-    ensures { result ≡ kind_of (get (codes "kind") (view table.now)) }
-{
-    if text_or_empty(table.get("kind")) == "odu0" {
-        Kind::Odu0
-    } else {
-        Kind::Flex
-    }
-}
-
 fn end_of<'a>(connection: &'a Value, side: Side, otu3: &Numbers) -> End<'a>
     ensures { end_in result ≡ end_of (numbers_in otu3.now) (end_at side (view connection.now)) }
 {
@@ -140,13 +128,4 @@ fn stop_at(table: &Value, top: &Top) -> i64
     ensures { result ≡ number_or (top_in top.now).turns (get (codes "stop") (view table.now)) }
 {
     number_or(table.get("stop"), top.turns)
-}
-
-fn pace_at<'a>(table: &'a Value) -> Option<Numbers<'a>>
-    ensures { (m : ℕ) → pace_in result m ≡ pace_at m (get (codes "pace") (view table.now)) }
-{
-    match table.get("pace") {
-        Some(pace) => Some(Numbers::Values(list_or_empty(Some(pace)))),
-        None => None,
-    }
 }

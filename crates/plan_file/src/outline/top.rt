@@ -2,13 +2,11 @@
 ghost use Rattle.std.specs.Prelude.{◌≡◌};
 ghost use Rattle.toml.specs.View.{table_view};
 ghost use Rattle.plan_file.specs.Entry.{top_seen};
-ghost use Rattle.plan_file.specs.Table.{numbers_at, top_at};
-ghost use Rattle.plan_file.specs.Seen.{numbers_in, top_in};
+ghost use Rattle.plan_file.specs.Table.{top_at};
+ghost use Rattle.plan_file.specs.Seen.{top_in};
 
-use crate::keys::top_value;
-use crate::outline::field::{list_or_empty, number_or};
-use crate::outline::numbers::Numbers;
 use crate::plan::Plan;
+use plan_table::{Numbers, number_or, numbers_at, top_value};
 use toml::Table;
 
 /// What a plan says beside its connections: the number of turns, and which lines are OTU3 or scrambled.
@@ -47,11 +45,4 @@ impl<'a> Top<'a> {
             scrambled_out: Numbers::Bytes(plan.scrambled_out.as_slice()),
         }
     }
-}
-
-// The numbers that the table has at the key.
-fn numbers_at<'a>(top: &'a Table, key: &str) -> Numbers<'a>
-    ensures { numbers_in result ≡ numbers_at key.now (table_view top.now) }
-{
-    Numbers::Values(list_or_empty(top_value(top, key)))
 }

@@ -1,16 +1,15 @@
 // A plan as its rules see it.
-ghost use Rattle.std.specs.Prelude.{◌≡◌, map};
-ghost use Rattle.toml.specs.View.{table_view, view};
+ghost use Rattle.std.specs.Prelude.{◌≡◌};
+ghost use Rattle.toml.specs.View.{table_view};
 ghost use Rattle.plan_file.specs.Entry.{outline};
-ghost use Rattle.plan_file.specs.Table.{connections_at, outline_at};
+ghost use Rattle.plan_file.specs.Table.{outline_at};
 ghost use Rattle.plan_file.specs.Seen.{outline_in};
 
-use crate::keys::top_value;
 use crate::outline::entries::Entries;
-use crate::outline::field::list_or_empty;
 use crate::outline::top::Top;
 use crate::plan::Plan;
-use toml::{Table, Value};
+use plan_table::connections;
+use toml::Table;
 
 /// A plan: what its top says, and its connections in order.
 #[derive(Clone, Copy)]
@@ -40,11 +39,4 @@ impl<'a> Outline<'a> {
             entries: Entries::Planned(plan.connections.as_slice()),
         }
     }
-}
-
-/// The connections that the table has, in order.
-pub(crate) fn connections(table: &Table) -> &[Value]
-    ensures { map view result.now ≡ connections_at (table_view table.now) }
-{
-    list_or_empty(top_value(table, "connection"))
 }

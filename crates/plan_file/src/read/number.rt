@@ -8,10 +8,10 @@ ghost use Rattle.plan_file.specs.Seen.{numbers_in};
 ghost use Rattle.otn_base.specs.declared.limits.TheConstants.{MOST_SLOTS};
 
 use crate::lines::LineList;
-use crate::outline::Numbers;
 use arrayvec::ArrayVec;
 use otn_base::limits::MOST_SLOTS;
 use otn_base::{LineKind, Memory, Slots, Trace};
+use plan_table::Numbers;
 use std::alloc::Global;
 
 /// The number of a line, a client, a port or a slot.

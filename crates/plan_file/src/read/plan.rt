@@ -1,8 +1,9 @@
 // The plan that a table says, or the first rule that it breaks.
 ghost use Rattle.std.specs.Prelude.{◌≡◌, ◌≢◌, Err, IfOk, Ok, map};
 ghost use Rattle.toml.specs.View.{table_view};
-ghost use Rattle.plan_file.specs.Answer.{accepted_or, fault_of, refusal_of};
+ghost use Rattle.plan_file.specs.Answer.{accepted_or};
 ghost use Rattle.plan_file.specs.Entry.{connection_of, plan_of};
+ghost use Rattle.plan_file.specs.Refusal.{fault_of, table_refusal};
 ghost use Rattle.plan_file.specs.Seen.{entries_in, outline_in, top_in};
 ghost use Rattle.plan_file.specs.Sound.{AreSound, IsSoundOutline, IsSoundTop};
 ghost use Rattle.plan_file.specs.Table.{outline_at};
@@ -22,7 +23,7 @@ use toml::Table;
 
 /// The plan that the table says, or the first rule that it breaks.
 pub(crate) fn plan(alloc: Global, top: &Table) -> Result<Plan, NoPlan>
-    ensures { result ≢ Err NoPlan.Memory → result ≡ accepted_or (plan_of (outline_at (table_view top.now))) (refusal_of (table_view top.now)) }
+    ensures { result ≢ Err NoPlan.Memory → result ≡ accepted_or (plan_of (outline_at (table_view top.now))) (table_refusal (table_view top.now)) }
 {
     match table_fault(top) {
         Some((rule, place)) => Err(NoPlan::Refused(rule, place as u64)),

@@ -5,9 +5,10 @@ ghost use Rattle.plan_file.specs.TableRules.{breaks_top, breaks_in_table, table_
 ghost use Rattle.plan_file.specs.Places.{first, first_broken, places};
 
 use crate::error::PlanError;
-use crate::keys::{has_unknown_key, has_unknown_top_key, lacks_key, lacks_turns};
-use crate::kinds::{has_kinds, has_top_kinds};
-use crate::outline::{connections, item};
+use plan_table::{
+    connections, has_kinds, has_top_kinds, has_unknown_key, has_unknown_top_key, item, lacks_key,
+    lacks_turns,
+};
 use toml::{Table, Value};
 
 // The rules of keys and kinds, by number.

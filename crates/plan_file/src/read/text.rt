@@ -2,7 +2,7 @@
 ghost use Rattle.std.specs.Prelude.{◌≡◌, IfOk, option_map};
 ghost use Rattle.toml.specs.Parse.{parse_document};
 ghost use Rattle.toml.specs.View.{table_view};
-ghost use Rattle.plan_file.specs.Answer.{table_of_text};
+ghost use Rattle.plan_file.specs.Meaning.{table_of_text};
 
 use otn_base::Memory;
 use otn_base::limits::MOST_PLAN_BYTES;
@@ -10,7 +10,7 @@ use std::alloc::Global;
 use toml::Table;
 
 /// The table of the text. None where the text is too long, or no TOML.
-#[tactic(auto, unfolding(crate::specs::Answer::table_of_text))]
+#[tactic(auto, unfolding(crate::specs::Meaning::table_of_text))]
 pub(crate) fn table_of(alloc: Global, text: &[u8]) -> Result<Option<Table>, Memory>
     ensures { IfOk result (λ table. option_map table_view table ≡ table_of_text text.now) }
 {

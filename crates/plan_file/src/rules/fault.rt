@@ -9,8 +9,8 @@ use crate::error::PlanError;
 use crate::outline::{Entries, Outline, Top};
 use crate::rules::first::{first_clash, first_place};
 use crate::rules::places::breaks_lines;
-use crate::rules::range::is_within;
 use otn_base::limits::{MOST_CONNECTIONS, MOST_TURNS};
+use plan_table::is_within;
 
 // The rules of each connection, and of two, by number.
 const CONNECTION_RULES: [PlanError; 9] = [

@@ -1,9 +1,10 @@
 // The rules on two connections.
 ghost use Rattle.std.specs.Prelude.{◌≡◌};
-ghost use Rattle.plan_file.specs.Rules.{have_one_name, meet, share_slot, share_port, share_client, have_common, have_one_slot, have_one_port, have_one_client};
-ghost use Rattle.plan_file.specs.Seen.{end_in, entry_in, numbers_in};
+ghost use Rattle.plan_file.specs.Rules.{have_one_name, meet, share_slot, share_port, share_client, have_one_slot, have_one_port, have_one_client};
+ghost use Rattle.plan_file.specs.Seen.{end_in, entry_in};
 
-use crate::outline::{End, Entry, Numbers};
+use crate::outline::{End, Entry};
+use plan_table::have_common;
 
 /// Whether the two have one name.
 pub(crate) fn have_one_name(entry: &Entry, other: &Entry) -> bool
@@ -49,18 +50,6 @@ fn share_slot(end: &End, other: &End) -> bool
         }
         _ => false,
     }
-}
-
-#[tactic(auto, using(crate::proofs::Steps::anys))]
-fn have_common(numbers: &Numbers, others: &Numbers) -> bool
-    ensures { result ≡ have_common (numbers_in numbers.now) (numbers_in others.now) }
-{
-    for i in 0..numbers.len() {
-        if others.contains(numbers.at(i)) {
-            return true;
-        }
-    }
-    false
 }
 
 fn share_port(end: &End, other: &End) -> bool

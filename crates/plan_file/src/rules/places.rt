@@ -1,13 +1,12 @@
 // The rule on lines, clients and ports.
 ghost use Rattle.std.specs.Prelude.{◌≡◌};
 ghost use Rattle.plan_file.specs.Entry.{is_line, is_client};
-ghost use Rattle.plan_file.specs.Rules.{is_line_list, breaks_lines, is_placed, breaks_place};
+ghost use Rattle.plan_file.specs.Rules.{breaks_lines, is_placed, breaks_place};
 ghost use Rattle.plan_file.specs.Seen.{end_in, entry_in, numbers_in, top_in};
 
-use crate::outline::{End, Entry, Numbers, Top};
-use crate::rules::range::{all_within, is_within};
-use crate::rules::slots::rises;
+use crate::outline::{End, Entry, Top};
 use otn_base::limits::{CLIENTS, LINES};
+use plan_table::{Numbers, is_line_list, is_within};
 
 /// Whether one of the lists of lines is none.
 pub(crate) fn breaks_lines(top: &Top) -> bool
@@ -17,12 +16,6 @@ pub(crate) fn breaks_lines(top: &Top) -> bool
         && is_line_list(&top.otu3_out)
         && is_line_list(&top.scrambled_in)
         && is_line_list(&top.scrambled_out))
-}
-
-fn is_line_list(lines: &Numbers) -> bool
-    ensures { result ≡ is_line_list (numbers_in lines.now) }
-{
-    all_within(lines, 0, LINES as u128 - 1) && rises(lines)
 }
 
 /// Whether a line, a client or a port is out of range, or neither end is a line.

@@ -1,11 +1,11 @@
 // The rule on slots.
 ghost use Rattle.std.specs.Prelude.{◌≡◌};
-ghost use Rattle.plan_file.specs.Rules.{rises, is_slot_list, is_same_kind, suits, has_slots, has_equal_counts, breaks_slots};
+ghost use Rattle.plan_file.specs.Rules.{is_same_kind, suits, has_slots, has_equal_counts, breaks_slots};
 ghost use Rattle.plan_file.specs.Seen.{end_in, entry_in, numbers_in, top_in};
 
-use crate::outline::{End, Entry, Numbers, Top};
-use crate::rules::range::all_within;
+use crate::outline::{End, Entry, Top};
 use otn_base::{Kind, LineKind};
+use plan_table::{Numbers, is_slot_list};
 
 /// Whether a slot list is none of its line, or does not suit the connection's kind, or the two differ in
 /// length.
@@ -42,25 +42,6 @@ fn is_same_kind(kind: LineKind, other: LineKind) -> bool
         (LineKind::Otu2, LineKind::Otu2) | (LineKind::Otu3, LineKind::Otu3) => true,
         _ => false,
     }
-}
-
-fn is_slot_list(most: u8, slots: &Numbers) -> bool
-    ensures { result ≡ is_slot_list most (numbers_in slots.now) }
-{
-    1 <= slots.len() && all_within(slots, 1, u128::from(most)) && rises(slots)
-}
-
-/// Whether each number is greater than the one before it.
-#[tactic(auto, using(crate::proofs::Steps::rises_go, crate::proofs::Steps::rises_stop, crate::proofs::Steps::rises_done))]
-pub(crate) fn rises(numbers: &Numbers) -> bool
-    ensures { result ≡ rises (numbers_in numbers.now) }
-{
-    for i in 1..numbers.len() {
-        if numbers.at(i) <= numbers.at(i - 1) {
-            return false;
-        }
-    }
-    true
 }
 
 fn suits(kind: Kind, count: usize) -> bool

@@ -1,7 +1,8 @@
 use Rattle.std.proofs.Common.{◌≡◌, ◌∙◌, sym, ap, None, Ok}
 use Rattle.toml.specs.View.{table_view}
-use Rattle.plan_file.specs.Answer.{accepted_or, fault_of}
+use Rattle.plan_file.specs.Answer.{accepted_or}
 use Rattle.plan_file.specs.Entry.{Outline, plan_of}
+use Rattle.plan_file.specs.Refusal.{fault_of}
 use Rattle.plan_file.specs.Table.{outline_at}
 use Rattle.plan_file.proofs.Sounds.{outline_sound}
 use Rattle.plan_file.proofs.read.plan.plan_of_values.Goals as goal

@@ -1,6 +1,6 @@
 use Rattle.std.proofs.Common.{◌≡◌, sym, arith}
 use Rattle.toml.specs.Parse.{parse_document}
-use Rattle.plan_file.specs.Answer.{table_of_text}
+use Rattle.plan_file.specs.Meaning.{table_of_text}
 use Rattle.plan_file.proofs.Texts.{table_of_text-short, table_of_text-bad}
 use Rattle.plan_file.proofs.read.text.table_of.Goals as goal
 

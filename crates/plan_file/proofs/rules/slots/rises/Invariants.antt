@@ -1,7 +1,0 @@
-use Rattle.std.proofs.Common.{◌≡◌, ◌-◌, drop}
-use Rattle.plan_file.specs.Rules.{rises}
-use Rattle.plan_file.specs.Seen.{numbers_in}
-use Rattle.plan_file.proofs.rules.slots.rises.Given as goal
-
-abbrev pub invariant-loop-i : goal.invariant-loop-i
-invariant-loop-i l = rises (numbers_in l.numbers) ≡ rises (drop (l.i - 1) (numbers_in l.numbers))

@@ -1,9 +1,0 @@
-// The keys of a plan's tables: which a table may have, and which it must have.
-mod known;
-mod list;
-mod required;
-mod value;
-
-pub(crate) use known::{has_unknown_key, has_unknown_top_key};
-pub(crate) use required::{lacks_key, lacks_turns};
-pub(crate) use value::{is_this_number, top_value};

@@ -1,8 +1,0 @@
-// The kinds of a plan's values: whether each is what its key asks for.
-mod connection;
-mod end;
-mod top;
-mod value;
-
-pub(crate) use connection::has_kinds;
-pub(crate) use top::has_top_kinds;
