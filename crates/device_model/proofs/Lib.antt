@@ -7,6 +7,7 @@ pub mod SoundEnds
 pub mod SoundEntries
 pub mod Apart
 pub mod SoundPlans
+pub mod ConnectionPorts
 pub mod MadeFrames
 pub mod MadeTurns
 pub mod MadeShows

@@ -23,3 +23,6 @@ pub mod RunsInARow
 pub mod Healing
 pub mod OneDamaged
 pub mod HeldBack
+pub mod RetiredPlaces
+pub mod RunLeft
+pub mod RunNumbers

@@ -4,6 +4,7 @@
 //! - `carriage`: what the file of an output line shows and carries of the connections that go to it.
 //! - `damage`: what a connection gets after damage on its line, and of one damaged message.
 //! - `line_views`: what the turns of a line show of a tributary, and what a sink on it emits.
+//! - `numbers`: the numbers of a run, as they are handed over to its report.
 //! - `outcome`: how a run ends, and what the from end of a connection is.
 //! - `plans`: what is promised of a plan that breaks no rule.
 //! - `runs`: what runs in a row carry, each over the file that the one before made.
@@ -13,6 +14,7 @@
 mod carriage;
 mod damage;
 mod line_views;
+mod numbers;
 mod outcome;
 mod plans;
 mod runs;
@@ -23,6 +25,7 @@ pub use carriage::{
 };
 pub use damage::{behind_a_gap, healing, one_damaged_message};
 pub use line_views::{same_views, whole_views};
+pub use numbers::{ClientInCounts, ClientOutCounts, RunNumbers};
 pub use outcome::{FromState, Outcome};
 pub use plans::accepted_plans;
 pub use runs::carried_through_runs;

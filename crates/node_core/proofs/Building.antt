@@ -21,7 +21,8 @@ use Rattle.node_core.specs.Built.{AreNewLinesIn, AreNewLinesOut, IsNewLink, AreN
 use Rattle.node_core.specs.NodeView.{NodeView, done_at, taken_pieces, given_pieces}
 use Rattle.node_core.specs.Pieces.{wanted_of, IsFresh}
 use Rattle.node_core.specs.Ports.{index_of}
-use Rattle.node_core.specs.Stands.{PlanStands, LinesIn, PipesStand, LinesOut, ClientInAt, ClientsIn, ClientOutAt, ClientsOut, StandsAt, no_bytes, after_retire, out_after_retire}
+use Rattle.device_model.specs.RetiredPlaces.{after_retire, out_after_retire}
+use Rattle.node_core.specs.Stands.{PlanStands, LinesIn, PipesStand, LinesOut, ClientInAt, ClientsIn, ClientOutAt, ClientsOut, StandsAt, no_bytes}
 use Rattle.node_core.specs.declared.link.Link.{Link}
 use Rattle.node_core.specs.declared.link.Origin.{Origin}
 use Rattle.node_core.specs.declared.link.Origin.TheVariants as origin

@@ -22,7 +22,8 @@ use Rattle.node_core.specs.Links.{IsLinkOf, SameEntry, is_on, origin_of}
 use Rattle.node_core.specs.Moves.{EachLink, is_from_client, takes_client, TakesClient}
 use Rattle.node_core.specs.NodeMoves.{ClientInMove}
 use Rattle.node_core.specs.NodeView.{NodeView, HasLink, is_ready, done_at, taken_pieces, given_pieces}
-use Rattle.node_core.specs.Stands.{InputBytes, MayGive, frames_by, ended_by, after_retire, PlanStands, PipesStand, ClientInAt, ClientsIn, StandsAt, Later}
+use Rattle.device_model.specs.RetiredPlaces.{after_retire}
+use Rattle.node_core.specs.Stands.{InputBytes, MayGive, frames_by, ended_by, PlanStands, PipesStand, ClientInAt, ClientsIn, StandsAt, Later}
 use Rattle.node_core.specs.declared.link.Link.{Link}
 use Rattle.node_core.proofs.PieceCounts.{done_more, done_same}
 use Rattle.node_core.proofs.Parts.{and_none, none_and, off_stopped, one_at, known_at, each_goes, link_before, link_after, on_active, IsReady, ready, ready_used, plan_counted, lines_in_same, lines_out_same}

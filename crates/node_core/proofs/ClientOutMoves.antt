@@ -24,7 +24,8 @@ use Rattle.node_core.specs.Links.{IsLinkOf, SameEntry, is_on, target_of}
 use Rattle.node_core.specs.Moves.{EachLink, is_to_client, gives_client, GivesClient}
 use Rattle.node_core.specs.NodeMoves.{ClientOutMove}
 use Rattle.node_core.specs.NodeView.{NodeView, HasLink, is_ready, done_at, taken_pieces, given_pieces}
-use Rattle.node_core.specs.Stands.{InputBytes, MayGive, frames_by, ended_by, out_after_retire, PlanStands, PipesStand, ClientOutAt, ClientsOut, StandsAt, Later}
+use Rattle.device_model.specs.RetiredPlaces.{out_after_retire}
+use Rattle.node_core.specs.Stands.{InputBytes, MayGive, frames_by, ended_by, PlanStands, PipesStand, ClientOutAt, ClientsOut, StandsAt, Later}
 use Rattle.node_core.specs.declared.link.Link.{Link}
 use Rattle.node_core.proofs.PieceCounts.{done_more, done_same}
 use Rattle.node_core.proofs.Parts.{and_none, one_at, known_at, each_goes, link_before, link_after, on_active, IsReady, ready, ready_used, plan_counted, lines_in_same, lines_out_same}

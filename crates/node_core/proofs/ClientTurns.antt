@@ -6,7 +6,8 @@ use Rattle.plan_file.specs.declared.connection.Connection.{Connection}
 use Rattle.device_model.specs.Moments.{turns_done, is_retired}
 use Rattle.device_model.specs.Through.{Inputs, own_input}
 use Rattle.cross_matrix.specs.Parts.{ClientInStands, ClientOutStands}
-use Rattle.node_core.specs.Stands.{ClientInAt, ClientOutAt, after_retire, out_after_retire}
+use Rattle.device_model.specs.RetiredPlaces.{after_retire, out_after_retire}
+use Rattle.node_core.specs.Stands.{ClientInAt, ClientOutAt}
 use Rattle.node_core.specs.declared.link.Link.{Link}
 use Rattle.node_core.proofs.Retired.{after_or, out_after_or, retired_so_far, not_retired, not_ending}
 

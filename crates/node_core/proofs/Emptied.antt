@@ -16,7 +16,7 @@ use Rattle.otn_ports.proofs.BaysLaws.{client_in_seen, client_in_set, only_client
 use Rattle.node_core.specs.Moves.{is_from_client, is_to_client}
 use Rattle.node_core.specs.NodeMoves.{RetiredBy, ends_here, retires_in, retires_out}
 use Rattle.node_core.specs.Retiring.{RetiredAt}
-use Rattle.node_core.specs.Stands.{after_retire, out_after_retire}
+use Rattle.device_model.specs.RetiredPlaces.{after_retire, out_after_retire}
 use Rattle.node_core.specs.declared.link.Link.{Link}
 use Rattle.node_core.specs.declared.link.Origin.{Origin}
 use Rattle.node_core.specs.declared.link.Origin.TheVariants as origin

@@ -23,8 +23,8 @@ use Rattle.device_model.specs.Through.{Inputs}
 use Rattle.device_model.specs.declared.outcome.Outcome.{Outcome}
 use Rattle.device_model.specs.declared.outcome.Outcome.TheVariants.{Done, Unfinished, Cut}
 use Rattle.node_core.specs.FaultlessRuns.{AreWell, EndsByInputs}
-use Rattle.node_core.specs.RunLeft.{Takings, MayBeInputs, RunLeft, RunOf}
-use Rattle.node_core.specs.Stands.{after_retire, out_after_retire}
+use Rattle.device_model.specs.RunLeft.{Takings, MayBeInputs, RunLeft, RunOf}
+use Rattle.device_model.specs.RetiredPlaces.{after_retire, out_after_retire}
 use Rattle.node_core.proofs.GivenRuns.{client_read, some_passes}
 
 -- ---- inputs that may be: those of which nothing follows

@@ -27,7 +27,8 @@ use Rattle.node_core.specs.Links.{origin_of}
 use Rattle.node_core.specs.NodeMoves.{FenceMove, RetiredBy, retires_in, retires_out}
 use Rattle.node_core.specs.NodeView.{NodeView, HasLineIn, HasLineOut, HasLink, is_ready, done_at, taken_pieces, given_pieces}
 use Rattle.node_core.specs.Ports.{index_of}
-use Rattle.node_core.specs.Stands.{InputBytes, MayGive, PlanStands, LinesIn, PipesStand, LinesOut, ClientInAt, ClientsIn, ClientOutAt, ClientsOut, StandsAt, Later, after_retire, out_after_retire}
+use Rattle.device_model.specs.RetiredPlaces.{after_retire, out_after_retire}
+use Rattle.node_core.specs.Stands.{InputBytes, MayGive, PlanStands, LinesIn, PipesStand, LinesOut, ClientInAt, ClientsIn, ClientOutAt, ClientsOut, StandsAt, Later}
 use Rattle.node_core.specs.declared.link.Link.{Link}
 use Rattle.node_core.specs.declared.link.Origin.{Origin}
 use Rattle.node_core.specs.declared.link.Origin.TheVariants as origin
@@ -36,7 +37,7 @@ use Rattle.node_core.specs.declared.link.Target.TheVariants as target
 use Rattle.node_core.proofs.ClientTurns.{place_kept, client_in_starts, client_in_goes_on, out_kept, client_out_starts, client_out_goes_on}
 use Rattle.node_core.proofs.LinkTurns.{Turned, turned, not_started, on_link, all_done, some_wanted, used_line, input_kind, at_start, at_end, pieces_from, next_pipe, own_next}
 use Rattle.node_core.proofs.Retired.{known_at, client_retires, client_retires_out, idle_retires, idle_retires_out}
-use Rattle.node_core.proofs.UsedPorts.{from_line_used, from_client_used, to_client_used}
+use Rattle.device_model.proofs.ConnectionPorts.{from_line_used, from_client_used, to_client_used}
 
 -- a connection starts with this turn, or has started before
 started_before : (start past now : ℕ) → now ≡ past + 1 → start ≤ now + 1 → start ≢ past + 1 + 1 → start ≤ past + 1

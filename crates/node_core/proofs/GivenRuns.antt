@@ -20,8 +20,8 @@ use Rattle.device_model.specs.Report.{Numbers}
 use Rattle.device_model.specs.Through.{Inputs}
 use Rattle.node_core.specs.GivenRuns.{HasGiven}
 use Rattle.device_model.specs.LineAsked.{MayHave, InputLeft}
-use Rattle.node_core.specs.RunLeft.{Takings, MayBeInputs, RunLeft, RunOf}
-use Rattle.node_core.specs.Stands.{after_retire}
+use Rattle.device_model.specs.RunLeft.{Takings, MayBeInputs, RunLeft, RunOf}
+use Rattle.device_model.specs.RetiredPlaces.{after_retire}
 
 -- ---- the connection of a port
 

@@ -25,8 +25,9 @@ use Rattle.cross_matrix.specs.declared.giving.GivingPart.TheVariants as giving
 use Rattle.node_core.specs.Moves.{is_to_client, has_client_out}
 use Rattle.node_core.specs.NodeView.{NodeView, HasLineOut, HasLink, done_at}
 use Rattle.node_core.specs.Ports.{index_of}
-use Rattle.node_core.specs.RunLeft.{OutputLeft, LineOutLeft, ClientOutLeft, OutputsLeft}
-use Rattle.node_core.specs.Stands.{InputBytes, MayGive, StandsAt, out_after_retire}
+use Rattle.device_model.specs.RunLeft.{OutputLeft, LineOutLeft, ClientOutLeft, OutputsLeft}
+use Rattle.device_model.specs.RetiredPlaces.{out_after_retire}
+use Rattle.node_core.specs.Stands.{InputBytes, MayGive, StandsAt}
 use Rattle.node_core.specs.declared.link.Link.{Link}
 use Rattle.node_core.proofs.ClientLinks.{to_client, one_or_none}
 use Rattle.node_core.proofs.NodeReads.{entry_of, entry_at, found_out, none_out, all_turns, is_past}

@@ -18,9 +18,10 @@ use Rattle.node_core.specs.Links.{IsLinkOf, origin_of, target_of}
 use Rattle.node_core.specs.Moves.{is_from_client, is_to_client}
 use Rattle.node_core.specs.NodeMoves.{ends_here, retires_in, retires_out}
 use Rattle.node_core.specs.NodeView.{NodeView, HasLink}
-use Rattle.node_core.specs.Stands.{PlanStands, after_retire, out_after_retire}
+use Rattle.device_model.specs.RetiredPlaces.{after_retire, out_after_retire}
+use Rattle.node_core.specs.Stands.{PlanStands}
 use Rattle.node_core.specs.declared.link.Link.{Link}
-use Rattle.node_core.proofs.UsedPorts.{uses_none}
+use Rattle.device_model.proofs.ConnectionPorts.{uses_none}
 
 -- ---- twice
 

@@ -27,10 +27,10 @@ use Rattle.device_model.specs.TwoWorlds.{SameInput, AgreeOnEnd, HasFrame, HaveFr
 use Rattle.device_model.proofs.MadeFrames.{made_whole}
 use Rattle.device_model.proofs.OwnBytes.{inside, writes_as_got}
 use Rattle.device_model.proofs.WorldInputs.{gives_the_same_input, leaves_the_same, sound_of}
-use Rattle.node_core.specs.RunLeft.{LineOutLeft, ClientOutLeft}
+use Rattle.device_model.specs.RunLeft.{LineOutLeft, ClientOutLeft}
 use Rattle.node_core.specs.RunsAlike.{World, IsWorld, ShareOne, IsFrontOfOther, HasLived, BothLived, HasPlace, HasGone, LeftAlike, state_of_client, went_out}
-use Rattle.node_core.specs.Stands.{out_after_retire}
-use Rattle.node_core.proofs.UsedPorts.{to_line_used}
+use Rattle.device_model.specs.RetiredPlaces.{out_after_retire}
+use Rattle.device_model.proofs.ConnectionPorts.{to_line_used}
 
 -- ---- two texts of one
 

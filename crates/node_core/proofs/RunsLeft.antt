@@ -15,7 +15,7 @@ use Rattle.device_model.specs.Through.{Inputs}
 use Rattle.device_model.specs.declared.outcome.Outcome.{Outcome}
 use Rattle.node_core.specs.Asking.{LinesAsked}
 use Rattle.node_core.specs.NodeView.{NodeView, HasLineIn}
-use Rattle.node_core.specs.RunLeft.{OutputsLeft, RunLeft}
+use Rattle.device_model.specs.RunLeft.{OutputsLeft, RunLeft}
 use Rattle.node_core.specs.Settling.{Settled}
 use Rattle.node_core.specs.Stands.{InputBytes, MayGive, StandsAt}
 use Rattle.node_core.proofs.OutputsLeft.{OutputsStand}

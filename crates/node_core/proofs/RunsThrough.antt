@@ -30,8 +30,8 @@ use Rattle.device_model.proofs.CarriedFrom.{carries_a_client, carries_a_signal}
 use Rattle.device_model.proofs.Delivery.{delivers_its_packets}
 use Rattle.device_model.proofs.GotStreams.{gets_the_stream, gets_the_signal}
 use Rattle.device_model.proofs.SoundPlans.{sound_plan}
-use Rattle.node_core.specs.RunLeft.{LineOutLeft}
-use Rattle.node_core.specs.Stands.{out_after_retire}
+use Rattle.device_model.specs.RunLeft.{LineOutLeft}
+use Rattle.device_model.specs.RetiredPlaces.{out_after_retire}
 use Rattle.node_core.specs.RunsAlike.{World, IsWorld, state_of_line, state_of_client, went_out}
 use Rattle.node_core.specs.RunsThrough.{LivedIn, IsFrontOf, FileWent, LeftThrough, read_of, CarriedOn, CarriedIn}
 use Rattle.node_core.proofs.RunsAlike.{all_of, lived_on, sound_in, client_left, text_in, text_lived, line_left, dead_stays}

@@ -41,14 +41,14 @@ use Rattle.device_model.specs.UpToTurn.{AgreeInTurn, BringAlike, AgreeUpTo}
 use Rattle.device_model.proofs.WorldInputs.{leaves_the_same}
 use Rattle.device_model.proofs.UpToTurn.{looks_not_ahead, shows_the_same_up_to}
 use Rattle.device_model.specs.LineAsked.{MayHave}
-use Rattle.node_core.specs.RunLeft.{Takings, MayBeInputs}
+use Rattle.device_model.specs.RunLeft.{Takings, MayBeInputs}
 use Rattle.node_core.specs.RunsAlike.{World, IsWorld, went_out}
 use Rattle.node_core.specs.RunsThrough.{IsFrontOf, CarriedOn}
 use Rattle.node_core.specs.SeenRuns.{Run, IsRun, LineGave, ClientGave, AgreeOnInput, ShareInput, LineGot, ClientGot, LineLived, ClientLived, SameText, SameOnLine, SameOutput, AgreeOnInputUpTo, ShareInputUpTo, SameLineUpTo, Shows, Gave, GaveTo, FileGot, PutThrough, read_back, CarriesOver}
 use Rattle.node_core.proofs.GivenRuns.{some_passes, line_had, client_had}
 use Rattle.node_core.proofs.RunsAlike.{left_alike, places_as_got, all_gone, line_left}
 use Rattle.node_core.proofs.RunsThrough.{left_through, carried_in}
-use Rattle.node_core.proofs.UsedPorts.{from_line_used, one_passes}
+use Rattle.device_model.proofs.ConnectionPorts.{from_line_used, one_passes}
 
 -- ---- what went out is what the port got
 

@@ -10,7 +10,7 @@ use Rattle.device_model.specs.Outcomes.{HasMore, HasOpen, place_state}
 use Rattle.device_model.specs.Report.{Numbers}
 use Rattle.device_model.specs.Through.{Inputs}
 use Rattle.device_model.specs.declared.outcome.Outcome.TheVariants.{Done, Unfinished, Cut}
-use Rattle.node_core.specs.RunLeft.{Takings, MayBeInputs, RunLeft}
+use Rattle.device_model.specs.RunLeft.{Takings, MayBeInputs, RunLeft}
 
 -- the count of faults of a port's place
 abbrev pub place_faults : BaysView → PortName → ℕ

@@ -8,7 +8,7 @@ use Rattle.device_model.specs.Inputs.{AreInputs}
 use Rattle.device_model.specs.Moments.{uses}
 use Rattle.device_model.specs.Report.{Numbers}
 use Rattle.device_model.specs.Through.{Inputs}
-use Rattle.node_core.specs.RunLeft.{Takings, MayBeInputs, RunLeft, RunOf}
+use Rattle.device_model.specs.RunLeft.{Takings, MayBeInputs, RunLeft, RunOf}
 
 -- each input line and each client that the plan reads tells the bytes that it had to give
 pub record HasGiven (plan : Plan) (first last : BaysView) : Type 0 where

@@ -10,9 +10,7 @@ pub mod Built
 pub mod LinkMoves
 pub mod LineEnds
 pub mod Retiring
-pub mod RunLeft
 pub mod Settling
-pub mod RunNumbers
 pub mod Asking
 pub mod GivenRuns
 pub mod RunsAlike

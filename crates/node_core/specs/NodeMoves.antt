@@ -19,7 +19,7 @@ use Rattle.node_core.specs.Links.{IsLinkOf, SameEntry}
 use Rattle.node_core.specs.Moves.{EachLink, ReadsLine, FillLine, WritesLine, TakesClient, GivesClient, LineEnds, Fences, is_from_client, is_to_client}
 use Rattle.node_core.specs.NodeView.{NodeView, HasLineIn, HasLineOut, done_at}
 use Rattle.node_core.specs.Pieces.{IsCounted, IsFresh, wanted_of}
-use Rattle.node_core.specs.Stands.{after_retire, out_after_retire}
+use Rattle.device_model.specs.RetiredPlaces.{after_retire, out_after_retire}
 use Rattle.node_core.specs.declared.link.Link.{Link}
 use Rattle.node_core.specs.declared.link.Origin.{Origin}
 use Rattle.node_core.specs.declared.link.Origin.TheVariants as origin

@@ -1,7 +1,7 @@
 -- Client places that are emptied, one connection after the other.
 use Rattle.std.specs.Prelude.{◌≡◌, ℕ, Bool}
 use Rattle.otn_ports.specs.Views.{BaysView, client_in_at, client_out_at}
-use Rattle.node_core.specs.Stands.{after_retire, out_after_retire}
+use Rattle.device_model.specs.RetiredPlaces.{after_retire, out_after_retire}
 
 -- these client places were emptied, where they were live, and all others are as they were
 pub record RetiredAt (ins outs : ℕ → Bool) (was is : BaysView) : Type 0 where

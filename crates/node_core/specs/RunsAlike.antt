@@ -17,7 +17,7 @@ use Rattle.device_model.specs.Numbers.{Went}
 use Rattle.device_model.specs.Report.{Numbers}
 use Rattle.device_model.specs.Through.{Inputs}
 use Rattle.device_model.specs.TwoWorlds.{AgreeOnEnd, HaveSameByte}
-use Rattle.node_core.specs.RunLeft.{Takings, MayBeInputs, RunLeft}
+use Rattle.device_model.specs.RunLeft.{Takings, MayBeInputs, RunLeft}
 
 -- ---- runs
 

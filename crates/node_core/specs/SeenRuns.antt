@@ -32,7 +32,7 @@ use Rattle.device_model.specs.Report.{Numbers}
 use Rattle.device_model.specs.Through.{Inputs, OwnInput, of_line, of_client, of_signal, text_by}
 use Rattle.device_model.specs.TwoWorlds.{HaveSameByte}
 use Rattle.device_model.specs.UpToTurn.{AgreeInTurn, BringAlike}
-use Rattle.node_core.specs.RunLeft.{Takings, RunLeft, SamePlace}
+use Rattle.device_model.specs.RunLeft.{Takings, RunLeft, SamePlace}
 use Rattle.node_core.specs.RunsAlike.{IsFrontOfOther, HasLived, HasPlace, HasGone}
 use Rattle.node_core.specs.RunsThrough.{IsFrontOf, CarriedOn}
 

@@ -1,8 +1,7 @@
 -- Where a node and its bays stand: in turn past + 1 of a plan, after so many pieces of each port. No definition of a part names two ports.
-use Rattle.std.specs.Prelude.{◌≡◌, ◌<◌, ◌≤◌, ◌+◌, ◌*◌, ℕ, Bool, true, false, ◌==◌, if◌then◌else◌, Option, None, Some, List, [], length, slice_get}
+use Rattle.std.specs.Prelude.{◌≡◌, ◌<◌, ◌≤◌, ◌+◌, ◌*◌, ℕ, Bool, true, false, ◌==◌, Option, None, Some, List, [], length, slice_get}
 use Rattle.otn_base.specs.declared.kind.PortName.{PortName}
 use Rattle.otn_base.specs.declared.kind.PortName.TheVariants as port
-use Rattle.otn_ports.specs.Retiring.{retired_in, retired_out}
 use Rattle.otn_ports.specs.Views.{InView, OutView, BaysView, line_in_at, line_out_at, client_in_at, client_out_at}
 use Rattle.line_side.specs.LineForm.{size_of}
 use Rattle.line_side.specs.LineOutput.{LineOutView, FramePut, LineMade}
@@ -18,6 +17,7 @@ use Rattle.tributary_model.specs.Places.{Taken}
 use Rattle.device_model.specs.Entries.{form_in, form_out, own_turn, IsActive}
 use Rattle.device_model.specs.LineFiles.{AreFramesOf}
 use Rattle.device_model.specs.Moments.{uses, pieces_of, turns_done, is_retired}
+use Rattle.device_model.specs.RetiredPlaces.{after_retire, out_after_retire}
 use Rattle.device_model.specs.Through.{Inputs, of_client, own_input}
 use Rattle.device_model.specs.TurnFrames.{frames_in}
 use Rattle.cross_matrix.specs.Parts.{ClientInStands, ClientOutStands, MayShow}
@@ -51,15 +51,6 @@ abbrev pub ended_by : FromEnd → (k : ℕ) → Bool
 ended_by (from_end.Line a port slots) k = false
 ended_by (from_end.Client n) k = k == 1
 ended_by (from_end.Signal signal) k = false
-
--- ---- places that were retired
-
--- a client's place, input or output, after the stop of its connection, which retires or not
-abbrev pub after_retire : Bool → InView → InView
-after_retire retires place = if retires then retired_in place else place
-
-abbrev pub out_after_retire : Bool → OutView → OutView
-out_after_retire retires place = if retires then retired_out place else place
 
 -- ---- the parts of a moment
 

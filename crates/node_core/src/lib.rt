@@ -8,7 +8,7 @@
 //! - `lines_in`, `lines_out`, `clients`: a piece of each kind of port.
 //! - `turn`: the end of a turn; `retire`: client places at the stop of their connection.
 //! - `settle`: the end of a run; `reads`: what a node tells of its ports and its connections; `tally`: all of it together, as the
-//!   `numbers` of a run for its report.
+//!   numbers of a run for its report.
 //! - `damage`: laws of what a run leaves on a connection whose line was damaged.
 //! - `laws`: what follows of what a run leaves, of runs of what was given, of two worlds, and of what a connection carries; also by what
 //!   is seen of the places alone.
@@ -22,7 +22,6 @@ mod lines_in;
 mod lines_out;
 mod link;
 mod node;
-mod numbers;
 mod pieces;
 mod ports;
 mod reads;
@@ -33,9 +32,8 @@ mod tally;
 mod turn;
 
 pub use damage::{runs_agree_but_for_one, runs_hand_on_a_front, runs_heal};
-pub use device_model::{FromState, Outcome};
+pub use device_model::{ClientInCounts, ClientOutCounts, FromState, Outcome, RunNumbers};
 pub use laws::{faultless_runs, outputs_through, run_of_given, runs_agree, runs_carry, seen_runs};
 pub use node::Node;
-pub use numbers::{ClientInCounts, ClientOutCounts, RunNumbers};
 pub use ports::uses;
 pub use runs::{carry, carry_node};

@@ -10,7 +10,7 @@ use Rattle.plan_file.proofs.Sounds.{accepted_without_fault}
 use Rattle.device_model.specs.Inputs.{AreInputs}
 use Rattle.device_model.specs.Through.{Inputs}
 use Rattle.node_core.specs.GivenRuns.{HasGiven}
-use Rattle.node_core.specs.RunLeft.{MayBeInputs}
+use Rattle.device_model.specs.RunLeft.{MayBeInputs}
 use Rattle.node_core.specs.RunsAlike.{IsWorld, ShareOne, LeftAlike}
 use Rattle.node_core.specs.RunsThrough.{LeftThrough, CarriedIn}
 use Rattle.node_core.proofs.GivenRuns.{given_inputs}

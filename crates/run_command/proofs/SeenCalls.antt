@@ -6,7 +6,7 @@ use Rattle.plan_file.specs.Answer.{plan_of_text}
 use Rattle.plan_file.specs.declared.connection.Connection.{Connection}
 use Rattle.plan_file.specs.declared.plan.Plan.{Plan}
 use Rattle.device_model.specs.Moments.{uses}
-use Rattle.node_core.specs.RunLeft.{RunLeft, SamePlace}
+use Rattle.device_model.specs.RunLeft.{RunLeft, SamePlace}
 use Rattle.node_core.specs.SeenRuns.{Run, IsRun, ShareInput, SameOutput, ShareInputUpTo, SameLineUpTo, PutThrough, CarriesOver}
 use Rattle.node_core.proofs.SeenRuns.{seen_alike, not_ahead as seen_not_ahead, puts_through, carries_over}
 use Rattle.command_base.specs.Device.{Device}

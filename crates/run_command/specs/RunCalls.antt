@@ -9,7 +9,7 @@ use Rattle.device_model.specs.Inputs.{AreInputs}
 use Rattle.device_model.specs.Numbers.{Went}
 use Rattle.device_model.specs.Through.{Inputs}
 use Rattle.node_core.specs.GivenRuns.{HasGiven}
-use Rattle.node_core.specs.RunLeft.{MayBeInputs}
+use Rattle.device_model.specs.RunLeft.{MayBeInputs}
 use Rattle.node_core.specs.RunsAlike.{World, ShareOne, LeftAlike}
 use Rattle.node_core.specs.RunsThrough.{LeftThrough, CarriedIn}
 use Rattle.command_base.specs.Device.{Device}

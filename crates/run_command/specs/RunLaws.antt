@@ -6,7 +6,7 @@ use Rattle.plan_file.specs.declared.plan.Plan.{Plan}
 use Rattle.device_model.specs.Outcomes.{HasMore, HasOpen}
 use Rattle.device_model.specs.Through.{Inputs}
 use Rattle.node_core.specs.FaultlessRuns.{AreWell}
-use Rattle.node_core.specs.RunLeft.{MayBeInputs}
+use Rattle.device_model.specs.RunLeft.{MayBeInputs}
 use Rattle.command_base.specs.Device.{Device}
 use Rattle.run_command.specs.RunAnswers.{PlanRan, RunAnswers, TextRan}
 use Rattle.command_base.specs.AnswerWords.{IsWell}

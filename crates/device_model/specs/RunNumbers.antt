@@ -2,9 +2,9 @@
 use Rattle.std.specs.Prelude.{false, None, get_or}
 use Rattle.line_side.specs.declared.counts.LineCounts.{LineCounts}
 use Rattle.device_model.specs.Report.{ClientInNumbers, ClientOutNumbers, Numbers}
-use Rattle.node_core.specs.declared.numbers.ClientInCounts.{ClientInCounts}
-use Rattle.node_core.specs.declared.numbers.ClientOutCounts.{ClientOutCounts}
-use Rattle.node_core.specs.declared.numbers.RunNumbers.{RunNumbers}
+use Rattle.device_model.specs.declared.numbers.ClientInCounts.{ClientInCounts}
+use Rattle.device_model.specs.declared.numbers.ClientOutCounts.{ClientOutCounts}
+use Rattle.device_model.specs.declared.numbers.RunNumbers.{RunNumbers}
 
 -- a line input of which no frame was used
 abbrev pub no_counts : LineCounts

@@ -1,5 +1,5 @@
 // The numbers of a settled run, as they are handed over to its report.
-use device_model::{FromState, Outcome};
+use crate::outcome::{FromState, Outcome};
 use line_side::LineCounts;
 use otn_base::limits::{CLIENTS, LINES, MOST_CONNECTIONS};
 

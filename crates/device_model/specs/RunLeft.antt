@@ -20,7 +20,7 @@ use Rattle.device_model.specs.Numbers.{Went, AreNumbers}
 use Rattle.device_model.specs.Outcomes.{emitted_in_all}
 use Rattle.device_model.specs.Report.{Numbers}
 use Rattle.device_model.specs.Through.{Inputs, own_input}
-use Rattle.node_core.specs.Stands.{after_retire, out_after_retire}
+use Rattle.device_model.specs.RetiredPlaces.{after_retire, out_after_retire}
 
 -- ---- what was taken
 
