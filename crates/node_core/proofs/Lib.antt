@@ -37,9 +37,3 @@ pub mod RunsLeft
 pub mod OutputsLeft
 pub mod NumbersLeft
 pub mod WholeRuns
-pub mod GivenRuns
-pub mod RunsAlike
-pub mod FaultlessRuns
-pub mod RunsThrough
-pub mod SeenRuns
-pub mod RunsDamaged

@@ -12,9 +12,3 @@ pub mod LineEnds
 pub mod Retiring
 pub mod Settling
 pub mod Asking
-pub mod GivenRuns
-pub mod RunsAlike
-pub mod FaultlessRuns
-pub mod RunsThrough
-pub mod SeenRuns
-pub mod RunsDamaged

@@ -9,15 +9,10 @@
 //! - `turn`: the end of a turn; `retire`: client places at the stop of their connection.
 //! - `settle`: the end of a run; `reads`: what a node tells of its ports and its connections; `tally`: all of it together, as the
 //!   numbers of a run for its report.
-//! - `damage`: laws of what a run leaves on a connection whose line was damaged.
-//! - `laws`: what follows of what a run leaves, of runs of what was given, of two worlds, and of what a connection carries; also by what
-//!   is seen of the places alone.
 #![tactic(auto)]
 
 mod build;
 mod clients;
-mod damage;
-mod laws;
 mod lines_in;
 mod lines_out;
 mod link;
@@ -31,9 +26,7 @@ mod settle;
 mod tally;
 mod turn;
 
-pub use damage::{runs_agree_but_for_one, runs_hand_on_a_front, runs_heal};
 pub use device_model::{ClientInCounts, ClientOutCounts, FromState, Outcome, RunNumbers};
-pub use laws::{faultless_runs, outputs_through, run_of_given, runs_agree, runs_carry, seen_runs};
 pub use node::Node;
 pub use ports::uses;
 pub use runs::{carry, carry_node};
