@@ -19,8 +19,8 @@ use Rattle.cross_matrix.specs.Parts.{ClientInStands, ClientOutStands}
 use Rattle.cross_matrix.specs.Pipes.{PipeStands}
 use Rattle.node_core.specs.Built.{AreNewLinesIn, AreNewLinesOut, IsNewLink, AreNewLinks}
 use Rattle.node_core.specs.NodeView.{NodeView, done_at, taken_pieces, given_pieces}
-use Rattle.node_core.specs.Pieces.{wanted_of, IsFresh}
-use Rattle.node_core.specs.Ports.{index_of}
+use Rattle.turn_pieces.specs.Pieces.{wanted_of, IsFresh}
+use Rattle.turn_pieces.specs.Ports.{index_of}
 use Rattle.device_model.specs.RetiredPlaces.{after_retire, out_after_retire}
 use Rattle.node_core.specs.Stands.{PlanStands, LinesIn, PipesStand, LinesOut, ClientInAt, ClientsIn, ClientOutAt, ClientsOut, StandsAt, no_bytes}
 use Rattle.node_core.specs.declared.link.Link.{Link}

@@ -25,7 +25,7 @@ use Rattle.node_core.specs.NodeView.{NodeView, HasLink, is_ready, done_at, taken
 use Rattle.device_model.specs.RetiredPlaces.{after_retire}
 use Rattle.node_core.specs.Stands.{InputBytes, MayGive, frames_by, ended_by, PlanStands, PipesStand, ClientInAt, ClientsIn, StandsAt, Later}
 use Rattle.node_core.specs.declared.link.Link.{Link}
-use Rattle.node_core.proofs.PieceCounts.{done_more, done_same}
+use Rattle.turn_pieces.proofs.PieceCounts.{done_more, done_same}
 use Rattle.node_core.proofs.Parts.{and_none, none_and, off_stopped, one_at, known_at, each_goes, link_before, link_after, on_active, IsReady, ready, ready_used, plan_counted, lines_in_same, lines_out_same}
 use Rattle.node_core.proofs.ClientLinks.{HasSome, one_or_none, both_left, both_right, left_off, active_on, active_retired, active_turns, idle_turns, from_or_not, from_client, client_from, taken_but_in, given_but_in, none_in, pipe_as, clients_out_as}
 

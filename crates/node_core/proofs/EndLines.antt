@@ -3,7 +3,7 @@ use Rattle.std.proofs.Common.{◌≡◌, ◌<◌, ◌≤◌, ℕ, Bool, false, n
 use Rattle.otn_base.specs.declared.kind.PortName.TheVariants as port
 use Rattle.line_side.specs.LineStands.{LineView}
 use Rattle.node_core.specs.LineEnds.{ends_if}
-use Rattle.node_core.specs.Pieces.{PiecesView, wanted_of}
+use Rattle.turn_pieces.specs.Pieces.{PiecesView, wanted_of}
 
 -- the lines below a have ended their turn where they are used, and the others are as they were
 pub record EndedBelow (pieces : PiecesView) (a : ℕ) (olds news : List LineView) (wholes : List Bool) : Type 0 where

@@ -26,7 +26,7 @@ use Rattle.cross_matrix.specs.Pipes.{PipeStands}
 use Rattle.node_core.specs.Links.{origin_of}
 use Rattle.node_core.specs.NodeMoves.{FenceMove, RetiredBy, retires_in, retires_out}
 use Rattle.node_core.specs.NodeView.{NodeView, HasLineIn, HasLineOut, HasLink, is_ready, done_at, taken_pieces, given_pieces}
-use Rattle.node_core.specs.Ports.{index_of}
+use Rattle.turn_pieces.specs.Ports.{index_of}
 use Rattle.device_model.specs.RetiredPlaces.{after_retire, out_after_retire}
 use Rattle.node_core.specs.Stands.{InputBytes, MayGive, PlanStands, LinesIn, PipesStand, LinesOut, ClientInAt, ClientsIn, ClientOutAt, ClientsOut, StandsAt, Later}
 use Rattle.node_core.specs.declared.link.Link.{Link}

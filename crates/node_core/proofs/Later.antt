@@ -7,9 +7,9 @@ use Rattle.otn_ports.specs.Views.{BaysView}
 use Rattle.plan_file.specs.declared.plan.Plan.{Plan}
 use Rattle.node_core.specs.NodeMoves.{FenceMove}
 use Rattle.node_core.specs.NodeView.{NodeView, is_ready, ready_number, left_of}
-use Rattle.node_core.specs.Pieces.{is_open, open_count, left_now, in_a_turn, IsCounted}
+use Rattle.turn_pieces.specs.Pieces.{is_open, open_count, left_now, in_a_turn, IsCounted}
 use Rattle.node_core.specs.Stands.{InputBytes, StandsAt, Later}
-use Rattle.node_core.proofs.PieceCounts.{left_counted, turn_counted, left_fresh, turn_same, none_left, none_open}
+use Rattle.turn_pieces.proofs.PieceCounts.{left_counted, turn_counted, left_fresh, turn_same, none_left, none_open}
 
 -- ---- moments
 

@@ -1,8 +1,3 @@
-pub mod Sums
-pub mod PortNumbers
-pub mod PieceCounts
-pub mod UsedPorts
-pub mod PiecesLeft
 pub mod Senders
 pub mod LinkSteps
 pub mod LineFrames

@@ -34,7 +34,7 @@ use Rattle.node_core.specs.Stands.{InputBytes, MayGive, frames_by, ended_by, Pla
 use Rattle.node_core.specs.declared.link.Link.{Link}
 use Rattle.node_core.specs.declared.link.Target.{Target}
 use Rattle.node_core.specs.declared.link.Target.TheVariants as target
-use Rattle.node_core.proofs.PieceCounts.{done_more, done_same}
+use Rattle.turn_pieces.proofs.PieceCounts.{done_more, done_same}
 use Rattle.node_core.proofs.Parts.{and_none, none_and, off_stopped, one_at, each_goes, link_before, Kept, on_active, IsReady, ready, ready_used, ready_less, plan_counted, lines_out_same, clients_in_same, clients_out_same, clients_may}
 
 -- ---- the frames that pieces came to

@@ -25,16 +25,16 @@ use Rattle.node_core.specs.Links.{IsLinkOf, SameEntry, origin_of, is_on}
 use Rattle.node_core.specs.Moves.{LineEnds, Fences}
 use Rattle.node_core.specs.NodeMoves.{TurnsOver, FenceMove, whole_for}
 use Rattle.node_core.specs.NodeView.{NodeView, HasLineIn, HasLink, is_ready, done_at}
-use Rattle.node_core.specs.Pieces.{wanted_of}
-use Rattle.node_core.specs.Ports.{index_of}
+use Rattle.turn_pieces.specs.Pieces.{wanted_of}
+use Rattle.turn_pieces.specs.Ports.{index_of}
 use Rattle.device_model.specs.TurnFrames.{frames_in}
 use Rattle.node_core.specs.Stands.{PlanStands, frames_by, ended_by}
 use Rattle.node_core.specs.declared.link.Link.{Link}
 use Rattle.node_core.proofs.Later.{shut_ports}
-use Rattle.node_core.proofs.PiecesLeft.{shut_all, used_wanted}
+use Rattle.turn_pieces.proofs.PiecesLeft.{shut_all, used_wanted}
 use Rattle.node_core.proofs.Retired.{known_at}
 use Rattle.device_model.proofs.TurnFrames.{frames_none, frames_many, turn_frames}
-use Rattle.node_core.proofs.UsedPorts.{used_within}
+use Rattle.turn_pieces.proofs.UsedPorts.{used_within}
 
 -- ---- connections
 

@@ -16,10 +16,10 @@ use Rattle.device_model.proofs.SoundPlans.{sound_plan}
 use Rattle.node_core.proofs.Building.{IsNewNode}
 use Rattle.node_core.specs.NodeMoves.{FenceMove}
 use Rattle.node_core.specs.NodeView.{NodeView, HasLineIn, LineCount, IsNode, done_at}
-use Rattle.node_core.specs.Pieces.{wanted_of}
-use Rattle.node_core.specs.Ports.{index_of}
+use Rattle.turn_pieces.specs.Pieces.{wanted_of}
+use Rattle.turn_pieces.specs.Ports.{index_of}
 use Rattle.node_core.proofs.Retired.{known_at}
-use Rattle.node_core.proofs.UsedPorts.{pieces_used, pieces_unused}
+use Rattle.turn_pieces.proofs.UsedPorts.{pieces_used, pieces_unused}
 
 -- ---- a new node
 

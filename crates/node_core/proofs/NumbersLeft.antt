@@ -21,7 +21,7 @@ use Rattle.device_model.specs.Report.{Numbers, ClientOutNumbers}
 use Rattle.device_model.specs.Through.{Inputs, own_input}
 use Rattle.device_model.proofs.OneFile.{one_file}
 use Rattle.node_core.specs.NodeView.{NodeView, HasLineIn, done_at}
-use Rattle.node_core.specs.Ports.{index_of}
+use Rattle.turn_pieces.specs.Ports.{index_of}
 use Rattle.device_model.specs.RunLeft.{OutputsLeft}
 use Rattle.node_core.specs.Settling.{ToldBy}
 use Rattle.node_core.specs.Stands.{InputBytes, MayGive, StandsAt}
@@ -29,7 +29,7 @@ use Rattle.node_core.proofs.NodeReads.{entry_of, is_past, client_numbers_then, l
 use Rattle.node_core.proofs.OutputsLeft.{AllWent, all_went, outputs_left}
 use Rattle.node_core.proofs.Parts.{known_at}
 use Rattle.device_model.proofs.ConnectionPorts.{from_client_used, to_client_used}
-use Rattle.node_core.proofs.UsedPorts.{used_within}
+use Rattle.turn_pieces.proofs.UsedPorts.{used_within}
 
 -- ---- lines
 

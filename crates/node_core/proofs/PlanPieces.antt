@@ -8,11 +8,11 @@ use Rattle.otn_base.specs.declared.limits.TheConstants.{CLIENTS, LINES}
 use Rattle.plan_file.specs.declared.plan.Plan.{Plan}
 use Rattle.device_model.specs.Moments.{over_ports, pieces_of}
 use Rattle.node_core.specs.NodeView.{NodeView, left_of, done_at}
-use Rattle.node_core.specs.Ports.{index_of}
-use Rattle.node_core.specs.Pieces.{left_now, in_a_turn, IsFresh}
+use Rattle.turn_pieces.specs.Ports.{index_of}
+use Rattle.turn_pieces.specs.Pieces.{left_now, in_a_turn, IsFresh}
 use Rattle.node_core.specs.Stands.{PlanStands}
 use Rattle.node_core.proofs.Later as later
-use Rattle.node_core.proofs.PiecesLeft.{left_moment, left_over, pieces_left}
+use Rattle.turn_pieces.proofs.PiecesLeft.{left_moment, left_over, pieces_left}
 
 pub left_pieces : (plan : Plan) (node : NodeView) → PlanStands plan node → left_of node ≡ pieces_left plan (record { past = node.past; done = done_at node })
 left_pieces plan node stands = by_turn (nat_lt node.past node.turns) refl

@@ -29,8 +29,8 @@ use Rattle.node_core.specs.Asking.{asks_line, LinesAsked, LinesAnswer, is_cut, C
 use Rattle.node_core.specs.Links.{origin_of}
 use Rattle.node_core.specs.Moves.{is_from_client}
 use Rattle.node_core.specs.NodeView.{NodeView, HasLineIn, HasLink, IsNode, done_at}
-use Rattle.node_core.specs.Pieces.{wanted_of}
-use Rattle.node_core.specs.Ports.{index_of, port_count}
+use Rattle.turn_pieces.specs.Pieces.{wanted_of}
+use Rattle.turn_pieces.specs.Ports.{index_of, port_count}
 use Rattle.device_model.specs.RunLeft.{Takings, MayBeInputs, ClientInLeft, SamePlace}
 use Rattle.node_core.specs.Settling.{Settled}
 use Rattle.device_model.specs.RetiredPlaces.{after_retire}
@@ -38,10 +38,10 @@ use Rattle.node_core.specs.Stands.{InputBytes, MayGive, PlanStands, ClientInAt, 
 use Rattle.node_core.specs.declared.link.Link.{Link}
 use Rattle.node_core.specs.declared.link.Origin.TheVariants as origin
 use Rattle.node_core.proofs.Parts.{known_at}
-use Rattle.node_core.proofs.PortNumbers.{line_in_index}
+use Rattle.turn_pieces.proofs.PortNumbers.{line_in_index}
 use Rattle.node_core.proofs.Retired.{entry_at, from_as, is_client}
 use Rattle.device_model.proofs.ConnectionPorts.{from_client_used}
-use Rattle.node_core.proofs.UsedPorts.{used_within, used_pieces}
+use Rattle.turn_pieces.proofs.UsedPorts.{used_within, used_pieces}
 use Rattle.device_model.proofs.SettledLines.{may_at_end, EndOfLine, end_of_line, line_left}
 use Rattle.node_core.proofs.SettledClients.{more_of, goes_on_of, text_left, text_may, all_done, retires_at_end, more_before, died_before, text_read}
 

@@ -10,11 +10,11 @@ use Rattle.node_core.specs.LineEnds.{LinesEnd, ends_if}
 use Rattle.node_core.specs.Moves.{EachLink, LineEnds, Fences}
 use Rattle.node_core.specs.NodeMoves.{Starts, TurnsOver, FenceMove, whole_for}
 use Rattle.node_core.specs.NodeView.{NodeView, HasLineIn, IsNode, is_ready}
-use Rattle.node_core.specs.Pieces.{PiecesView, wanted_of, done_of, IsFresh}
-use Rattle.node_core.specs.Ports.{index_of}
+use Rattle.turn_pieces.specs.Pieces.{PiecesView, wanted_of, done_of, IsFresh}
+use Rattle.turn_pieces.specs.Ports.{index_of}
 use Rattle.node_core.specs.declared.link.Link.{Link}
 use Rattle.node_core.proofs.Later.{shut_ports}
-use Rattle.node_core.proofs.PieceCounts.{shut_done}
+use Rattle.turn_pieces.proofs.PieceCounts.{shut_done}
 use Rattle.node_core.proofs.Retired.{known_at}
 
 -- ---- lines

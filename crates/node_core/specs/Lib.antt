@@ -1,5 +1,3 @@
-pub mod Ports
-pub mod Pieces
 pub mod Links
 pub mod NodeView
 pub mod Stands

@@ -4,7 +4,7 @@ use Rattle.otn_base.specs.declared.kind.PortName.TheVariants as port
 use Rattle.otn_base.specs.declared.limits.TheConstants.{LINES}
 use Rattle.line_side.specs.LineStands.{LineView}
 use Rattle.node_core.specs.Moves.{LineEnds}
-use Rattle.node_core.specs.Pieces.{PiecesView, wanted_of}
+use Rattle.turn_pieces.specs.Pieces.{PiecesView, wanted_of}
 
 -- the turn of a line ends where it is used, and a line that is not stays
 abbrev pub ends_if : (used : Bool) → (old new : LineView) → (whole : Bool) → Type 0

@@ -18,7 +18,7 @@ use Rattle.cross_matrix.specs.Pipes.{PipeStands}
 use Rattle.node_core.specs.Links.{IsLinkOf, SameEntry}
 use Rattle.node_core.specs.Moves.{EachLink, ReadsLine, FillLine, WritesLine, TakesClient, GivesClient, LineEnds, Fences, is_from_client, is_to_client}
 use Rattle.node_core.specs.NodeView.{NodeView, HasLineIn, HasLineOut, done_at}
-use Rattle.node_core.specs.Pieces.{IsCounted, IsFresh, wanted_of}
+use Rattle.turn_pieces.specs.Pieces.{IsCounted, IsFresh, wanted_of}
 use Rattle.device_model.specs.RetiredPlaces.{after_retire, out_after_retire}
 use Rattle.node_core.specs.declared.link.Link.{Link}
 use Rattle.node_core.specs.declared.link.Origin.{Origin}

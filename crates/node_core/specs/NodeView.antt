@@ -6,7 +6,7 @@ use Rattle.otn_base.specs.declared.kind.PortName.{PortName}
 use Rattle.otn_base.specs.declared.kind.PortName.TheVariants as port
 use Rattle.line_side.specs.LineOutput.{LineOutView}
 use Rattle.line_side.specs.LineStands.{LineView}
-use Rattle.node_core.specs.Pieces.{PiecesView, is_open, done_of, wanted_of, open_count, left_now, in_a_turn}
+use Rattle.turn_pieces.specs.Pieces.{PiecesView, is_open, done_of, wanted_of, open_count, left_now, in_a_turn}
 use Rattle.node_core.specs.declared.link.Link.{Link}
 use Rattle.node_core.specs.declared.link.Origin.{Origin}
 use Rattle.node_core.specs.declared.link.Origin.TheVariants as origin

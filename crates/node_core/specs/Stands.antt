@@ -24,7 +24,7 @@ use Rattle.cross_matrix.specs.Parts.{ClientInStands, ClientOutStands, MayShow}
 use Rattle.cross_matrix.specs.Pipes.{PipeStands}
 use Rattle.node_core.specs.Links.{IsLinkOf}
 use Rattle.node_core.specs.NodeView.{NodeView, HasLineIn, HasLineOut, HasLink, done_at, taken_pieces, given_pieces}
-use Rattle.node_core.specs.Pieces.{wanted_of}
+use Rattle.turn_pieces.specs.Pieces.{wanted_of}
 use Rattle.node_core.specs.declared.link.Link.{Link}
 
 -- the bytes that were taken of all inputs

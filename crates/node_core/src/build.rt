@@ -11,13 +11,13 @@ ghost use Rattle.device_model.specs.Entries.{form_in, form_out};
 ghost use Rattle.node_core.specs.Built.{AreNewLinesIn, AreNewLinesOut, AreNewLinks, IsNewLink};
 
 use crate::link::Link;
-use crate::ports::{has_number, kind_by};
 use device_model::accepted_plans;
 use line_side::{LineIn, LineOut};
 use otn_base::Memory;
 use otn_base::limits::LINES;
 use plan_file::Plan;
 use std::alloc::Global;
+use turn_pieces::{has_number, kind_by};
 
 /// The input lines of a plan, of which nothing was read.
 pub(crate) fn new_lines_in(alloc: Global, plan: &Plan) -> Result<Vec<LineIn>, Memory>

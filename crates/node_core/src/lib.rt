@@ -3,7 +3,6 @@
 //!
 //! - `node`: the node; `runs`: a whole run of it, in an order that a chooser says.
 //! - `build`: its parts before turn 1 of a plan.
-//! - `pieces`, `ports`: how many pieces each port has in a turn, and how many are done.
 //! - `link`: a connection of the node, with its pipe.
 //! - `lines_in`, `lines_out`, `clients`: a piece of each kind of port.
 //! - `turn`: the end of a turn; `retire`: client places at the stop of their connection.
@@ -17,8 +16,6 @@ mod lines_in;
 mod lines_out;
 mod link;
 mod node;
-mod pieces;
-mod ports;
 mod reads;
 mod retire;
 mod runs;
@@ -28,5 +25,5 @@ mod turn;
 
 pub use device_model::{ClientInCounts, ClientOutCounts, FromState, Outcome, RunNumbers};
 pub use node::Node;
-pub use ports::uses;
 pub use runs::{carry, carry_node};
+pub use turn_pieces::uses;

@@ -12,7 +12,7 @@ ghost use Rattle.plan_file.specs.declared.plan.Plan.{Plan};
 ghost use Rattle.node_core.specs.NodeMoves.{LineInMove, LineOutMove, ClientInMove, ClientOutMove, FenceMove, RetiredBy};
 ghost use Rattle.device_model.specs.Moments.{over_ports, pieces_of};
 ghost use Rattle.node_core.specs.NodeView.{NodeView, is_ready, left_of, ready_number};
-ghost use Rattle.node_core.specs.Pieces.{open_count, IsNth, IsCounted};
+ghost use Rattle.turn_pieces.specs.Pieces.{open_count, IsNth, IsCounted};
 ghost use Rattle.node_core.specs.Stands.{InputBytes, StandsAt, Later, no_bytes};
 
 use crate::build::{new_lines_in, new_lines_out, new_links};
@@ -20,7 +20,6 @@ use crate::clients::{give_client, take_client};
 use crate::lines_in::read_line;
 use crate::lines_out::write_line;
 use crate::link::Link;
-use crate::pieces::Pieces;
 use crate::retire::retire_all;
 use crate::turn::{end_lines, fence_all, start_all};
 use line_side::{LineIn, LineOut};
@@ -30,6 +29,7 @@ use otn_ports::{InPlaceOf, OutPlaceOf, Rack, Sink, Source};
 use plan_file::Plan;
 use std::alloc::Global;
 use std::marker::Model;
+use turn_pieces::Pieces;
 
 /// A node that carries a plan: in turn past + 1, of which each port has done some of its pieces.
 #[derive(Drop)]

@@ -7,13 +7,13 @@ ghost use Rattle.line_side.specs.LineStands.{LineView};
 ghost use Rattle.node_core.specs.LineEnds.{LinesEnd, ends_if};
 ghost use Rattle.node_core.specs.Moves.{Fences, EachLink};
 ghost use Rattle.node_core.specs.NodeMoves.{Starts, whole_for};
-ghost use Rattle.node_core.specs.Pieces.{wanted_of};
+ghost use Rattle.turn_pieces.specs.Pieces.{wanted_of};
 
 use crate::link::Link;
-use crate::pieces::Pieces;
 use line_side::LineIn;
 use otn_base::PortName;
 use otn_base::limits::LINES;
+use turn_pieces::Pieces;
 
 /// Ends the turn of each line input that is used, and says of each whether it has a multiframe in it.
 pub(crate) fn end_lines(lines: &mut Vec<LineIn>, pieces: &Pieces) -> [bool; LINES]

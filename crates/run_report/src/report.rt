@@ -15,11 +15,11 @@ use crate::report_lines::{
 };
 use arrayvec::ArrayString;
 use device_model::{RunNumbers, accepted_plans};
-use node_core::uses;
 use otn_base::PortName;
 use otn_base::limits::{CLIENTS, LINES};
 use otn_ports::{Rack, Sink, Source};
 use plan_file::Plan;
+use turn_pieces::uses;
 
 /// Puts the report of a run over an accepted plan into the empty text: the turns, a line for each port that
 /// the plan uses, one for each of its connections, and how the run ended. There is room for it whatever the

@@ -1,6 +1,6 @@
 use Rattle.std.proofs.Common.{◌≡◌, ◌<◌, true, subst, sym}
 use Rattle.node_core.specs.NodeView.{NodeView, is_ready, ready_number}
-use Rattle.node_core.specs.Pieces.{IsNth}
+use Rattle.turn_pieces.specs.Pieces.{IsNth}
 use Rattle.node_core.proofs.StepsKept.{count_open, open_ready}
 use Rattle.node_core.proofs.node.Node.nth_ready.Goals as goal
 

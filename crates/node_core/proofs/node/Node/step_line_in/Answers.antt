@@ -7,7 +7,7 @@ use Rattle.node_core.specs.NodeMoves.{LineInMove}
 use Rattle.node_core.specs.NodeView.{NodeView, is_ready}
 use Rattle.node_core.proofs.Later.{ready_open}
 use Rattle.node_core.proofs.Parts.{ready}
-use Rattle.node_core.proofs.PortNumbers.{line_in_index}
+use Rattle.turn_pieces.proofs.PortNumbers.{line_in_index}
 use Rattle.node_core.proofs.StepsKept.{set_here, set_there, line_unspent, line_in_kept}
 use Rattle.node_core.proofs.node.Node.step_line_in.Goals as goal
 

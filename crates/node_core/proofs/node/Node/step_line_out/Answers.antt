@@ -8,7 +8,7 @@ use Rattle.node_core.specs.NodeMoves.{LineOutMove}
 use Rattle.node_core.specs.NodeView.{NodeView, is_ready, done_at}
 use Rattle.node_core.proofs.Later.{ready_open}
 use Rattle.node_core.proofs.Parts.{ready}
-use Rattle.node_core.proofs.PortNumbers.{line_out_index}
+use Rattle.turn_pieces.proofs.PortNumbers.{line_out_index}
 use Rattle.node_core.proofs.StepsKept.{set_here, set_there, frames_left, line_out_kept}
 use Rattle.node_core.proofs.node.Node.step_line_out.Goals as goal
 

@@ -6,9 +6,9 @@ use Rattle.std.specs.List.{range_with_len}
 use Rattle.otn_base.specs.declared.kind.PortName.{PortName}
 use Rattle.otn_base.specs.declared.kind.PortName.TheVariants.{LineIn, LineOut, ClientIn, ClientOut}
 use Rattle.device_model.specs.Moments.{over_ports}
-use Rattle.node_core.specs.Ports.{index_of, port_at}
-use Rattle.node_core.specs.Pieces.{sum_below}
-use Rattle.node_core.proofs.Sums.{sum_zero, sum_suc}
+use Rattle.turn_pieces.specs.Ports.{index_of, port_at}
+use Rattle.turn_pieces.specs.Pieces.{sum_below}
+use Rattle.turn_pieces.proofs.Sums.{sum_zero, sum_suc}
 
 -- ---- a port and its number
 

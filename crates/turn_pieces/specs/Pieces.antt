@@ -2,7 +2,7 @@
 use Rattle.std.specs.Prelude.{◌≡◌, ◌<◌, ◌+◌, ◌-◌, ℕ, zero, suc, Bool, true, ◌&&◌, nat_lt, List, get_or, set, length}
 use Rattle.otn_base.specs.declared.kind.PortName.{PortName}
 use Rattle.multiframe.specs.LineTurns.{one_if}
-use Rattle.node_core.specs.Ports.{index_of, port_count}
+use Rattle.turn_pieces.specs.Ports.{index_of, port_count}
 
 -- by number of the port (`index_of`): how many pieces it has in a turn, and how many are done in this one
 pub record PiecesView : Type 0 where

@@ -1,7 +1,7 @@
 -- Sums over the numbers of ports.
 use Rattle.std.proofs.Common.{◌≡◌, ◌≢◌, ◌<◌, ◌≤◌, ◌+◌, ℕ, zero, suc, get_or, replicate, arith, refl, sym, ◌∙◌, inl, inr, add-one}
 use Rattle.std.proofs.lemmas.Bool.Decides.{eqb_tells}
-use Rattle.node_core.specs.Pieces.{sum_below}
+use Rattle.turn_pieces.specs.Pieces.{sum_below}
 
 pub sum_zero : (f : ℕ → ℕ) → sum_below f 0 ≡ 0
 unfolding sum_below

@@ -19,10 +19,10 @@ use Rattle.device_model.specs.Moments.{touches, uses, pieces_by, pieces_of, over
 use Rattle.device_model.specs.SoundPlans.{IsSoundEntry, IsSoundPlan}
 use Rattle.device_model.proofs.SoundPlans.{sound_plan}
 use Rattle.device_model.proofs.ConnectionPorts.{none_passes}
-use Rattle.node_core.specs.Ports.{index_of, port_at}
-use Rattle.node_core.specs.Pieces.{PiecesView, wanted_of, in_a_turn}
-use Rattle.node_core.proofs.PortNumbers.{port_at_index, ports_same}
-use Rattle.node_core.proofs.PieceCounts.{ports_turn}
+use Rattle.turn_pieces.specs.Ports.{index_of, port_at}
+use Rattle.turn_pieces.specs.Pieces.{PiecesView, wanted_of, in_a_turn}
+use Rattle.turn_pieces.proofs.PortNumbers.{port_at_index, ports_same}
+use Rattle.turn_pieces.proofs.PieceCounts.{ports_turn}
 
 -- ---- a sound connection
 

@@ -3,14 +3,14 @@ ghost use Rattle.std.specs.Prelude.{◌≡◌, ◌<◌, ◌≤◌, ◌+◌, ◌=
 ghost use Rattle.std.specs.List.{list_any};
 ghost use Rattle.device_model.specs.Entries.{is_from_line, is_from_client, is_to_line, is_to_client, kind_by};
 ghost use Rattle.device_model.specs.Moments.{touches, uses, pieces_by, pieces_of};
-ghost use Rattle.node_core.specs.Ports.{index_of, port_at, port_count};
+ghost use Rattle.turn_pieces.specs.Ports.{index_of, port_at, port_count};
 
 use otn_base::limits::{CLIENTS, LINES};
 use otn_base::{LineKind, PortName};
 use plan_file::{Connection, FromEnd, Plan, ToEnd};
 
 /// How many ports there are: lines in, lines out, clients in, clients out.
-pub(crate) const PORTS: usize = 2 * (LINES + CLIENTS);
+pub const PORTS: usize = 2 * (LINES + CLIENTS);
 
 // The numbers of the first line out, the first client in and the first client out.
 const LINES_OUT: usize = LINES;
@@ -40,7 +40,7 @@ fn within(n: u8, count: u8, first: usize) -> usize
 }
 
 /// The port of a number.
-pub(crate) fn port_at(i: u8) -> PortName
+pub fn port_at(i: u8) -> PortName
     requires { i < port_count }
     ensures { result ≡ port_at i }
 {
@@ -57,7 +57,7 @@ pub(crate) fn port_at(i: u8) -> PortName
 }
 
 /// The kind of a line, by the list of the lines of its side that are OTU3 (G.709 clause 19.1).
-pub(crate) fn kind_by(otu3: &[u8], line: u8) -> LineKind
+pub fn kind_by(otu3: &[u8], line: u8) -> LineKind
     ensures { result ≡ kind_by otu3.now line }
 {
     if has_number(otu3, line) {
@@ -68,7 +68,7 @@ pub(crate) fn kind_by(otu3: &[u8], line: u8) -> LineKind
 }
 
 /// Whether the number is in the list.
-pub(crate) fn has_number(list: &[u8], number: u8) -> bool
+pub fn has_number(list: &[u8], number: u8) -> bool
     ensures { result ≡ list_any (λ n. n == number) list.now }
 {
     for n in list {

@@ -1,7 +1,7 @@
 use Rattle.std.proofs.Common.{arith, sym}
-use Rattle.node_core.specs.Pieces.{open_at}
-use Rattle.node_core.proofs.Sums.{sum_zero, sum_next}
-use Rattle.node_core.proofs.pieces.Pieces.open_count.Goals as goal
+use Rattle.turn_pieces.specs.Pieces.{open_at}
+use Rattle.turn_pieces.proofs.Sums.{sum_zero, sum_next}
+use Rattle.turn_pieces.proofs.pieces.Pieces.open_count.Goals as goal
 
 pub loop-i-init : goal.loop-i-init
 loop-i-init c = record { few = omega arith; sum = sym (sum_zero (open_at c.args.self.now)) }

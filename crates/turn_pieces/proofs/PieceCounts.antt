@@ -4,11 +4,11 @@ use Rattle.std.proofs.lemmas.Bool.Decides.{nat_tests, eqb_tells}
 use Rattle.std.proofs.lemmas.List.{get_or-set_same, get_or-set_other}
 use Rattle.otn_base.specs.declared.kind.PortName.{PortName}
 use Rattle.device_model.specs.Moments.{over_ports}
-use Rattle.node_core.specs.Ports.{index_of, port_at}
+use Rattle.turn_pieces.specs.Ports.{index_of, port_at}
 use Rattle.multiframe.specs.LineTurns.{one_if}
-use Rattle.node_core.specs.Pieces.{PiecesView, wanted_of, done_of, is_open, open_at, open_count, left_now, in_a_turn, IsCounted, IsFresh}
-use Rattle.node_core.proofs.PortNumbers.{one_port, index_port_at, ports_by_number}
-use Rattle.node_core.proofs.Sums.{sum_same, sum_less, sum_none, none_of, sum_most, sum_split}
+use Rattle.turn_pieces.specs.Pieces.{PiecesView, wanted_of, done_of, is_open, open_at, open_count, left_now, in_a_turn, IsCounted, IsFresh}
+use Rattle.turn_pieces.proofs.PortNumbers.{one_port, index_port_at, ports_by_number}
+use Rattle.turn_pieces.proofs.Sums.{sum_same, sum_less, sum_none, none_of, sum_most, sum_split}
 
 -- what is open
 pub record IsOpen (pieces : PiecesView) (name : PortName) : Type 0 where

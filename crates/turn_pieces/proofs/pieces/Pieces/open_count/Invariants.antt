@@ -1,6 +1,6 @@
 use Rattle.std.proofs.Common.{◌≡◌, ◌≤◌}
-use Rattle.node_core.specs.Pieces.{sum_below, open_at}
-use Rattle.node_core.proofs.pieces.Pieces.open_count.Given as goal
+use Rattle.turn_pieces.specs.Pieces.{sum_below, open_at}
+use Rattle.turn_pieces.proofs.pieces.Pieces.open_count.Given as goal
 
 abbrev pub invariant-loop-i : goal.invariant-loop-i
 invariant-loop-i l = record {

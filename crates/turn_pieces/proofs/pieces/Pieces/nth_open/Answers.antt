@@ -1,7 +1,7 @@
 use Rattle.std.proofs.Common.{arith, inl, inr}
-use Rattle.node_core.specs.Pieces.{open_at}
-use Rattle.node_core.proofs.Sums.{sum_zero, sum_next}
-use Rattle.node_core.proofs.pieces.Pieces.nth_open.Goals as goal
+use Rattle.turn_pieces.specs.Pieces.{open_at}
+use Rattle.turn_pieces.proofs.Sums.{sum_zero, sum_next}
+use Rattle.turn_pieces.proofs.pieces.Pieces.nth_open.Goals as goal
 
 pub loop-j-init : goal.loop-j-init
 loop-j-init c = omega (arith, sum_zero (open_at c.args.self.now))

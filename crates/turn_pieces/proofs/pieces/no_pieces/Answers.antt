@@ -1,6 +1,6 @@
 use Rattle.std.proofs.Common.{rules, ◌≡◌, replicate}
-use Rattle.node_core.proofs.Sums.{alike_at}
-use Rattle.node_core.proofs.pieces.no_pieces.Goals as goal
+use Rattle.turn_pieces.proofs.Sums.{alike_at}
+use Rattle.turn_pieces.proofs.pieces.no_pieces.Goals as goal
 
 pub returns-clause-each : goal.returns-clause-each
 returns-clause-each c =

@@ -6,10 +6,10 @@ use Rattle.otn_base.specs.declared.kind.PortName.{PortName}
 use Rattle.plan_file.specs.declared.plan.Plan.{Plan}
 use Rattle.plan_file.specs.Answer.{fault_in}
 use Rattle.device_model.specs.Moments.{uses, pieces_by, pieces_of, over_ports}
-use Rattle.node_core.specs.Ports.{index_of}
-use Rattle.node_core.specs.Pieces.{PiecesView, wanted_of, done_of, is_open, left_now, in_a_turn, IsCounted, IsFresh}
-use Rattle.node_core.proofs.PieceCounts.{opened, shut_done, done_more, wants_same, left_counted, turn_counted, left_fresh, none_left, left_and_done}
-use Rattle.node_core.proofs.UsedPorts.{used_within, used_pieces, pieces_used, plan_turn}
+use Rattle.turn_pieces.specs.Ports.{index_of}
+use Rattle.turn_pieces.specs.Pieces.{PiecesView, wanted_of, done_of, is_open, left_now, in_a_turn, IsCounted, IsFresh}
+use Rattle.turn_pieces.proofs.PieceCounts.{opened, shut_done, done_more, wants_same, left_counted, turn_counted, left_fresh, none_left, left_and_done}
+use Rattle.turn_pieces.proofs.UsedPorts.{used_within, used_pieces, pieces_used, plan_turn}
 
 -- the moment in turn past + 1 at which each port has done so many pieces of the turn
 pub record Moment : Type 0 where

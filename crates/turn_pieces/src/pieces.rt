@@ -3,8 +3,8 @@ ghost use Rattle.std.specs.Prelude.{◌≡◌, ◌<◌, ◌≤◌, ℕ, true, na
 ghost use Rattle.otn_base.specs.declared.kind.PortName.{PortName};
 ghost use Rattle.plan_file.specs.Answer.{fault_in};
 ghost use Rattle.device_model.specs.Moments.{pieces_of};
-ghost use Rattle.node_core.specs.Ports.{port_at, port_count};
-ghost use Rattle.node_core.specs.Pieces.{PiecesView, wanted_of, done_of, is_open, open_at, open_count, IsNth, IsCounted, IsFresh};
+ghost use Rattle.turn_pieces.specs.Ports.{port_at, port_count};
+ghost use Rattle.turn_pieces.specs.Pieces.{PiecesView, wanted_of, done_of, is_open, open_at, open_count, IsNth, IsCounted, IsFresh};
 
 use crate::ports::{PORTS, index_of, pieces_of, port_at};
 use otn_base::{Memory, PortName};
@@ -14,15 +14,15 @@ use std::marker::Model;
 
 /// For each port of a device, how many pieces a turn of the plan has for it, and how many of this turn's are done.
 #[derive(Drop)]
-pub(crate) struct Pieces {
+pub struct Pieces {
     wants: Vec<u8>,
     done: Vec<u8>,
 }
 
 impl Model for Pieces {
     ghost use Rattle.std.specs.Prelude.{◌≡◌, vec_len};
-    ghost use Rattle.node_core.specs.Pieces.{PiecesView};
-    ghost use Rattle.node_core.specs.Ports.{port_count};
+    ghost use Rattle.turn_pieces.specs.Pieces.{PiecesView};
+    ghost use Rattle.turn_pieces.specs.Ports.{port_count};
 
     ghost Value = { PiecesView };
 
@@ -33,7 +33,7 @@ impl Model for Pieces {
 
 impl Pieces {
     /// Those of an accepted plan, none of which is done.
-    pub(crate) fn of_plan(alloc: Global, plan: &Plan) -> Result<Pieces, Memory>
+    pub fn of_plan(alloc: Global, plan: &Plan) -> Result<Pieces, Memory>
         requires accepted { fault_in plan.now ≡ None }
         ensures wants { IfOk result (λ pieces. (name : PortName) → wanted_of pieces name ≡ pieces_of plan.now name) }
         ensures fresh { IfOk result IsFresh }
@@ -44,7 +44,7 @@ impl Pieces {
     }
 
     /// Whether the port has a piece to do in this turn.
-    pub(crate) fn is_open(&self, name: PortName) -> bool
+    pub fn is_open(&self, name: PortName) -> bool
         ensures { result ≡ is_open self.now name }
     {
         let i = index_of(name);
@@ -52,7 +52,7 @@ impl Pieces {
     }
 
     /// Whether the plan uses the port.
-    pub(crate) fn is_used(&self, name: PortName) -> bool
+    pub fn is_used(&self, name: PortName) -> bool
         ensures { result ≡ nat_lt 0 (wanted_of self.now name) }
     {
         let i = index_of(name);
@@ -60,7 +60,7 @@ impl Pieces {
     }
 
     /// How many pieces of the port are done in this turn.
-    pub(crate) fn done(&self, name: PortName) -> u8
+    pub fn done(&self, name: PortName) -> u8
         ensures { result ≡ done_of self.now name }
     {
         let i = index_of(name);
@@ -68,7 +68,7 @@ impl Pieces {
     }
 
     /// One piece more of a port is done.
-    pub(crate) fn count(&mut self, name: PortName)
+    pub fn count(&mut self, name: PortName)
         requires { is_open self.old name ≡ true }
         ensures { IsCounted name self.old self.new }
     {
@@ -78,7 +78,7 @@ impl Pieces {
     }
 
     /// A new turn, of which none is done.
-    pub(crate) fn clear(&mut self)
+    pub fn clear(&mut self)
         ensures wants { self.new.wants ≡ self.old.wants }
         ensures fresh { IsFresh self.new }
     {
@@ -86,7 +86,7 @@ impl Pieces {
     }
 
     /// How many ports have a piece to do.
-    pub(crate) fn open_count(&self) -> u32
+    pub fn open_count(&self) -> u32
         ensures { result ≡ open_count self.now }
     {
         let mut count = 0;
@@ -97,7 +97,7 @@ impl Pieces {
     }
 
     /// The i-th of them, from 0, in the order of their numbers.
-    pub(crate) fn nth_open(&self, i: u32) -> PortName
+    pub fn nth_open(&self, i: u32) -> PortName
         requires { i < open_count self.now }
         ensures { IsNth self.now i result }
     {

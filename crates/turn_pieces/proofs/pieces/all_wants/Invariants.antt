@@ -1,7 +1,7 @@
 use Rattle.std.proofs.Common.{◌≡◌, ◌<◌, ℕ, get_or, vec_len}
 use Rattle.device_model.specs.Moments.{pieces_of}
-use Rattle.node_core.specs.Ports.{port_at}
-use Rattle.node_core.proofs.pieces.all_wants.Given as goal
+use Rattle.turn_pieces.specs.Ports.{port_at}
+use Rattle.turn_pieces.proofs.pieces.all_wants.Given as goal
 
 abbrev pub invariant-loop-i : goal.invariant-loop-i
 invariant-loop-i l = record {
