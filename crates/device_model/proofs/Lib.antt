@@ -8,6 +8,7 @@ pub mod SoundEntries
 pub mod Apart
 pub mod SoundPlans
 pub mod ConnectionPorts
+pub mod RetiredPlaces
 pub mod MadeFrames
 pub mod MadeTurns
 pub mod MadeShows

@@ -27,7 +27,8 @@ use Rattle.node_core.specs.Stands.{InputBytes, MayGive, frames_by, ended_by, Pla
 use Rattle.node_core.specs.declared.link.Link.{Link}
 use Rattle.turn_pieces.proofs.PieceCounts.{done_more, done_same}
 use Rattle.node_core.proofs.Parts.{and_none, none_and, off_stopped, one_at, known_at, each_goes, link_before, link_after, on_active, IsReady, ready, ready_used, plan_counted, lines_in_same, lines_out_same}
-use Rattle.node_core.proofs.ClientLinks.{HasSome, one_or_none, both_left, both_right, left_off, active_on, active_retired, active_turns, idle_turns, from_or_not, from_client, client_from, taken_but_in, given_but_in, none_in, pipe_as, clients_out_as}
+use Rattle.node_core.proofs.LinkLaws.{both_left}
+use Rattle.node_core.proofs.ClientLinks.{HasSome, one_or_none, both_right, left_off, active_on, active_retired, active_turns, idle_turns, from_or_not, from_client, client_from, taken_but_in, given_but_in, none_in, pipe_as, clients_out_as}
 
 -- ---- what the piece does to a connection
 

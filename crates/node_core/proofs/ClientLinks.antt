@@ -52,10 +52,6 @@ one_or_none test (x ∷ xs) = one_more test x xs (test x) refl (one_or_none test
 
 -- ---- turns
 
-pub both_left : (a b : Bool) → (a && b) ≡ true → a ≡ true
-both_left true b h = refl
-both_left false b h = h
-
 pub both_right : (a b : Bool) → (a && b) ≡ true → b ≡ true
 both_right true b h = h
 both_right false b h = cc

@@ -29,7 +29,8 @@ use Rattle.node_core.specs.Stands.{InputBytes, MayGive, frames_by, ended_by, Pla
 use Rattle.node_core.specs.declared.link.Link.{Link}
 use Rattle.turn_pieces.proofs.PieceCounts.{done_more, done_same}
 use Rattle.node_core.proofs.Parts.{and_none, one_at, known_at, each_goes, link_before, link_after, on_active, IsReady, ready, ready_used, plan_counted, lines_in_same, lines_out_same}
-use Rattle.node_core.proofs.ClientLinks.{HasSome, one_or_none, both_left, both_right, left_off, active_on, active_retired, active_turns, idle_turns, to_or_not, to_client, client_to, taken_but_out, given_but_out, none_out, pipe_as, clients_in_as}
+use Rattle.node_core.proofs.LinkLaws.{both_left}
+use Rattle.node_core.proofs.ClientLinks.{HasSome, one_or_none, both_right, left_off, active_on, active_retired, active_turns, idle_turns, to_or_not, to_client, client_to, taken_but_out, given_but_out, none_out, pipe_as, clients_in_as}
 
 -- ---- what the piece does to a connection
 

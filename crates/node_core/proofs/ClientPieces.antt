@@ -10,8 +10,7 @@ use Rattle.node_core.specs.LinkMoves.{FirstOf, TookText, GaveText}
 use Rattle.node_core.specs.Links.{is_on}
 use Rattle.node_core.specs.Moves.{EachLink, TakesClient, GivesClient, takes_client, gives_client, is_from_client}
 use Rattle.node_core.specs.declared.link.Link.{Link}
-use Rattle.node_core.proofs.ClientLinks.{both_left}
-use Rattle.node_core.proofs.LinkLaws.{same_entry, both}
+use Rattle.node_core.proofs.LinkLaws.{both_left, same_entry, both}
 
 link_here : (links : List Link) (i : ℕ) (link : Link) → i < length links → slice_get (set links i link) i ≡ Some link
 link_here [] i link less = absurd (omega arith)

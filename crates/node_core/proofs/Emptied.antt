@@ -14,7 +14,7 @@ use Rattle.otn_ports.specs.declared.sink.Sink as sink
 use Rattle.otn_ports.specs.declared.source.Source as source
 use Rattle.otn_ports.proofs.BaysLaws.{client_in_seen, client_in_set, only_client_in, client_out_seen, client_out_set, only_client_out}
 use Rattle.node_core.specs.Moves.{is_from_client, is_to_client}
-use Rattle.node_core.specs.NodeMoves.{RetiredBy, ends_here, retires_in, retires_out}
+use Rattle.node_core.specs.Retiring.{RetiredBy, ends_here, retires_in, retires_out}
 use Rattle.node_core.specs.Retiring.{RetiredAt}
 use Rattle.device_model.specs.RetiredPlaces.{after_retire, out_after_retire}
 use Rattle.node_core.specs.declared.link.Link.{Link}
@@ -22,7 +22,7 @@ use Rattle.node_core.specs.declared.link.Origin.{Origin}
 use Rattle.node_core.specs.declared.link.Origin.TheVariants as origin
 use Rattle.node_core.specs.declared.link.Target.{Target}
 use Rattle.node_core.specs.declared.link.Target.TheVariants as target
-use Rattle.node_core.proofs.Retired.{after_or, out_after_or}
+use Rattle.device_model.proofs.RetiredPlaces.{after_or, out_after_or}
 
 -- ---- one end
 

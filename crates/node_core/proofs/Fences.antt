@@ -24,7 +24,8 @@ use Rattle.device_model.proofs.SoundPlans.{sound_plan}
 use Rattle.cross_matrix.specs.Parts.{MayShow}
 use Rattle.cross_matrix.specs.Pipes.{PipeStands}
 use Rattle.node_core.specs.Links.{origin_of}
-use Rattle.node_core.specs.NodeMoves.{FenceMove, RetiredBy, retires_in, retires_out}
+use Rattle.node_core.specs.Retiring.{RetiredBy, retires_in, retires_out}
+use Rattle.node_core.specs.NodeMoves.{FenceMove}
 use Rattle.node_core.specs.NodeView.{NodeView, HasLineIn, HasLineOut, HasLink, is_ready, done_at, taken_pieces, given_pieces}
 use Rattle.turn_pieces.specs.Ports.{index_of}
 use Rattle.device_model.specs.RetiredPlaces.{after_retire, out_after_retire}

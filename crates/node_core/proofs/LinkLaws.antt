@@ -24,6 +24,10 @@ use Rattle.node_core.specs.Links.{IsLinkOf, SameEntry, is_on}
 use Rattle.node_core.specs.Moves.{TookFrame, GaveFrame, Fences}
 use Rattle.node_core.specs.declared.link.Link.{Link}
 
+pub both_left : (a b : Bool) → (a && b) ≡ true → a ≡ true
+both_left true b h = refl
+both_left false b h = h
+
 pub same_entry : (link : Link) → SameEntry link link
 same_entry link = record { from = refl; to = refl; start = refl; stop = refl; retire = refl; pipe = λ x h. h }
 

@@ -23,7 +23,8 @@ use Rattle.cross_matrix.specs.Parts.{IsInputOf}
 use Rattle.cross_matrix.specs.Pipes.{PipeView, PipeStands}
 use Rattle.node_core.specs.Links.{IsLinkOf, SameEntry, origin_of, is_on}
 use Rattle.node_core.specs.Moves.{LineEnds, Fences}
-use Rattle.node_core.specs.NodeMoves.{TurnsOver, FenceMove, whole_for}
+use Rattle.node_core.specs.LinkEnds.{TurnsOver, whole_for}
+use Rattle.node_core.specs.NodeMoves.{FenceMove}
 use Rattle.node_core.specs.NodeView.{NodeView, HasLineIn, HasLink, is_ready, done_at}
 use Rattle.turn_pieces.specs.Pieces.{wanted_of}
 use Rattle.turn_pieces.specs.Ports.{index_of}

@@ -4,7 +4,6 @@ use Rattle.std.proofs.lemmas.Bool.{eq-eqb}
 use Rattle.std.proofs.lemmas.Bool.Decides.{nat_tests}
 use Rattle.std.specs.List.{list_any}
 use Rattle.otn_base.specs.declared.kind.PortName.TheVariants as port
-use Rattle.otn_ports.specs.Views.{State, Empty, Live, Dead, InView, OutView}
 use Rattle.plan_file.specs.declared.connection.Connection.{Connection}
 use Rattle.plan_file.specs.declared.connection.FromEnd.{FromEnd}
 use Rattle.plan_file.specs.declared.connection.FromEnd.TheVariants as from_end
@@ -16,34 +15,11 @@ use Rattle.device_model.specs.Moments.{uses, is_retired}
 use Rattle.device_model.proofs.SoundPlans.{sound_plan}
 use Rattle.node_core.specs.Links.{IsLinkOf, origin_of, target_of}
 use Rattle.node_core.specs.Moves.{is_from_client, is_to_client}
-use Rattle.node_core.specs.NodeMoves.{ends_here, retires_in, retires_out}
+use Rattle.node_core.specs.Retiring.{ends_here, retires_in, retires_out}
 use Rattle.node_core.specs.NodeView.{NodeView, HasLink}
-use Rattle.device_model.specs.RetiredPlaces.{after_retire, out_after_retire}
 use Rattle.node_core.specs.Stands.{PlanStands}
 use Rattle.node_core.specs.declared.link.Link.{Link}
 use Rattle.device_model.proofs.ConnectionPorts.{uses_none}
-
--- ---- twice
-
-retired_twice : (v : InView) (s : State) → v.state ≡ s → after_retire true (after_retire true v) ≡ after_retire true v
-retired_twice v Live e = rw e refl
-retired_twice v Empty e = rw e refl
-retired_twice v Dead e = rw e refl
-
-pub after_or : (a b : Bool) (v : InView) → after_retire (a || b) v ≡ after_retire b (after_retire a v)
-after_or false b v = refl
-after_or true false v = refl
-after_or true true v = sym (retired_twice v v.state refl)
-
-out_twice : (v : OutView) (s : State) → v.state ≡ s → out_after_retire true (out_after_retire true v) ≡ out_after_retire true v
-out_twice v Live e = rw e refl
-out_twice v Empty e = rw e refl
-out_twice v Dead e = rw e refl
-
-pub out_after_or : (a b : Bool) (v : OutView) → out_after_retire (a || b) v ≡ out_after_retire b (out_after_retire a v)
-out_after_or false b v = refl
-out_after_or true false v = refl
-out_after_or true true v = sym (out_twice v v.state refl)
 
 -- ---- some connection of a list, which ends and passes a test
 

@@ -8,7 +8,8 @@ use Rattle.otn_base.specs.declared.kind.PortName.TheVariants as port
 use Rattle.line_side.specs.LineStands.{LineView}
 use Rattle.node_core.specs.LineEnds.{LinesEnd, ends_if}
 use Rattle.node_core.specs.Moves.{EachLink, LineEnds, Fences}
-use Rattle.node_core.specs.NodeMoves.{Starts, TurnsOver, FenceMove, whole_for}
+use Rattle.node_core.specs.LinkEnds.{Starts, TurnsOver, whole_for}
+use Rattle.node_core.specs.NodeMoves.{FenceMove}
 use Rattle.node_core.specs.NodeView.{NodeView, HasLineIn, IsNode, is_ready}
 use Rattle.turn_pieces.specs.Pieces.{PiecesView, wanted_of, done_of, IsFresh}
 use Rattle.turn_pieces.specs.Ports.{index_of}

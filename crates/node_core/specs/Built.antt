@@ -8,7 +8,7 @@ use Rattle.plan_file.specs.declared.connection.Connection.{Connection}
 use Rattle.plan_file.specs.declared.plan.Plan.{Plan}
 use Rattle.device_model.specs.Entries.{form_in, form_out}
 use Rattle.node_core.specs.Links.{IsLinkOf}
-use Rattle.node_core.specs.NodeMoves.{Starts}
+use Rattle.node_core.specs.LinkEnds.{Starts}
 use Rattle.node_core.specs.declared.link.Link.{Link}
 
 -- the input lines are of these forms, from which nothing was read, and the output lines, of which no frame was made

@@ -2,6 +2,7 @@ pub mod Links
 pub mod NodeView
 pub mod Stands
 pub mod Moves
+pub mod LinkEnds
 pub mod NodeMoves
 pub mod LineFrames
 pub mod Built

@@ -15,7 +15,8 @@ ghost use Rattle.node_core.specs.LineFrames.{PutsOwn};
 ghost use Rattle.node_core.specs.Links.{IsLinkOf, is_later, is_on, was_on, origin_of, target_of};
 ghost use Rattle.node_core.specs.Moves.{TookFrame, GaveFrame, Fences, is_from_line, is_from_client, is_to_line, is_to_client, has_client_in, has_client_out, takes_line, takes_client, gives_line, gives_client};
 ghost use Rattle.node_core.specs.LinkMoves.{TookText, GaveText, EndsFrames, EndsPipe};
-ghost use Rattle.node_core.specs.NodeMoves.{Starts, whole_for, ends_here};
+ghost use Rattle.node_core.specs.LinkEnds.{Starts, whole_for};
+ghost use Rattle.node_core.specs.Retiring.{ends_here};
 
 use cross_matrix::Pipe;
 use device_model::{FromState, accepted_plans};

@@ -6,7 +6,7 @@ ghost use Rattle.otn_base.specs.declared.limits.TheConstants.{LINES as LINE_PORT
 ghost use Rattle.line_side.specs.LineStands.{LineView};
 ghost use Rattle.node_core.specs.LineEnds.{LinesEnd, ends_if};
 ghost use Rattle.node_core.specs.Moves.{Fences, EachLink};
-ghost use Rattle.node_core.specs.NodeMoves.{Starts, whole_for};
+ghost use Rattle.node_core.specs.LinkEnds.{Starts, whole_for};
 ghost use Rattle.turn_pieces.specs.Pieces.{wanted_of};
 
 use crate::link::Link;

@@ -1,5 +1,5 @@
 use Rattle.std.proofs.Common.{◌∙◌, sym, ap}
-use Rattle.node_core.specs.NodeMoves.{whole_for}
+use Rattle.node_core.specs.LinkEnds.{whole_for}
 use Rattle.node_core.proofs.LinkLaws.{frames_ended, no_frames_client, no_frames_signal}
 use Rattle.node_core.proofs.link.end_frames.Goals as goal
 

@@ -1,6 +1,6 @@
 use Rattle.std.proofs.Common.{◌≡◌, ◌<◌, ◌≤◌, ◌++◌, length, take, drop, subst, sym, arith, rules}
 use Rattle.node_core.specs.Moves.{EachLink, Fences}
-use Rattle.node_core.specs.NodeMoves.{whole_for}
+use Rattle.node_core.specs.LinkEnds.{whole_for}
 use Rattle.node_core.specs.declared.link.Link.{Link}
 use Rattle.node_core.proofs.LinkSteps.{one_gone, all_gone, put_back}
 use Rattle.node_core.proofs.turn.fence_all.Goals as goal

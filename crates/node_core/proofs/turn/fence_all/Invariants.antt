@@ -1,5 +1,5 @@
 use Rattle.node_core.specs.Moves.{Fences}
-use Rattle.node_core.specs.NodeMoves.{whole_for}
+use Rattle.node_core.specs.LinkEnds.{whole_for}
 use Rattle.node_core.proofs.LinkSteps.{Gone}
 use Rattle.node_core.proofs.turn.fence_all.Given as goal
 

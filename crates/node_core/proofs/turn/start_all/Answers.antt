@@ -1,6 +1,6 @@
 use Rattle.std.proofs.Common.{◌≡◌, ◌<◌, ◌≤◌, ◌++◌, length, take, drop, subst, sym, arith, rules}
 use Rattle.node_core.specs.Moves.{EachLink}
-use Rattle.node_core.specs.NodeMoves.{Starts}
+use Rattle.node_core.specs.LinkEnds.{Starts}
 use Rattle.node_core.specs.declared.link.Link.{Link}
 use Rattle.node_core.proofs.LinkSteps.{one_gone, all_gone, put_back}
 use Rattle.node_core.proofs.turn.start_all.Goals as goal

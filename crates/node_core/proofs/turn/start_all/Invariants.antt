@@ -1,4 +1,4 @@
-use Rattle.node_core.specs.NodeMoves.{Starts}
+use Rattle.node_core.specs.LinkEnds.{Starts}
 use Rattle.node_core.proofs.LinkSteps.{Gone}
 use Rattle.node_core.proofs.turn.start_all.Given as goal
 
