@@ -23,11 +23,11 @@ use Rattle.turn_pieces.specs.Pieces.{wanted_of, IsFresh}
 use Rattle.turn_pieces.specs.Ports.{index_of}
 use Rattle.device_model.specs.RetiredPlaces.{after_retire, out_after_retire}
 use Rattle.node_core.specs.Stands.{PlanStands, LinesIn, PipesStand, LinesOut, ClientInAt, ClientsIn, ClientOutAt, ClientsOut, StandsAt, no_bytes}
-use Rattle.node_core.specs.declared.link.Link.{Link}
-use Rattle.node_core.specs.declared.link.Origin.{Origin}
-use Rattle.node_core.specs.declared.link.Origin.TheVariants as origin
-use Rattle.node_core.specs.declared.link.Target.{Target}
-use Rattle.node_core.specs.declared.link.Target.TheVariants as target
+use Rattle.node_links.specs.declared.link.Link.{Link}
+use Rattle.node_links.specs.declared.link.Origin.{Origin}
+use Rattle.node_links.specs.declared.link.Origin.TheVariants as origin
+use Rattle.node_links.specs.declared.link.Target.{Target}
+use Rattle.node_links.specs.declared.link.Target.TheVariants as target
 use Rattle.node_core.proofs.ClientTurns.{none_done}
 use Rattle.node_core.proofs.LinkTurns.{same_entry, input_kind, at_start}
 use Rattle.node_core.proofs.Retired.{not_retired}

@@ -18,16 +18,16 @@ use Rattle.device_model.proofs.SoundPlans.{sound_plan}
 use Rattle.cross_matrix.specs.Parts.{ClientInStands, MayShow}
 use Rattle.cross_matrix.specs.Pipes.{PipeStands, ClientTook}
 use Rattle.cross_matrix.specs.declared.taking.TakingPart.{TakingPart}
-use Rattle.node_core.specs.Links.{IsLinkOf, SameEntry, is_on, origin_of}
-use Rattle.node_core.specs.Moves.{EachLink, is_from_client, takes_client, TakesClient}
+use Rattle.node_links.specs.Links.{IsLinkOf, SameEntry, is_on, origin_of}
+use Rattle.node_links.specs.Moves.{EachLink, is_from_client, takes_client, TakesClient}
 use Rattle.node_core.specs.NodeMoves.{ClientInMove}
 use Rattle.node_core.specs.NodeView.{NodeView, HasLink, is_ready, done_at, taken_pieces, given_pieces}
 use Rattle.device_model.specs.RetiredPlaces.{after_retire}
 use Rattle.node_core.specs.Stands.{InputBytes, MayGive, frames_by, ended_by, PlanStands, PipesStand, ClientInAt, ClientsIn, StandsAt, Later}
-use Rattle.node_core.specs.declared.link.Link.{Link}
+use Rattle.node_links.specs.declared.link.Link.{Link}
 use Rattle.turn_pieces.proofs.PieceCounts.{done_more, done_same}
 use Rattle.node_core.proofs.Parts.{and_none, none_and, off_stopped, one_at, known_at, each_goes, link_before, link_after, on_active, IsReady, ready, ready_used, plan_counted, lines_in_same, lines_out_same}
-use Rattle.node_core.proofs.LinkLaws.{both_left}
+use Rattle.node_links.proofs.LinkLaws.{both_left}
 use Rattle.node_core.proofs.ClientLinks.{HasSome, one_or_none, both_right, left_off, active_on, active_retired, active_turns, idle_turns, from_or_not, from_client, client_from, taken_but_in, given_but_in, none_in, pipe_as, clients_out_as}
 
 -- ---- what the piece does to a connection

@@ -15,15 +15,15 @@ use Rattle.device_model.specs.Entries.{own_turn, IsActive}
 use Rattle.device_model.specs.Moments.{turns_done, is_retired}
 use Rattle.device_model.specs.Through.{Inputs, OwnInput}
 use Rattle.cross_matrix.specs.Pipes.{PipeView, PipeStands}
-use Rattle.node_core.specs.Links.{IsLinkOf, is_on, origin_of, target_of}
-use Rattle.node_core.specs.Moves.{EachLink, is_from_client, is_to_client}
+use Rattle.node_links.specs.Links.{IsLinkOf, is_on, origin_of, target_of}
+use Rattle.node_links.specs.Moves.{EachLink, is_from_client, is_to_client}
 use Rattle.node_core.specs.NodeView.{NodeView, done_at, taken_pieces, given_pieces}
 use Rattle.node_core.specs.Stands.{InputBytes, MayGive, PlanStands, ClientInAt, ClientsIn, ClientOutAt, ClientsOut}
-use Rattle.node_core.specs.declared.link.Link.{Link}
-use Rattle.node_core.specs.declared.link.Origin.{Origin}
-use Rattle.node_core.specs.declared.link.Origin.TheVariants as origin
-use Rattle.node_core.specs.declared.link.Target.{Target}
-use Rattle.node_core.specs.declared.link.Target.TheVariants as target
+use Rattle.node_links.specs.declared.link.Link.{Link}
+use Rattle.node_links.specs.declared.link.Origin.{Origin}
+use Rattle.node_links.specs.declared.link.Origin.TheVariants as origin
+use Rattle.node_links.specs.declared.link.Target.{Target}
+use Rattle.node_links.specs.declared.link.Target.TheVariants as target
 use Rattle.node_core.proofs.Parts.{and_none, link_before, IsReady, ready_less}
 
 -- ---- some connection or none

@@ -20,16 +20,16 @@ use Rattle.cross_matrix.specs.Parts.{GivingStands, ClientOutStands}
 use Rattle.cross_matrix.specs.Pipes.{PipeView, PipeStands}
 use Rattle.cross_matrix.specs.declared.giving.GivingPart.{GivingPart}
 use Rattle.cross_matrix.specs.declared.giving.GivingPart.TheVariants as giving
-use Rattle.node_core.specs.Links.{IsLinkOf, SameEntry, is_on, target_of}
-use Rattle.node_core.specs.Moves.{EachLink, is_to_client, gives_client, GivesClient}
+use Rattle.node_links.specs.Links.{IsLinkOf, SameEntry, is_on, target_of}
+use Rattle.node_links.specs.Moves.{EachLink, is_to_client, gives_client, GivesClient}
 use Rattle.node_core.specs.NodeMoves.{ClientOutMove}
 use Rattle.node_core.specs.NodeView.{NodeView, HasLink, is_ready, done_at, taken_pieces, given_pieces}
 use Rattle.device_model.specs.RetiredPlaces.{out_after_retire}
 use Rattle.node_core.specs.Stands.{InputBytes, MayGive, frames_by, ended_by, PlanStands, PipesStand, ClientOutAt, ClientsOut, StandsAt, Later}
-use Rattle.node_core.specs.declared.link.Link.{Link}
+use Rattle.node_links.specs.declared.link.Link.{Link}
 use Rattle.turn_pieces.proofs.PieceCounts.{done_more, done_same}
 use Rattle.node_core.proofs.Parts.{and_none, one_at, known_at, each_goes, link_before, link_after, on_active, IsReady, ready, ready_used, plan_counted, lines_in_same, lines_out_same}
-use Rattle.node_core.proofs.LinkLaws.{both_left}
+use Rattle.node_links.proofs.LinkLaws.{both_left}
 use Rattle.node_core.proofs.ClientLinks.{HasSome, one_or_none, both_right, left_off, active_on, active_retired, active_turns, idle_turns, to_or_not, to_client, client_to, taken_but_out, given_but_out, none_out, pipe_as, clients_in_as}
 
 -- ---- what the piece does to a connection

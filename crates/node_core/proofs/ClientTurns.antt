@@ -8,7 +8,7 @@ use Rattle.device_model.specs.Through.{Inputs, own_input}
 use Rattle.cross_matrix.specs.Parts.{ClientInStands, ClientOutStands}
 use Rattle.device_model.specs.RetiredPlaces.{after_retire, out_after_retire}
 use Rattle.node_core.specs.Stands.{ClientInAt, ClientOutAt}
-use Rattle.node_core.specs.declared.link.Link.{Link}
+use Rattle.node_links.specs.declared.link.Link.{Link}
 use Rattle.device_model.proofs.RetiredPlaces.{after_or, out_after_or}
 use Rattle.node_core.proofs.Retired.{retired_so_far, not_retired, not_ending}
 

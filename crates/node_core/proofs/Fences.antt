@@ -23,18 +23,18 @@ use Rattle.device_model.specs.Through.{Inputs, of_client, own_input}
 use Rattle.device_model.proofs.SoundPlans.{sound_plan}
 use Rattle.cross_matrix.specs.Parts.{MayShow}
 use Rattle.cross_matrix.specs.Pipes.{PipeStands}
-use Rattle.node_core.specs.Links.{origin_of}
-use Rattle.node_core.specs.Retiring.{RetiredBy, retires_in, retires_out}
+use Rattle.node_links.specs.Links.{origin_of}
+use Rattle.node_links.specs.Retiring.{RetiredBy, retires_in, retires_out}
 use Rattle.node_core.specs.NodeMoves.{FenceMove}
 use Rattle.node_core.specs.NodeView.{NodeView, HasLineIn, HasLineOut, HasLink, is_ready, done_at, taken_pieces, given_pieces}
 use Rattle.turn_pieces.specs.Ports.{index_of}
 use Rattle.device_model.specs.RetiredPlaces.{after_retire, out_after_retire}
 use Rattle.node_core.specs.Stands.{InputBytes, MayGive, PlanStands, LinesIn, PipesStand, LinesOut, ClientInAt, ClientsIn, ClientOutAt, ClientsOut, StandsAt, Later}
-use Rattle.node_core.specs.declared.link.Link.{Link}
-use Rattle.node_core.specs.declared.link.Origin.{Origin}
-use Rattle.node_core.specs.declared.link.Origin.TheVariants as origin
-use Rattle.node_core.specs.declared.link.Target.{Target}
-use Rattle.node_core.specs.declared.link.Target.TheVariants as target
+use Rattle.node_links.specs.declared.link.Link.{Link}
+use Rattle.node_links.specs.declared.link.Origin.{Origin}
+use Rattle.node_links.specs.declared.link.Origin.TheVariants as origin
+use Rattle.node_links.specs.declared.link.Target.{Target}
+use Rattle.node_links.specs.declared.link.Target.TheVariants as target
 use Rattle.node_core.proofs.ClientTurns.{place_kept, client_in_starts, client_in_goes_on, out_kept, client_out_starts, client_out_goes_on}
 use Rattle.node_core.proofs.LinkTurns.{Turned, turned, not_started, on_link, all_done, some_wanted, used_line, input_kind, at_start, at_end, pieces_from, next_pipe, own_next}
 use Rattle.node_core.proofs.Retired.{known_at, client_retires, client_retires_out, idle_retires, idle_retires_out}

@@ -1,6 +1,3 @@
-pub mod Senders
-pub mod LinkSteps
-pub mod LineFrames
 pub mod Later
 pub mod Retired
 pub mod LinkTurns
@@ -14,14 +11,9 @@ pub mod LineOutMoves
 pub mod ClientLinks
 pub mod ClientInMoves
 pub mod ClientOutMoves
-pub mod LinkLaws
-pub mod LinkFinds
 pub mod TurnMoves
 pub mod NewParts
 pub mod StepsKept
-pub mod EndLines
-pub mod Emptied
-pub mod ClientPieces
 pub mod NodeReads
 pub mod Told
 pub mod PlanPieces

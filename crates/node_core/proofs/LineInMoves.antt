@@ -25,15 +25,15 @@ use Rattle.device_model.specs.Moments.{uses}
 use Rattle.device_model.specs.Through.{Inputs, OwnInput, own_input}
 use Rattle.device_model.proofs.SoundPlans.{sound_plan}
 use Rattle.cross_matrix.specs.Pipes.{PipeStands}
-use Rattle.node_core.specs.Links.{IsLinkOf, SameEntry, is_on, origin_of}
-use Rattle.node_core.specs.Moves.{EachLink, TookFrame, is_from_line, takes_line}
+use Rattle.node_links.specs.Links.{IsLinkOf, SameEntry, is_on, origin_of}
+use Rattle.node_links.specs.Moves.{EachLink, TookFrame, is_from_line, takes_line}
 use Rattle.node_core.specs.NodeMoves.{LineInMove}
 use Rattle.node_core.specs.NodeView.{NodeView, HasLineIn, is_ready, done_at, taken_pieces, given_pieces}
 use Rattle.device_model.specs.TurnFrames.{member_of, frames_in}
 use Rattle.node_core.specs.Stands.{InputBytes, MayGive, frames_by, ended_by, PlanStands, LinesIn, PipesStand, StandsAt, Later}
-use Rattle.node_core.specs.declared.link.Link.{Link}
-use Rattle.node_core.specs.declared.link.Target.{Target}
-use Rattle.node_core.specs.declared.link.Target.TheVariants as target
+use Rattle.node_links.specs.declared.link.Link.{Link}
+use Rattle.node_links.specs.declared.link.Target.{Target}
+use Rattle.node_links.specs.declared.link.Target.TheVariants as target
 use Rattle.turn_pieces.proofs.PieceCounts.{done_more, done_same}
 use Rattle.node_core.proofs.Parts.{and_none, none_and, off_stopped, one_at, each_goes, link_before, Kept, on_active, IsReady, ready, ready_used, ready_less, plan_counted, lines_out_same, clients_in_same, clients_out_same, clients_may}
 

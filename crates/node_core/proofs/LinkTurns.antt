@@ -21,16 +21,16 @@ use Rattle.device_model.specs.SoundPlans.{IsSoundEntry}
 use Rattle.device_model.specs.Through.{Inputs, of_client, of_signal, own_of, own_input}
 use Rattle.cross_matrix.specs.Parts.{IsInputOf}
 use Rattle.cross_matrix.specs.Pipes.{PipeView, PipeStands}
-use Rattle.node_core.specs.Links.{IsLinkOf, SameEntry, origin_of, is_on}
-use Rattle.node_core.specs.Moves.{LineEnds, Fences}
-use Rattle.node_core.specs.LinkEnds.{TurnsOver, whole_for}
+use Rattle.node_links.specs.Links.{IsLinkOf, SameEntry, origin_of, is_on}
+use Rattle.node_links.specs.Moves.{LineEnds, Fences}
+use Rattle.node_links.specs.LinkEnds.{TurnsOver, whole_for}
 use Rattle.node_core.specs.NodeMoves.{FenceMove}
 use Rattle.node_core.specs.NodeView.{NodeView, HasLineIn, HasLink, is_ready, done_at}
 use Rattle.turn_pieces.specs.Pieces.{wanted_of}
 use Rattle.turn_pieces.specs.Ports.{index_of}
 use Rattle.device_model.specs.TurnFrames.{frames_in}
 use Rattle.node_core.specs.Stands.{PlanStands, frames_by, ended_by}
-use Rattle.node_core.specs.declared.link.Link.{Link}
+use Rattle.node_links.specs.declared.link.Link.{Link}
 use Rattle.node_core.proofs.Later.{shut_ports}
 use Rattle.turn_pieces.proofs.PiecesLeft.{shut_all, used_wanted}
 use Rattle.node_core.proofs.Retired.{known_at}

@@ -16,11 +16,11 @@ use Rattle.device_model.specs.Through.{Inputs, of_client}
 use Rattle.cross_matrix.specs.Parts.{MayShow}
 use Rattle.turn_pieces.specs.Ports.{index_of}
 use Rattle.turn_pieces.specs.Pieces.{wanted_of, is_open, IsCounted}
-use Rattle.node_core.specs.Links.{IsLinkOf, SameEntry, is_on}
+use Rattle.node_links.specs.Links.{IsLinkOf, SameEntry, is_on}
 use Rattle.node_core.specs.NodeView.{NodeView, HasLink, is_ready, done_at}
 use Rattle.node_core.specs.Stands.{InputBytes, MayGive, PlanStands, LinesIn, LinesOut, ClientsIn, ClientsOut, ClientInAt, ClientOutAt}
-use Rattle.node_core.specs.Moves.{EachLink}
-use Rattle.node_core.specs.declared.link.Link.{Link}
+use Rattle.node_links.specs.Moves.{EachLink}
+use Rattle.node_links.specs.declared.link.Link.{Link}
 use Rattle.turn_pieces.proofs.PieceCounts.{opened}
 use Rattle.turn_pieces.proofs.UsedPorts.{pieces_unused, pieces_used}
 

@@ -13,12 +13,12 @@ use Rattle.plan_file.specs.declared.plan.Plan.{Plan}
 use Rattle.device_model.specs.Entries.{is_from_client as comes_from, is_to_client as goes_to}
 use Rattle.device_model.specs.Moments.{uses, is_retired}
 use Rattle.device_model.proofs.SoundPlans.{sound_plan}
-use Rattle.node_core.specs.Links.{IsLinkOf, origin_of, target_of}
-use Rattle.node_core.specs.Moves.{is_from_client, is_to_client}
-use Rattle.node_core.specs.Retiring.{ends_here, retires_in, retires_out}
+use Rattle.node_links.specs.Links.{IsLinkOf, origin_of, target_of}
+use Rattle.node_links.specs.Moves.{is_from_client, is_to_client}
+use Rattle.node_links.specs.Retiring.{ends_here, retires_in, retires_out}
 use Rattle.node_core.specs.NodeView.{NodeView, HasLink}
 use Rattle.node_core.specs.Stands.{PlanStands}
-use Rattle.node_core.specs.declared.link.Link.{Link}
+use Rattle.node_links.specs.declared.link.Link.{Link}
 use Rattle.device_model.proofs.ConnectionPorts.{uses_none}
 
 -- ---- some connection of a list, which ends and passes a test

@@ -8,7 +8,7 @@ use Rattle.line_side.specs.LineOutput.{LineOutView}
 use Rattle.line_side.specs.LineStands.{LineView}
 use Rattle.node_core.specs.NodeView.{NodeView, HasLineIn, HasLineOut, LineCount, IsNode, done_at, is_ready, ready_number}
 use Rattle.turn_pieces.specs.Pieces.{PiecesView, wanted_of, done_of, is_open, open_count, IsCounted}
-use Rattle.node_core.specs.declared.link.Link.{Link}
+use Rattle.node_links.specs.declared.link.Link.{Link}
 use Rattle.node_core.proofs.Later.{ready_open}
 use Rattle.node_core.proofs.Parts.{ready}
 use Rattle.turn_pieces.proofs.PieceCounts.{done_more, done_same, wants_same}

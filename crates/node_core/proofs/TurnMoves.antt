@@ -6,14 +6,14 @@ use Rattle.otn_base.specs.LineSlots.{slots_of}
 use Rattle.otn_base.specs.declared.kind.PortName.{PortName}
 use Rattle.otn_base.specs.declared.kind.PortName.TheVariants as port
 use Rattle.line_side.specs.LineStands.{LineView}
-use Rattle.node_core.specs.LineEnds.{LinesEnd, ends_if}
-use Rattle.node_core.specs.Moves.{EachLink, LineEnds, Fences}
-use Rattle.node_core.specs.LinkEnds.{Starts, TurnsOver, whole_for}
+use Rattle.node_links.specs.LineEnds.{LinesEnd, ends_if}
+use Rattle.node_links.specs.Moves.{EachLink, LineEnds, Fences}
+use Rattle.node_links.specs.LinkEnds.{Starts, TurnsOver, whole_for}
 use Rattle.node_core.specs.NodeMoves.{FenceMove}
 use Rattle.node_core.specs.NodeView.{NodeView, HasLineIn, IsNode, is_ready}
 use Rattle.turn_pieces.specs.Pieces.{PiecesView, wanted_of, done_of, IsFresh}
 use Rattle.turn_pieces.specs.Ports.{index_of}
-use Rattle.node_core.specs.declared.link.Link.{Link}
+use Rattle.node_links.specs.declared.link.Link.{Link}
 use Rattle.node_core.proofs.Later.{shut_ports}
 use Rattle.turn_pieces.proofs.PieceCounts.{shut_done}
 use Rattle.node_core.proofs.Retired.{known_at}

@@ -16,8 +16,8 @@ use Rattle.device_model.specs.declared.outcome.Outcome.{Outcome}
 use Rattle.device_model.specs.declared.outcome.Outcome.TheVariants.{Done, Unfinished, Cut}
 use Rattle.turn_pieces.specs.Pieces.{PiecesView, wanted_of}
 use Rattle.turn_pieces.specs.Ports.{index_of, port_count}
-use Rattle.node_core.specs.declared.link.Link.{Link}
-use Rattle.node_core.specs.declared.link.Origin.TheVariants as origin
+use Rattle.node_links.specs.declared.link.Link.{Link}
+use Rattle.node_links.specs.declared.link.Origin.TheVariants as origin
 
 -- ---- lines
 

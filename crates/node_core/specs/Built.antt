@@ -7,9 +7,9 @@ use Rattle.line_side.specs.LineStands.{LineView, LineStands}
 use Rattle.plan_file.specs.declared.connection.Connection.{Connection}
 use Rattle.plan_file.specs.declared.plan.Plan.{Plan}
 use Rattle.device_model.specs.Entries.{form_in, form_out}
-use Rattle.node_core.specs.Links.{IsLinkOf}
-use Rattle.node_core.specs.LinkEnds.{Starts}
-use Rattle.node_core.specs.declared.link.Link.{Link}
+use Rattle.node_links.specs.Links.{IsLinkOf}
+use Rattle.node_links.specs.LinkEnds.{Starts}
+use Rattle.node_links.specs.declared.link.Link.{Link}
 
 -- the input lines are of these forms, from which nothing was read, and the output lines, of which no frame was made
 pub record AreNewLinesIn (plan : Plan) (lines : List LineView) : Type 0 where

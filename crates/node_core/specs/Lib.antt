@@ -1,13 +1,6 @@
-pub mod Links
 pub mod NodeView
 pub mod Stands
-pub mod Moves
-pub mod LinkEnds
 pub mod NodeMoves
-pub mod LineFrames
 pub mod Built
-pub mod LinkMoves
-pub mod LineEnds
-pub mod Retiring
 pub mod Settling
 pub mod Asking

@@ -10,8 +10,8 @@ use Rattle.plan_file.specs.declared.plan.Plan.{Plan}
 use Rattle.device_model.specs.Entries.{form_out}
 use Rattle.device_model.specs.LineFiles.{IsFrameOf}
 use Rattle.device_model.specs.Through.{Inputs}
-use Rattle.node_core.specs.LinkEnds.{TurnsOver}
-use Rattle.node_core.specs.Moves.{EachLink, ReadsLine, FillLine, WritesLine, TakesClient, GivesClient, LineEnds}
+use Rattle.node_links.specs.LinkEnds.{TurnsOver}
+use Rattle.node_links.specs.Moves.{EachLink, ReadsLine, FillLine, WritesLine, TakesClient, GivesClient, LineEnds}
 use Rattle.node_core.specs.NodeView.{NodeView, HasLineIn, HasLineOut, done_at}
 use Rattle.turn_pieces.specs.Pieces.{IsCounted, IsFresh, wanted_of}
 

@@ -7,11 +7,11 @@ use Rattle.otn_base.specs.declared.kind.PortName.TheVariants as port
 use Rattle.line_side.specs.LineOutput.{LineOutView}
 use Rattle.line_side.specs.LineStands.{LineView}
 use Rattle.turn_pieces.specs.Pieces.{PiecesView, is_open, done_of, wanted_of, open_count, left_now, in_a_turn}
-use Rattle.node_core.specs.declared.link.Link.{Link}
-use Rattle.node_core.specs.declared.link.Origin.{Origin}
-use Rattle.node_core.specs.declared.link.Origin.TheVariants as origin
-use Rattle.node_core.specs.declared.link.Target.{Target}
-use Rattle.node_core.specs.declared.link.Target.TheVariants as target
+use Rattle.node_links.specs.declared.link.Link.{Link}
+use Rattle.node_links.specs.declared.link.Origin.{Origin}
+use Rattle.node_links.specs.declared.link.Origin.TheVariants as origin
+use Rattle.node_links.specs.declared.link.Target.{Target}
+use Rattle.node_links.specs.declared.link.Target.TheVariants as target
 
 -- how many turns there are and how many are past, the pieces of this turn, the input lines, the output lines, and the connections
 pub record NodeView : Type 0 where

@@ -25,7 +25,7 @@ use Rattle.node_core.specs.NodeView.{NodeView, HasLineIn, HasLineOut, HasLink, d
 use Rattle.device_model.specs.LineAsked.{InputLeft}
 use Rattle.device_model.specs.RunLeft.{Takings, MayBeInputs, ClientInLeft, SamePlace, TookOf, TookOfText}
 use Rattle.node_core.specs.Stands.{InputBytes, MayGive, StandsAt}
-use Rattle.node_core.specs.declared.link.Link.{Link}
+use Rattle.node_links.specs.declared.link.Link.{Link}
 
 -- ---- settling
 

@@ -22,10 +22,10 @@ use Rattle.device_model.specs.Through.{Inputs, of_client, own_input}
 use Rattle.device_model.specs.TurnFrames.{frames_in}
 use Rattle.cross_matrix.specs.Parts.{ClientInStands, ClientOutStands, MayShow}
 use Rattle.cross_matrix.specs.Pipes.{PipeStands}
-use Rattle.node_core.specs.Links.{IsLinkOf}
+use Rattle.node_links.specs.Links.{IsLinkOf}
 use Rattle.node_core.specs.NodeView.{NodeView, HasLineIn, HasLineOut, HasLink, done_at, taken_pieces, given_pieces}
 use Rattle.turn_pieces.specs.Pieces.{wanted_of}
-use Rattle.node_core.specs.declared.link.Link.{Link}
+use Rattle.node_links.specs.declared.link.Link.{Link}
 
 -- the bytes that were taken of all inputs
 pub record InputBytes : Type 0 where

@@ -10,9 +10,9 @@ ghost use Rattle.plan_file.specs.declared.connection.Connection.{Connection};
 ghost use Rattle.device_model.specs.Entries.{form_in, form_out};
 ghost use Rattle.node_core.specs.Built.{AreNewLinesIn, AreNewLinesOut, AreNewLinks, IsNewLink};
 
-use crate::link::Link;
 use device_model::accepted_plans;
 use line_side::{LineIn, LineOut};
+use node_links::Link;
 use otn_base::Memory;
 use otn_base::limits::LINES;
 use plan_file::Plan;

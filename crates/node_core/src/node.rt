@@ -9,7 +9,7 @@ ghost use Rattle.otn_ports.specs.Racks.{bays_view};
 ghost use Rattle.otn_ports.specs.Views.{BaysView};
 ghost use Rattle.plan_file.specs.Answer.{fault_in};
 ghost use Rattle.plan_file.specs.declared.plan.Plan.{Plan};
-ghost use Rattle.node_core.specs.Retiring.{RetiredBy};
+ghost use Rattle.node_links.specs.Retiring.{RetiredBy};
 ghost use Rattle.node_core.specs.NodeMoves.{LineInMove, LineOutMove, ClientInMove, ClientOutMove, FenceMove};
 ghost use Rattle.device_model.specs.Moments.{over_ports, pieces_of};
 ghost use Rattle.node_core.specs.NodeView.{NodeView, is_ready, left_of, ready_number};
@@ -17,13 +17,10 @@ ghost use Rattle.turn_pieces.specs.Pieces.{open_count, IsNth, IsCounted};
 ghost use Rattle.node_core.specs.Stands.{InputBytes, StandsAt, Later, no_bytes};
 
 use crate::build::{new_lines_in, new_lines_out, new_links};
-use crate::clients::{give_client, take_client};
-use crate::lines_in::read_line;
-use crate::lines_out::write_line;
-use crate::link::Link;
-use crate::retire::retire_all;
-use crate::turn::{end_lines, fence_all, start_all};
 use line_side::{LineIn, LineOut};
+use node_links::{
+    Link, end_lines, fence_all, give_client, read_line, retire_all, start_all, take_client, write_line,
+};
 use odtu_columns::SlotFrame;
 use otn_base::{Memory, PortName};
 use otn_ports::{InPlaceOf, OutPlaceOf, Rack, Sink, Source};

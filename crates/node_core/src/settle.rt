@@ -15,9 +15,9 @@ ghost use Rattle.node_core.specs.Settling.{Settled};
 ghost use Rattle.node_core.specs.Stands.{InputBytes, StandsAt};
 
 use crate::Node;
-use crate::link::{Link, Origin};
 use device_model::Outcome;
 use line_side::LineIn;
+use node_links::{Link, Origin};
 use otn_base::PortName;
 use otn_base::limits::LINES;
 use otn_ports::{InPlaceOf, OutPlaceOf, Rack, Sink, Source, ask_byte};

@@ -1,7 +1,7 @@
 use Rattle.std.proofs.Common.{◌≡◌, ℕ, Some, slice_get, vec_len}
 use Rattle.plan_file.specs.declared.connection.Connection.{Connection}
 use Rattle.node_core.specs.Built.{IsNewLink}
-use Rattle.node_core.specs.declared.link.Link.{Link}
+use Rattle.node_links.specs.declared.link.Link.{Link}
 use Rattle.node_core.proofs.build.new_links.Given as goal
 
 abbrev pub invariant-loop-i : goal.invariant-loop-i

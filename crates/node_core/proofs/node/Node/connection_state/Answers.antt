@@ -1,9 +1,9 @@
 use Rattle.std.proofs.Common.{◌≡◌, ◌<◌, Some, length, slice_get, refl, sym, ap, subst, ◌∙◌}
 use Rattle.std.proofs.lemmas.Option.{slice_get_read}
-use Rattle.node_core.specs.Links.{was_on}
+use Rattle.node_links.specs.Links.{was_on}
 use Rattle.node_core.specs.NodeView.{NodeView}
 use Rattle.node_core.specs.Settling.{IsLastState}
-use Rattle.node_core.specs.declared.link.Link.{Link}
+use Rattle.node_links.specs.declared.link.Link.{Link}
 use Rattle.node_core.proofs.NodeReads.{state_told}
 use Rattle.node_core.proofs.Parts.{one_at}
 use Rattle.node_core.proofs.node.Node.connection_state.Goals as goal

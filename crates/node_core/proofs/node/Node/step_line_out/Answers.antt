@@ -2,7 +2,7 @@ use Rattle.std.proofs.Common.{◌≡◌, ◌<◌, true, Some, set, length, slice
 use Rattle.std.proofs.lemmas.Option.{slice_get_read}
 use Rattle.otn_base.specs.declared.kind.PortName.TheVariants as port
 use Rattle.otn_ports.specs.OutPlace.{out_view}
-use Rattle.node_core.specs.LineFrames.{FrameWritten}
+use Rattle.node_links.specs.LineFrames.{FrameWritten}
 use Rattle.line_side.specs.LineOutput.{LineOutView}
 use Rattle.node_core.specs.NodeMoves.{LineOutMove}
 use Rattle.node_core.specs.NodeView.{NodeView, is_ready, done_at}
