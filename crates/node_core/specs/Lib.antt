@@ -1,6 +1,2 @@
-pub mod NodeView
-pub mod Stands
-pub mod NodeMoves
-pub mod Built
 pub mod Settling
 pub mod Asking

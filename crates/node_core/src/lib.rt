@@ -1,13 +1,11 @@
-//! A node: a state machine that carries a plan, stepped port by port in any order, settled at the end, and asked for the numbers of
-//! its report.
+//! A node: a state machine that carries a plan, stepped port by port in any order, settled at the end, and asked for
+//! the numbers of its report.
 //!
 //! - `node`: the node; `runs`: a whole run of it, in an order that a chooser says.
-//! - `build`: its parts before turn 1 of a plan.
-//! - `settle`: the end of a run; `reads`: what a node tells of its ports and its connections; `tally`: all of it together, as the
-//!   numbers of a run for its report.
+//! - `settle`: the end of a run; `reads`: what a node tells of its ports and its connections; `tally`: all of it
+//!   together, as the numbers of a run for its report.
 #![tactic(auto)]
 
-mod build;
 mod node;
 mod reads;
 mod runs;

@@ -10,17 +10,17 @@ ghost use Rattle.otn_ports.specs.Views.{BaysView};
 ghost use Rattle.plan_file.specs.Answer.{fault_in};
 ghost use Rattle.plan_file.specs.declared.plan.Plan.{Plan};
 ghost use Rattle.node_links.specs.Retiring.{RetiredBy};
-ghost use Rattle.node_core.specs.NodeMoves.{LineInMove, LineOutMove, ClientInMove, ClientOutMove, FenceMove};
+ghost use Rattle.node_moments.specs.NodeMoves.{LineInMove, LineOutMove, ClientInMove, ClientOutMove, FenceMove};
 ghost use Rattle.device_model.specs.Moments.{over_ports, pieces_of};
-ghost use Rattle.node_core.specs.NodeView.{NodeView, is_ready, left_of, ready_number};
+ghost use Rattle.node_moments.specs.NodeView.{NodeView, is_ready, left_of, ready_number};
 ghost use Rattle.turn_pieces.specs.Pieces.{open_count, IsNth, IsCounted};
-ghost use Rattle.node_core.specs.Stands.{InputBytes, StandsAt, Later, no_bytes};
+ghost use Rattle.node_moments.specs.Stands.{InputBytes, StandsAt, Later, no_bytes};
 
-use crate::build::{new_lines_in, new_lines_out, new_links};
 use line_side::{LineIn, LineOut};
 use node_links::{
     Link, end_lines, fence_all, give_client, read_line, retire_all, start_all, take_client, write_line,
 };
+use node_moments::{new_lines_in, new_lines_out, new_links};
 use odtu_columns::SlotFrame;
 use otn_base::{Memory, PortName};
 use otn_ports::{InPlaceOf, OutPlaceOf, Rack, Sink, Source};
@@ -44,7 +44,7 @@ pub struct Node {
 
 impl Model for Node {
     ghost use Rattle.std.specs.Prelude.{vec_len};
-    ghost use Rattle.node_core.specs.NodeView.{NodeView, IsNode};
+    ghost use Rattle.node_moments.specs.NodeView.{NodeView, IsNode};
 
     ghost Value = { NodeView };
 

@@ -4,7 +4,7 @@ ghost use Rattle.otn_base.specs.declared.limits.TheConstants.{LINES};
 ghost use Rattle.node_links.specs.LinkMoves.{FirstOf};
 ghost use Rattle.node_links.specs.Links.{was_on};
 ghost use Rattle.node_links.specs.Moves.{has_client_in, has_client_out};
-ghost use Rattle.node_core.specs.NodeView.{HasLink};
+ghost use Rattle.node_moments.specs.NodeView.{HasLink};
 ghost use Rattle.node_core.specs.Settling.{IsLineCounts, IsFrameCount, IsClientInCount, IsClientOutCount, IsLastState};
 ghost use Rattle.node_links.specs.declared.link.Link.{Link};
 

@@ -12,7 +12,7 @@ ghost use Rattle.otn_ports.specs.Asked.{ByteAnswer};
 ghost use Rattle.node_core.specs.Asking.{LinesAsked, LinesAnswer, CutAnswer, OpenAnswer, OpensAnswer, asks_line, is_cut, outcome_by};
 ghost use Rattle.turn_pieces.specs.Ports.{index_of, port_count};
 ghost use Rattle.node_core.specs.Settling.{Settled};
-ghost use Rattle.node_core.specs.Stands.{InputBytes, StandsAt};
+ghost use Rattle.node_moments.specs.Stands.{InputBytes, StandsAt};
 
 use crate::Node;
 use device_model::Outcome;

@@ -7,7 +7,7 @@ ghost use Rattle.node_core.specs.Asking.{LinesAsked};
 ghost use Rattle.device_model.specs.RunLeft.{Takings, RunLeft};
 ghost use Rattle.device_model.specs.RunNumbers.{client_in_numbers, client_out_numbers, no_client_in, no_client_out, no_counts, numbers_of_run};
 ghost use Rattle.node_core.specs.Settling.{IsLineCounts, IsFrameCount, IsClientInCount, IsClientOutCount, IsLastState, Settled, ToldBy};
-ghost use Rattle.node_core.specs.Stands.{InputBytes, StandsAt};
+ghost use Rattle.node_moments.specs.Stands.{InputBytes, StandsAt};
 
 use crate::Node;
 use device_model::{ClientInCounts, ClientOutCounts, FromState, Outcome, RunNumbers};

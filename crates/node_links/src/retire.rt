@@ -3,8 +3,7 @@ ghost use Rattle.std.specs.Prelude.{◌≡◌, ◌<◌, ◌&&◌, ◌==◌, ◌+
 ghost use Rattle.otn_base.specs.declared.limits.TheConstants.{CLIENTS as CLIENT_PORTS};
 ghost use Rattle.otn_ports.specs.Racks.{bays_view};
 ghost use Rattle.node_links.specs.Moves.{is_from_client, is_to_client};
-ghost use Rattle.node_links.specs.Retiring.{RetiredBy, ends_here};
-ghost use Rattle.node_links.specs.Retiring.{RetiredAt};
+ghost use Rattle.node_links.specs.Retiring.{RetiredBy, ends_here, RetiredAt};
 
 use crate::link::{Link, Origin, Target};
 use otn_base::limits::CLIENTS;

@@ -1,6 +1,7 @@
-//! Laws of what a run leaves, each the contract of a function: what follows of it alone, whichever node carried the plan.
+//! Laws of what a run leaves, each the contract of a function. They name no node: whatever carried the plan, they hold.
 //!
-//! - `laws`: of runs of what was given, of two worlds, and of what a connection carries; also by what is seen of the places alone.
+//! - `laws`: of runs of what was given, of two worlds, and of what a connection carries; also by what is seen of the
+//!   places alone.
 //! - `damage`: of what a run leaves on a connection whose line was damaged.
 #![tactic(auto)]
 

@@ -2,7 +2,7 @@ use Rattle.std.proofs.Common.{◌≡◌, List, false, Some, None, length, slice_
 use Rattle.std.proofs.lemmas.Option.{slice_get_read}
 use Rattle.node_links.specs.LinkMoves.{FirstOf}
 use Rattle.node_links.specs.Moves.{has_client_in}
-use Rattle.node_core.specs.NodeView.{NodeView}
+use Rattle.node_moments.specs.NodeView.{NodeView}
 use Rattle.node_core.specs.Settling.{IsClientInCount}
 use Rattle.node_links.specs.declared.link.Link.{Link}
 use Rattle.node_core.proofs.NodeReads.{client_in_told, client_in_none}
