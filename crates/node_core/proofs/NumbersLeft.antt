@@ -19,7 +19,7 @@ use Rattle.device_model.specs.Numbers.{Went, AreNumbers, line_ending}
 use Rattle.device_model.specs.Outcomes.{place_state, IsOutcome}
 use Rattle.device_model.specs.Report.{Numbers, ClientOutNumbers}
 use Rattle.device_model.specs.Through.{Inputs, own_input}
-use Rattle.device_model.proofs.OneFile.{one_file}
+use Rattle.connection_laws.proofs.OneFile.{one_file}
 use Rattle.node_moments.specs.NodeView.{NodeView, HasLineIn, done_at}
 use Rattle.turn_pieces.specs.Ports.{index_of}
 use Rattle.device_model.specs.RunLeft.{OutputsLeft}

@@ -18,7 +18,8 @@ ghost use Rattle.node_moments.specs.Stands.{InputBytes, StandsAt, Later, no_byte
 
 use line_side::{LineIn, LineOut};
 use node_links::{
-    Link, end_lines, fence_all, give_client, read_line, retire_all, start_all, take_client, write_line,
+    Link, end_lines, fence_all, give_client, read_line, retire_all, start_all, take_client,
+    write_line,
 };
 use node_moments::{new_lines_in, new_lines_out, new_links};
 use odtu_columns::SlotFrame;

@@ -20,13 +20,13 @@ use Rattle.tributary_model.specs.Places.{byte_at, tributary_of}
 use Rattle.device_model.specs.Entries.{first_turn, own_turn, form_out}
 use Rattle.device_model.specs.Moments.{turns_done, client_due}
 use Rattle.device_model.specs.Numbers.{client_numbers, output_numbers, last_state}
-use Rattle.device_model.specs.OneDamaged.{LeavesAlikeInItsTurns}
+use Rattle.connection_laws.specs.OneDamaged.{LeavesAlikeInItsTurns}
 use Rattle.device_model.specs.SoundPlans.{IsSoundEntry}
 use Rattle.device_model.specs.Through.{OwnInput, own_input, got_by, arrived_by, text_by, state_in}
-use Rattle.device_model.specs.TwoWorlds.{SameInput, AgreeOnEnd, HasFrame, HaveFrame, HaveSameByte, FiledRun, written}
+use Rattle.connection_laws.specs.TwoWorlds.{SameInput, AgreeOnEnd, HasFrame, HaveFrame, HaveSameByte, FiledRun, written}
 use Rattle.device_model.proofs.MadeFrames.{made_whole}
-use Rattle.device_model.proofs.OwnBytes.{inside, writes_as_got}
-use Rattle.device_model.proofs.WorldInputs.{gives_the_same_input, leaves_the_same, sound_of}
+use Rattle.connection_laws.proofs.OwnBytes.{inside, writes_as_got}
+use Rattle.connection_laws.proofs.WorldInputs.{gives_the_same_input, leaves_the_same, sound_of}
 use Rattle.device_model.specs.RunLeft.{LineOutLeft, ClientOutLeft}
 use Rattle.run_laws.specs.RunsAlike.{World, IsWorld, ShareOne, IsFrontOfOther, HasLived, BothLived, HasPlace, HasGone, LeftAlike, state_of_client, went_out}
 use Rattle.device_model.specs.RetiredPlaces.{out_after_retire}

@@ -11,15 +11,15 @@ use Rattle.tributary_model.specs.Carries.{sent, Carries}
 use Rattle.tributary_model.specs.Places.{tributary_of}
 use Rattle.tributary_model.specs.Puts.{lengths_of}
 use Rattle.device_model.specs.Entries.{first_turn}
-use Rattle.device_model.specs.Healing.{IsCarriedAgain}
-use Rattle.device_model.specs.HeldBack.{emitted_after}
+use Rattle.connection_laws.specs.Healing.{IsCarriedAgain}
+use Rattle.connection_laws.specs.HeldBack.{emitted_after}
 use Rattle.device_model.specs.LineViews.{view_at}
-use Rattle.device_model.specs.OneDamaged.{AgreeButForOne}
+use Rattle.connection_laws.specs.OneDamaged.{AgreeButForOne}
 use Rattle.device_model.specs.Through.{own_input, got_by, arrived_by}
-use Rattle.device_model.proofs.Accepted.{has_as_many_slots}
-use Rattle.device_model.proofs.Healed.{gets_what_healed, arrives_healed, carries_what_it_gets}
-use Rattle.device_model.proofs.OneDamaged.{leaves_as_if_repeated}
-use Rattle.device_model.proofs.SecondNode.{passes_a_second_node}
+use Rattle.connection_laws.proofs.Accepted.{has_as_many_slots}
+use Rattle.connection_laws.proofs.Healed.{gets_what_healed, arrives_healed, carries_what_it_gets}
+use Rattle.connection_laws.proofs.OneDamaged.{leaves_as_if_repeated}
+use Rattle.connection_laws.proofs.SecondNode.{passes_a_second_node}
 use Rattle.device_model.proofs.SoundPlans.{sound_plan}
 use Rattle.run_laws.specs.RunsAlike.{World, IsWorld, LeftAlike, state_of_line, state_of_client, went_out}
 use Rattle.run_laws.specs.RunsDamaged.{CarriesAllGot, HealsIn, Follows, front_got, HandsOnAFront, ShareButForOne}

@@ -19,16 +19,16 @@ use Rattle.plan_file.specs.declared.connection.Connection.{Connection}
 use Rattle.plan_file.specs.declared.connection.FromEnd.TheVariants as from_end
 use Rattle.plan_file.specs.declared.connection.ToEnd.TheVariants as to_end
 use Rattle.tributary_model.specs.Carries.{sent}
-use Rattle.device_model.specs.Carried.{GoesTo, HasPaces, IsMadeTo, numbers_got}
-use Rattle.device_model.specs.Delivery.{AreOffered, whole_packets}
+use Rattle.connection_laws.specs.Carried.{GoesTo, HasPaces, IsMadeTo, numbers_got}
+use Rattle.connection_laws.specs.Delivery.{AreOffered, whole_packets}
 use Rattle.device_model.specs.Entries.{first_turn, form_out}
 use Rattle.device_model.specs.LineFiles.{IsLineFile}
 use Rattle.device_model.specs.Through.{own_input, arrived_by, text_by}
-use Rattle.device_model.proofs.Accepted.{goes_as_asked, has_as_many_slots}
-use Rattle.device_model.proofs.Carried.{carries_on}
-use Rattle.device_model.proofs.CarriedFrom.{carries_a_client, carries_a_signal}
-use Rattle.device_model.proofs.Delivery.{delivers_its_packets}
-use Rattle.device_model.proofs.GotStreams.{gets_the_stream, gets_the_signal}
+use Rattle.connection_laws.proofs.Accepted.{goes_as_asked, has_as_many_slots}
+use Rattle.connection_laws.proofs.Carried.{carries_on}
+use Rattle.connection_laws.proofs.CarriedFrom.{carries_a_client, carries_a_signal}
+use Rattle.connection_laws.proofs.Delivery.{delivers_its_packets}
+use Rattle.connection_laws.proofs.GotStreams.{gets_the_stream, gets_the_signal}
 use Rattle.device_model.proofs.SoundPlans.{sound_plan}
 use Rattle.device_model.specs.RunLeft.{LineOutLeft}
 use Rattle.device_model.specs.RetiredPlaces.{out_after_retire}

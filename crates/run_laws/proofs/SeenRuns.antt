@@ -27,19 +27,19 @@ use Rattle.tributary_model.specs.Carries.{sent}
 use Rattle.tributary_model.specs.Places.{tributary_of}
 use Rattle.tributary_model.specs.Puts.{IsPut}
 use Rattle.device_model.specs.Agreements.{AgreeOnTributary}
-use Rattle.device_model.specs.Carried.{numbers_got}
-use Rattle.device_model.specs.Delivery.{AreOffered, whole_packets}
+use Rattle.connection_laws.specs.Carried.{numbers_got}
+use Rattle.connection_laws.specs.Delivery.{AreOffered, whole_packets}
 use Rattle.device_model.specs.Entries.{first_turn, own_turn, form_in, form_out, is_from_line, is_from_client, is_to_line}
 use Rattle.device_model.specs.Inputs.{has_died}
 use Rattle.device_model.specs.LineFiles.{IsFrameOf, IsLineFile}
 use Rattle.device_model.specs.LineViews.{view_at}
 use Rattle.device_model.specs.Moments.{uses}
-use Rattle.device_model.specs.OneFile.{SameInputsTo}
+use Rattle.connection_laws.specs.OneFile.{SameInputsTo}
 use Rattle.device_model.specs.Through.{Inputs, OwnInput, of_line, of_client, own_of, own_input, text_by}
-use Rattle.device_model.specs.TwoWorlds.{AgreeOnEnd, SameInput}
-use Rattle.device_model.specs.UpToTurn.{AgreeInTurn, BringAlike, AgreeUpTo}
-use Rattle.device_model.proofs.WorldInputs.{leaves_the_same}
-use Rattle.device_model.proofs.UpToTurn.{looks_not_ahead, shows_the_same_up_to}
+use Rattle.connection_laws.specs.TwoWorlds.{AgreeOnEnd, SameInput}
+use Rattle.connection_laws.specs.UpToTurn.{AgreeInTurn, BringAlike, AgreeUpTo}
+use Rattle.connection_laws.proofs.WorldInputs.{leaves_the_same}
+use Rattle.connection_laws.proofs.UpToTurn.{looks_not_ahead, shows_the_same_up_to}
 use Rattle.device_model.specs.LineAsked.{MayHave}
 use Rattle.device_model.specs.RunLeft.{Takings, MayBeInputs}
 use Rattle.run_laws.specs.RunsAlike.{World, IsWorld, went_out}

@@ -16,7 +16,7 @@ use Rattle.device_model.specs.Entries.{form_out, IsActive}
 use Rattle.device_model.specs.Numbers.{Went}
 use Rattle.device_model.specs.Report.{Numbers}
 use Rattle.device_model.specs.Through.{Inputs}
-use Rattle.device_model.specs.TwoWorlds.{AgreeOnEnd, HaveSameByte}
+use Rattle.connection_laws.specs.TwoWorlds.{AgreeOnEnd, HaveSameByte}
 use Rattle.device_model.specs.RunLeft.{Takings, MayBeInputs, RunLeft}
 
 -- ---- runs

@@ -10,11 +10,11 @@ use Rattle.tributary_model.specs.Carries.{sent, Carries}
 use Rattle.tributary_model.specs.Places.{tributary_of}
 use Rattle.tributary_model.specs.Puts.{lengths_of}
 use Rattle.device_model.specs.Entries.{first_turn}
-use Rattle.device_model.specs.Healing.{IsCarriedAgain}
-use Rattle.device_model.specs.HeldBack.{emitted_after}
+use Rattle.connection_laws.specs.Healing.{IsCarriedAgain}
+use Rattle.connection_laws.specs.HeldBack.{emitted_after}
 use Rattle.device_model.specs.LineViews.{view_at}
 use Rattle.device_model.specs.Numbers.{Went}
-use Rattle.device_model.specs.OneDamaged.{AgreeButForOne}
+use Rattle.connection_laws.specs.OneDamaged.{AgreeButForOne}
 use Rattle.device_model.specs.Through.{own_input, got_in, got_by, arrived_by}
 use Rattle.run_laws.specs.RunsAlike.{World, IsWorld, LeftAlike, went_out, state_of_line, state_of_client}
 use Rattle.run_laws.specs.RunsThrough.{LivedIn, read_of}

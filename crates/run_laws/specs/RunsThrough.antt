@@ -16,8 +16,8 @@ use Rattle.plan_file.specs.declared.connection.ToEnd.TheVariants as to_end
 use Rattle.tributary_model.specs.Carriage.{Arrives}
 use Rattle.tributary_model.specs.Carries.{sent}
 use Rattle.tributary_model.specs.Places.{tributary_of}
-use Rattle.device_model.specs.Carried.{numbers_got}
-use Rattle.device_model.specs.Delivery.{AreOffered, whole_packets}
+use Rattle.connection_laws.specs.Carried.{numbers_got}
+use Rattle.connection_laws.specs.Delivery.{AreOffered, whole_packets}
 use Rattle.device_model.specs.Entries.{first_turn, form_out}
 use Rattle.device_model.specs.LineFiles.{IsLineFile}
 use Rattle.device_model.specs.LineViews.{view_at}

@@ -21,8 +21,8 @@ use Rattle.plan_file.specs.declared.plan.Plan.{Plan}
 use Rattle.tributary_model.specs.Carries.{sent}
 use Rattle.tributary_model.specs.Places.{tributary_of}
 use Rattle.device_model.specs.Agreements.{AgreeOnTributary}
-use Rattle.device_model.specs.Carried.{numbers_got}
-use Rattle.device_model.specs.Delivery.{AreOffered, whole_packets}
+use Rattle.connection_laws.specs.Carried.{numbers_got}
+use Rattle.connection_laws.specs.Delivery.{AreOffered, whole_packets}
 use Rattle.device_model.specs.Entries.{first_turn, own_turn, form_in, form_out}
 use Rattle.device_model.specs.Inputs.{has_died}
 use Rattle.device_model.specs.LineFiles.{IsLineFile}
@@ -30,8 +30,8 @@ use Rattle.device_model.specs.LineViews.{view_at}
 use Rattle.device_model.specs.Moments.{uses}
 use Rattle.device_model.specs.Report.{Numbers}
 use Rattle.device_model.specs.Through.{Inputs, OwnInput, of_line, of_client, of_signal, text_by}
-use Rattle.device_model.specs.TwoWorlds.{HaveSameByte}
-use Rattle.device_model.specs.UpToTurn.{AgreeInTurn, BringAlike}
+use Rattle.connection_laws.specs.TwoWorlds.{HaveSameByte}
+use Rattle.connection_laws.specs.UpToTurn.{AgreeInTurn, BringAlike}
 use Rattle.device_model.specs.RunLeft.{Takings, RunLeft, SamePlace}
 use Rattle.run_laws.specs.RunsAlike.{IsFrontOfOther, HasLived, HasPlace, HasGone}
 use Rattle.run_laws.specs.RunsThrough.{IsFrontOf, CarriedOn}
