@@ -16,7 +16,7 @@ use Rattle.odu_client.specs.ClientFrames.{payload_begun}
 use Rattle.tributary_model.specs.Carries.{IsSteady, number_in, sent}
 use Rattle.tributary_model.specs.Puts.{lengths_of}
 use Rattle.tributary_model.specs.Sending.{IsSent as IsSendable}
-use Rattle.device_model.proofs.HeldBack.{front_after}
+use Rattle.connection_laws.proofs.HeldBack.{front_after}
 use Rattle.tributary_line.specs.TributaryFile.{IsTributaryFile}
 use Rattle.bundle_command.specs.BundleStream.{channel_stream, channel_turns, first_slot, parts_of, payload_sent, payload_whole, woven_in}
 use Rattle.bundle_command.proofs.Sizes.{weave_text_size}

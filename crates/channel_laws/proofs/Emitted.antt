@@ -15,9 +15,9 @@ use Rattle.tributary_model.specs.Stretches.{state_after}
 use Rattle.tributary_model.specs.declared.turns.SinkState.TheVariants.{Down}
 use Rattle.tributary_model.proofs.Intact.{down_without, up_while_carried}
 use Rattle.tributary_model.proofs.Passing.{joins_to_whole_groups}
-use Rattle.device_model.specs.HeldBack.{Comes}
+use Rattle.connection_laws.specs.HeldBack.{Comes}
 use Rattle.device_model.specs.LineViews.{view_at, views_until, emitted_at}
-use Rattle.device_model.proofs.HeldBack.{emits_a_front, front_after}
+use Rattle.connection_laws.proofs.HeldBack.{emits_a_front, front_after}
 use Rattle.device_model.proofs.LineViews.{whole_at}
 use Rattle.tributary_line.specs.TributaryFile.{IsTributaryFile}
 use Rattle.tributary_line.proofs.FileTurns.{carries_its_turns, shows_nothing_behind}

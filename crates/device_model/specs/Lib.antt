@@ -12,14 +12,6 @@ pub mod Outcomes
 pub mod Report
 pub mod Numbers
 pub mod Made
-pub mod Carried
-pub mod Delivery
-pub mod Chains
-pub mod Accepted
-pub mod TwoWorlds
-pub mod UpToTurn
-pub mod OneFile
-pub mod RunsInARow
-pub mod Healing
-pub mod OneDamaged
-pub mod HeldBack
+pub mod RetiredPlaces
+pub mod RunLeft
+pub mod RunNumbers

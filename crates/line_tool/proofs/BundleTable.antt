@@ -4,7 +4,7 @@ use Rattle.otn_ports.specs.PortViews.{SinkView, SinkLater}
 use Rattle.otn_ports.specs.Views.{BaysView, line_out_at}
 use Rattle.otn_ports.specs.declared.ended.Ended.{Ended}
 use Rattle.otn_ports.specs.declared.ended.Ended.TheVariants.{Done, Unfinished, Cut, ReportFault, Memory}
-use Rattle.node_core.proofs.GivenRuns.{follows}
+use Rattle.run_laws.proofs.GivenRuns.{follows}
 use Rattle.odu_client.specs.ClientInput.{ClientInput}
 use Rattle.bundle_command.specs.BundleLeft.{BundleRan, IsCut, LeftOf, MayBeInput, Tells, place_of}
 use Rattle.line_tool.specs.BundleLaws.{AreBundledWell, BundleIsComplete, BundlesWhatWasGiven, inputs_of}

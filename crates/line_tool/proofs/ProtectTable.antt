@@ -6,7 +6,7 @@ use Rattle.otn_ports.specs.declared.ended.Ended.{Ended}
 use Rattle.otn_ports.specs.declared.ended.Ended.TheVariants.{Done, Unfinished, Cut, ReportFault, Memory}
 use Rattle.tributary_model.specs.Places.{Tributary}
 use Rattle.device_model.specs.LineAsked.{InputLeft}
-use Rattle.node_core.proofs.GivenRuns.{follows}
+use Rattle.run_laws.proofs.GivenRuns.{follows}
 use Rattle.protect_selector.specs.ProtectLeft.{AllDone, IsCut, LeftSo, ProtectRan, TookOf}
 use Rattle.protect_selector.specs.Protecting.{Ends, ends_of}
 use Rattle.command_base.specs.AnswerWords.{IsWell}

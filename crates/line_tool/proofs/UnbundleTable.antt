@@ -5,7 +5,7 @@ use Rattle.otn_ports.specs.PortViews.{SinkView, SinkLater}
 use Rattle.otn_ports.specs.Views.{BaysView, line_in_at, client_out_at}
 use Rattle.otn_ports.specs.declared.ended.Ended.{Ended}
 use Rattle.otn_ports.specs.declared.ended.Ended.TheVariants.{Done, Unfinished, Cut, ReportFault, Memory}
-use Rattle.node_core.proofs.GivenRuns.{follows}
+use Rattle.run_laws.proofs.GivenRuns.{follows}
 use Rattle.unbundle_command.specs.Unbundled.{arrived_before, report_text}
 use Rattle.unbundle_command.specs.UnbundleLeft.{IsCut, written_by, UnbundleOf, UnbundleRan}
 use Rattle.command_base.specs.Ends.{line_status}

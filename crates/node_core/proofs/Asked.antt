@@ -16,11 +16,11 @@ use Rattle.otn_ports.proofs.BaysLaws.{line_in_seen, line_in_set, only_line_in}
 use Rattle.line_side.specs.LineStands.{LineView}
 use Rattle.otn_ports.specs.Asked.{has_come, ByteAsked, ByteAnswer}
 use Rattle.node_core.specs.Asking.{LinesAnswer, asks_line, is_cut, CutAnswer, OpenAnswer, OpensAnswer, SaysSpent}
-use Rattle.node_core.specs.Pieces.{PiecesView}
-use Rattle.node_core.specs.Ports.{index_of, port_at}
-use Rattle.node_core.specs.declared.link.Link.{Link}
-use Rattle.node_core.specs.declared.link.Origin.TheVariants as origin
-use Rattle.node_core.proofs.PortNumbers.{port_at_index}
+use Rattle.turn_pieces.specs.Pieces.{PiecesView}
+use Rattle.turn_pieces.specs.Ports.{index_of, port_at}
+use Rattle.node_links.specs.declared.link.Link.{Link}
+use Rattle.node_links.specs.declared.link.Origin.TheVariants as origin
+use Rattle.turn_pieces.proofs.PortNumbers.{port_at_index}
 
 -- ---- lines
 

@@ -30,15 +30,15 @@ use Rattle.cross_matrix.specs.Parts.{ClientInStands, MayShow, GivesTo, IsToClien
 use Rattle.cross_matrix.specs.Pipes.{PipeStands}
 use Rattle.cross_matrix.specs.declared.giving.GivingPart.{GivingPart}
 use Rattle.cross_matrix.specs.declared.giving.GivingPart.TheVariants as giving
-use Rattle.node_core.specs.LinkMoves.{FirstOf}
-use Rattle.node_core.specs.Links.{IsLinkOf, is_later, was_on}
-use Rattle.node_core.specs.Moves.{is_from_client, is_to_client, has_client_in, has_client_out}
-use Rattle.node_core.specs.NodeView.{NodeView, HasLineIn, HasLineOut, HasLink, done_at, taken_pieces, given_pieces}
+use Rattle.node_links.specs.LinkMoves.{FirstOf}
+use Rattle.node_links.specs.Links.{IsLinkOf, is_later, was_on}
+use Rattle.node_links.specs.Moves.{is_from_client, is_to_client, has_client_in, has_client_out}
+use Rattle.node_moments.specs.NodeView.{NodeView, HasLineIn, HasLineOut, HasLink, done_at, taken_pieces, given_pieces}
 use Rattle.node_core.specs.Settling.{IsLineCounts, IsFrameCount, IsClientInCount, IsClientOutCount, IsLastState}
-use Rattle.node_core.specs.Stands.{InputBytes, MayGive, PlanStands, StandsAt, frames_by, ended_by}
-use Rattle.node_core.specs.declared.link.Link.{Link}
-use Rattle.node_core.proofs.ClientLinks.{from_client, to_client, client_from, client_to}
-use Rattle.node_core.proofs.Parts.{one_at, known_at, and_none, none_and}
+use Rattle.node_moments.specs.Stands.{InputBytes, MayGive, PlanStands, StandsAt, frames_by, ended_by}
+use Rattle.node_links.specs.declared.link.Link.{Link}
+use Rattle.node_moments.proofs.ClientLinks.{from_client, to_client, client_from, client_to}
+use Rattle.node_moments.proofs.Parts.{one_at, known_at, and_none, none_and}
 
 -- ---- lines
 

@@ -19,16 +19,17 @@ use Rattle.device_model.specs.Numbers.{Went, AreNumbers, line_ending}
 use Rattle.device_model.specs.Outcomes.{place_state, IsOutcome}
 use Rattle.device_model.specs.Report.{Numbers, ClientOutNumbers}
 use Rattle.device_model.specs.Through.{Inputs, own_input}
-use Rattle.device_model.proofs.OneFile.{one_file}
-use Rattle.node_core.specs.NodeView.{NodeView, HasLineIn, done_at}
-use Rattle.node_core.specs.Ports.{index_of}
-use Rattle.node_core.specs.RunLeft.{OutputsLeft}
+use Rattle.connection_laws.proofs.OneFile.{one_file}
+use Rattle.node_moments.specs.NodeView.{NodeView, HasLineIn, done_at}
+use Rattle.turn_pieces.specs.Ports.{index_of}
+use Rattle.device_model.specs.RunLeft.{OutputsLeft}
 use Rattle.node_core.specs.Settling.{ToldBy}
-use Rattle.node_core.specs.Stands.{InputBytes, MayGive, StandsAt}
+use Rattle.node_moments.specs.Stands.{InputBytes, MayGive, StandsAt}
 use Rattle.node_core.proofs.NodeReads.{entry_of, is_past, client_numbers_then, last_state_then}
 use Rattle.node_core.proofs.OutputsLeft.{AllWent, all_went, outputs_left}
-use Rattle.node_core.proofs.Parts.{known_at}
-use Rattle.node_core.proofs.UsedPorts.{used_within, from_client_used, to_client_used}
+use Rattle.node_moments.proofs.Parts.{known_at}
+use Rattle.device_model.proofs.ConnectionPorts.{from_client_used, to_client_used}
+use Rattle.turn_pieces.proofs.UsedPorts.{used_within}
 
 -- ---- lines
 

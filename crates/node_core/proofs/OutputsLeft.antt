@@ -22,16 +22,17 @@ use Rattle.cross_matrix.specs.Parts.{OnReceiver, ClientOutStands, IsReceived}
 use Rattle.cross_matrix.specs.Receiving.{ReceiverView, ReceiverStands}
 use Rattle.cross_matrix.specs.declared.giving.GivingPart.{GivingPart}
 use Rattle.cross_matrix.specs.declared.giving.GivingPart.TheVariants as giving
-use Rattle.node_core.specs.Moves.{is_to_client, has_client_out}
-use Rattle.node_core.specs.NodeView.{NodeView, HasLineOut, HasLink, done_at}
-use Rattle.node_core.specs.Ports.{index_of}
-use Rattle.node_core.specs.RunLeft.{OutputLeft, LineOutLeft, ClientOutLeft, OutputsLeft}
-use Rattle.node_core.specs.Stands.{InputBytes, MayGive, StandsAt, out_after_retire}
-use Rattle.node_core.specs.declared.link.Link.{Link}
-use Rattle.node_core.proofs.ClientLinks.{to_client, one_or_none}
+use Rattle.node_links.specs.Moves.{is_to_client, has_client_out}
+use Rattle.node_moments.specs.NodeView.{NodeView, HasLineOut, HasLink, done_at}
+use Rattle.turn_pieces.specs.Ports.{index_of}
+use Rattle.device_model.specs.RunLeft.{OutputLeft, LineOutLeft, ClientOutLeft, OutputsLeft}
+use Rattle.device_model.specs.RetiredPlaces.{out_after_retire}
+use Rattle.node_moments.specs.Stands.{InputBytes, MayGive, StandsAt}
+use Rattle.node_links.specs.declared.link.Link.{Link}
+use Rattle.node_moments.proofs.ClientLinks.{to_client, one_or_none}
 use Rattle.node_core.proofs.NodeReads.{entry_of, entry_at, found_out, none_out, all_turns, is_past}
-use Rattle.node_core.proofs.Parts.{known_at}
-use Rattle.node_core.proofs.UsedPorts.{used_within}
+use Rattle.node_moments.proofs.Parts.{known_at}
+use Rattle.turn_pieces.proofs.UsedPorts.{used_within}
 
 -- what went to the outputs of a node past its last turn, whatever its inputs may turn out to be
 pub record OutputsStand (plan : Plan) (first : BaysView) (taken : InputBytes) (node : NodeView) (last : BaysView) (inputs : Inputs) : Type 0 where

@@ -14,10 +14,10 @@ use Rattle.device_model.specs.Report.{Numbers}
 use Rattle.device_model.specs.Through.{Inputs}
 use Rattle.device_model.specs.declared.outcome.Outcome.{Outcome}
 use Rattle.node_core.specs.Asking.{LinesAsked}
-use Rattle.node_core.specs.NodeView.{NodeView, HasLineIn}
-use Rattle.node_core.specs.RunLeft.{OutputsLeft, RunLeft}
+use Rattle.node_moments.specs.NodeView.{NodeView, HasLineIn}
+use Rattle.device_model.specs.RunLeft.{OutputsLeft, RunLeft}
 use Rattle.node_core.specs.Settling.{Settled}
-use Rattle.node_core.specs.Stands.{InputBytes, MayGive, StandsAt}
+use Rattle.node_moments.specs.Stands.{InputBytes, MayGive, StandsAt}
 use Rattle.node_core.proofs.OutputsLeft.{OutputsStand}
 use Rattle.node_core.proofs.Settled.{turns_past, used_line_at}
 use Rattle.device_model.proofs.SettledLines.{rest_settled}

@@ -26,20 +26,22 @@ use Rattle.cross_matrix.specs.Receiving.{is_dead}
 use Rattle.otn_ports.specs.Asked.{has_come, ByteAsked}
 use Rattle.device_model.specs.LineAsked.{is_seen}
 use Rattle.node_core.specs.Asking.{asks_line, LinesAsked, LinesAnswer, is_cut, CutAnswer, SaysSpent, OpenLink, OpensAnswer, outcome_by}
-use Rattle.node_core.specs.Links.{origin_of}
-use Rattle.node_core.specs.Moves.{is_from_client}
-use Rattle.node_core.specs.NodeView.{NodeView, HasLineIn, HasLink, IsNode, done_at}
-use Rattle.node_core.specs.Pieces.{wanted_of}
-use Rattle.node_core.specs.Ports.{index_of, port_count}
-use Rattle.node_core.specs.RunLeft.{Takings, MayBeInputs, ClientInLeft, SamePlace}
+use Rattle.node_links.specs.Links.{origin_of}
+use Rattle.node_links.specs.Moves.{is_from_client}
+use Rattle.node_moments.specs.NodeView.{NodeView, HasLineIn, HasLink, IsNode, done_at}
+use Rattle.turn_pieces.specs.Pieces.{wanted_of}
+use Rattle.turn_pieces.specs.Ports.{index_of, port_count}
+use Rattle.device_model.specs.RunLeft.{Takings, MayBeInputs, ClientInLeft, SamePlace}
 use Rattle.node_core.specs.Settling.{Settled}
-use Rattle.node_core.specs.Stands.{InputBytes, MayGive, PlanStands, ClientInAt, StandsAt, after_retire}
-use Rattle.node_core.specs.declared.link.Link.{Link}
-use Rattle.node_core.specs.declared.link.Origin.TheVariants as origin
-use Rattle.node_core.proofs.Parts.{known_at}
-use Rattle.node_core.proofs.PortNumbers.{line_in_index}
-use Rattle.node_core.proofs.Retired.{entry_at, from_as, is_client}
-use Rattle.node_core.proofs.UsedPorts.{used_within, used_pieces, from_client_used}
+use Rattle.device_model.specs.RetiredPlaces.{after_retire}
+use Rattle.node_moments.specs.Stands.{InputBytes, MayGive, PlanStands, ClientInAt, StandsAt}
+use Rattle.node_links.specs.declared.link.Link.{Link}
+use Rattle.node_links.specs.declared.link.Origin.TheVariants as origin
+use Rattle.node_moments.proofs.Parts.{known_at}
+use Rattle.turn_pieces.proofs.PortNumbers.{line_in_index}
+use Rattle.node_moments.proofs.Retired.{entry_at, from_as, is_client}
+use Rattle.device_model.proofs.ConnectionPorts.{from_client_used}
+use Rattle.turn_pieces.proofs.UsedPorts.{used_within, used_pieces}
 use Rattle.device_model.proofs.SettledLines.{may_at_end, EndOfLine, end_of_line, line_left}
 use Rattle.node_core.proofs.SettledClients.{more_of, goes_on_of, text_left, text_may, all_done, retires_at_end, more_before, died_before, text_read}
 

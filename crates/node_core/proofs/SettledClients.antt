@@ -27,12 +27,13 @@ use Rattle.cross_matrix.specs.Parts.{ClientInStands, MayShow}
 use Rattle.cross_matrix.specs.declared.taking.TakingPart.{TakingPart}
 use Rattle.cross_matrix.specs.declared.taking.TakingPart.TheVariants as taking
 use Rattle.cross_matrix.specs.Receiving.{is_dead}
-use Rattle.node_core.specs.Moves.{is_from_client}
-use Rattle.node_core.specs.NodeView.{NodeView, HasLink}
+use Rattle.node_links.specs.Moves.{is_from_client}
+use Rattle.node_moments.specs.NodeView.{NodeView, HasLink}
 use Rattle.device_model.specs.LineAsked.{MayHave, InputLeft}
-use Rattle.node_core.specs.Stands.{PlanStands, after_retire}
-use Rattle.node_core.specs.declared.link.Link.{Link}
-use Rattle.node_core.proofs.Retired.{entry_at, from_as, is_client, some_passes, one_passes}
+use Rattle.device_model.specs.RetiredPlaces.{after_retire}
+use Rattle.node_moments.specs.Stands.{PlanStands}
+use Rattle.node_links.specs.declared.link.Link.{Link}
+use Rattle.node_moments.proofs.Retired.{entry_at, from_as, is_client, some_passes, one_passes}
 
 -- ---- where more may stand
 

@@ -6,10 +6,10 @@ use Rattle.std.proofs.lemmas.Bool.Decides.{eqb_tells}
 use Rattle.line_side.specs.declared.counts.LineCounts.{LineCounts}
 use Rattle.plan_file.specs.declared.plan.Plan.{Plan}
 use Rattle.device_model.proofs.SoundPlans.{sound_plan}
-use Rattle.node_core.specs.NodeView.{NodeView}
-use Rattle.node_core.specs.RunNumbers.{client_in_numbers, client_out_numbers, no_client_in, no_client_out, no_counts, numbers_of_run}
+use Rattle.node_moments.specs.NodeView.{NodeView}
+use Rattle.device_model.specs.RunNumbers.{client_in_numbers, client_out_numbers, no_client_in, no_client_out, no_counts, numbers_of_run}
 use Rattle.node_core.specs.Settling.{IsLineCounts, IsFrameCount, IsClientInCount, IsClientOutCount, IsLastState, ToldBy}
-use Rattle.node_core.specs.declared.numbers.RunNumbers.{RunNumbers}
+use Rattle.device_model.specs.declared.numbers.RunNumbers.{RunNumbers}
 use Rattle.node_core.proofs.NodeReads.{entry_of}
 
 -- one more of a list is told

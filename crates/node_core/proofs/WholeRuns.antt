@@ -8,10 +8,10 @@ use Rattle.device_model.specs.Report.{Numbers}
 use Rattle.device_model.specs.Through.{Inputs}
 use Rattle.device_model.specs.declared.outcome.Outcome.{Outcome}
 use Rattle.node_core.specs.Asking.{LinesAsked}
-use Rattle.node_core.specs.NodeView.{NodeView}
-use Rattle.node_core.specs.RunLeft.{MayBeInputs, RunLeft, RunOf}
+use Rattle.node_moments.specs.NodeView.{NodeView}
+use Rattle.device_model.specs.RunLeft.{MayBeInputs, RunLeft, RunOf}
 use Rattle.node_core.specs.Settling.{Settled, ToldBy}
-use Rattle.node_core.specs.Stands.{InputBytes, StandsAt}
+use Rattle.node_moments.specs.Stands.{InputBytes, StandsAt}
 use Rattle.node_core.proofs.NumbersLeft.{RestsLeft, outputs_told}
 use Rattle.node_core.proofs.RunsLeft.{rest_at_end}
 

@@ -14,10 +14,10 @@ use Rattle.device_model.specs.Outcomes.{place_state}
 use Rattle.device_model.specs.Through.{of_client}
 use Rattle.device_model.specs.declared.outcome.Outcome.{Outcome}
 use Rattle.device_model.specs.declared.outcome.Outcome.TheVariants.{Done, Unfinished, Cut}
-use Rattle.node_core.specs.Pieces.{PiecesView, wanted_of}
-use Rattle.node_core.specs.Ports.{index_of, port_count}
-use Rattle.node_core.specs.declared.link.Link.{Link}
-use Rattle.node_core.specs.declared.link.Origin.TheVariants as origin
+use Rattle.turn_pieces.specs.Pieces.{PiecesView, wanted_of}
+use Rattle.turn_pieces.specs.Ports.{index_of, port_count}
+use Rattle.node_links.specs.declared.link.Link.{Link}
+use Rattle.node_links.specs.declared.link.Origin.TheVariants as origin
 
 -- ---- lines
 

@@ -21,11 +21,11 @@ use Rattle.device_model.specs.Report.{Numbers, ClientInNumbers, ClientOutNumbers
 use Rattle.device_model.specs.Through.{Inputs, own_input}
 use Rattle.device_model.specs.declared.outcome.FromState.{FromState}
 use Rattle.device_model.specs.declared.outcome.Outcome.{Outcome}
-use Rattle.node_core.specs.NodeView.{NodeView, HasLineIn, HasLineOut, HasLink, done_at}
+use Rattle.node_moments.specs.NodeView.{NodeView, HasLineIn, HasLineOut, HasLink, done_at}
 use Rattle.device_model.specs.LineAsked.{InputLeft}
-use Rattle.node_core.specs.RunLeft.{Takings, MayBeInputs, ClientInLeft, SamePlace, TookOf, TookOfText}
-use Rattle.node_core.specs.Stands.{InputBytes, MayGive, StandsAt}
-use Rattle.node_core.specs.declared.link.Link.{Link}
+use Rattle.device_model.specs.RunLeft.{Takings, MayBeInputs, ClientInLeft, SamePlace, TookOf, TookOfText}
+use Rattle.node_moments.specs.Stands.{InputBytes, MayGive, StandsAt}
+use Rattle.node_links.specs.declared.link.Link.{Link}
 
 -- ---- settling
 

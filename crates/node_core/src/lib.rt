@@ -1,41 +1,18 @@
-//! A node: a state machine that carries a plan, stepped port by port in any order, settled at the end, and asked for the numbers of
-//! its report.
+//! A node: a state machine that carries a plan, stepped port by port in any order, settled at the end, and asked for
+//! the numbers of its report.
 //!
 //! - `node`: the node; `runs`: a whole run of it, in an order that a chooser says.
-//! - `build`: its parts before turn 1 of a plan.
-//! - `pieces`, `ports`: how many pieces each port has in a turn, and how many are done.
-//! - `link`: a connection of the node, with its pipe.
-//! - `lines_in`, `lines_out`, `clients`: a piece of each kind of port.
-//! - `turn`: the end of a turn; `retire`: client places at the stop of their connection.
-//! - `settle`: the end of a run; `reads`: what a node tells of its ports and its connections; `tally`: all of it together, as the
-//!   `numbers` of a run for its report.
-//! - `damage`: laws of what a run leaves on a connection whose line was damaged.
-//! - `laws`: what follows of what a run leaves, of runs of what was given, of two worlds, and of what a connection carries; also by what
-//!   is seen of the places alone.
+//! - `settle`: the end of a run; `reads`: what a node tells of its ports and its connections; `tally`: all of it
+//!   together, as the numbers of a run for its report.
 #![tactic(auto)]
 
-mod build;
-mod clients;
-mod damage;
-mod laws;
-mod lines_in;
-mod lines_out;
-mod link;
 mod node;
-mod numbers;
-mod pieces;
-mod ports;
 mod reads;
-mod retire;
 mod runs;
 mod settle;
 mod tally;
-mod turn;
 
-pub use damage::{runs_agree_but_for_one, runs_hand_on_a_front, runs_heal};
-pub use device_model::{FromState, Outcome};
-pub use laws::{faultless_runs, outputs_through, run_of_given, runs_agree, runs_carry, seen_runs};
+pub use device_model::{ClientInCounts, ClientOutCounts, FromState, Outcome, RunNumbers};
 pub use node::Node;
-pub use numbers::{ClientInCounts, ClientOutCounts, RunNumbers};
-pub use ports::uses;
 pub use runs::{carry, carry_node};
+pub use turn_pieces::uses;

@@ -9,27 +9,26 @@ ghost use Rattle.otn_ports.specs.Racks.{bays_view};
 ghost use Rattle.otn_ports.specs.Views.{BaysView};
 ghost use Rattle.plan_file.specs.Answer.{fault_in};
 ghost use Rattle.plan_file.specs.declared.plan.Plan.{Plan};
-ghost use Rattle.node_core.specs.NodeMoves.{LineInMove, LineOutMove, ClientInMove, ClientOutMove, FenceMove, RetiredBy};
+ghost use Rattle.node_links.specs.Retiring.{RetiredBy};
+ghost use Rattle.node_moments.specs.NodeMoves.{LineInMove, LineOutMove, ClientInMove, ClientOutMove, FenceMove};
 ghost use Rattle.device_model.specs.Moments.{over_ports, pieces_of};
-ghost use Rattle.node_core.specs.NodeView.{NodeView, is_ready, left_of, ready_number};
-ghost use Rattle.node_core.specs.Pieces.{open_count, IsNth, IsCounted};
-ghost use Rattle.node_core.specs.Stands.{InputBytes, StandsAt, Later, no_bytes};
+ghost use Rattle.node_moments.specs.NodeView.{NodeView, is_ready, left_of, ready_number};
+ghost use Rattle.turn_pieces.specs.Pieces.{open_count, IsNth, IsCounted};
+ghost use Rattle.node_moments.specs.Stands.{InputBytes, StandsAt, Later, no_bytes};
 
-use crate::build::{new_lines_in, new_lines_out, new_links};
-use crate::clients::{give_client, take_client};
-use crate::lines_in::read_line;
-use crate::lines_out::write_line;
-use crate::link::Link;
-use crate::pieces::Pieces;
-use crate::retire::retire_all;
-use crate::turn::{end_lines, fence_all, start_all};
 use line_side::{LineIn, LineOut};
+use node_links::{
+    Link, end_lines, fence_all, give_client, read_line, retire_all, start_all, take_client,
+    write_line,
+};
+use node_moments::{new_lines_in, new_lines_out, new_links};
 use odtu_columns::SlotFrame;
 use otn_base::{Memory, PortName};
 use otn_ports::{InPlaceOf, OutPlaceOf, Rack, Sink, Source};
 use plan_file::Plan;
 use std::alloc::Global;
 use std::marker::Model;
+use turn_pieces::Pieces;
 
 /// A node that carries a plan: in turn past + 1, of which each port has done some of its pieces.
 #[derive(Drop)]
@@ -46,7 +45,7 @@ pub struct Node {
 
 impl Model for Node {
     ghost use Rattle.std.specs.Prelude.{vec_len};
-    ghost use Rattle.node_core.specs.NodeView.{NodeView, IsNode};
+    ghost use Rattle.node_moments.specs.NodeView.{NodeView, IsNode};
 
     ghost Value = { NodeView };
 

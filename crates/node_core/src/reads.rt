@@ -1,17 +1,17 @@
 // What a node tells of its ports and its connections.
 ghost use Rattle.std.specs.Prelude.{◌≡◌, ◌<◌, ℕ, Some, None, true, false, length, slice_get, is_some};
 ghost use Rattle.otn_base.specs.declared.limits.TheConstants.{LINES};
-ghost use Rattle.node_core.specs.LinkMoves.{FirstOf};
-ghost use Rattle.node_core.specs.Links.{was_on};
-ghost use Rattle.node_core.specs.Moves.{has_client_in, has_client_out};
-ghost use Rattle.node_core.specs.NodeView.{HasLink};
+ghost use Rattle.node_links.specs.LinkMoves.{FirstOf};
+ghost use Rattle.node_links.specs.Links.{was_on};
+ghost use Rattle.node_links.specs.Moves.{has_client_in, has_client_out};
+ghost use Rattle.node_moments.specs.NodeView.{HasLink};
 ghost use Rattle.node_core.specs.Settling.{IsLineCounts, IsFrameCount, IsClientInCount, IsClientOutCount, IsLastState};
-ghost use Rattle.node_core.specs.declared.link.Link.{Link};
+ghost use Rattle.node_links.specs.declared.link.Link.{Link};
 
 use crate::Node;
-use crate::link::Link;
 use device_model::FromState;
 use line_side::LineCounts;
+use node_links::Link;
 
 impl Node {
     /// The numbers of line input `n` so far.

@@ -4,10 +4,10 @@ ghost use Rattle.otn_ports.specs.Bytes.{raised};
 ghost use Rattle.otn_ports.specs.Racks.{bays_view};
 ghost use Rattle.otn_ports.specs.Views.{BaysView};
 ghost use Rattle.plan_file.specs.declared.plan.Plan.{Plan};
-ghost use Rattle.node_core.specs.RunLeft.{Takings, RunLeft};
-ghost use Rattle.node_core.specs.RunNumbers.{numbers_of_run};
-ghost use Rattle.node_core.specs.Stands.{InputBytes, StandsAt, Later, no_bytes};
-ghost use Rattle.node_core.specs.NodeView.{left_of};
+ghost use Rattle.device_model.specs.RunLeft.{Takings, RunLeft};
+ghost use Rattle.device_model.specs.RunNumbers.{numbers_of_run};
+ghost use Rattle.node_moments.specs.Stands.{InputBytes, StandsAt, Later, no_bytes};
+ghost use Rattle.node_moments.specs.NodeView.{left_of};
 
 use crate::{Node, RunNumbers};
 use otn_ports::{Chooser, Rack, Sink, Source};

@@ -10,19 +10,18 @@ ghost use Rattle.device_model.specs.Outcomes.{place_state};
 ghost use Rattle.cross_matrix.specs.Receiving.{is_dead};
 ghost use Rattle.otn_ports.specs.Asked.{ByteAnswer};
 ghost use Rattle.node_core.specs.Asking.{LinesAsked, LinesAnswer, CutAnswer, OpenAnswer, OpensAnswer, asks_line, is_cut, outcome_by};
-ghost use Rattle.node_core.specs.Ports.{index_of, port_count};
+ghost use Rattle.turn_pieces.specs.Ports.{index_of, port_count};
 ghost use Rattle.node_core.specs.Settling.{Settled};
-ghost use Rattle.node_core.specs.Stands.{InputBytes, StandsAt};
+ghost use Rattle.node_moments.specs.Stands.{InputBytes, StandsAt};
 
 use crate::Node;
-use crate::link::{Link, Origin};
-use crate::pieces::Pieces;
-use crate::ports::{PORTS, port_at};
 use device_model::Outcome;
 use line_side::LineIn;
+use node_links::{Link, Origin};
 use otn_base::PortName;
 use otn_base::limits::LINES;
 use otn_ports::{InPlaceOf, OutPlaceOf, Rack, Sink, Source, ask_byte};
+use turn_pieces::{PORTS, Pieces, port_at};
 
 impl Node {
     /// Asks each input line that is used, and whose end was not seen, for one byte more, in the order of the lines, and says how

@@ -4,13 +4,13 @@ ghost use Rattle.otn_base.specs.declared.limits.TheConstants.{CLIENTS as CLIENT_
 ghost use Rattle.otn_ports.specs.Views.{BaysView};
 ghost use Rattle.plan_file.specs.declared.plan.Plan.{Plan};
 ghost use Rattle.node_core.specs.Asking.{LinesAsked};
-ghost use Rattle.node_core.specs.RunLeft.{Takings, RunLeft};
-ghost use Rattle.node_core.specs.RunNumbers.{client_in_numbers, client_out_numbers, no_client_in, no_client_out, no_counts, numbers_of_run};
+ghost use Rattle.device_model.specs.RunLeft.{Takings, RunLeft};
+ghost use Rattle.device_model.specs.RunNumbers.{client_in_numbers, client_out_numbers, no_client_in, no_client_out, no_counts, numbers_of_run};
 ghost use Rattle.node_core.specs.Settling.{IsLineCounts, IsFrameCount, IsClientInCount, IsClientOutCount, IsLastState, Settled, ToldBy};
-ghost use Rattle.node_core.specs.Stands.{InputBytes, StandsAt};
+ghost use Rattle.node_moments.specs.Stands.{InputBytes, StandsAt};
 
-use crate::numbers::{ClientInCounts, ClientOutCounts, RunNumbers};
-use crate::{FromState, Node, Outcome};
+use crate::Node;
+use device_model::{ClientInCounts, ClientOutCounts, FromState, Outcome, RunNumbers};
 use line_side::LineCounts;
 use otn_base::limits::{CLIENTS, LINES, MOST_CONNECTIONS};
 

@@ -10,10 +10,10 @@ use Rattle.tributary_model.specs.Carries.{sent, number_in}
 use Rattle.tributary_model.specs.Laws.{IsTributary}
 use Rattle.tributary_model.specs.Places.{Tributary, tributary_of}
 use Rattle.tributary_model.specs.Puts.{lengths_of}
-use Rattle.device_model.specs.HeldBack.{Comes}
+use Rattle.connection_laws.specs.HeldBack.{Comes}
 use Rattle.device_model.specs.LineViews.{view_at}
 use Rattle.device_model.proofs.LineViews.{whole_at}
-use Rattle.device_model.proofs.SecondNode.{gets_a_front}
+use Rattle.connection_laws.proofs.SecondNode.{gets_a_front}
 use Rattle.tributary_line.specs.TributaryFile.{IsTributaryFile}
 use Rattle.tributary_line.proofs.FileTurns.{carries_its_turns}
 use Rattle.protect_selector.specs.OfLines.{given_on, given_before}

@@ -10,7 +10,7 @@ use Rattle.tributary_model.specs.Places.{tributary_of}
 use Rattle.tributary_model.specs.Puts.{lengths_of}
 use Rattle.tributary_model.specs.Sending.{IsSent}
 use Rattle.device_model.specs.Entries.{first_turn}
-use Rattle.device_model.specs.HeldBack.{emitted_after}
+use Rattle.connection_laws.specs.HeldBack.{emitted_after}
 use Rattle.device_model.specs.Through.{Inputs, own_input, arrived_by}
 use Rattle.tributary_line.specs.TributaryFile.{IsTributaryFile}
 use Rattle.protect_selector.specs.OfLines.{given_before}

@@ -10,7 +10,7 @@ use Rattle.plan_file.specs.declared.plan.Plan.{Plan}
 use Rattle.device_model.specs.Report.{Numbers, report_text}
 use Rattle.device_model.specs.declared.outcome.Outcome.{Outcome}
 use Rattle.device_model.specs.declared.outcome.Outcome.TheVariants as outcome
-use Rattle.node_core.specs.RunLeft.{Takings, RunLeft}
+use Rattle.device_model.specs.RunLeft.{Takings, RunLeft}
 use Rattle.check_command.specs.PlanReading.{WasRead}
 use Rattle.command_base.specs.Device.{Device, Stays}
 use Rattle.check_command.specs.PlanReading.{PlanReading}

@@ -4,10 +4,10 @@ use Rattle.std.specs.List.{Contains}
 use Rattle.otn_base.specs.LineSlots.{LineSlots}
 use Rattle.plan_file.specs.declared.connection.Connection.{Connection}
 use Rattle.plan_file.specs.declared.connection.FromEnd.TheVariants as from_end
-use Rattle.device_model.specs.Healing.{IsCarriedAgain}
-use Rattle.node_core.specs.RunsAlike.{LeftAlike}
-use Rattle.node_core.specs.RunsDamaged.{HealsIn, Follows, HandsOnAFront, ShareButForOne}
-use Rattle.node_core.proofs.RunsDamaged.{runs_heal, hands_on_a_front, agree_but_for_one}
+use Rattle.connection_laws.specs.Healing.{IsCarriedAgain}
+use Rattle.run_laws.specs.RunsAlike.{LeftAlike}
+use Rattle.run_laws.specs.RunsDamaged.{HealsIn, Follows, HandsOnAFront, ShareButForOne}
+use Rattle.run_laws.proofs.RunsDamaged.{runs_heal, hands_on_a_front, agree_but_for_one}
 use Rattle.run_command.specs.RunCalls.{Call, HasCarried, world_of, went_of}
 use Rattle.run_command.proofs.RunCalls.{is_world}
 

@@ -8,13 +8,13 @@ use Rattle.plan_file.specs.declared.plan.Plan.{Plan}
 use Rattle.plan_file.proofs.Sounds.{accepted_text}
 use Rattle.device_model.specs.Inputs.{AreInputs}
 use Rattle.device_model.specs.Through.{Inputs}
-use Rattle.node_core.specs.GivenRuns.{HasGiven}
-use Rattle.node_core.specs.RunLeft.{MayBeInputs}
-use Rattle.node_core.specs.RunsAlike.{IsWorld, ShareOne, LeftAlike}
-use Rattle.node_core.specs.RunsThrough.{LeftThrough, CarriedIn}
-use Rattle.node_core.proofs.GivenRuns.{given_inputs}
-use Rattle.node_core.proofs.RunsAlike.{left_alike}
-use Rattle.node_core.proofs.RunsThrough.{left_through, carried_in}
+use Rattle.run_laws.specs.GivenRuns.{HasGiven}
+use Rattle.device_model.specs.RunLeft.{MayBeInputs}
+use Rattle.run_laws.specs.RunsAlike.{IsWorld, ShareOne, LeftAlike}
+use Rattle.run_laws.specs.RunsThrough.{LeftThrough, CarriedIn}
+use Rattle.run_laws.proofs.GivenRuns.{given_inputs}
+use Rattle.run_laws.proofs.RunsAlike.{left_alike}
+use Rattle.run_laws.proofs.RunsThrough.{left_through, carried_in}
 use Rattle.command_base.specs.Device.{Device}
 use Rattle.run_command.specs.RunCalls.{Call, HasCarried, CarriesPlan, world_of, went_of}
 use Rattle.run_command.specs.RunAnswers.{PlanRan, RunAnswers}

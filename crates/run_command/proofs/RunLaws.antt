@@ -6,9 +6,9 @@ use Rattle.device_model.specs.Outcomes.{HasMore, HasOpen}
 use Rattle.device_model.specs.Through.{Inputs}
 use Rattle.device_model.specs.declared.outcome.Outcome.{Outcome}
 use Rattle.device_model.specs.declared.outcome.Outcome.TheVariants as outcome
-use Rattle.node_core.specs.FaultlessRuns.{AreWell}
-use Rattle.node_core.specs.RunLeft.{MayBeInputs}
-use Rattle.node_core.proofs.FaultlessRuns.{faultless}
+use Rattle.run_laws.specs.FaultlessRuns.{AreWell}
+use Rattle.device_model.specs.RunLeft.{MayBeInputs}
+use Rattle.run_laws.proofs.FaultlessRuns.{faultless}
 use Rattle.command_base.specs.Device.{Device}
 use Rattle.run_command.specs.RunAnswers.{PlanRan, RunAnswers, TextRan, outcome_status}
 use Rattle.run_command.specs.RunLaws.{NothingFailed, EndsBy}

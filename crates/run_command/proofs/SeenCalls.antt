@@ -6,9 +6,9 @@ use Rattle.plan_file.specs.Answer.{plan_of_text}
 use Rattle.plan_file.specs.declared.connection.Connection.{Connection}
 use Rattle.plan_file.specs.declared.plan.Plan.{Plan}
 use Rattle.device_model.specs.Moments.{uses}
-use Rattle.node_core.specs.RunLeft.{RunLeft, SamePlace}
-use Rattle.node_core.specs.SeenRuns.{Run, IsRun, ShareInput, SameOutput, ShareInputUpTo, SameLineUpTo, PutThrough, CarriesOver}
-use Rattle.node_core.proofs.SeenRuns.{seen_alike, not_ahead as seen_not_ahead, puts_through, carries_over}
+use Rattle.device_model.specs.RunLeft.{RunLeft, SamePlace}
+use Rattle.run_laws.specs.SeenRuns.{Run, IsRun, ShareInput, SameOutput, ShareInputUpTo, SameLineUpTo, PutThrough, CarriesOver}
+use Rattle.run_laws.proofs.SeenRuns.{seen_alike, not_ahead as seen_not_ahead, puts_through, carries_over}
 use Rattle.command_base.specs.Device.{Device}
 use Rattle.run_command.specs.Headline.{Ran}
 use Rattle.run_command.specs.RunAnswers.{PlanRan, RunAnswers}

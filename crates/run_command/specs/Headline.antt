@@ -7,8 +7,8 @@ use Rattle.plan_file.specs.Answer.{plan_of_text}
 use Rattle.plan_file.specs.declared.connection.Connection.{Connection}
 use Rattle.plan_file.specs.declared.plan.Plan.{Plan}
 use Rattle.device_model.specs.Moments.{uses}
-use Rattle.node_core.specs.RunLeft.{SamePlace}
-use Rattle.node_core.specs.SeenRuns.{Run, ShareInput, SameOutput, ShareInputUpTo, SameLineUpTo, PutThrough, CarriesOver}
+use Rattle.device_model.specs.RunLeft.{SamePlace}
+use Rattle.run_laws.specs.SeenRuns.{Run, ShareInput, SameOutput, ShareInputUpTo, SameLineUpTo, PutThrough, CarriesOver}
 use Rattle.command_base.specs.Device.{Device}
 use Rattle.run_command.specs.RunAnswers.{RunAnswers}
 use Rattle.run_command.specs.RunCalls.{CarriesPlan}

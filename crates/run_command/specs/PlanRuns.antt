@@ -7,7 +7,7 @@ use Rattle.otn_ports.specs.Views.{BaysView}
 use Rattle.plan_file.specs.declared.plan.Plan.{Plan}
 use Rattle.device_model.specs.Report.{Numbers, report_text}
 use Rattle.device_model.specs.declared.outcome.Outcome.{Outcome}
-use Rattle.node_core.specs.RunLeft.{Takings, RunLeft}
+use Rattle.device_model.specs.RunLeft.{Takings, RunLeft}
 use Rattle.run_command.specs.RunAnswers.{outcome_status, pieces_in_all}
 use Rattle.command_base.specs.AnswerWords.{CountsBy, Reports}
 use Rattle.run_command.specs.declared.plan_run.Ran.{Ran}

@@ -8,7 +8,7 @@ use Rattle.device_model.specs.Moments.{over_ports, pieces_of}
 use Rattle.device_model.specs.Report.{Numbers, report_text}
 use Rattle.device_model.specs.declared.outcome.Outcome.{Outcome}
 use Rattle.device_model.specs.declared.outcome.Outcome.TheVariants as outcome
-use Rattle.node_core.specs.RunLeft.{Takings, RunLeft}
+use Rattle.device_model.specs.RunLeft.{Takings, RunLeft}
 use Rattle.command_base.specs.Device.{Device}
 use Rattle.check_command.specs.PlanReading.{WasRead, most_read}
 use Rattle.command_base.specs.AnswerWords.{CountsBy, IsRefusal, Reports}

@@ -8,10 +8,10 @@ use Rattle.plan_file.specs.declared.plan.Plan.{Plan}
 use Rattle.device_model.specs.Inputs.{AreInputs}
 use Rattle.device_model.specs.Numbers.{Went}
 use Rattle.device_model.specs.Through.{Inputs}
-use Rattle.node_core.specs.GivenRuns.{HasGiven}
-use Rattle.node_core.specs.RunLeft.{MayBeInputs}
-use Rattle.node_core.specs.RunsAlike.{World, ShareOne, LeftAlike}
-use Rattle.node_core.specs.RunsThrough.{LeftThrough, CarriedIn}
+use Rattle.run_laws.specs.GivenRuns.{HasGiven}
+use Rattle.device_model.specs.RunLeft.{MayBeInputs}
+use Rattle.run_laws.specs.RunsAlike.{World, ShareOne, LeftAlike}
+use Rattle.run_laws.specs.RunsThrough.{LeftThrough, CarriedIn}
 use Rattle.command_base.specs.Device.{Device}
 use Rattle.run_command.specs.RunAnswers.{PlanRan, RunAnswers}
 use Rattle.command_base.specs.declared.status.Status.{Status}

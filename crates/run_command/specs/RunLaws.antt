@@ -5,8 +5,8 @@ use Rattle.plan_file.specs.declared.error.PlanError.{PlanError}
 use Rattle.plan_file.specs.declared.plan.Plan.{Plan}
 use Rattle.device_model.specs.Outcomes.{HasMore, HasOpen}
 use Rattle.device_model.specs.Through.{Inputs}
-use Rattle.node_core.specs.FaultlessRuns.{AreWell}
-use Rattle.node_core.specs.RunLeft.{MayBeInputs}
+use Rattle.run_laws.specs.FaultlessRuns.{AreWell}
+use Rattle.device_model.specs.RunLeft.{MayBeInputs}
 use Rattle.command_base.specs.Device.{Device}
 use Rattle.run_command.specs.RunAnswers.{PlanRan, RunAnswers, TextRan}
 use Rattle.command_base.specs.AnswerWords.{IsWell}

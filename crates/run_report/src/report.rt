@@ -6,7 +6,7 @@ ghost use Rattle.otn_ports.specs.Racks.{bays_view};
 ghost use Rattle.plan_file.specs.Answer.{fault_in};
 ghost use Rattle.device_model.specs.Moments.{uses};
 ghost use Rattle.device_model.specs.Report.{connection_lines, report_text, used_lines};
-ghost use Rattle.node_core.specs.RunNumbers.{numbers_of_run};
+ghost use Rattle.device_model.specs.RunNumbers.{numbers_of_run};
 ghost use Rattle.run_report.specs.RunReport.{line_in_of, line_out_of, client_in_of, client_out_of};
 
 use crate::report_lines::{
@@ -14,12 +14,12 @@ use crate::report_lines::{
     put_status, put_turns,
 };
 use arrayvec::ArrayString;
-use device_model::accepted_plans;
-use node_core::{RunNumbers, uses};
+use device_model::{RunNumbers, accepted_plans};
 use otn_base::PortName;
 use otn_base::limits::{CLIENTS, LINES};
 use otn_ports::{Rack, Sink, Source};
 use plan_file::Plan;
+use turn_pieces::uses;
 
 /// Puts the report of a run over an accepted plan into the empty text: the turns, a line for each port that
 /// the plan uses, one for each of its connections, and how the run ended. There is room for it whatever the

@@ -4,7 +4,7 @@ ghost use Rattle.otn_ports.specs.InPlace.{in_view};
 ghost use Rattle.otn_ports.specs.OutPlace.{out_view};
 ghost use Rattle.device_model.specs.Report.{state_word, from_word, outcome_word};
 
-use node_core::{FromState, Outcome};
+use device_model::{FromState, Outcome};
 use otn_ports::{InPlaceOf, OutPlaceOf, Sink, Source};
 
 /// How a place for an input stands.

@@ -22,7 +22,7 @@ use Rattle.bounded_ports.specs.declared.bounded_sink.BoundedSink.{BoundedSink}
 use Rattle.plan_file.specs.declared.plan.Plan.{Plan}
 use Rattle.device_model.specs.Moments.{over_ports, pieces_of}
 use Rattle.device_model.specs.Report.{Numbers}
-use Rattle.node_core.specs.RunLeft.{Takings, RunLeft}
+use Rattle.device_model.specs.RunLeft.{Takings, RunLeft}
 use Rattle.packet_text.specs.PacketText.{hex_text}
 use Rattle.trial_plans.specs.TrialDraw.{packets_of_trial}
 use Rattle.trial_plans.specs.TrialPlans.{trial_plan}

@@ -20,7 +20,7 @@ use Rattle.device_model.specs.Moments.{touches, uses}
 use Rattle.device_model.specs.Report.{Numbers}
 use Rattle.device_model.specs.Through.{Inputs}
 use Rattle.device_model.specs.LineAsked.{MayHave, InputLeft}
-use Rattle.node_core.specs.RunLeft.{Takings, MayBeInputs, OutputLeft, RunLeft}
+use Rattle.device_model.specs.RunLeft.{Takings, MayBeInputs, OutputLeft, RunLeft}
 use Rattle.line_side.specs.LineOutput.{FramePut, AreLineFrames}
 use Rattle.odu_client.specs.ClientInput.{AtEnd, input_given}
 use Rattle.packet_text.specs.PacketText.{hex_text}

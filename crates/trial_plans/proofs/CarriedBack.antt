@@ -22,19 +22,19 @@ use Rattle.tributary_model.specs.Carries.{sent}
 use Rattle.tributary_model.specs.Passing.{later}
 use Rattle.tributary_model.specs.Places.{tributary_of}
 use Rattle.tributary_model.proofs.Totals.{sent_next}
-use Rattle.device_model.specs.Carried.{IsMadeTo, numbers_got}
-use Rattle.device_model.specs.Chains.{Hop, own_in, own_out, views_in, views_out, last_turn, ReadsOn, last_hop}
-use Rattle.device_model.specs.Delivery.{AreOffered, whole_payload, whole_packets}
+use Rattle.connection_laws.specs.Carried.{IsMadeTo, numbers_got}
+use Rattle.connection_laws.specs.Chains.{Hop, own_in, own_out, views_in, views_out, last_turn, ReadsOn, last_hop}
+use Rattle.connection_laws.specs.Delivery.{AreOffered, whole_payload, whole_packets}
 use Rattle.device_model.specs.Entries.{first_turn, form_out}
 use Rattle.device_model.specs.LineViews.{view_at}
-use Rattle.device_model.specs.RunsInARow.{AreRuns, IsRun}
+use Rattle.connection_laws.specs.RunsInARow.{AreRuns, IsRun}
 use Rattle.device_model.specs.Through.{own_input, arrived_by, text_by}
-use Rattle.device_model.proofs.Accepted.{goes_as_asked}
-use Rattle.device_model.proofs.CarriedFrom.{carries_a_client}
-use Rattle.device_model.proofs.Delivery.{gets_what_is_carried, delivers_its_packets}
-use Rattle.device_model.proofs.GotStreams.{gets_the_stream}
-use Rattle.device_model.proofs.ClientStreams.{stream_front}
-use Rattle.device_model.proofs.RunsInARow.{carries_through_runs}
+use Rattle.connection_laws.proofs.Accepted.{goes_as_asked}
+use Rattle.connection_laws.proofs.CarriedFrom.{carries_a_client}
+use Rattle.connection_laws.proofs.Delivery.{gets_what_is_carried, delivers_its_packets}
+use Rattle.connection_laws.proofs.GotStreams.{gets_the_stream}
+use Rattle.connection_laws.proofs.ClientStreams.{stream_front}
+use Rattle.connection_laws.proofs.RunsInARow.{carries_through_runs}
 use Rattle.device_model.proofs.SoundPlans.{sound_plan}
 use Rattle.trial_plans.specs.CarriedBack.{IsSending, ComesBack, bytes_back}
 

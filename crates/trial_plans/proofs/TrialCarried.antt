@@ -9,8 +9,8 @@ use Rattle.odu_client.specs.ClientInput.{ClientInput, AtEnd, emitted_before, gfp
 use Rattle.odu_client.specs.ClientOutput.{arriving_packets}
 use Rattle.odu_client.proofs.GfpTexts.{clients, total, gfp_length-is}
 use Rattle.packet_text.specs.PacketText.{hex_text}
-use Rattle.device_model.specs.Chains.{Hop}
-use Rattle.device_model.specs.Delivery.{AreOffered, whole_payload}
+use Rattle.connection_laws.specs.Chains.{Hop}
+use Rattle.connection_laws.specs.Delivery.{AreOffered, whole_payload}
 use Rattle.device_model.specs.Through.{Inputs, own_input, arrived_by, text_by}
 use Rattle.trial_plans.specs.CarriedBack.{ComesBack, bytes_back}
 use Rattle.trial_plans.specs.TrialCarried.{AreTrialPackets, AreTrialRuns}

@@ -9,11 +9,11 @@ use Rattle.packet_text.specs.PacketText.{hex_text}
 use Rattle.plan_file.specs.Answer.{fault_in}
 use Rattle.plan_file.specs.declared.connection.FromEnd.TheVariants as from_end
 use Rattle.plan_file.specs.declared.connection.ToEnd.TheVariants as to_end
-use Rattle.device_model.specs.Chains.{Hop, ReadsOn, last_hop}
-use Rattle.device_model.specs.Delivery.{AreOffered, whole_payload}
+use Rattle.connection_laws.specs.Chains.{Hop, ReadsOn, last_hop}
+use Rattle.connection_laws.specs.Delivery.{AreOffered, whole_payload}
 use Rattle.device_model.specs.Entries.{first_turn, form_out}
 use Rattle.device_model.specs.LineFiles.{IsLineFile}
-use Rattle.device_model.specs.RunsInARow.{AreRuns}
+use Rattle.connection_laws.specs.RunsInARow.{AreRuns}
 use Rattle.device_model.specs.Through.{own_input, arrived_by, text_by}
 
 -- A connection of an accepted plan that brings a client's packets to the line that the hop writes, and the file of that line in all turns of

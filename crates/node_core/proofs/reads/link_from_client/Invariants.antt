@@ -1,6 +1,6 @@
 use Rattle.std.proofs.Common.{◌≡◌, ◌<◌, ℕ, false, Some, slice_get}
-use Rattle.node_core.specs.Moves.{has_client_in}
-use Rattle.node_core.specs.declared.link.Link.{Link}
+use Rattle.node_links.specs.Moves.{has_client_in}
+use Rattle.node_links.specs.declared.link.Link.{Link}
 use Rattle.node_core.proofs.reads.link_from_client.Given as goal
 
 abbrev pub invariant-loop-link : goal.invariant-loop-link

@@ -3,8 +3,8 @@ use Rattle.otn_ports.specs.Bytes.{raised}
 use Rattle.otn_ports.specs.Racks.{bays_view}
 use Rattle.otn_ports.specs.Views.{BaysView}
 use Rattle.plan_file.specs.declared.plan.Plan.{Plan}
-use Rattle.node_core.specs.NodeView.{left_of}
-use Rattle.node_core.specs.Stands.{InputBytes, StandsAt, Later}
+use Rattle.node_moments.specs.NodeView.{left_of}
+use Rattle.node_moments.specs.Stands.{InputBytes, StandsAt, Later}
 use Rattle.node_core.proofs.runs.carry.Given as goal
 
 abbrev pub invariant-loop-node : goal.invariant-loop-node

@@ -1,4 +1,4 @@
-use Rattle.node_core.specs.Stands.{no_bytes}
+use Rattle.node_moments.specs.Stands.{no_bytes}
 use Rattle.node_tests.proofs.orders.run.Goals as goal
 
 pub state_of_first-requires : goal.state_of_first-requires

@@ -2,7 +2,7 @@ use Rattle.std.proofs.Common.{◌∙◌, ap}
 use Rattle.otn_ports.specs.Bytes.{raised}
 use Rattle.otn_ports.specs.PortViews.{sink_view}
 use Rattle.otn_ports.specs.Racks.{bays_view}
-use Rattle.node_core.specs.RunNumbers.{numbers_of_run}
+use Rattle.device_model.specs.RunNumbers.{numbers_of_run}
 use Rattle.run_command.proofs.CarriedPlans.{carried_whole, carried_lost}
 use Rattle.run_command.proofs.plan_run.carry_plan.Goals as goal
 

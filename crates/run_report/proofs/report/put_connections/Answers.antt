@@ -1,7 +1,7 @@
 use Rattle.std.proofs.Common.{◌≡◌, ◌<◌, ◌+◌, ◌∙◌, ◌∷◌, suc, drop, get_or, length, refl, sym, ap, arith, add-one}
 use Rattle.std.proofs.Math.Seq.{drop-cons}
 use Rattle.std.proofs.lemmas.Option.{slice_get_read}
-use Rattle.node_core.specs.RunNumbers.{numbers_of_run}
+use Rattle.device_model.specs.RunNumbers.{numbers_of_run}
 use Rattle.run_report.proofs.RunReports.{connection_more, short_name}
 use Rattle.run_report.proofs.report.put_connections.Goals as goal
 

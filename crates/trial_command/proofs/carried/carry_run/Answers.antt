@@ -1,7 +1,7 @@
 use Rattle.otn_ports.specs.Racks.{bays_view}
 use Rattle.otn_ports.specs.contracts.mem_source.MemSourceSource.TheImpl as source
-use Rattle.node_core.specs.NodeView.{left_of}
-use Rattle.node_core.specs.RunNumbers.{numbers_of_run}
+use Rattle.node_moments.specs.NodeView.{left_of}
+use Rattle.device_model.specs.RunNumbers.{numbers_of_run}
 use Rattle.trial_command.proofs.TrialPlaces.{run_went}
 use Rattle.trial_command.proofs.carried.carry_run.Goals as goal
 

@@ -1,8 +1,8 @@
 use Rattle.std.proofs.Common.{[], refl}
-use Rattle.node_core.specs.NodeView.{NodeView}
-use Rattle.node_core.proofs.Building.{IsNewNode, first_moment}
-use Rattle.node_core.proofs.NodesKept.{first_node}
-use Rattle.node_core.proofs.PlanPieces.{all_left}
+use Rattle.node_moments.specs.NodeView.{NodeView}
+use Rattle.node_moments.proofs.Building.{IsNewNode, first_moment}
+use Rattle.node_moments.proofs.NodesKept.{first_node}
+use Rattle.node_moments.proofs.PlanPieces.{all_left}
 use Rattle.otn_ports.specs.Views.{BaysView}
 use Rattle.node_core.proofs.node.Node.build.Goals as goal
 

@@ -1,10 +1,10 @@
 use Rattle.std.proofs.Common.{◌≡◌, List, Some, None, length, slice_get, refl, subst}
 use Rattle.std.proofs.lemmas.Option.{slice_get_read}
-use Rattle.node_core.specs.LinkMoves.{FirstOf}
-use Rattle.node_core.specs.Moves.{has_client_out}
-use Rattle.node_core.specs.NodeView.{NodeView}
+use Rattle.node_links.specs.LinkMoves.{FirstOf}
+use Rattle.node_links.specs.Moves.{has_client_out}
+use Rattle.node_moments.specs.NodeView.{NodeView}
 use Rattle.node_core.specs.Settling.{IsClientOutCount}
-use Rattle.node_core.specs.declared.link.Link.{Link}
+use Rattle.node_links.specs.declared.link.Link.{Link}
 use Rattle.node_core.proofs.NodeReads.{client_out_told, client_out_none}
 use Rattle.node_core.proofs.node.Node.client_out.Goals as goal
 

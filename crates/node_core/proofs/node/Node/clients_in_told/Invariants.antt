@@ -1,5 +1,5 @@
 use Rattle.std.proofs.Common.{◌≡◌, ◌<◌, ℕ, get_or, length}
-use Rattle.node_core.specs.RunNumbers.{client_in_numbers, no_client_in}
+use Rattle.device_model.specs.RunNumbers.{client_in_numbers, no_client_in}
 use Rattle.node_core.specs.Settling.{IsClientInCount}
 use Rattle.node_core.proofs.node.Node.clients_in_told.Given as goal
 

@@ -1,5 +1,5 @@
 use Rattle.std.proofs.Common.{◌≡◌, ◌<◌, ℕ, get_or, length}
-use Rattle.node_core.specs.RunNumbers.{client_out_numbers, no_client_out}
+use Rattle.device_model.specs.RunNumbers.{client_out_numbers, no_client_out}
 use Rattle.node_core.specs.Settling.{IsClientOutCount}
 use Rattle.node_core.proofs.node.Node.clients_out_told.Given as goal
 

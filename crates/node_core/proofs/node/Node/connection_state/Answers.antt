@@ -1,11 +1,11 @@
 use Rattle.std.proofs.Common.{◌≡◌, ◌<◌, Some, length, slice_get, refl, sym, ap, subst, ◌∙◌}
 use Rattle.std.proofs.lemmas.Option.{slice_get_read}
-use Rattle.node_core.specs.Links.{was_on}
-use Rattle.node_core.specs.NodeView.{NodeView}
+use Rattle.node_links.specs.Links.{was_on}
+use Rattle.node_moments.specs.NodeView.{NodeView}
 use Rattle.node_core.specs.Settling.{IsLastState}
-use Rattle.node_core.specs.declared.link.Link.{Link}
+use Rattle.node_links.specs.declared.link.Link.{Link}
 use Rattle.node_core.proofs.NodeReads.{state_told}
-use Rattle.node_core.proofs.Parts.{one_at}
+use Rattle.node_moments.proofs.Parts.{one_at}
 use Rattle.node_core.proofs.node.Node.connection_state.Goals as goal
 
 known : (c : goal.After-last_state) → slice_get c.self.inside.links.items c.args.i ≡ Some c.index.result.now

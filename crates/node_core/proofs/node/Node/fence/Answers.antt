@@ -1,5 +1,5 @@
 use Rattle.otn_ports.specs.Racks.{bays_view}
-use Rattle.node_core.proofs.Fences.{fence_moves}
+use Rattle.node_moments.proofs.Fences.{fence_moves}
 use Rattle.node_core.proofs.node.Node.fence.Goals as goal
 
 pub returns-clause-stands : goal.returns-clause-stands

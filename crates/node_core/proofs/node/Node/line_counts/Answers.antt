@@ -1,6 +1,6 @@
 use Rattle.std.proofs.Common.{◌≡◌, ◌<◌, Some, length, slice_get, refl, arith, subst}
 use Rattle.std.proofs.lemmas.Option.{slice_get_read}
-use Rattle.node_core.specs.NodeView.{NodeView}
+use Rattle.node_moments.specs.NodeView.{NodeView}
 use Rattle.node_core.specs.Settling.{IsLineCounts}
 use Rattle.node_core.proofs.NodeReads.{counts_told}
 use Rattle.node_core.proofs.node.Node.line_counts.Goals as goal

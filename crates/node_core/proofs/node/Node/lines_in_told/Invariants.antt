@@ -1,5 +1,5 @@
 use Rattle.std.proofs.Common.{◌≡◌, ◌<◌, ℕ, get_or, length}
-use Rattle.node_core.specs.RunNumbers.{no_counts}
+use Rattle.device_model.specs.RunNumbers.{no_counts}
 use Rattle.node_core.specs.Settling.{IsLineCounts}
 use Rattle.node_core.proofs.node.Node.lines_in_told.Given as goal
 

@@ -1,8 +1,8 @@
 use Rattle.std.proofs.Common.{◌≡◌, ◌<◌, ◌+◌, length, refl, sym, ap, subst, arith, ◌∙◌}
-use Rattle.node_core.specs.NodeMoves.{FenceMove}
-use Rattle.node_core.specs.NodeView.{NodeView, is_ready}
-use Rattle.node_core.proofs.NodesKept.{fence_node}
-use Rattle.node_core.proofs.TurnMoves.{line_spent, fence_move}
+use Rattle.node_moments.specs.NodeMoves.{FenceMove}
+use Rattle.node_moments.specs.NodeView.{NodeView, is_ready}
+use Rattle.node_moments.proofs.NodesKept.{fence_node}
+use Rattle.node_moments.proofs.TurnMoves.{line_spent, fence_move}
 use Rattle.node_core.proofs.node.Node.next_turn.Goals as goal
 
 pub end_lines-wholes-requires-clause-done : goal.end_lines-wholes-requires-clause-done

@@ -1,7 +1,7 @@
 use Rattle.std.proofs.Common.{◌≡◌, ◌<◌, true, subst, sym}
-use Rattle.node_core.specs.NodeView.{NodeView, is_ready, ready_number}
-use Rattle.node_core.specs.Pieces.{IsNth}
-use Rattle.node_core.proofs.StepsKept.{count_open, open_ready}
+use Rattle.node_moments.specs.NodeView.{NodeView, is_ready, ready_number}
+use Rattle.turn_pieces.specs.Pieces.{IsNth}
+use Rattle.node_moments.proofs.StepsKept.{count_open, open_ready}
 use Rattle.node_core.proofs.node.Node.nth_ready.Goals as goal
 
 pub nth_open-requires : goal.nth_open-requires

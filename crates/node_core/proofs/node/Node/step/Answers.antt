@@ -6,12 +6,12 @@ use Rattle.otn_ports.specs.Views.{line_in_at, line_out_at, client_in_at, client_
 use Rattle.otn_ports.specs.Racks.{bays_view, with_line_in, with_line_out, with_client_in, with_client_out}
 use Rattle.otn_ports.proofs.BaysLaws.{line_in_seen, line_in_set, only_line_in, line_out_seen, line_out_set, only_line_out, client_in_seen, client_in_set, only_client_in, client_out_seen, client_out_set, only_client_out}
 use Rattle.otn_ports.proofs.PlacesLaws.{only_line_in_port, only_line_out_port, only_client_in_port, only_client_out_port}
-use Rattle.node_core.specs.NodeView.{is_ready}
-use Rattle.node_core.specs.NodeMoves.{LineInMove, LineOutMove, ClientInMove, ClientOutMove}
-use Rattle.node_core.proofs.LineInMoves.{line_in_moves}
-use Rattle.node_core.proofs.LineOutMoves.{line_out_moves}
-use Rattle.node_core.proofs.ClientInMoves.{client_in_moves}
-use Rattle.node_core.proofs.ClientOutMoves.{client_out_moves}
+use Rattle.node_moments.specs.NodeView.{is_ready}
+use Rattle.node_moments.specs.NodeMoves.{LineInMove, LineOutMove, ClientInMove, ClientOutMove}
+use Rattle.node_moments.proofs.LineInMoves.{line_in_moves}
+use Rattle.node_moments.proofs.LineOutMoves.{line_out_moves}
+use Rattle.node_moments.proofs.ClientInMoves.{client_in_moves}
+use Rattle.node_moments.proofs.ClientOutMoves.{client_out_moves}
 use Rattle.node_core.proofs.node.Node.step.Goals as goal
 
 pub returns-in-LineIn-clause-only : goal.returns-in-LineIn-clause-only

@@ -1,10 +1,10 @@
 use Rattle.std.proofs.Common.{◌≡◌, true, refl, sym, subst}
 use Rattle.otn_base.specs.declared.kind.PortName.TheVariants as port
 use Rattle.otn_ports.specs.OutPlace.{out_view}
-use Rattle.node_core.specs.NodeMoves.{ClientOutMove}
-use Rattle.node_core.specs.NodeView.{NodeView, is_ready}
-use Rattle.node_core.proofs.Later.{ready_open}
-use Rattle.node_core.proofs.StepsKept.{client_kept}
+use Rattle.node_moments.specs.NodeMoves.{ClientOutMove}
+use Rattle.node_moments.specs.NodeView.{NodeView, is_ready}
+use Rattle.node_moments.proofs.Later.{ready_open}
+use Rattle.node_moments.proofs.StepsKept.{client_kept}
 use Rattle.node_core.proofs.node.Node.step_client_out.Goals as goal
 
 pub count-requires : goal.count-requires

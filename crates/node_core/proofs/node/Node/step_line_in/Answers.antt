@@ -3,12 +3,12 @@ use Rattle.std.proofs.lemmas.Option.{slice_get_read}
 use Rattle.otn_base.specs.declared.kind.PortName.TheVariants as port
 use Rattle.otn_ports.specs.InPlace.{in_view}
 use Rattle.line_side.specs.LineStands.{LineView}
-use Rattle.node_core.specs.NodeMoves.{LineInMove}
-use Rattle.node_core.specs.NodeView.{NodeView, is_ready}
-use Rattle.node_core.proofs.Later.{ready_open}
-use Rattle.node_core.proofs.Parts.{ready}
-use Rattle.node_core.proofs.PortNumbers.{line_in_index}
-use Rattle.node_core.proofs.StepsKept.{set_here, set_there, line_unspent, line_in_kept}
+use Rattle.node_moments.specs.NodeMoves.{LineInMove}
+use Rattle.node_moments.specs.NodeView.{NodeView, is_ready}
+use Rattle.node_moments.proofs.Later.{ready_open}
+use Rattle.node_moments.proofs.Parts.{ready}
+use Rattle.turn_pieces.proofs.PortNumbers.{line_in_index}
+use Rattle.node_moments.proofs.StepsKept.{set_here, set_there, line_unspent, line_in_kept}
 use Rattle.node_core.proofs.node.Node.step_line_in.Goals as goal
 
 pub count-requires : goal.count-requires

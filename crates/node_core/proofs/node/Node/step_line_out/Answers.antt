@@ -2,14 +2,14 @@ use Rattle.std.proofs.Common.{◌≡◌, ◌<◌, true, Some, set, length, slice
 use Rattle.std.proofs.lemmas.Option.{slice_get_read}
 use Rattle.otn_base.specs.declared.kind.PortName.TheVariants as port
 use Rattle.otn_ports.specs.OutPlace.{out_view}
-use Rattle.node_core.specs.LineFrames.{FrameWritten}
+use Rattle.node_links.specs.LineFrames.{FrameWritten}
 use Rattle.line_side.specs.LineOutput.{LineOutView}
-use Rattle.node_core.specs.NodeMoves.{LineOutMove}
-use Rattle.node_core.specs.NodeView.{NodeView, is_ready, done_at}
-use Rattle.node_core.proofs.Later.{ready_open}
-use Rattle.node_core.proofs.Parts.{ready}
-use Rattle.node_core.proofs.PortNumbers.{line_out_index}
-use Rattle.node_core.proofs.StepsKept.{set_here, set_there, frames_left, line_out_kept}
+use Rattle.node_moments.specs.NodeMoves.{LineOutMove}
+use Rattle.node_moments.specs.NodeView.{NodeView, is_ready, done_at}
+use Rattle.node_moments.proofs.Later.{ready_open}
+use Rattle.node_moments.proofs.Parts.{ready}
+use Rattle.turn_pieces.proofs.PortNumbers.{line_out_index}
+use Rattle.node_moments.proofs.StepsKept.{set_here, set_there, frames_left, line_out_kept}
 use Rattle.node_core.proofs.node.Node.step_line_out.Goals as goal
 
 pub count-requires : goal.count-requires

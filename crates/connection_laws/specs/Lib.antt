@@ -1,0 +1,11 @@
+pub mod Carried
+pub mod Delivery
+pub mod Chains
+pub mod Accepted
+pub mod TwoWorlds
+pub mod UpToTurn
+pub mod OneFile
+pub mod RunsInARow
+pub mod Healing
+pub mod OneDamaged
+pub mod HeldBack

@@ -1,9 +1,0 @@
-use Rattle.std.proofs.Common.{rules}
-use Rattle.device_model.proofs.OneFile.{one_file, one_file_for_its_inputs}
-use Rattle.device_model.proofs.worlds.one_line_file.Goals as goal
-
-pub returns-clause-plan : goal.returns-clause-plan
-returns-clause-plan c = search (rules, one_file)
-
-pub returns-clause-inputs : goal.returns-clause-inputs
-returns-clause-inputs c = search (rules, one_file_for_its_inputs)

@@ -1,6 +1,0 @@
-use Rattle.std.proofs.Common.{rules}
-use Rattle.device_model.proofs.TwoWorlds.{same_where_shared}
-use Rattle.device_model.proofs.worlds.two_worlds.Goals as goal
-
-pub returns : goal.returns
-returns c = search (rules, same_where_shared)

@@ -1,6 +1,0 @@
-use Rattle.std.proofs.Common.{arith, rules}
-use Rattle.node_core.proofs.UsedPorts.{wants_by_name}
-use Rattle.node_core.proofs.pieces.Pieces.of_plan.Goals as goal
-
-pub returns-clause-wants : goal.returns-clause-wants
-returns-clause-wants c = λ name. wants_by_name c.args.plan.now c.in_ok-wants.wants.items name c.requires.accepted (search (arith, rules)) c.in_ok-wants.ensures.each

@@ -1,8 +1,0 @@
-use Rattle.std.proofs.Common.{rules, ◌≡◌, replicate}
-use Rattle.node_core.proofs.Sums.{alike_at}
-use Rattle.node_core.proofs.pieces.no_pieces.Goals as goal
-
-pub returns-clause-each : goal.returns-clause-each
-returns-clause-each c =
-    let items : c.in_ok-vec.field-0.items ≡ replicate 40 0 = search rules in
-    λ i. rw items (alike_at 40 i 0)

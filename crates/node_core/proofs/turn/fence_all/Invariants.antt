@@ -1,8 +1,0 @@
-use Rattle.node_core.specs.Moves.{Fences}
-use Rattle.node_core.specs.NodeMoves.{whole_for}
-use Rattle.node_core.proofs.LinkSteps.{Gone}
-use Rattle.node_core.proofs.turn.fence_all.Given as goal
-
--- the connections so far have gone on
-abbrev pub invariant-loop-link : goal.invariant-loop-link
-invariant-loop-link l = Gone (λ link then. Fences l.past (whole_for link.from l.wholes) link then) l.link-index l.fn.links.items l.link-items

@@ -1,0 +1,11 @@
+use Rattle.std.proofs.Common.{List, ℕ, subst, sym}
+use Rattle.node_links.specs.LineFrames.{PutsOwn, LinkByLink}
+use Rattle.node_links.specs.Moves.{gives_line}
+use Rattle.node_links.proofs.lines_out.fill_by_slots.Goals as goal
+
+pub returns-clause-puts : goal.returns-clause-puts
+returns-clause-puts c = record {
+  first = c.clear.new.self;
+  blank = record { zero = c.clear.ensures.zero };
+  steps = subst (LinkByLink (λ link before now. PutsOwn (gives_line c.args.past c.args.b link) link before now) c.args.links.now.items c.clear.new.self) (sym c.join_into.ensures.joined) c.fill_links.ensures.puts;
+}

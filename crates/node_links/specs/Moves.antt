@@ -1,0 +1,162 @@
+-- What a piece of a port, and the end of a turn, do to the parts of a node and to the port's place.
+use Rattle.std.specs.Prelude.{◌≡◌, ◌<◌, ◌+◌, ◌*◌, ◌%◌, ℕ, suc, Bool, true, false, ◌&&◌, ◌==◌, List, [], ◌∷◌, ◌++◌, Some, length, slice_get, is_some, Option}
+use Rattle.otn_base.specs.LineSlots.{LineSlots, slots_of}
+use Rattle.otn_ports.specs.Views.{InView, OutView}
+use Rattle.line_side.specs.LineFile.{mfas_of}
+use Rattle.line_side.specs.LineForm.{size_of}
+use Rattle.line_side.specs.LineOutput.{LineOutView, FramePut, LineMade, AsMade}
+use Rattle.line_side.specs.LineStands.{LineView, LineStands, AsStood, PieceStands, InItsTurn, OfMember}
+use Rattle.maintenance_signals.specs.declared.signal.Signal.{Signal}
+use Rattle.multiframe.specs.LineTurns.{multiframe}
+use Rattle.plan_file.specs.declared.connection.Connection.{Connection}
+use Rattle.plan_file.specs.declared.connection.FromEnd.TheVariants as from_end
+use Rattle.plan_file.specs.declared.connection.ToEnd.TheVariants as to_end
+use Rattle.plan_file.specs.declared.plan.Plan.{Plan}
+use Rattle.trib_sink.specs.Sink.{ended_view}
+use Rattle.tributary_model.specs.Places.{Taken, View, tributary_of}
+use Rattle.device_model.specs.Entries.{IsActive, own_turn}
+use Rattle.device_model.specs.Through.{Inputs, OwnInput, of_line, own_input}
+use Rattle.cross_matrix.specs.Parts.{ClientInStands, ClientOutStands}
+use Rattle.cross_matrix.specs.Pipes.{PipeStands, ClientTook}
+use Rattle.node_links.specs.Links.{IsLinkOf, SameEntry, is_on}
+use Rattle.node_links.specs.declared.link.Link.{Link}
+use Rattle.node_links.specs.declared.link.Origin.{Origin}
+use Rattle.node_links.specs.declared.link.Origin.TheVariants as origin
+use Rattle.node_links.specs.declared.link.Target.{Target}
+use Rattle.node_links.specs.declared.link.Target.TheVariants as target
+
+-- ---- connections one by one
+
+-- each connection went from what it was to what it is in this way
+pub record EachLink (Goes : Link → Link → Type 0) (olds news : List Link) : Type 0 where
+  pub count : length news ≡ length olds
+  pub each : (i : ℕ) (old new : Link) → slice_get olds i ≡ Some old → slice_get news i ≡ Some new → Goes old new
+
+-- whether a link comes from line a or client n, or goes to line b or client n
+abbrev pub is_from_line : (a : ℕ) → Origin → Bool
+is_from_line a (origin.Line line) = line == a
+is_from_line a (origin.Client n) = false
+is_from_line a origin.Signal = false
+
+abbrev pub is_from_client : (n : ℕ) → Origin → Bool
+is_from_client n (origin.Line line) = false
+is_from_client n (origin.Client client) = client == n
+is_from_client n origin.Signal = false
+
+abbrev pub is_to_line : (b : ℕ) → Target → Bool
+is_to_line b (target.Line line number slots) = line == b
+is_to_line b (target.Client n) = false
+
+abbrev pub is_to_client : (n : ℕ) → Target → Bool
+is_to_client n (target.Line line number slots) = false
+is_to_client n (target.Client client) = client == n
+
+-- it comes from client n; or goes to it, whether it is active or not
+abbrev pub has_client_in : (n : ℕ) → Link → Bool
+has_client_in n link = is_from_client n link.from
+
+abbrev pub has_client_out : (n : ℕ) → Link → Bool
+has_client_out n link = is_to_client n link.to
+
+-- it is active in turn past + 1, and comes from line a, or client n; or goes to line b, or client n
+abbrev pub takes_line : (past a : ℕ) → Link → Bool
+takes_line past a link = is_on past link && is_from_line a link.from
+
+abbrev pub takes_client : (past n : ℕ) → Link → Bool
+takes_client past n link = is_on past link && is_from_client n link.from
+
+abbrev pub gives_line : (past b : ℕ) → Link → Bool
+gives_line past b link = is_on past link && is_to_line b link.to
+
+abbrev pub gives_client : (past n : ℕ) → Link → Bool
+gives_client past n link = is_on past link && is_to_client n link.to
+
+-- ---- a piece of an input line
+
+-- a frame with the MFAS expected of it goes to a connection that takes from the line
+pub record TookFrame (takes : Bool) (frame : Taken) (old new : Link) : Type 0 where
+  pub same : SameEntry old new
+  pub other : takes ≡ false → new ≡ old
+  pub giving : new.pipe.giving ≡ old.pipe.giving
+  pub took : takes ≡ true → (x : Connection) (a number : ℕ) (slots : LineSlots) (input : OwnInput) (j filled : ℕ) (frames : List Taken) → x.from ≡ from_end.Line a number slots
+      → length frames < slots_of slots.kind → PipeStands x input j frames false filled old.pipe → PipeStands x input j (frames ++ frame ∷ []) false filled new.pipe
+
+-- line a does a piece: where that came to a frame, the frame goes to each connection that takes from the line
+pub record ReadsLine (past a : ℕ) (old : LineView) (was : InView) (links : List Link) (new : LineView) (is : InView) (next : List Link) : Type 0 where
+  pub stands : AsStood was old (λ form first taken t. PieceStands form first is taken t old new)
+  pub pieces : new.pieces ≡ old.pieces + 1
+  pub kind : new.kind ≡ old.kind
+  pub expected : ℕ
+  pub expects : new.has_frame ≡ true → OfMember new (λ given member. expected ≡ member.expected)
+  pub took : EachLink (λ link then. TookFrame (new.has_frame && takes_line past a link) (record { frame = new.reader.hand; expected = expected }) link then) links next
+
+-- ---- a piece of an output line
+
+-- a connection that gives to the line has filled frame n of the turn
+pub record GaveFrame (gives : Bool) (n : ℕ) (old new : Link) : Type 0 where
+  pub same : SameEntry old new
+  pub other : gives ≡ false → new ≡ old
+  pub taking : new.pipe.taking ≡ old.pipe.taking
+  pub gave : gives ≡ true → (x : Connection) (b number : ℕ) (slots : LineSlots) (input : OwnInput) (j : ℕ) (frames : List Taken) (ended : Bool) → x.to ≡ to_end.Line b number slots
+      → n < slots_of slots.kind → PipeStands x input j frames ended n old.pipe → PipeStands x input j frames ended (n + 1) new.pipe
+
+-- the connections of an accepted plan, of which the active ones that go to line b have filled n frames of turn past + 1
+pub record FillLine (plan : Plan) (inputs : Inputs) (b past n : ℕ) (links : List Link) : Type 0 where
+  pub count : length links ≡ length plan.connections
+  pub of_plan : (i : ℕ) (x : Connection) (link : Link) → slice_get plan.connections i ≡ Some x → slice_get links i ≡ Some link → IsLinkOf x link
+  pub stand : (i number : ℕ) (slots : LineSlots) (x : Connection) (link : Link) → slice_get plan.connections i ≡ Some x → slice_get links i ≡ Some link
+      → x.to ≡ to_end.Line b number slots → IsActive x past
+      → (frames : List Taken) × ((ended : Bool) × PipeStands x (own_input inputs x) (own_turn x past) frames ended n link.pipe)
+
+-- line b makes frame n of turn past + 1, into which each connection that gives to the line puts its own
+pub record WritesLine (past b n : ℕ) (old : LineOutView) (was : OutView) (links : List Link) (new : LineOutView) (is : OutView) (next : List Link) : Type 0 where
+  pub put : FramePut
+  pub made : AsMade b was old (λ form first puts. LineMade b form first is (puts ++ put ∷ []) new)
+  pub form : new.form ≡ old.form
+  pub mfas : put.mfas ≡ (size_of old.form * past + n) % 256
+  pub gave : EachLink (λ link then. GaveFrame (gives_line past b link) n link then) links next
+
+-- ---- a piece of a client
+
+-- the connection that takes from client n takes what turn past + 1 brings; or none does
+pub record TakesClient (past n : ℕ) (was : InView) (links : List Link) (is : InView) (next : List Link) : Type 0 where
+  pub took : EachLink (λ link then. SameEntry link then × (then.pipe.giving ≡ link.pipe.giving) × (takes_client past n link ≡ false → then ≡ link)) links next
+  pub none : ((i : ℕ) (link : Link) → slice_get links i ≡ Some link → takes_client past n link ≡ false) → is ≡ was
+  pub one : (i : ℕ) (link then : Link) → slice_get links i ≡ Some link → slice_get next i ≡ Some then → takes_client past n link ≡ true
+      → ((j : ℕ) (other : Link) → slice_get links j ≡ Some other → takes_client past n other ≡ true → j ≡ i)
+      → (x : Connection) (first : InView) (taken : List ℕ) → IsLinkOf x link → ClientInStands x first was taken (own_turn x past) link.pipe.taking
+      → ClientTook x first is taken (own_turn x past) link.pipe then.pipe
+
+-- the connection that gives to client n gives what turn past + 1 brings it; or none does
+pub record GivesClient (past n : ℕ) (was : OutView) (links : List Link) (is : OutView) (next : List Link) : Type 0 where
+  pub gave : EachLink (λ link then. SameEntry link then × (then.pipe.taking ≡ link.pipe.taking) × (gives_client past n link ≡ false → then ≡ link)
+      × ((x : Connection) (input : OwnInput) (j filled : ℕ) (frames : List Taken) (ended : Bool) → PipeStands x input j frames ended filled link.pipe → PipeStands x input j frames ended filled then.pipe)) links next
+  pub none : ((i : ℕ) (link : Link) → slice_get links i ≡ Some link → gives_client past n link ≡ false) → is ≡ was
+  pub one : (i : ℕ) (link then : Link) → slice_get links i ≡ Some link → slice_get next i ≡ Some then → gives_client past n link ≡ true
+      → ((j : ℕ) (other : Link) → slice_get links j ≡ Some other → gives_client past n other ≡ true → j ≡ i)
+      → (x : Connection) (input : OwnInput) (first : OutView) (filled : ℕ) (frames : List Taken) (ended : Bool) → PipeStands x input (own_turn x past) frames ended filled link.pipe
+      → ClientOutStands x input first was (own_turn x past) link.pipe.giving → ClientOutStands x input first is (own_turn x past + 1) then.pipe.giving
+
+-- ---- the end of a turn
+
+-- the turn of a line that is used ends, and this says whether it has a multiframe
+pub record LineEnds (old new : LineView) (whole : Bool) : Type 0 where
+  pub stands : (now : InView) → AsStood now old (λ form first taken t. LineStands form first now taken (t + 1) new)
+  pub ending : new.reader.ending ≡ old.reader.ending
+  pub kind : new.kind ≡ old.kind
+  pub multiframe : InItsTurn old (λ form given t. whole ≡ is_some (multiframe (size_of form) (mfas_of given) t))
+  pub pieces : new.pieces ≡ 0
+
+-- what the end of turn past + 1 does to a connection, whose line has a multiframe in it or not
+pub record Fences (past : ℕ) (whole : Bool) (old new : Link) : Type 0 where
+  pub same : SameEntry old new
+  pub other : is_on past old ≡ false → new ≡ old
+  pub line : is_on past old ≡ true → (x : Connection) (a number : ℕ) (slots : LineSlots) (shows : ℕ → Option View) (filled : ℕ) (frames : List Taken) → IsLinkOf x old
+      → x.from ≡ from_end.Line a number slots → (whole ≡ true → length frames ≡ slots_of slots.kind) → ended_view (tributary_of slots number) whole frames ≡ shows past
+      → PipeStands x (of_line shows) (own_turn x past) frames false filled old.pipe → PipeStands x (of_line shows) (suc (own_turn x past)) [] false 0 new.pipe
+  pub client : is_on past old ≡ true → (x : Connection) (n filled : ℕ) (input : OwnInput) → IsLinkOf x old → x.from ≡ from_end.Client n
+      → PipeStands x input (own_turn x past) [] true filled old.pipe → PipeStands x input (suc (own_turn x past)) [] false 0 new.pipe
+  pub text : (x : Connection) (n : ℕ) → IsLinkOf x old → x.from ≡ from_end.Client n → new.pipe.taking ≡ old.pipe.taking
+  pub signal : is_on past old ≡ true → (x : Connection) (signal : Signal) (filled : ℕ) (input : OwnInput) → IsLinkOf x old → x.from ≡ from_end.Signal signal
+      → PipeStands x input (own_turn x past) [] false filled old.pipe → PipeStands x input (suc (own_turn x past)) [] false 0 new.pipe
+  pub receiver : (x : Connection) (n : ℕ) → IsLinkOf x old → x.to ≡ to_end.Client n → new.pipe.giving ≡ old.pipe.giving

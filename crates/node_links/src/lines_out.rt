@@ -1,0 +1,179 @@
+// A piece of an output line.
+ghost use Rattle.std.specs.Prelude.{◌≡◌, ◌<◌, ◌≤◌, ◌+◌, ◌*◌, ◌%◌, ℕ, true, false, length, slice_index};
+ghost use Rattle.otn_base.specs.LineSlots.{LineSlots, slots_of};
+ghost use Rattle.otn_base.specs.declared.limits.TheConstants.{LINE_FRAME_BYTES as FRAME_BYTES};
+ghost use Rattle.otn_ports.specs.OutPlace.{out_view};
+ghost use Rattle.node_links.specs.Links.{is_on};
+ghost use Rattle.node_links.specs.LineFrames.{PutsOwn, AllotsOwn, LinkByLink, FromBlank, FrameWritten};
+ghost use Rattle.node_links.specs.Moves.{EachLink, GaveFrame, gives_line};
+
+use crate::link::{Link, Target};
+use frame_geometry::Frame;
+use line_side::LineOut;
+use msi_table::SlotMap;
+use odtu_columns::{FillFrame, SlotFrame};
+use otn_base::limits::{LINE_COLUMNS, LINE_FRAME_BYTES};
+use otn_base::{LineKind, Slots};
+use otn_ports::{OutPlaceOf, Sink};
+
+/// One piece of line output `b`: frame `n`, from 0, of turn past + 1, into which each active connection to the line puts its own.
+/// What `slots` holds is of no account, before and behind the call.
+pub fn write_line<K: Sink>(
+    line: &mut LineOut,
+    b: u8,
+    past: u32,
+    n: u8,
+    links: &mut Vec<Link>,
+    slots: &mut SlotFrame,
+    place: &mut OutPlaceOf<K>,
+)
+    requires frame { n < slots_of line.old.form.kind }
+    ensures { FrameWritten past b n line.old (out_view K.Sink place.old) links.old.items line.new (out_view K.Sink place.new) links.new.items }
+{
+    let kind = line.kind();
+    let map = slot_map(kind, b, past, links);
+    let by_slots = is_by_slots(kind, b, past, links);
+    fill_line(by_slots, b, past, links, slots, line);
+    line.finish(mfas_of(kind, past, n), &map, place);
+}
+
+// Whether a frame of line output `b` is best kept by slots while it is filled in turn past + 1: on an OTU2, to which several
+// connections give, and each has one slot. The frame is the same.
+fn is_by_slots(kind: LineKind, b: u8, past: u32, links: &[Link]) -> bool {
+    let mut count = 0u32;
+    for link in links {
+        if link.gives_line(b, past) {
+            if !has_one_slot(&link.to) {
+                return false;
+            }
+            count = count.saturating_add(1);
+        }
+    }
+    kind == LineKind::Otu2 && count > 1
+}
+
+fn has_one_slot(to: &Target) -> bool {
+    match to {
+        Target::Line(_, _, slots) => slots.as_slice().len() == 1,
+        Target::Client(_) => false,
+    }
+}
+
+// Each active connection to line output `b` puts its own into the next frame, where all else is 0.
+fn fill_line(
+    by_slots: bool,
+    b: u8,
+    past: u32,
+    links: &mut Vec<Link>,
+    slots: &mut SlotFrame,
+    line: &mut LineOut,
+)
+    ensures gave { (n : ℕ) → EachLink (λ link then. GaveFrame (gives_line past b link) n link then) links.old.items links.new.items }
+    ensures puts { FromBlank (λ link before now. PutsOwn (gives_line past b link) link before now) links.old.items line.new.frame }
+    ensures size { length line.new.frame ≡ FRAME_BYTES }
+    ensures line { line.new ≡ record line.old { frame = line.new.frame } }
+{
+    if by_slots {
+        fill_by_slots(b, past, links, slots, line.begin_whole());
+        return;
+    }
+    fill_blank(b, past, links, line.begin());
+}
+
+// The same of a frame that is all 0.
+fn fill_blank(b: u8, past: u32, links: &mut Vec<Link>, frame: &mut Frame<LINE_COLUMNS>)
+    requires blank { (place : ℕ) → slice_index frame.old place ≡ 0 }
+    ensures gave { (n : ℕ) → EachLink (λ link then. GaveFrame (gives_line past b link) n link then) links.old.items links.new.items }
+    ensures puts { FromBlank (λ link before now. PutsOwn (gives_line past b link) link before now) links.old.items frame.new }
+    ensures size { length frame.new ≡ FRAME_BYTES }
+{
+    fill_links(b, past, links, frame);
+    prove_eq!(frame.as_bytes().len(), LINE_FRAME_BYTES);
+}
+
+// The same by way of a frame that is kept by slots. What either frame holds is of no account.
+fn fill_by_slots(
+    b: u8,
+    past: u32,
+    links: &mut Vec<Link>,
+    slots: &mut SlotFrame,
+    frame: &mut Frame<LINE_COLUMNS>,
+)
+    ensures gave { (n : ℕ) → EachLink (λ link then. GaveFrame (gives_line past b link) n link then) links.old.items links.new.items }
+    ensures puts { FromBlank (λ link before now. PutsOwn (gives_line past b link) link before now) links.old.items frame.new }
+    ensures size { length frame.new ≡ FRAME_BYTES }
+{
+    slots.clear();
+    fill_links(b, past, links, slots);
+    slots.join_into(frame);
+    prove_eq!(frame.as_bytes().len(), LINE_FRAME_BYTES);
+}
+
+// Each active connection to line output `b` puts its own into a frame.
+fn fill_links<F: FillFrame>(b: u8, past: u32, links: &mut Vec<Link>, frame: &mut F)
+    ensures gave { (n : ℕ) → EachLink (λ link then. GaveFrame (gives_line past b link) n link then) links.old.items links.new.items }
+    ensures puts { LinkByLink (λ link before now. PutsOwn (gives_line past b link) link before now) links.old.items (F.bytes frame.old) (F.bytes frame.new) }
+{
+    for link in links.iter_mut() {
+        link.fill_frame(b, past, frame);
+    }
+}
+
+// The tributary ports of the slots of line output `b`, which is of this kind, in turn past + 1.
+fn slot_map(kind: LineKind, b: u8, past: u32, links: &[Link]) -> SlotMap
+    ensures size { length result ≡ slots_of kind }
+    ensures allots { FromBlank (λ link before now. AllotsOwn kind (gives_line past b link) link before now) links.now result }
+{
+    let mut map = SlotMap::new(kind);
+    for link in links {
+        allot_own(kind, b, past, link, &mut map);
+    }
+    map
+}
+
+// The slots of an active connection to the line get its tributary port.
+fn allot_own(kind: LineKind, b: u8, past: u32, link: &Link, map: &mut SlotMap)
+    requires kind { length map.old ≡ slots_of kind }
+    ensures kind { length map.new ≡ slots_of kind }
+    ensures allots { AllotsOwn kind (gives_line past b link.now) link.now map.old map.new }
+{
+    if link.gives_line(b, past) {
+        allot(kind, &link.to, map);
+    }
+}
+
+ghost use Rattle.msi_table.specs.Psi.{IsGiven};
+ghost use Rattle.node_links.specs.declared.link.Target.TheVariants as target;
+
+// The slots of a line end of this kind get its tributary port, if it is one of the line's.
+fn allot(kind: LineKind, to: &Target, map: &mut SlotMap)
+    requires kind { length map.old ≡ slots_of kind }
+    ensures kind { length map.new ≡ slots_of kind }
+    ensures given { (b number : ℕ) (slots : LineSlots) → to.now ≡ target.Line b number slots → slots.kind ≡ kind → 1 ≤ number → number ≤ slots_of kind
+        → IsGiven slots.list number map.old map.new }
+{
+    match to {
+        Target::Line(_, number, slots) => allot_slots(kind, *number, slots, map),
+        Target::Client(_) => {}
+    }
+}
+
+// The same of the slots alone.
+fn allot_slots(kind: LineKind, number: u8, slots: &Slots, map: &mut SlotMap)
+    requires kind { length map.old ≡ slots_of kind }
+    ensures kind { length map.new ≡ slots_of kind }
+    ensures given { slots.now.kind ≡ kind → 1 ≤ number → number ≤ slots_of kind → IsGiven slots.now.list number map.old map.new }
+{
+    if slots.kind() == kind && 1 <= number && number <= kind.slots() {
+        map.free(slots);
+        map.allot(slots, number);
+    }
+}
+
+// The MFAS of frame `n`, from 0, of turn past + 1 of a line of this kind (G.709 clause 15.6.2.2).
+fn mfas_of(kind: LineKind, past: u32, n: u8) -> u8
+    ensures { result ≡ (slots_of kind * past + n) % 256 }
+{
+    let frames = u64::from(kind.slots()) * u64::from(past) + u64::from(n);
+    (frames % 256) as u8
+}

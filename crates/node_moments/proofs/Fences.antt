@@ -1,0 +1,322 @@
+-- The end of a turn leads to the next one.
+use Rattle.std.proofs.Common.{◌≡◌, ◌≢◌, ◌<◌, ◌≤◌, ◌+◌, ◌*◌, ℕ, suc, Bool, true, false, List, [], Some, slice_get, get_or, arith, refl, sym, ap, subst, ◌∙◌, inl, inr}
+use Rattle.std.specs.Prelude.{is_some}
+use Rattle.std.proofs.lemmas.Bool.Decides.{eqb_tells}
+use Rattle.otn_base.specs.declared.kind.PortName.{PortName}
+use Rattle.otn_base.specs.declared.kind.PortName.TheVariants as port
+use Rattle.otn_ports.specs.Views.{BaysView, line_in_at, line_out_at, client_in_at, client_out_at, no_input, no_output}
+use Rattle.line_side.specs.LineFile.{mfas_of}
+use Rattle.line_side.specs.LineForm.{size_of}
+use Rattle.line_side.specs.LineOutput.{LineMade}
+use Rattle.line_side.specs.LineStands.{LineView, LineStands}
+use Rattle.line_side.specs.MayBe.{MayBe}
+use Rattle.multiframe.specs.LineTurns.{multiframe}
+use Rattle.plan_file.specs.declared.connection.Connection.{Connection}
+use Rattle.plan_file.specs.declared.connection.FromEnd.{FromEnd}
+use Rattle.plan_file.specs.declared.connection.FromEnd.TheVariants as from_end
+use Rattle.plan_file.specs.declared.connection.ToEnd.TheVariants as to_end
+use Rattle.plan_file.specs.declared.plan.Plan.{Plan}
+use Rattle.device_model.specs.Entries.{form_in, form_out, own_turn, IsActive}
+use Rattle.device_model.specs.LineFiles.{AreFramesOf}
+use Rattle.device_model.specs.Moments.{uses, pieces_by}
+use Rattle.device_model.specs.Through.{Inputs, of_client, own_input}
+use Rattle.device_model.proofs.SoundPlans.{sound_plan}
+use Rattle.cross_matrix.specs.Parts.{MayShow}
+use Rattle.cross_matrix.specs.Pipes.{PipeStands}
+use Rattle.node_links.specs.Links.{origin_of}
+use Rattle.node_links.specs.Retiring.{RetiredBy, retires_in, retires_out}
+use Rattle.node_moments.specs.NodeMoves.{FenceMove}
+use Rattle.node_moments.specs.NodeView.{NodeView, HasLineIn, HasLineOut, HasLink, is_ready, done_at, taken_pieces, given_pieces}
+use Rattle.turn_pieces.specs.Ports.{index_of}
+use Rattle.device_model.specs.RetiredPlaces.{after_retire, out_after_retire}
+use Rattle.node_moments.specs.Stands.{InputBytes, MayGive, PlanStands, LinesIn, PipesStand, LinesOut, ClientInAt, ClientsIn, ClientOutAt, ClientsOut, StandsAt, Later}
+use Rattle.node_links.specs.declared.link.Link.{Link}
+use Rattle.node_links.specs.declared.link.Origin.{Origin}
+use Rattle.node_links.specs.declared.link.Origin.TheVariants as origin
+use Rattle.node_links.specs.declared.link.Target.{Target}
+use Rattle.node_links.specs.declared.link.Target.TheVariants as target
+use Rattle.node_moments.proofs.ClientTurns.{place_kept, client_in_starts, client_in_goes_on, out_kept, client_out_starts, client_out_goes_on}
+use Rattle.node_moments.proofs.LinkTurns.{Turned, turned, not_started, on_link, all_done, some_wanted, used_line, input_kind, at_start, at_end, pieces_from, next_pipe, own_next}
+use Rattle.node_moments.proofs.Retired.{known_at, client_retires, client_retires_out, idle_retires, idle_retires_out}
+use Rattle.device_model.proofs.ConnectionPorts.{from_line_used, from_client_used, to_client_used}
+
+-- a connection starts with this turn, or has started before
+started_before : (start past now : ℕ) → now ≡ past + 1 → start ≤ now + 1 → start ≢ past + 1 + 1 → start ≤ past + 1
+started_before start past now e le differ = elim (eqb_tells start (past + 1 + 1)) [
+  | inl t ↦ absurd (differ t.1)
+  | inr t ↦ let other = t.1 in omega arith
+]
+
+-- ---- what the inputs may be
+
+line_before : (old new : NodeView) (wholes : List Bool) (plan : Plan) (taken : InputBytes) (inputs : Inputs) → PlanStands plan old → FenceMove old new → MayGive plan taken new inputs
+    → (a : ℕ) (line : LineView) → HasLineIn old a line → uses plan (port.LineIn a) ≡ true → MayBe (form_in plan a).scrambled line.reader.ending (taken.line a) (inputs.line a)
+line_before old new wholes plan taken inputs p m may a line had used =
+    let next = known_at old.lines_in new.lines_in a line (sym m.count) had in
+    let ends = m.used a line next.0 (some_wanted plan old (port.LineIn a) p used) had next.1 in
+    subst (λ ending. MayBe (form_in plan a).scrambled ending (taken.line a) (inputs.line a)) ends.ending (may.lines a next.0 next.1 used)
+
+-- what a client has is as it was
+same_taking : (old : NodeView) (wholes : List Bool) (i n : ℕ) (x : Connection) (link : Link) (t : Turned old wholes i x link) → x.start ≢ old.past + 1 + 1 → x.from ≡ from_end.Client n
+    → link.pipe.taking ≡ t.before.pipe.taking
+same_taking old wholes i n x link t differ from = ap (λ (l : Link). l.pipe.taking) (not_started old wholes i x link t differ) ∙ t.turns.fences.text x n t.was from
+
+same_giving : (old : NodeView) (wholes : List Bool) (i n : ℕ) (x : Connection) (link : Link) (t : Turned old wholes i x link) → x.start ≢ old.past + 1 + 1 → x.to ≡ to_end.Client n
+    → link.pipe.giving ≡ t.before.pipe.giving
+same_giving old wholes i n x link t differ to = ap (λ (l : Link). l.pipe.giving) (not_started old wholes i x link t differ) ∙ t.turns.fences.receiver x n t.was to
+
+client_before : (old new : NodeView) (plan : Plan) (taken : InputBytes) (inputs : Inputs) → PlanStands plan old → FenceMove old new → MayGive plan taken new inputs
+    → (i n : ℕ) (x : Connection) (link : Link) → slice_get plan.connections i ≡ Some x → HasLink old i link → x.from ≡ from_end.Client n → x.start ≤ old.past + 1
+    → MayShow link.pipe.taking (taken.client n) (of_client (inputs.client n))
+client_before old new plan taken inputs p m may i n x link at had from start =
+    let next = known_at old.links new.links i link (sym m.links.count) had in
+    let t = m.links.each i link next.0 had next.1 in
+    let was = p.links i x link at had in
+    let mid : t.between.start ≡ x.start = t.fences.same.start ∙ was.start in
+    let unstarted : next.0 ≡ t.between = t.starts.other (λ e. absurd (omega arith)) in
+    let same : next.0.pipe.taking ≡ link.pipe.taking = ap (λ (l : Link). l.pipe.taking) unstarted ∙ t.fences.text x n was from in
+    subst (λ part. MayShow part (taken.client n) (of_client (inputs.client n))) same (may.clients i n x next.0 at next.1 from (let past = m.past in omega arith))
+
+fence_earlier : (old new : NodeView) (plan : Plan) (taken : InputBytes) → PlanStands plan old → FenceMove old new → (inputs : Inputs) → MayGive plan taken new inputs → MayGive plan taken old inputs
+fence_earlier old new plan taken p m inputs may = record {
+  lines = line_before old new m.wholes plan taken inputs p m may;
+  clients = client_before old new plan taken inputs p m may;
+}
+
+-- ---- the plan, and no piece
+
+no_taken : (old new : NodeView) → FenceMove old new → (o : Origin) → taken_pieces new o ≡ 0
+no_taken old new m (origin.Line a) = m.fresh.none (index_of (port.LineIn a))
+no_taken old new m (origin.Client n) = m.fresh.none (index_of (port.ClientIn n))
+no_taken old new m origin.Signal = refl
+
+no_given : (old new : NodeView) → FenceMove old new → (o : Target) → given_pieces new o ≡ 0
+no_given old new m (target.Line b number slots) = m.fresh.none (index_of (port.LineOut b))
+no_given old new m (target.Client n) = m.fresh.none (index_of (port.ClientOut n))
+
+fence_plan : (plan : Plan) (old new : NodeView) → old.past < old.turns → PlanStands plan old → FenceMove old new → PlanStands plan new
+fence_plan plan old new going p m = record {
+  accepted = p.accepted;
+  turns = m.turns ∙ p.turns;
+  past = omega (arith, m.past, m.turns);
+  wants = λ name. ap (λ w. get_or w (index_of name) 0) m.wants ∙ p.wants name;
+  most = λ name. omega (arith, m.fresh.none (index_of name));
+  over = λ over name. m.fresh.none (index_of name);
+  count = m.links.count ∙ p.count;
+  links = λ i x link at has. (turned plan old new p m i x link at has).is;
+}
+
+-- all pieces of the turn, of what a connection comes from
+taken_all : (plan : Plan) (old : NodeView) → ((name : PortName) → uses plan name ≡ true → done_at old name ≡ pieces_by plan name)
+    → (i : ℕ) (x : Connection) → slice_get plan.connections i ≡ Some x → (from : FromEnd) → x.from ≡ from → taken_pieces old (origin_of from) ≡ pieces_from plan from
+taken_all plan old done i x at (from_end.Line a number slots) e = done (port.LineIn a) (from_line_used plan i a number slots x at e)
+taken_all plan old done i x at (from_end.Client n) e = done (port.ClientIn n) (from_client_used plan i n x at e)
+taken_all plan old done i x at (from_end.Signal signal) e = refl
+
+-- ---- lines in
+
+fence_lines_in : (plan : Plan) (first : BaysView) (taken : InputBytes) (old new : NodeView) (was is : BaysView) → PlanStands plan old → FenceMove old new → RetiredBy old.past old.links was is
+    → LinesIn plan first taken old was → LinesIn plan first taken new is
+fence_lines_in plan first taken old new was is p m retired h = record {
+  used = λ a next has u.
+      let line = known_at new.lines_in old.lines_in a next m.count has in
+      let ends = m.used a line.0 next (some_wanted plan old (port.LineIn a) p u) line.1 has in
+      let place : line_in_at is a ≡ line_in_at was a = ap (λ l. get_or l a no_input) retired.line_in in
+      let stood = (h.used a line.0 line.1 u).0 in (
+        subst (λ n. LineStands (form_in plan a) (line_in_at first a) (line_in_at is a) (taken.line a) n next) (sym m.past)
+            (subst (λ v. LineStands (form_in plan a) (line_in_at first a) v (taken.line a) (old.past + 1) next) (sym place)
+            (ends.stands (line_in_at was a) (form_in plan a) (line_in_at first a) (taken.line a) old.past stood)),
+        ends.pieces ∙ sym (m.fresh.none (index_of (port.LineIn a))),
+      );
+  idle = λ a u. ap (λ l. get_or l a no_input) retired.line_in ∙ h.idle a u;
+}
+
+-- ---- pipes
+
+-- whether a line has a multiframe in the turn is said of whatever the line may turn out to be
+has_multiframe : (plan : Plan) (first : BaysView) (taken : InputBytes) (old new : NodeView) (was : BaysView) (inputs : Inputs) → PlanStands plan old → (m : FenceMove old new) → LinesIn plan first taken old was
+    → MayGive plan taken old inputs → (a : ℕ) → uses plan (port.LineIn a) ≡ true → get_or m.wholes a false ≡ is_some (multiframe (size_of (form_in plan a)) (mfas_of (inputs.line a)) old.past)
+has_multiframe plan first taken old new was inputs p m h may a u =
+    let l = used_line plan old new p m a u in
+    l.ends.multiframe (line_in_at was a) (form_in plan a) (line_in_at first a) (taken.line a) old.past (h.used a l.line l.had u).0 (inputs.line a) (may.lines a l.line l.had u)
+
+-- the pipe of a connection that is active in the next turn too
+pipe_goes_on : (plan : Plan) (first : BaysView) (taken : InputBytes) (old new : NodeView) (was : BaysView) (inputs : Inputs) → PlanStands plan old → (m : FenceMove old new)
+    → ((name : PortName) → uses plan name ≡ true → done_at old name ≡ pieces_by plan name) → LinesIn plan first taken old was → PipesStand plan taken old → MayGive plan taken old inputs
+    → (i : ℕ) (x : Connection) (link : Link) → slice_get plan.connections i ≡ Some x → (t : Turned old m.wholes i x link) → IsActive x old.past
+    → PipeStands x (own_input inputs x) (suc (own_turn x old.past)) [] false 0 t.turns.between.pipe
+pipe_goes_on plan first taken old new was inputs p m done lines pipes may i x link at t active =
+    let sound = (sound_plan plan p.accepted).entries i x at in
+    let stood = pipes.each inputs may i x t.before at t.had active in
+    let pieces : taken_pieces old t.before.from ≡ pieces_from plan x.from = ap (taken_pieces old) t.was.from ∙ taken_all plan old done i x at x.from refl in
+    let on = on_link old.past t.before (let e = t.was.start in let a = active.start in omega arith) (let e = t.was.stop in let a = active.stop in omega arith) in
+    next_pipe plan inputs x old.past (given_pieces old t.before.to) m.wholes t.before t.turns.between sound t.was on t.turns.fences
+    (λ a number slots e. has_multiframe plan first taken old new was inputs p m lines may a (from_line_used plan i a number slots x at e)) x.from refl
+    (at_end plan inputs x old.past (own_turn x old.past) (given_pieces old t.before.to) (taken_pieces old t.before.from) x.from t.before.pipe refl pieces stood)
+
+-- the pipe of any connection that is active in the next turn
+pipe_next : (plan : Plan) (first : BaysView) (taken : InputBytes) (old new : NodeView) (was : BaysView) (inputs : Inputs) → PlanStands plan old → (m : FenceMove old new)
+    → ((name : PortName) → uses plan name ≡ true → done_at old name ≡ pieces_by plan name) → LinesIn plan first taken old was → PipesStand plan taken old → MayGive plan taken old inputs
+    → (i : ℕ) (x : Connection) (link : Link) → slice_get plan.connections i ≡ Some x → (t : Turned old m.wholes i x link) → IsActive x (old.past + 1)
+    → PipeStands x (own_input inputs x) (own_turn x (old.past + 1)) [] false 0 link.pipe
+pipe_next plan first taken old new was inputs p m done lines pipes may i x link at t active = elim (eqb_tells x.start (old.past + 1 + 1)) [
+  | inl e ↦
+      let now : t.turns.between.start ≡ old.past + 1 + 1 = t.mid.start ∙ e.1 in
+      let zeroth : 0 ≡ own_turn x (old.past + 1) = (let s = e.1 in omega arith) in
+      subst (λ j. PipeStands x (own_input inputs x) j [] false 0 link.pipe) zeroth (t.turns.starts.stands now x (own_input inputs x) t.mid (input_kind inputs x.from))
+  | inr d ↦
+      let start : x.start ≤ old.past + 1 = started_before x.start old.past (old.past + 1) refl active.start d.1 in
+      let same : link ≡ t.turns.between = not_started old m.wholes i x link t d.1 in
+      let before : IsActive x old.past = record { start = start; stop = (let a = active.stop in omega arith) } in
+      subst (λ j. PipeStands x (own_input inputs x) j [] false 0 link.pipe) (own_next x old.past t.was.first start)
+      (subst (λ (l : Link). PipeStands x (own_input inputs x) (suc (own_turn x old.past)) [] false 0 l.pipe) (sym same)
+      (pipe_goes_on plan first taken old new was inputs p m done lines pipes may i x link at t before))
+]
+
+-- the pipe of one whose last turn this was
+pipe_last : (plan : Plan) (first : BaysView) (taken : InputBytes) (old new : NodeView) (was : BaysView) (inputs : Inputs) → PlanStands plan old → (m : FenceMove old new)
+    → ((name : PortName) → uses plan name ≡ true → done_at old name ≡ pieces_by plan name) → LinesIn plan first taken old was → PipesStand plan taken old → MayGive plan taken old inputs
+    → (i : ℕ) (x : Connection) (link : Link) → slice_get plan.connections i ≡ Some x → (t : Turned old m.wholes i x link) → x.stop ≡ old.past + 1
+    → PipeStands x (own_input inputs x) (own_turn x (old.past + 1)) [] false 0 link.pipe
+pipe_last plan first taken old new was inputs p m done lines pipes may i x link at t stop =
+    let start : x.start ≤ old.past + 1 = (let span = ((sound_plan plan p.accepted).entries i x at).span in omega arith) in
+    let same : link ≡ t.turns.between = not_started old m.wholes i x link t (λ e. absurd (omega arith)) in
+    let before : IsActive x old.past = record { start = start; stop = omega arith } in
+    subst (λ j. PipeStands x (own_input inputs x) j [] false 0 link.pipe) (own_next x old.past t.was.first start)
+    (subst (λ (l : Link). PipeStands x (own_input inputs x) (suc (own_turn x old.past)) [] false 0 l.pipe) (sym same)
+    (pipe_goes_on plan first taken old new was inputs p m done lines pipes may i x link at t before))
+
+fence_pipes : (plan : Plan) (first : BaysView) (taken : InputBytes) (old new : NodeView) (was : BaysView) → PlanStands plan old → FenceMove old new
+    → ((name : PortName) → uses plan name ≡ true → done_at old name ≡ pieces_by plan name) → LinesIn plan first taken old was → PipesStand plan taken old → PipesStand plan taken new
+fence_pipes plan first taken old new was p m done lines pipes = record {
+  each = λ inputs may i x link at has active.
+      let t = turned plan old new p m i x link at has in
+      let on : IsActive x (old.past + 1) = subst (IsActive x) m.past active in
+      let next = pipe_next plan first taken old new was inputs p m done lines pipes (fence_earlier old new plan taken p m inputs may) i x link at t on in
+      at_start plan inputs x new.past (own_turn x new.past) (taken_pieces new link.from) (given_pieces new link.to) link.pipe (no_taken old new m link.from) (no_given old new m link.to)
+      (subst (λ n. PipeStands x (own_input inputs x) (own_turn x n) [] false 0 link.pipe) (sym m.past) next);
+  last = λ inputs may i x link at has stop.
+      subst (λ n. PipeStands x (own_input inputs x) (own_turn x n) [] false 0 link.pipe) (sym m.past)
+      (pipe_last plan first taken old new was inputs p m done lines pipes (fence_earlier old new plan taken p m inputs may) i x link at (turned plan old new p m i x link at has) (stop ∙ m.past));
+}
+
+-- ---- lines out
+
+frames_next : (size past now d d' : ℕ) → now ≡ past + 1 → d' ≡ 0 → d ≡ size → size * past + d ≡ size * now + d'
+frames_next size past now d d' e none all = rw (e, none, all) (omega arith)
+
+fence_lines_out : (plan : Plan) (first : BaysView) (taken : InputBytes) (old new : NodeView) (was is : BaysView) → PlanStands plan old → FenceMove old new → RetiredBy old.past old.links was is
+    → ((name : PortName) → uses plan name ≡ true → done_at old name ≡ pieces_by plan name) → LinesOut plan first taken old was → LinesOut plan first taken new is
+fence_lines_out plan first taken old new was is p m retired done h = record {
+  used = λ inputs may b line has u.
+      let had : HasLineOut old b line = ap (λ ls. slice_get ls b) (sym m.lines_out) ∙ has in
+      let stood = h.used inputs (fence_earlier old new plan taken p m inputs may) b line had u in
+      let place : line_out_at is b ≡ line_out_at was b = ap (λ l. get_or l b no_output) retired.line_out in
+      let count = frames_next (size_of (form_out plan b)) old.past new.past (done_at old (port.LineOut b)) (done_at new (port.LineOut b)) m.past (m.fresh.none (index_of (port.LineOut b)))
+      (done (port.LineOut b) u) in (
+        stood.0,
+        subst (λ n. AreFramesOf plan inputs b n stood.0) count stood.1,
+        subst (λ v. LineMade b (form_out plan b) (line_out_at first b) v stood.0 line) (sym place) stood.2,
+      );
+  idle = λ b u. ap (λ l. get_or l b no_output) retired.line_out ∙ h.idle b u;
+}
+
+-- ---- clients in
+
+client_in_next : (plan : Plan) (first : BaysView) (taken : InputBytes) (old new : NodeView) (was is : BaysView) → PlanStands plan old → (m : FenceMove old new) → RetiredBy old.past old.links was is
+    → ((name : PortName) → uses plan name ≡ true → done_at old name ≡ pieces_by plan name) → ClientsIn plan first taken old was
+    → (i n : ℕ) (x : Connection) (link : Link) → slice_get plan.connections i ≡ Some x → (t : Turned old m.wholes i x link) → x.from ≡ from_end.Client n → x.start ≤ old.past + 1 + 1
+    → ClientInAt (client_in_at first n) (client_in_at is n) (taken.client n) x (old.past + 1) 0 link
+client_in_next plan first taken old new was is p m retired done h i n x link at t from start =
+    let sound = (sound_plan plan p.accepted).entries i x at in
+    let retires = client_retires plan old i n x t.before p at t.had from in
+    elim (eqb_tells x.start (old.past + 1 + 1)) [
+      | inl e ↦
+          let now : t.turns.between.start ≡ old.past + 1 + 1 = t.mid.start ∙ e.1 in
+          let late : old.past + 1 < x.start = (let s = e.1 in omega arith) in
+          let w = h.waits i n x at from late in
+          client_in_starts (client_in_at first n) (client_in_at was n) (client_in_at is n) (taken.client n) old.past n x link (retires_in old.past n old.links) retires late (let span = sound.span in omega arith) w.0 w.1
+          (retired.client_in n) (t.turns.starts.client_in now x n (client_in_at first n) t.mid from)
+      | inr d ↦
+          client_in_goes_on (client_in_at first n) (client_in_at was n) (client_in_at is n) (taken.client n) old.past (done_at old (port.ClientIn n)) x t.before link (retires_in old.past n old.links) retires sound.start
+          (done (port.ClientIn n) (from_client_used plan i n x at from)) (same_taking old m.wholes i n x link t d.1 from) (retired.client_in n)
+          (h.started i n x t.before at t.had from (started_before x.start old.past (old.past + 1) refl start d.1))
+    ]
+
+fence_clients_in : (plan : Plan) (first : BaysView) (taken : InputBytes) (old new : NodeView) (was is : BaysView) → PlanStands plan old → FenceMove old new → RetiredBy old.past old.links was is
+    → ((name : PortName) → uses plan name ≡ true → done_at old name ≡ pieces_by plan name) → ClientsIn plan first taken old was → ClientsIn plan first taken new is
+fence_clients_in plan first taken old new was is p m retired done h = record {
+  started = λ i n x link at has from start.
+      let t = turned plan old new p m i x link at has in
+      subst (λ k. ClientInAt (client_in_at first n) (client_in_at is n) (taken.client n) x k (done_at new (port.ClientIn n)) link) (sym m.past)
+      (subst (λ k. ClientInAt (client_in_at first n) (client_in_at is n) (taken.client n) x (old.past + 1) k link) (sym (m.fresh.none (index_of (port.ClientIn n))))
+      (client_in_next plan first taken old new was is p m retired done h i n x link at t from (let e = m.past in omega arith)));
+  waits = λ i n x at from late.
+      let e = m.past in
+      let span = ((sound_plan plan p.accepted).entries i x at).span in
+      let link = known_at plan.connections old.links i x (sym p.count) at in
+      let w = h.waits i n x at from (omega arith) in (
+        place_kept x old.past (retires_in old.past n old.links) (client_in_at was n) (client_in_at is n) (client_retires plan old i n x link.0 p at link.1 from) (omega arith) (retired.client_in n) ∙ w.0,
+        w.1,
+      );
+  idle = λ n u. retired.client_in n ∙ ap (λ b. after_retire b (client_in_at was n)) (idle_retires plan old n p u) ∙ h.idle n u;
+}
+
+-- ---- clients out
+
+client_out_next : (plan : Plan) (first : BaysView) (taken : InputBytes) (old new : NodeView) (was is : BaysView) (inputs : Inputs) → PlanStands plan old → (m : FenceMove old new) → RetiredBy old.past old.links was is
+    → ((name : PortName) → uses plan name ≡ true → done_at old name ≡ pieces_by plan name) → ClientsOut plan first taken old was → MayGive plan taken old inputs
+    → (i n : ℕ) (x : Connection) (link : Link) → slice_get plan.connections i ≡ Some x → (t : Turned old m.wholes i x link) → x.to ≡ to_end.Client n → x.start ≤ old.past + 1 + 1
+    → ClientOutAt inputs (client_out_at first n) (client_out_at is n) x (old.past + 1) 0 link
+client_out_next plan first taken old new was is inputs p m retired done h may i n x link at t to start =
+    let sound = (sound_plan plan p.accepted).entries i x at in
+    let retires = client_retires_out plan old i n x t.before p at t.had to in
+    elim (eqb_tells x.start (old.past + 1 + 1)) [
+      | inl e ↦
+          let now : t.turns.between.start ≡ old.past + 1 + 1 = t.mid.start ∙ e.1 in
+          let late : old.past + 1 < x.start = (let s = e.1 in omega arith) in
+          client_out_starts inputs (client_out_at first n) (client_out_at was n) (client_out_at is n) old.past n x link (retires_out old.past n old.links) retires late (let span = sound.span in omega arith)
+          (h.waits i n x at to late) (retired.client_out n) (t.turns.starts.client_out now x n (own_input inputs x) (client_out_at first n) t.mid to)
+      | inr d ↦
+          client_out_goes_on inputs (client_out_at first n) (client_out_at was n) (client_out_at is n) old.past (done_at old (port.ClientOut n)) x t.before link (retires_out old.past n old.links) retires sound.start
+          (done (port.ClientOut n) (to_client_used plan i n x at to)) (same_giving old m.wholes i n x link t d.1 to) (retired.client_out n)
+          (h.started inputs may i n x t.before at t.had to (started_before x.start old.past (old.past + 1) refl start d.1))
+    ]
+
+fence_clients_out : (plan : Plan) (first : BaysView) (taken : InputBytes) (old new : NodeView) (was is : BaysView) → PlanStands plan old → FenceMove old new → RetiredBy old.past old.links was is
+    → ((name : PortName) → uses plan name ≡ true → done_at old name ≡ pieces_by plan name) → ClientsOut plan first taken old was → ClientsOut plan first taken new is
+fence_clients_out plan first taken old new was is p m retired done h = record {
+  started = λ inputs may i n x link at has to start.
+      let t = turned plan old new p m i x link at has in
+      subst (λ k. ClientOutAt inputs (client_out_at first n) (client_out_at is n) x k (done_at new (port.ClientOut n)) link) (sym m.past)
+      (subst (λ k. ClientOutAt inputs (client_out_at first n) (client_out_at is n) x (old.past + 1) k link) (sym (m.fresh.none (index_of (port.ClientOut n))))
+      (client_out_next plan first taken old new was is inputs p m retired done h (fence_earlier old new plan taken p m inputs may) i n x link at t to (let e = m.past in omega arith)));
+  waits = λ i n x at to late.
+      let e = m.past in
+      let span = ((sound_plan plan p.accepted).entries i x at).span in
+      let link = known_at plan.connections old.links i x (sym p.count) at in
+      out_kept x old.past (retires_out old.past n old.links) (client_out_at was n) (client_out_at is n) (client_retires_out plan old i n x link.0 p at link.1 to) (omega arith) (retired.client_out n)
+      ∙ h.waits i n x at to (omega arith);
+  idle = λ n u. retired.client_out n ∙ ap (λ b. out_after_retire b (client_out_at was n)) (idle_retires_out plan old n p u) ∙ h.idle n u;
+}
+
+-- ---- all parts
+
+-- The end of a turn leads from any moment at which no port is ready to the first one of the next turn.
+pub fence_moves : (plan : Plan) (first : BaysView) (taken : InputBytes) (old new : NodeView) (was is : BaysView) → old.past < old.turns → ((name : PortName) → is_ready old name ≡ false) → FenceMove old new
+    → RetiredBy old.past old.links was is → StandsAt plan first taken old was → Later plan first taken old new is
+fence_moves plan first taken old new was is going none m retired h =
+    let p = h.plan_stands in
+    let done = all_done plan old p going none in
+    record {
+      more = taken;
+      stands = record {
+        plan_stands = fence_plan plan old new going p m;
+        lines_in = fence_lines_in plan first taken old new was is p m retired h.lines_in;
+        pipes = fence_pipes plan first taken old new was p m done h.lines_in h.pipes;
+        lines_out = fence_lines_out plan first taken old new was is p m retired done h.lines_out;
+        clients_in = fence_clients_in plan first taken old new was is p m retired done h.clients_in;
+        clients_out = fence_clients_out plan first taken old new was is p m retired done h.clients_out;
+      };
+      earlier = fence_earlier old new plan taken p m;
+    }

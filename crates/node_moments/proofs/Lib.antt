@@ -1,0 +1,17 @@
+pub mod Later
+pub mod Retired
+pub mod LinkTurns
+pub mod ClientTurns
+pub mod Fences
+pub mod Building
+pub mod NodesKept
+pub mod Parts
+pub mod LineInMoves
+pub mod LineOutMoves
+pub mod ClientLinks
+pub mod ClientInMoves
+pub mod ClientOutMoves
+pub mod TurnMoves
+pub mod NewParts
+pub mod StepsKept
+pub mod PlanPieces

@@ -1,0 +1,174 @@
+-- Which places are emptied at the end of a turn.
+use Rattle.std.proofs.Common.{◌≡◌, ◌<◌, ◌+◌, ℕ, zero, suc, Bool, true, false, ◌&&◌, ◌||◌, ◌==◌, nat_le, List, [], ◌∷◌, Some, length, slice_get, arith, refl, sym, ap, ◌∙◌}
+use Rattle.std.proofs.lemmas.Bool.{eq-eqb}
+use Rattle.std.proofs.lemmas.Bool.Decides.{nat_tests}
+use Rattle.std.specs.List.{list_any}
+use Rattle.otn_base.specs.declared.kind.PortName.TheVariants as port
+use Rattle.plan_file.specs.declared.connection.Connection.{Connection}
+use Rattle.plan_file.specs.declared.connection.FromEnd.{FromEnd}
+use Rattle.plan_file.specs.declared.connection.FromEnd.TheVariants as from_end
+use Rattle.plan_file.specs.declared.connection.ToEnd.{ToEnd}
+use Rattle.plan_file.specs.declared.connection.ToEnd.TheVariants as to_end
+use Rattle.plan_file.specs.declared.plan.Plan.{Plan}
+use Rattle.device_model.specs.Entries.{is_from_client as comes_from, is_to_client as goes_to}
+use Rattle.device_model.specs.Moments.{uses, is_retired}
+use Rattle.device_model.proofs.SoundPlans.{sound_plan}
+use Rattle.node_links.specs.Links.{IsLinkOf, origin_of, target_of}
+use Rattle.node_links.specs.Moves.{is_from_client, is_to_client}
+use Rattle.node_links.specs.Retiring.{ends_here, retires_in, retires_out}
+use Rattle.node_moments.specs.NodeView.{NodeView, HasLink}
+use Rattle.node_moments.specs.Stands.{PlanStands}
+use Rattle.node_links.specs.declared.link.Link.{Link}
+use Rattle.device_model.proofs.ConnectionPorts.{uses_none}
+
+-- ---- some connection of a list, which ends and passes a test
+
+and_false : (b : Bool) → (b && false) ≡ false
+and_false true = refl
+and_false false = refl
+
+and_true : (b : Bool) → (b && true) ≡ b
+and_true true = refl
+and_true false = refl
+
+or_false : (b : Bool) → (b || false) ≡ b
+or_false true = refl
+or_false false = refl
+
+abbrev pub some_passes : (ends passes : Link → Bool) → List Link → Bool
+some_passes ends passes links = list_any (λ link. ends link && passes link) links
+
+none_passes : (ends passes : Link → Bool) (links : List Link) → ((i : ℕ) (link : Link) → slice_get links i ≡ Some link → passes link ≡ false) → some_passes ends passes links ≡ false
+none_passes ends passes [] h = refl
+none_passes ends passes (link ∷ links) h =
+    ap (λ b. (ends link && b) || some_passes ends passes links) (h 0 link refl)
+    ∙ ap (λ b. b || some_passes ends passes links) (and_false (ends link))
+    ∙ none_passes ends passes links (λ i other at. h (suc i) other at)
+
+fails : (b : Bool) → (b ≡ true → false ≡ true) → b ≡ false
+fails false h = refl
+fails true h = sym (h refl)
+
+zero_or : (i : ℕ) → suc i ≡ 0 → false ≡ true
+zero_or i e = absurd (omega arith)
+
+pub one_passes : (ends passes : Link → Bool) (links : List Link) (i : ℕ) (link : Link) → slice_get links i ≡ Some link → passes link ≡ true
+    → ((j : ℕ) (other : Link) → slice_get links j ≡ Some other → passes other ≡ true → j ≡ i) → some_passes ends passes links ≡ ends link
+one_passes ends passes [] i link at is alone = absurd (cc)
+one_passes ends passes (x ∷ links) zero link at is alone =
+    let same : x ≡ link = cc in
+    let rest : some_passes ends passes links ≡ false = none_passes ends passes links (λ j other e. fails (passes other) (λ t. zero_or j (alone (suc j) other e t))) in
+    ap (λ b. (ends x && passes x) || b) rest ∙ or_false (ends x && passes x) ∙ ap (λ l. ends l && passes l) same ∙ ap (λ b. ends link && b) is ∙ and_true (ends link)
+one_passes ends passes (x ∷ links) (suc i) link at is alone =
+    let head : passes x ≡ false = fails (passes x) (λ t. zero_or i (sym (alone 0 x refl t))) in
+    ap (λ b. (ends x && b) || some_passes ends passes links) head
+    ∙ ap (λ b. b || some_passes ends passes links) (and_false (ends x))
+    ∙ one_passes ends passes links i link at is (λ j other e t. let s = alone (suc j) other e t in omega arith)
+
+retires_some : (past n : ℕ) (links : List Link) → retires_in past n links ≡ some_passes (ends_here past) (λ link. is_from_client n link.from) links
+unfolding retires_in
+retires_some past n [] = refl
+retires_some past n (link ∷ links) = ap (λ b. (ends_here past link && is_from_client n link.from) || b) (retires_some past n links)
+
+retires_some_out : (past n : ℕ) (links : List Link) → retires_out past n links ≡ some_passes (ends_here past) (λ link. is_to_client n link.to) links
+unfolding retires_out
+retires_some_out past n [] = refl
+retires_some_out past n (link ∷ links) = ap (λ b. (ends_here past link && is_to_client n link.to) || b) (retires_some_out past n links)
+
+-- ---- the links of a plan
+
+-- where one list is as long as another it has an element at each place of the other
+pub known_at : {A B : Type 0} (xs : List A) (ys : List B) (i : ℕ) (x : A) → length xs ≡ length ys → slice_get xs i ≡ Some x → (y : B) × (slice_get ys i ≡ Some y)
+known_at [] ys i x len at = absurd (cc)
+known_at (a ∷ xs) [] i x len at = absurd (omega arith)
+known_at (a ∷ xs) (b ∷ ys) zero x len at = (b, refl)
+known_at (a ∷ xs) (b ∷ ys) (suc i) x len at = known_at xs ys i x (omega arith) at
+
+same_from : (n : ℕ) (from : FromEnd) → is_from_client n (origin_of from) ≡ comes_from n from
+same_from n (from_end.Line a number slots) = refl
+same_from n (from_end.Client m) = refl
+same_from n (from_end.Signal s) = refl
+
+same_to : (n : ℕ) (to : ToEnd) → is_to_client n (target_of to) ≡ goes_to n to
+same_to n (to_end.Line b number slots) = refl
+same_to n (to_end.Client m) = refl
+
+pub is_client : (n : ℕ) (from : FromEnd) → comes_from n from ≡ true → from ≡ from_end.Client n
+is_client n (from_end.Line a number slots) h = absurd (cc)
+is_client n (from_end.Client m) h = let e : m ≡ n = grind (arith, nat_tests) in ap from_end.Client e
+is_client n (from_end.Signal s) h = absurd (cc)
+
+is_client_out : (n : ℕ) (to : ToEnd) → goes_to n to ≡ true → to ≡ to_end.Client n
+is_client_out n (to_end.Line b number slots) h = absurd (cc)
+is_client_out n (to_end.Client m) h = let e : m ≡ n = grind (arith, nat_tests) in ap to_end.Client e
+
+-- of the entry of a link
+pub entry_at : (plan : Plan) (node : NodeView) (i : ℕ) (link : Link) → PlanStands plan node → HasLink node i link → (x : Connection) × ((slice_get plan.connections i ≡ Some x) × IsLinkOf x link)
+entry_at plan node i link p at = let x = known_at node.links plan.connections i link p.count at in (x.0, (x.1, p.links i x.0 link x.1 at))
+
+pub from_as : (n : ℕ) (x : Connection) (link : Link) → IsLinkOf x link → is_from_client n link.from ≡ comes_from n x.from
+from_as n x link is = ap (is_from_client n) is.from ∙ same_from n x.from
+
+to_as : (n : ℕ) (x : Connection) (link : Link) → IsLinkOf x link → is_to_client n link.to ≡ goes_to n x.to
+to_as n x link is = ap (is_to_client n) is.to ∙ same_to n x.to
+
+ends_as : (past : ℕ) (x : Connection) (link : Link) → IsLinkOf x link → ends_here past link ≡ (x.retire && (x.stop == past + 1))
+ends_as past x link is = ap (λ b. b && (link.stop == past + 1)) is.retire ∙ ap (λ s. x.retire && (s == past + 1)) is.stop
+
+-- A client's connection alone empties its place.
+pub client_retires : (plan : Plan) (node : NodeView) (i n : ℕ) (x : Connection) (link : Link) → PlanStands plan node → slice_get plan.connections i ≡ Some x → HasLink node i link → x.from ≡ from_end.Client n
+    → retires_in node.past n node.links ≡ (x.retire && (x.stop == node.past + 1))
+client_retires plan node i n x link p at has from =
+    let is = p.links i x link at has in
+    let here : is_from_client n link.from ≡ true = from_as n x link is ∙ ap (comes_from n) from ∙ eq-eqb n n refl in
+    retires_some node.past n node.links
+    ∙ one_passes (ends_here node.past) (λ l. is_from_client n l.from) node.links i link has here (λ j other there t.
+    let e = entry_at plan node j other p there in
+    (sound_plan plan p.accepted).clients_in j i n e.0 x e.1.0 at (is_client n e.0.from (sym (from_as n e.0 other e.1.1) ∙ t)) from)
+    ∙ ends_as node.past x link is
+
+pub client_retires_out : (plan : Plan) (node : NodeView) (i n : ℕ) (x : Connection) (link : Link) → PlanStands plan node → slice_get plan.connections i ≡ Some x → HasLink node i link → x.to ≡ to_end.Client n
+    → retires_out node.past n node.links ≡ (x.retire && (x.stop == node.past + 1))
+client_retires_out plan node i n x link p at has to =
+    let is = p.links i x link at has in
+    let here : is_to_client n link.to ≡ true = to_as n x link is ∙ ap (goes_to n) to ∙ eq-eqb n n refl in
+    retires_some_out node.past n node.links
+    ∙ one_passes (ends_here node.past) (λ l. is_to_client n l.to) node.links i link has here (λ j other there t.
+    let e = entry_at plan node j other p there in
+    (sound_plan plan p.accepted).clients_out j i n e.0 x e.1.0 at (is_client_out n e.0.to (sym (to_as n e.0 other e.1.1) ∙ t)) to)
+    ∙ ends_as node.past x link is
+
+-- and one that no connection uses is not emptied
+pub idle_retires : (plan : Plan) (node : NodeView) (n : ℕ) → PlanStands plan node → uses plan (port.ClientIn n) ≡ false → retires_in node.past n node.links ≡ false
+idle_retires plan node n p unused =
+    retires_some node.past n node.links
+    ∙ none_passes (ends_here node.past) (λ l. is_from_client n l.from) node.links (λ i link has.
+    let e = entry_at plan node i link p has in
+    from_as n e.0 link e.1.1 ∙ uses_none plan (port.ClientIn n) i e.0 e.1.0 unused)
+
+pub idle_retires_out : (plan : Plan) (node : NodeView) (n : ℕ) → PlanStands plan node → uses plan (port.ClientOut n) ≡ false → retires_out node.past n node.links ≡ false
+idle_retires_out plan node n p unused =
+    retires_some_out node.past n node.links
+    ∙ none_passes (ends_here node.past) (λ l. is_to_client n l.to) node.links (λ i link has.
+    let e = entry_at plan node i link p has in
+    to_as n e.0 link e.1.1 ∙ uses_none plan (port.ClientOut n) i e.0 e.1.0 unused)
+
+-- ---- turn by turn
+
+-- in one of the turns that are past, or in this one
+pub retired_so_far : (x : Connection) (past : ℕ) → (is_retired x past || (x.retire && (x.stop == past + 1))) ≡ is_retired x (past + 1)
+retired_so_far x past = go x.retire
+  where
+    stops : (nat_le x.stop past || (x.stop == past + 1)) ≡ nat_le x.stop (past + 1)
+    stops = grind (arith, nat_tests)
+
+    go : (b : Bool) → ((b && nat_le x.stop past) || (b && (x.stop == past + 1))) ≡ (b && nat_le x.stop (past + 1))
+    go true = stops
+    go false = refl
+
+-- not before its stop
+pub not_retired : (x : Connection) (past : ℕ) → past < x.stop → is_retired x past ≡ false
+not_retired x past h = let late : nat_le x.stop past ≡ false = grind (arith, nat_tests) in rw late (and_false x.retire)
+
+pub not_ending : (x : Connection) (past : ℕ) → past + 1 < x.stop → (x.retire && (x.stop == past + 1)) ≡ false
+not_ending x past h = let late : (x.stop == past + 1) ≡ false = grind (arith, nat_tests) in rw late (and_false x.retire)

@@ -1,0 +1,4 @@
+pub mod NodeView
+pub mod Stands
+pub mod NodeMoves
+pub mod Built

@@ -1,0 +1,5 @@
+pub mod Sums
+pub mod PortNumbers
+pub mod PieceCounts
+pub mod UsedPorts
+pub mod PiecesLeft

@@ -1,0 +1,6 @@
+use Rattle.std.proofs.Common.{◌≡◌, ◌==◌, drop}
+use Rattle.std.specs.List.{list_any}
+use Rattle.turn_pieces.proofs.ports.has_number.Given as goal
+
+abbrev pub invariant-loop-n : goal.invariant-loop-n
+invariant-loop-n l = list_any (λ n. n == l.number) (drop l.n-index l.list) ≡ list_any (λ n. n == l.number) l.list
