@@ -20,11 +20,13 @@ use Rattle.odu_client.specs.ClientInput.{ClientInput}
 use Rattle.odu_client.specs.ClientFrames.{client_frames}
 use Rattle.tributary_line.specs.FeedTurn.{FeedStands, FeedView}
 use Rattle.tributary_line.specs.TributaryFile.{AreTributaryFrames}
+use Rattle.tributary_line.specs.Settling.{is_dead}
+use Rattle.tributary_line.proofs.Endings.{some_dead}
 use Rattle.bundle_command.specs.ChannelInput.{channel_text, ends_whole, texts_of}
 use Rattle.bundle_command.specs.BundleStream.{IsFinished, begun_of, channel_line, channel_stream, channel_turns, first_slot, lines_told, parts_of, payload_sent, payload_whole, whole_of}
 use Rattle.bundle_command.specs.BundleLeft.{BundleRan, IsCut, LeftOf, MayBeInput, OutputDue, Tells, place_of}
 use Rattle.bundle_command.specs.Channels.{ChannelAt, ChannelStands, HasChannel, MayShow, MayShowAll, StandsSo, WeavingHas, woven_bytes}
-use Rattle.bundle_command.specs.Settled.{AllEnded, DeadClients, IsEnded, IsSettled, ended_by, is_dead, line_of, lines_of}
+use Rattle.bundle_command.specs.Settled.{AllEnded, DeadClients, IsEnded, IsSettled, line_of, lines_of}
 use Rattle.bundle_command.specs.declared.channel.Channel.{Channel}
 use Rattle.bundle_command.specs.declared.channel.Standing.{Standing}
 use Rattle.bundle_command.specs.declared.channel.Standing.TheVariants as standing
@@ -33,7 +35,7 @@ use Rattle.otn_ports.specs.declared.ended.Ended.TheVariants.{Done, Unfinished, C
 use Rattle.bundle_command.specs.declared.weaving.Weaving.{Weaving}
 use Rattle.bundle_command.proofs.Asked.{text_at, texts_many}
 use Rattle.bundle_command.proofs.Ends.{input_left, may_show, more_by}
-use Rattle.bundle_command.proofs.Finish.{EndsAs, Stream, ends_by, not_finished, stream_at, unasked_late}
+use Rattle.bundle_command.proofs.Finish.{Stream, not_finished, stream_at, unasked_late}
 use Rattle.bundle_command.proofs.Frames.{gone_is}
 use Rattle.bundle_command.proofs.Lists.{lines_on}
 use Rattle.bundle_command.proofs.Sizes.{given_bytes}
@@ -131,11 +133,6 @@ pub is_gt : (a b : ℕ) → nat_le a b ≡ false → b < a
 is_gt a b e = grind (arith, nat_tests)
 
 -- ---- dead places
-
-some_dead : (s : State) → is_dead s ≡ true → s ≡ Dead
-some_dead Dead e = refl
-some_dead Live e = absurd (cc)
-some_dead Empty e = absurd (cc)
 
 dead_is : (s : State) → s ≡ Dead → is_dead s ≡ true
 dead_is s e = ap is_dead e

@@ -28,7 +28,7 @@ use Rattle.bundle_command.specs.ChannelInput.{channel_text, ends_whole, texts_of
 use Rattle.bundle_command.specs.BundleStream.{IsFinished, begun_of, channel_stream, channel_turns, first_slot, lines_told, parts_of, payload_sent, payload_whole, whole_of, woven_begun, woven_in}
 use Rattle.bundle_command.specs.BundleLeft.{BundleRan, IsClientList, IsCut, LeftOf, MayBeInput, OnlyBundled, OutputDue, Tells, place_of}
 use Rattle.bundle_command.specs.Channels.{ChannelAt, ChannelStands, HasChannel, IsUnasked, MayShow, MayShowAll, PacketsEnd, StandsSo, WeavingHas, woven_bytes}
-use Rattle.bundle_command.specs.Settled.{AllEnded, DeadClients, IsEnded, IsSettled, ended_by, is_dead, line_of, lines_of}
+use Rattle.bundle_command.specs.Settled.{AllEnded, DeadClients, IsEnded, IsSettled, line_of, lines_of}
 use Rattle.bundle_command.specs.declared.channel.Channel.{Channel}
 use Rattle.bundle_command.specs.declared.channel.Standing.{Standing}
 use Rattle.bundle_command.specs.declared.channel.Standing.TheVariants as standing
@@ -150,23 +150,3 @@ not_finished clients turns end inputs frames s ends late done =
       | inr past ↦
           (let none = ap (λ (t : ChannelText). length t.packets) (get_or_past texts n.c no_text (let m = texts_many (length clients) inputs in omega arith)) in omega arith)
     ]
-
--- ---- how it ended
-
-pub record EndsAs (ended : Ended) (CutBy Finished : Type 0) : Type 0 where
-  pub cut : (ended ≡ Cut) ↔ CutBy
-  pub unfinished : (ended ≡ Unfinished) ↔ ((CutBy → ⊥) × (Finished → ⊥))
-  pub other : (ended ≢ ReportFault) × (ended ≢ Memory)
-
-pub ends_by : (dead finished : Bool) (CutBy Finished : Type 0) → (dead ≡ true → CutBy) → (CutBy → dead ≡ true) → (finished ≡ true → Finished) → (Finished → finished ≡ true) → EndsAs (ended_by dead finished) CutBy Finished
-ends_by true finished CutBy Finished a b c d = record { cut = (λ e. a refl, λ h. refl); unfinished = (λ e. absurd (cc), λ h. absurd (h.0 (a refl))); other = (λ e. cc, λ e. cc) }
-ends_by false true CutBy Finished a b c d = record {
-  cut = (λ e. absurd (cc), λ h. absurd (let e : false ≡ true = b h in cc));
-  unfinished = (λ e. absurd (cc), λ h. absurd (h.1 (c refl)));
-  other = (λ e. cc, λ e. cc);
-}
-ends_by false false CutBy Finished a b c d = record {
-  cut = (λ e. absurd (cc), λ h. absurd (let e : false ≡ true = b h in cc));
-  unfinished = (λ e. (λ h. (let e : false ≡ true = b h in cc), λ h. (let e : false ≡ true = d h in cc)), λ h. refl);
-  other = (λ e. cc, λ e. cc);
-}

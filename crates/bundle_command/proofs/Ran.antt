@@ -3,6 +3,7 @@ use Rattle.std.proofs.Common.{◌≡◌, ◌≢◌, ◌⊎◌, inl, inr, ◌<◌
 use Rattle.std.specs.Prelude.{not, ◌&&◌, ◌||◌, nat_le, slice_get}
 use Rattle.std.specs.List.{concat}
 use Rattle.std.proofs.Math.Seq.{take-length}
+use Rattle.std.proofs.lemmas.Bool.{not-true, not_from_false}
 use Rattle.std.proofs.lemmas.Option.{slice_get_within}
 use Rattle.otn_ports.specs.PortViews.{SinkView, SinkGot, SinkWrites}
 use Rattle.otn_ports.specs.Views.{State, InView, BaysView, line_out_at}
@@ -18,11 +19,13 @@ use Rattle.odu_client.specs.ClientInput.{ClientInput}
 use Rattle.device_model.specs.LineAsked.{InputLeft}
 use Rattle.tributary_line.specs.FeedTurn.{FeedStands, FeedView}
 use Rattle.tributary_line.specs.TributaryFile.{AreTributaryFrames}
+use Rattle.tributary_line.specs.Settling.{ended_by, is_dead}
+use Rattle.tributary_line.proofs.Endings.{EndsAs, ends_by}
 use Rattle.bundle_command.specs.ChannelInput.{texts_of}
 use Rattle.bundle_command.specs.BundleStream.{IsFinished, begun_of, channel_stream, channel_turns, first_slot, lines_told, parts_of, payload_sent, payload_whole}
 use Rattle.bundle_command.specs.BundleLeft.{BundleRan, IsCut, LeftOf, MayBeInput, OutputDue, Tells, WasAsked, place_of}
 use Rattle.bundle_command.specs.Channels.{ChannelAt, ChannelStands, HasChannel, IsBadLine, MayShowAll, StandsSo, woven_bytes}
-use Rattle.bundle_command.specs.Settled.{IsEnded, IsSettled, ended_by, is_dead, lines_of}
+use Rattle.bundle_command.specs.Settled.{IsEnded, IsSettled, lines_of}
 use Rattle.bundle_command.specs.declared.channel.Channel.{Channel}
 use Rattle.bundle_command.specs.declared.channel.Standing.{Standing}
 use Rattle.bundle_command.specs.declared.channel.Standing.TheVariants as standing
@@ -30,9 +33,9 @@ use Rattle.otn_ports.specs.declared.ended.Ended.{Ended}
 use Rattle.otn_ports.specs.declared.ended.Ended.TheVariants.{ReportFault, Memory}
 use Rattle.bundle_command.specs.declared.weaving.Weaving.{Weaving}
 use Rattle.bundle_command.proofs.AskedAtEnd.{was_asked}
-use Rattle.bundle_command.proofs.BundleEnds.{Known, channel_at, cut_of, is_finished, is_gt, is_le, few_bytes, lines_are, of_cut, open_one, sat_high, sat_low, and_false, and_true, by_false}
+use Rattle.bundle_command.proofs.BundleEnds.{Known, channel_at, cut_of, is_finished, is_gt, is_le, few_bytes, lines_are, of_cut, open_one, sat_high, sat_low, and_false, and_true}
 use Rattle.bundle_command.proofs.Ends.{input_left, may_show, more_by}
-use Rattle.bundle_command.proofs.Finish.{EndsAs, ends_by, not_finished, stream_at}
+use Rattle.bundle_command.proofs.Finish.{not_finished, stream_at}
 use Rattle.bundle_command.proofs.Frames.{begun_frames, gone_is}
 use Rattle.bundle_command.proofs.Sizes.{given_bytes}
 use Rattle.odu_client.proofs.FrameLists.{joined_size}
@@ -123,8 +126,8 @@ ran clients turns first last report told gone left given count weaving feed ende
     tells_of (inl (e, lost)) = subst (λ x. Tells x report (lines_of weaving.channels.items last) told) (sym e) (lost.0, lost.1, lost.2)
     tells_of (inr (wrote, is)) = subst (λ x. Tells x report (lines_of weaving.channels.items last) told) (sym is.answer) (by_end _ _ wrote.0)
       where
-        by_end : (dead finished : Bool) → SinkGot report (lines_of weaving.channels.items last) told → Tells (ended_by dead finished) report (lines_of weaving.channels.items last) told
-        by_end true finished got = got
+        by_end : (dead more : Bool) → SinkGot report (lines_of weaving.channels.items last) told → Tells (ended_by dead more) report (lines_of weaving.channels.items last) told
+        by_end true more got = got
         by_end false true got = got
         by_end false false got = got
 
@@ -132,24 +135,29 @@ ran clients turns first last report told gone left given count weaving feed ende
     outcome_ended (inl (e, lost)) other = absurd (other e)
     outcome_ended (inr (wrote, is)) other = is
 
-    ends : (inputs : ℕ → ClientInput) → Known clients turns first last given weaving inputs settled → IsEnded weaving turns last ended → EndsAs ended (IsCut clients last) (IsFinished clients turns inputs)
+    ends : (inputs : ℕ → ClientInput) → Known clients turns first last given weaving inputs settled → IsEnded weaving turns last ended → EndsAs ended (IsCut clients last) (IsFinished clients turns inputs → ⊥)
     ends inputs known is =
         let dead = is.dead || is_dead (line_out_at last 0).state in
         let finished = is.all && nat_le weaving.end (payload_whole turns) in
-        subst (λ x. EndsAs x (IsCut clients last) (IsFinished clients turns inputs)) (sym is.answer)
-        (ends_by dead finished (IsCut clients last) (IsFinished clients turns inputs) (cut_of clients first last given weaving settled is.dead is.dead_is) (of_cut clients first last given weaving settled is.dead is.dead_is)
-        (λ yes.
-        let both = and_true is.all (nat_le weaving.end (payload_whole turns)) yes in
-        is_finished clients turns first last given weaving inputs settled known (is.all_is.all both.0)
-        (sat_low settled.has.end (payload_whole turns) (subst (λ e. e ≤ payload_whole turns) settled.has.end_is (is_le weaving.end (payload_whole turns) both.1)) (few_bytes turns few)))
-        (λ done. by_false finished (λ no. elim (and_false is.all (nat_le weaving.end (payload_whole turns)) no) [
+        subst (λ x. EndsAs x (IsCut clients last) (IsFinished clients turns inputs → ⊥)) (sym is.answer)
+        (ends_by dead (not finished) (IsCut clients last) (IsFinished clients turns inputs → ⊥) (cut_of clients first last given weaving settled is.dead is.dead_is) (of_cut clients first last given weaving settled is.dead is.dead_is)
+        (λ more done. elim (and_false is.all (nat_le weaving.end (payload_whole turns)) (not-true finished more)) [
           | inl open' ↦
               let s = is.all_is.some open' in
               open_one clients turns (length weaving.maker.maker.hand) first last given weaving inputs settled known some all s.0 s.1 s.2 s.3 done
           | inr late ↦
               not_finished clients turns settled.has.end inputs settled.at.frames known.stream settled.has.ends
               (sat_high settled.has.end (payload_whole turns) (subst (λ e. payload_whole turns < e) settled.has.end_is (is_gt weaving.end (payload_whole turns) late))) done
-        ])))
+        ])
+        (λ unfinished. not_from_false finished (not_so finished (λ yes.
+        let both = and_true is.all (nat_le weaving.end (payload_whole turns)) yes in
+        unfinished
+        (is_finished clients turns first last given weaving inputs settled known (is.all_is.all both.0)
+        (sat_low settled.has.end (payload_whole turns) (subst (λ e. e ≤ payload_whole turns) settled.has.end_is (is_le weaving.end (payload_whole turns) both.1)) (few_bytes turns few)))))))
+      where
+        not_so : (b : Bool) → (b ≡ true → ⊥) → b ≡ false
+        not_so true h = absurd (h refl)
+        not_so false h = refl
 
     left_of : (inputs : ℕ → ClientInput) → MayShowAll weaving.channels.items settled.taken inputs → LeftOf clients turns first last report told ended settled.taken (λ c. more_of (slice_get weaving.channels.items c) (place_of clients last c).state) inputs
     left_of inputs shows =

@@ -1,14 +1,14 @@
 -- The command at its end.
-use Rattle.std.specs.Prelude.{◌≡◌, ◌≢◌, ◌<◌, ◌-◌, ◌&&◌, ◌||◌, ℕ, Bool, true, false, List, [], ◌∷◌, ◌++◌, length, nat_le, set}
+use Rattle.std.specs.Prelude.{◌≡◌, ◌≢◌, ◌<◌, ◌-◌, ◌&&◌, ◌||◌, ℕ, Bool, true, false, not, List, [], ◌∷◌, ◌++◌, length, nat_le, set}
 use Rattle.otn_ports.specs.OnePlace.{OnlyClientIn}
-use Rattle.otn_ports.specs.Views.{State, Empty, Live, Dead, InView, BaysView, client_in_at, line_out_at}
+use Rattle.otn_ports.specs.Views.{InView, BaysView, client_in_at, line_out_at}
 use Rattle.gfp_linear.specs.Weaver.{Woven}
+use Rattle.tributary_line.specs.Settling.{ended_by, is_dead}
 use Rattle.bundle_command.specs.BundleStream.{channel_line, payload_whole}
 use Rattle.bundle_command.specs.Channels.{Answered, ChannelStands, HasChannel, IsBegun, WeavingHas}
 use Rattle.bundle_command.specs.declared.channel.Channel.{Channel}
 use Rattle.bundle_command.specs.declared.channel.Standing.TheVariants as standing
 use Rattle.otn_ports.specs.declared.ended.Ended.{Ended}
-use Rattle.otn_ports.specs.declared.ended.Ended.TheVariants.{Done, Unfinished, Cut}
 use Rattle.bundle_command.specs.declared.weaving.Weaving.{Weaving}
 
 -- The first channels, so many, were asked once more, where a packet was their last answer.
@@ -32,11 +32,6 @@ pub record ChannelSettled (index : ℕ) (was : BaysView) (old : List Channel) (i
   pub client : next.client ≡ channel.client
   pub only : OnlyClientIn channel.client was is
 
-abbrev pub is_dead : State → Bool
-is_dead Empty = false
-is_dead Live = false
-is_dead Dead = true
-
 -- this says whether a client's place is dead
 pub record DeadClients (channels : List Channel) (bays : BaysView) (answer : Bool) : Type 0 where
   pub some : answer ≡ true → (c : ℕ) × (channel : Channel) × HasChannel channels c channel × (is_dead (client_in_at bays channel.client).state ≡ true)
@@ -47,19 +42,13 @@ pub record AllEnded (channels : List Channel) (answer : Bool) : Type 0 where
   pub all : answer ≡ true → (c : ℕ) (channel : Channel) → HasChannel channels c channel → channel.standing ≡ standing.Ended
   pub some : answer ≡ false → (c : ℕ) × (channel : Channel) × HasChannel channels c channel × (channel.standing ≢ standing.Ended)
 
--- how it ends, by whether a place is dead and whether all is finished
-abbrev pub ended_by : (dead finished : Bool) → Ended
-ended_by true finished = Cut
-ended_by false true = Done
-ended_by false false = Unfinished
-
 -- so it ended after these turns
 pub record IsEnded (weaving : Weaving) (turns : ℕ) (bays : BaysView) (ended : Ended) : Type 0 where
   pub dead : Bool
   pub dead_is : DeadClients weaving.channels.items bays dead
   pub all : Bool
   pub all_is : AllEnded weaving.channels.items all
-  pub answer : ended ≡ ended_by (dead || is_dead (line_out_at bays 0).state) (all && nat_le weaving.end (payload_whole turns))
+  pub answer : ended ≡ ended_by (dead || is_dead (line_out_at bays 0).state) (not (all && nat_le weaving.end (payload_whole turns)))
 
 -- the line of a channel
 abbrev pub line_of : Channel → BaysView → List ℕ

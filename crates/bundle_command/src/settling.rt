@@ -1,19 +1,18 @@
 // The end of the command: clients that may have more are asked once more, and how it ended.
-ghost use Rattle.std.specs.Prelude.{◌≡◌, ◌≢◌, ◌<◌, ◌≤◌, ◌*◌, ◌/◌, ◌&&◌, ◌||◌, ℕ, List, length, nat_le, vec_len};
+ghost use Rattle.std.specs.Prelude.{◌≡◌, ◌≢◌, ◌<◌, ◌≤◌, ◌*◌, ◌/◌, ◌&&◌, ℕ, List, length, nat_le, vec_len};
 ghost use Rattle.otn_base.specs.declared.limits.TheConstants.{CLIENT_FRAME_BYTES, CLIENT_PAYLOAD_BYTES, MOST_TURNS, NOMINAL};
-ghost use Rattle.otn_ports.specs.InPlace.{in_view};
-ghost use Rattle.otn_ports.specs.OutPlace.{out_view};
 ghost use Rattle.otn_ports.specs.Racks.{bays_view};
 ghost use Rattle.otn_ports.specs.Views.{BaysView, line_out_at};
 ghost use Rattle.bundle_command.specs.BundleStream.{payload_whole};
 ghost use Rattle.bundle_command.specs.Channels.{HasChannel, IsStanding, WeavingStands};
 ghost use Rattle.bundle_command.specs.Framed.{OnlyInputs};
-ghost use Rattle.bundle_command.specs.Settled.{AllEnded, ChannelSettled, DeadClients, IsEnded, IsSettled, ended_by, is_dead};
+ghost use Rattle.bundle_command.specs.Settled.{AllEnded, ChannelSettled, DeadClients, IsEnded, IsSettled};
 
 use crate::channel::{Channel, Standing};
 use crate::weaving::Weaving;
 use otn_base::limits::{CLIENT_FRAME_BYTES, CLIENT_PAYLOAD_BYTES, NOMINAL};
-use otn_ports::{Ended, InPlaceOf, OutPlaceOf, Rack, Sink, Source};
+use otn_ports::{Ended, Rack, Sink, Source};
+use tributary_line::{either, ended_by, is_dead_in, is_dead_out};
 
 /// Asks each channel once more whose last answer was a packet, in the order of the channels.
 pub(crate) fn settle<I: Source, O: Sink>(weaving: &mut Weaving, bays: &mut Rack<I, O>)
@@ -53,7 +52,7 @@ pub(crate) fn ended<I: Source, O: Sink>(weaving: &Weaving, turns: u32, bays: &Ra
         are_ended(&weaving.channels),
         weaving.end <= payload_whole(turns),
     );
-    ended_by(dead, finished)
+    ended_by(dead, !finished)
 }
 
 // Payload bytes of the client frames that are whole in so many turns.
@@ -87,44 +86,6 @@ fn has_dead<I: Source, O: Sink>(channels: &[Channel], bays: &Rack<I, O>) -> bool
         }
     }
     false
-}
-
-fn is_dead_in<I: Source>(place: &InPlaceOf<I>) -> bool
-    ensures { result ≡ is_dead (in_view I.Source place.now).state }
-{
-    match place {
-        InPlaceOf::Dead(..) => true,
-        InPlaceOf::Live(..) => false,
-        InPlaceOf::Empty => false,
-    }
-}
-
-fn is_dead_out<O: Sink>(place: &OutPlaceOf<O>) -> bool
-    ensures { result ≡ is_dead (out_view O.Sink place.now).state }
-{
-    match place {
-        OutPlaceOf::Dead(..) => true,
-        OutPlaceOf::Live(..) => false,
-        OutPlaceOf::Empty => false,
-    }
-}
-
-fn ended_by(dead: bool, finished: bool) -> Ended
-    ensures { result ≡ ended_by dead finished }
-{
-    if dead {
-        Ended::Cut
-    } else if finished {
-        Ended::Done
-    } else {
-        Ended::Unfinished
-    }
-}
-
-fn either(one: bool, other: bool) -> bool
-    ensures { result ≡ (one || other) }
-{
-    one || other
 }
 
 fn both(one: bool, other: bool) -> bool

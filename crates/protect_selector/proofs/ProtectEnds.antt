@@ -1,5 +1,5 @@
 -- The end of the command.
-use Rattle.std.proofs.Common.{◌≡◌, ◌≢◌, ◌⊎◌, inl, inr, ◌↔◌, ◌<◌, ◌+◌, ◌*◌, ℕ, zero, suc, Bool, true, false, List, [], ◌∷◌, ◌++◌, length, refl, sym, subst, ◌∙◌, length-append, add-one, arith}
+use Rattle.std.proofs.Common.{◌≡◌, ◌≢◌, ◌⊎◌, inl, inr, ◌<◌, ◌+◌, ◌*◌, ℕ, zero, suc, Bool, true, false, List, [], ◌∷◌, ◌++◌, length, refl, sym, subst, ◌∙◌, length-append, add-one, arith}
 use Rattle.std.specs.Prelude.{not, ◌||◌}
 use Rattle.otn_ports.specs.PortViews.{SinkView, SinkGot}
 use Rattle.otn_ports.specs.Views.{State, Empty, Live, Dead, InView, OutView, BaysView}
@@ -15,15 +15,17 @@ use Rattle.otn_ports.specs.declared.drain.Written.TheVariants as written
 use Rattle.tributary_line.specs.TapTurn.{TapView, TapStands}
 use Rattle.tributary_line.specs.TributaryFile.{AreTributaryFrames}
 use Rattle.tributary_line.specs.FeedTurn.{FeedView, FeedStands}
+use Rattle.tributary_line.specs.Settling.{ended_by, is_dead}
+use Rattle.tributary_line.proofs.Endings.{ends_by, some_dead}
 use Rattle.otn_ports.specs.Asked.{ByteAnswer, has_come}
 use Rattle.device_model.specs.LineAsked.{is_seen, MayHave, InputLeft}
 use Rattle.device_model.proofs.SettledLines.{may_at_end, end_of_line, line_left, EndOfLine}
 use Rattle.otn_ports.specs.declared.ended.Ended.{Ended}
-use Rattle.otn_ports.specs.declared.ended.Ended.TheVariants.{Unfinished, Cut, ReportFault, Memory}
+use Rattle.otn_ports.specs.declared.ended.Ended.TheVariants.{ReportFault}
 use Rattle.protect_selector.specs.declared.protecting.Protecting.{Protecting}
 use Rattle.protect_selector.specs.Selector.{HasChosen}
 use Rattle.protect_selector.specs.OfLines.{turns_before, given_on, given_before, switch_text}
-use Rattle.protect_selector.specs.Protecting.{Ends, Stands, StandsLost, TurnGone, TurnsGone, SettledAs, AreReady, OnlyProtected, is_dead, has_dead, ended_by, ends_of}
+use Rattle.protect_selector.specs.Protecting.{Ends, Stands, StandsLost, TurnGone, TurnsGone, SettledAs, AreReady, OnlyProtected, has_dead, ends_of}
 use Rattle.protect_selector.specs.ProtectLeft.{HasMore, IsCut, OutputDue, AllDone, LeftSo, ProtectRan}
 use Rattle.protect_selector.proofs.ProtectTurns.{SeenOf}
 
@@ -44,34 +46,10 @@ settled_by parts was mid is report x y x' y' line line' answer answer' dead more
 
 -- ---- how the command ended
 
-some_dead : (s : State) → is_dead s ≡ true → s ≡ Dead
-some_dead Dead e = refl
-some_dead Live e = absurd (cc)
-some_dead Empty e = absurd (cc)
-
 dead_if : (s : State) (b : Bool) → is_dead s ≡ b → s ≡ Dead → b ≡ true
 dead_if Dead b e d = sym e
 dead_if Live b e d = absurd (cc)
 dead_if Empty b e d = absurd (cc)
-
--- the booleans of the end and what they say
-pub record EndsAs (ended : Ended) (CutBy MoreBy : Type 0) : Type 0 where
-  pub cut : (ended ≡ Cut) ↔ CutBy
-  pub unfinished : (ended ≡ Unfinished) ↔ ((CutBy → ⊥) × MoreBy)
-  pub other : (ended ≢ ReportFault) × (ended ≢ Memory)
-
-ends_by : (dead more : Bool) (CutBy MoreBy : Type 0) → (dead ≡ true → CutBy) → (CutBy → dead ≡ true) → (more ≡ true → MoreBy) → (MoreBy → more ≡ true) → EndsAs (ended_by dead more) CutBy MoreBy
-ends_by true more CutBy MoreBy a b c d = record { cut = (λ e. a refl, λ h. refl); unfinished = (λ e. absurd (cc), λ h. absurd (h.0 (a refl))); other = (λ e. cc, λ e. cc) }
-ends_by false true CutBy MoreBy a b c d = record {
-  cut = (λ e. absurd (cc), λ h. absurd (let e : false ≡ true = b h in cc));
-  unfinished = (λ e. (λ h. (let e : false ≡ true = b h in cc), c refl), λ h. refl);
-  other = (λ e. cc, λ e. cc);
-}
-ends_by false false CutBy MoreBy a b c d = record {
-  cut = (λ e. absurd (cc), λ h. absurd (let e : false ≡ true = b h in cc));
-  unfinished = (λ e. absurd (cc), λ h. absurd (let e : false ≡ true = d h.1 in cc));
-  other = (λ e. cc, λ e. cc);
-}
 
 is_cut : (last : Ends) → has_dead last ≡ true → IsCut last
 is_cut last e = by_parts (is_dead last.working.state) refl (is_dead last.protection.state) refl (is_dead last.output.state) refl e

@@ -1,5 +1,5 @@
 -- The command within its turns: two sinks, what was chosen of them, and a source.
-use Rattle.std.specs.Prelude.{◌≡◌, ◌≢◌, ◌<◌, ℕ, suc, Bool, true, false, not, ◌||◌, List, ◌++◌, length, take}
+use Rattle.std.specs.Prelude.{◌≡◌, ◌≢◌, ◌<◌, ℕ, suc, Bool, false, not, ◌||◌, List, ◌++◌, length, take}
 use Rattle.otn_base.specs.declared.line_kind.LineKind.TheVariants.{Otu2}
 use Rattle.otn_ports.specs.PortViews.{SinkView, SinkGot}
 use Rattle.otn_ports.specs.declared.drain.Written.{Written}
@@ -7,12 +7,12 @@ use Rattle.otn_ports.specs.declared.drain.Written.TheVariants as written
 use Rattle.otn_ports.specs.Asked.{ByteAsked, has_come}
 use Rattle.device_model.specs.LineAsked.{is_seen}
 use Rattle.otn_ports.specs.declared.ended.Ended.{Ended}
-use Rattle.otn_ports.specs.declared.ended.Ended.TheVariants.{Done, Unfinished, Cut}
-use Rattle.otn_ports.specs.Views.{State, Empty, Live, Dead, InView, OutView, BaysView, line_in_at, line_out_at}
+use Rattle.otn_ports.specs.Views.{InView, OutView, BaysView, line_in_at, line_out_at}
 use Rattle.line_side.specs.MayBe.{MayBe}
 use Rattle.tributary_model.specs.Places.{Tributary}
 use Rattle.tributary_line.specs.TapTurn.{TapStands, IsBetweenTurns}
 use Rattle.tributary_line.specs.FeedTurn.{FeedStands}
+use Rattle.tributary_line.specs.Settling.{ended_by, is_dead}
 use Rattle.protect_selector.specs.Selector.{HasChosen}
 use Rattle.protect_selector.specs.OfLines.{turns_before, given_before, switch_text, switch_text_at}
 use Rattle.protect_selector.specs.declared.protecting.Protecting.{Protecting}
@@ -87,19 +87,8 @@ pub record TurnsGone (own : Tributary) (n : ℕ) (first now : Ends) (t : ℕ) (p
   pub stands : Stands own n first now working protection t parts
 
 -- a place of the command is dead
-abbrev pub is_dead : State → Bool
-is_dead Empty = false
-is_dead Live = false
-is_dead Dead = true
-
 abbrev pub has_dead : Ends → Bool
 has_dead ends = is_dead ends.working.state || is_dead ends.protection.state || is_dead ends.output.state
-
--- how the command ends after its last turn, by whether a place is dead and whether a line has more
-abbrev pub ended_by : (dead more : Bool) → Ended
-ended_by true more = Cut
-ended_by false true = Unfinished
-ended_by false false = Done
 
 -- after the last turn: both lines were asked for a byte more, where their end was not seen
 pub record SettledAs (parts : Protecting) (was is : Ends) (ended : Ended) : Type 0 where

@@ -2,3 +2,4 @@ pub mod TapPieces
 pub mod TapTurns
 pub mod FeedTurns
 pub mod FileTurns
+pub mod Endings

@@ -2,3 +2,4 @@ pub mod TapTurn
 pub mod TributaryFile
 pub mod FeedTurn
 pub mod Laws
+pub mod Settling

@@ -1,12 +1,12 @@
 -- The end of the command.
-use Rattle.std.proofs.Common.{◌≡◌, ◌≢◌, inl, inr, ◌↔◌, ◌<◌, ◌≤◌, ◌+◌, ◌-◌, ◌*◌, ◌^◌, ℕ, Bool, true, false, List, [], ◌∷◌, ◌++◌, length, refl, sym, ap, subst, ◌∙◌, append-nil, arith}
+use Rattle.std.proofs.Common.{◌≡◌, ◌≢◌, inl, inr, ◌<◌, ◌≤◌, ◌+◌, ◌-◌, ◌*◌, ◌^◌, ℕ, Bool, true, false, List, [], ◌∷◌, ◌++◌, length, refl, sym, ap, subst, ◌∙◌, append-nil, arith}
 use Rattle.std.specs.Prelude.{not}
 use Rattle.std.proofs.lemmas.Bool.{cases_lt}
 use Rattle.otn_base.specs.declared.limits.TheConstants.{CLIENTS, MOST_TURNS}
 use Rattle.otn_ports.specs.OnePlace.{OnlyLineIn}
 use Rattle.otn_ports.specs.PortViews.{SinkView, SinkWrites}
 use Rattle.otn_ports.specs.Sent.{IsSent}
-use Rattle.otn_ports.specs.Views.{State, Empty, Live, Dead, InView, BaysView, line_in_at, client_out_at}
+use Rattle.otn_ports.specs.Views.{InView, BaysView, line_in_at, client_out_at}
 use Rattle.otn_ports.specs.declared.drain.Written.TheVariants as written
 use Rattle.line_side.specs.LineForm.{plain_otu2}
 use Rattle.gfp_linear.specs.ChannelArrivals.{ChannelArrival}
@@ -14,47 +14,23 @@ use Rattle.gfp_linear.specs.Laws.{packets_on}
 use Rattle.otn_ports.specs.Asked.{ByteAsked, ByteAnswer, has_come}
 use Rattle.device_model.specs.LineAsked.{is_seen}
 use Rattle.device_model.proofs.SettledLines.{may_at_end, end_of_line, line_left}
+use Rattle.tributary_line.specs.Settling.{ended_by}
+use Rattle.tributary_line.proofs.Endings.{EndsAs, ends_by}
 use Rattle.unbundle_command.specs.Unbundled.{emitted_before, arrived_before, report_text}
 use Rattle.unbundle_command.specs.Receiving.{ChannelView, OutputsView, NoneHeld, OutputsStand, OnlyClientsOut}
-use Rattle.unbundle_command.specs.Unbundling.{TurnsGone, IsReady, IsDeadAt, DeadChannel, HasDead, is_dead, ended_by}
+use Rattle.unbundle_command.specs.Unbundling.{TurnsGone, IsReady, IsDeadAt, DeadChannel, HasDead}
 use Rattle.unbundle_command.specs.UnbundleLeft.{HasMore, IsCut, OutputsSent, written_by, UnbundleRan}
 use Rattle.otn_ports.specs.declared.ended.Ended.{Ended}
-use Rattle.otn_ports.specs.declared.ended.Ended.TheVariants.{Unfinished, Cut, ReportFault}
+use Rattle.otn_ports.specs.declared.ended.Ended.TheVariants.{ReportFault}
 use Rattle.unbundle_command.specs.declared.unbundling.Unbundling.{Unbundling}
 use Rattle.unbundle_command.proofs.Few.{client_few}
 use Rattle.unbundle_command.proofs.Turns.{outputs_on, line_same}
 
 -- ---- how the command ended
 
-pub some_dead : (s : State) → is_dead s ≡ true → s ≡ Dead
-some_dead Dead e = refl
-some_dead Live e = absurd (cc)
-some_dead Empty e = absurd (cc)
-
-pub not_dead : (s : State) → is_dead s ≡ false → s ≡ Dead → ⊥
-not_dead Dead e d = absurd (cc)
-not_dead Live e d = absurd (cc)
-not_dead Empty e d = absurd (cc)
-
 is_true : (b : Bool) → (b ≡ false → ⊥) → b ≡ true
 is_true true h = refl
 is_true false h = absurd (h refl)
-
--- the booleans of the end and what they say
-pub record EndsAs (ended : Ended) (CutBy MoreBy : Type 0) : Type 0 where
-  pub cut : (ended ≡ Cut) ↔ CutBy
-  pub unfinished : (ended ≡ Unfinished) ↔ ((CutBy → ⊥) × MoreBy)
-
-ends_by : (dead more : Bool) (CutBy MoreBy : Type 0) → (dead ≡ true → CutBy) → (CutBy → dead ≡ true) → (more ≡ true → MoreBy) → (MoreBy → more ≡ true) → EndsAs (ended_by dead more) CutBy MoreBy
-ends_by true more CutBy MoreBy a b c d = record { cut = (λ e. a refl, λ h. refl); unfinished = (λ e. absurd (cc), λ h. absurd (h.0 (a refl))) }
-ends_by false true CutBy MoreBy a b c d = record {
-  cut = (λ e. absurd (cc), λ h. absurd (let e : false ≡ true = b h in cc));
-  unfinished = (λ e. (λ h. (let e : false ≡ true = b h in cc), c refl), λ h. refl);
-}
-ends_by false false CutBy MoreBy a b c d = record {
-  cut = (λ e. absurd (cc), λ h. absurd (let e : false ≡ true = b h in cc));
-  unfinished = (λ e. absurd (cc), λ h. absurd (let e : false ≡ true = d h.1 in cc));
-}
 
 pub whole_by : (dead more : Bool) → written_by (ended_by dead more) ≡ written.Whole
 whole_by true more = refl

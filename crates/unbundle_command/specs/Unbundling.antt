@@ -1,15 +1,13 @@
 -- The command within its turns: a sink, and what becomes of the bytes that it emits.
-use Rattle.std.specs.Prelude.{◌≡◌, ◌≢◌, ◌⊎◌, ◌<◌, ◌≤◌, ◌+◌, ◌*◌, ℕ, suc, Bool, true, false, List, [], ◌∷◌, ◌++◌, length}
+use Rattle.std.specs.Prelude.{◌≡◌, ◌≢◌, ◌⊎◌, ◌<◌, ◌≤◌, ◌+◌, ◌*◌, ℕ, suc, false, List, [], ◌∷◌, ◌++◌, length}
 use Rattle.otn_base.specs.declared.limits.TheConstants.{CLIENTS, GROUPS}
 use Rattle.otn_base.specs.declared.line_kind.LineKind.TheVariants.{Otu2}
-use Rattle.otn_ports.specs.Views.{State, Empty, Live, Dead, BaysView, line_in_at, client_out_at}
+use Rattle.otn_ports.specs.Views.{Dead, BaysView, line_in_at, client_out_at}
 use Rattle.line_side.specs.MayBe.{MayBe}
 use Rattle.tributary_line.specs.TapTurn.{TapStands, IsBetweenTurns}
 use Rattle.odu_client.specs.View.{aligner_state}
 use Rattle.unbundle_command.specs.Unbundled.{first_slot, emitted_before}
 use Rattle.unbundle_command.specs.Receiving.{ChannelView, channel_at, HoldsAfter}
-use Rattle.otn_ports.specs.declared.ended.Ended.{Ended}
-use Rattle.otn_ports.specs.declared.ended.Ended.TheVariants.{Done, Unfinished, Cut}
 use Rattle.unbundle_command.specs.declared.unbundling.Unbundling.{Unbundling}
 
 -- The sink has seen t turns of the line, of which these bytes were taken: whatever else may come, all that it emitted
@@ -42,17 +40,6 @@ pub record OnlyUnbundled (first now : BaysView) : Type 0 where
   pub client_in : now.client_in ≡ first.client_in
 
 -- ---- the end
-
-abbrev pub is_dead : State → Bool
-is_dead Empty = false
-is_dead Live = false
-is_dead Dead = true
-
--- how the command ends, by whether a place that it uses is dead and whether the line has more
-abbrev pub ended_by : (dead more : Bool) → Ended
-ended_by true more = Cut
-ended_by false true = Unfinished
-ended_by false false = Done
 
 -- a packet arrived on the channel of this CID, and its client output is dead
 pub record IsDeadAt (cid : ℕ) (channels : List ChannelView) (last : BaysView) : Type 0 where

@@ -1,21 +1,20 @@
 // The end of the command: whether the line has more than its turns want, the report, and whether a place is dead.
 ghost use Rattle.std.specs.Prelude.{◌≡◌, ◌≢◌, ◌<◌, ◌≤◌, ℕ, true, false};
 ghost use Rattle.otn_base.specs.declared.limits.TheConstants.{CLIENTS, MOST_TURNS};
-ghost use Rattle.otn_ports.specs.InPlace.{in_view};
-ghost use Rattle.otn_ports.specs.OutPlace.{out_view};
 ghost use Rattle.otn_ports.specs.PortViews.{sink_view};
 ghost use Rattle.otn_ports.specs.Bytes.{HasFailed};
 ghost use Rattle.otn_ports.specs.Racks.{bays_view};
 ghost use Rattle.otn_ports.specs.Views.{BaysView, Dead, client_out_at};
 ghost use Rattle.unbundle_command.specs.Receiving.{channel_at};
-ghost use Rattle.unbundle_command.specs.Unbundling.{OnlyUnbundled, TurnsGone, IsReady, DeadChannel, HasDead, IsDeadAt, ended_by, is_dead};
+ghost use Rattle.unbundle_command.specs.Unbundling.{OnlyUnbundled, TurnsGone, IsReady, DeadChannel, HasDead, IsDeadAt};
 ghost use Rattle.unbundle_command.specs.UnbundleLeft.{UnbundleRan};
 
 use crate::outputs::Outputs;
 use crate::report::write_report;
 use crate::unbundling::Unbundling;
 use otn_base::limits::CLIENTS;
-use otn_ports::{Ended, InPlaceOf, OutPlaceOf, Rack, Sink, Source, Written};
+use otn_ports::{Ended, Rack, Sink, Source, Written};
+use tributary_line::{ended_by, is_dead_in, is_dead_out};
 
 /// After the last turn: the line is asked for one byte more, where its end was not seen; all lines of packets leave,
 /// and the report is written. Says how the command ended.
@@ -68,36 +67,4 @@ fn is_dead_channel<I: Source, O: Sink>(outputs: &Outputs, cid: u8, bays: &Rack<I
     ensures none { result ≡ false → IsDeadAt cid outputs.now.channels (bays_view I.Source O.Sink bays.now) → ⊥ }
 {
     outputs.channel(cid).packets() > 0 && is_dead_out(bays.client_out(cid))
-}
-
-fn is_dead_in<I: Source>(place: &InPlaceOf<I>) -> bool
-    ensures { result ≡ is_dead (in_view I.Source place.now).state }
-{
-    match place {
-        InPlaceOf::Dead(..) => true,
-        InPlaceOf::Live(..) => false,
-        InPlaceOf::Empty => false,
-    }
-}
-
-fn is_dead_out<O: Sink>(place: &OutPlaceOf<O>) -> bool
-    ensures { result ≡ is_dead (out_view O.Sink place.now).state }
-{
-    match place {
-        OutPlaceOf::Dead(..) => true,
-        OutPlaceOf::Live(..) => false,
-        OutPlaceOf::Empty => false,
-    }
-}
-
-fn ended_by(dead: bool, more: bool) -> Ended
-    ensures { result ≡ ended_by dead more }
-{
-    if dead {
-        Ended::Cut
-    } else if more {
-        Ended::Unfinished
-    } else {
-        Ended::Done
-    }
 }

@@ -5,7 +5,7 @@ use Rattle.otn_ports.specs.PortViews.{sink_view, SinkWrites}
 use Rattle.otn_ports.specs.Racks.{bays_view, with_line_in}
 use Rattle.otn_ports.specs.declared.drain.Written.TheVariants as written
 use Rattle.unbundle_command.specs.Unbundled.{report_text}
-use Rattle.unbundle_command.specs.Unbundling.{ended_by}
+use Rattle.tributary_line.specs.Settling.{ended_by}
 use Rattle.unbundle_command.specs.UnbundleLeft.{UnbundleRan}
 use Rattle.otn_ports.specs.declared.ended.Ended.TheVariants.{ReportFault}
 use Rattle.unbundle_command.proofs.Ends.{ended_so, ends_lost, ends_whole, whole_by}
@@ -39,7 +39,7 @@ returns-clause-ran g c = λ first turns many gone.
     let dead = c.has_dead.result in
     let more = c.ask_more-more.result in
     let whole : c.write_report.result ≡ written.Whole = search rules in
-    subst (λ e. UnbundleRan turns first is was_told is_told e) (sym c.ended_by.ensures)
+    subst (λ e. UnbundleRan turns first is was_told is_told e) (sym c.ended_by.ensures.value)
     (ended_so first (bays_view g.I.Source g.O.Sink bays) (bays_view g.I.Source g.O.Sink mid) is turns c.args.parts.now (in_view g.I.Source c.line_in_mut.result.now) (in_view g.I.Source c.ask_more-more.new.place)
     more c.flush.new.self was_told is_told (ended_by dead more) c.requires.ready many (only_line_in g.I.Source g.O.Sink bays 0 c.ask_more-more.new.place)
     (line_in_seen g.I.Source g.O.Sink bays 0 c.line_in_mut.result.now value) (line_in_set g.I.Source g.O.Sink bays 0 c.line_in_mut.result.now c.ask_more-more.new.place value) c.flush.ensures.alone c.ask_more-more.ensures
