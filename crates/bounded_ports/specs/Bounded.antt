@@ -1,4 +1,4 @@
--- What is seen of a bounded sink.
+-- API: what is seen of a bounded sink.
 use Rattle.std.specs.Prelude.{ℕ, List}
 use Rattle.otn_ports.specs.Memory.{memory_got, memory_faults}
 use Rattle.bounded_ports.specs.declared.bounded_sink.BoundedSink.{BoundedSink}

@@ -7,8 +7,8 @@ use otn_base::Memory;
 use otn_ports::{Failed, MemSink, Sink};
 use std::alloc::Global;
 
-/// Keeps the bytes that it gets, `ROOM` at most, and tells them. It fails exactly at a write of a byte or more that finds it full; so one that
-/// has failed has got `ROOM` bytes.
+/// Keeps the bytes that it gets, `ROOM` at most, and tells them. It fails exactly at a write of a byte or more that
+/// finds it full; so one that has failed has got `ROOM` bytes.
 #[derive(Drop)]
 pub struct BoundedSink<const ROOM: usize> {
     memory: MemSink,

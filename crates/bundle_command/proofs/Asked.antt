@@ -10,7 +10,7 @@ use Rattle.std.proofs.lemmas.List.FromFn.{get_or-map-range_with_len, length-map-
 use Rattle.std.proofs.lemmas.List.Elements.{Contains-get_or}
 use Rattle.std.proofs.lemmas.Option.{same_Some, slice_get_within}
 use Rattle.otn_base.specs.Counts.{saturated}
-use Rattle.otn_ports.specs.OnePlace.{OnlyClientIn}
+use Rattle.otn_ports.specs.Steps.OnePlace.{OnlyClientIn}
 use Rattle.otn_ports.specs.Views.{InView, BaysView, client_in_at}
 use Rattle.packet_text.specs.LinesStand.{lines_view}
 use Rattle.gfp_linear.specs.ChannelFrames.{IsCidList}
@@ -23,7 +23,7 @@ use Rattle.gfp_linear.proofs.Weaving.{giver-push}
 use Rattle.odu_client.specs.ClientInput.{ClientInput}
 use Rattle.bundle_command.specs.ChannelInput.{channel_text, texts_of}
 use Rattle.bundle_command.specs.BundleLeft.{IsClientList, place_of}
-use Rattle.bundle_command.specs.Channels.{ChannelStands, Answered, MayShow, ChannelAt, HasChannel, MayShowAll, OnlyClients, IsUnasked, PacketsEnd, WeavingHas, AreOpen, IsBegun, WeavingReady, ChannelAsked, IsTold, IsAsked, frame_of, end_after, news, woven_bytes}
+use Rattle.bundle_command.specs.Steps.Channels.{ChannelStands, Answered, MayShow, ChannelAt, HasChannel, MayShowAll, OnlyClients, IsUnasked, PacketsEnd, WeavingHas, AreOpen, IsBegun, WeavingReady, ChannelAsked, IsTold, IsAsked, frame_of, end_after, news, woven_bytes}
 use Rattle.bundle_command.specs.declared.channel.Channel.{Channel}
 use Rattle.bundle_command.specs.declared.channel.Standing.{Standing}
 use Rattle.bundle_command.specs.declared.channel.Standing.TheVariants as standing

@@ -7,7 +7,7 @@ use Rattle.packet_text.specs.TextLines.{full_lines}
 use Rattle.packet_text.specs.declared.line.Line.{Line}
 use Rattle.packet_text.specs.declared.line.Line.TheVariants as line
 use Rattle.bundle_command.specs.BundleLeft.{TellsBehind, WasAsked}
-use Rattle.bundle_command.specs.Channels.{IsBadLine, StandsSo}
+use Rattle.bundle_command.specs.Steps.Channels.{IsBadLine, StandsSo}
 use Rattle.bundle_command.specs.declared.channel.Standing.{Standing}
 use Rattle.bundle_command.specs.declared.channel.Standing.TheVariants as standing
 use Rattle.bundle_command.proofs.Ends.{more_by, none_ended}

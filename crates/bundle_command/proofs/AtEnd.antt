@@ -9,8 +9,8 @@ use Rattle.gfp_linear.specs.Weaver.{IsWeave}
 use Rattle.odu_client.specs.ClientInput.{ClientInput}
 use Rattle.bundle_command.specs.ChannelInput.{texts_of}
 use Rattle.bundle_command.specs.BundleLeft.{place_of}
-use Rattle.bundle_command.specs.Channels.{Answered, ChannelAt, ChannelStands, HasChannel, IsUnasked, MayShow, MayShowAll, WeavingHas, WeavingStands}
-use Rattle.bundle_command.specs.Settled.{ChannelSettled, IsSettled}
+use Rattle.bundle_command.specs.Steps.Channels.{Answered, ChannelAt, ChannelStands, HasChannel, IsUnasked, MayShow, MayShowAll, WeavingHas, WeavingStands}
+use Rattle.bundle_command.specs.Steps.Settled.{ChannelSettled, IsSettled}
 use Rattle.bundle_command.specs.declared.channel.Channel.{Channel}
 use Rattle.bundle_command.specs.declared.channel.Standing.TheVariants as standing
 use Rattle.bundle_command.specs.declared.weaving.Weaving.{Weaving}

@@ -10,7 +10,7 @@ use Rattle.packet_text.specs.declared.line.Line.{Line}
 use Rattle.packet_text.specs.declared.line.Line.TheVariants as line
 use Rattle.odu_client.specs.ClientInput.{ClientInput}
 use Rattle.bundle_command.specs.ChannelInput.{is_short}
-use Rattle.bundle_command.specs.Channels.{Answered, ChannelStands, IsBadLine, MayShow, StandsSo, count_of, news, standing_at_end, standing_of}
+use Rattle.bundle_command.specs.Steps.Channels.{Answered, ChannelStands, IsBadLine, MayShow, StandsSo, count_of, news, standing_at_end, standing_of}
 use Rattle.bundle_command.specs.declared.channel.Channel.{Channel}
 use Rattle.bundle_command.specs.declared.channel.Standing.{Standing}
 use Rattle.bundle_command.specs.declared.channel.Standing.TheVariants as standing

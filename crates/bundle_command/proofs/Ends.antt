@@ -21,7 +21,7 @@ use Rattle.odu_client.specs.Framing.{MayDie}
 use Rattle.device_model.specs.Inputs.{has_died}
 use Rattle.device_model.specs.LineAsked.{MayHave, InputLeft}
 use Rattle.bundle_command.specs.BundleLeft.{MayBeInput, place_of}
-use Rattle.bundle_command.specs.Channels.{ChannelStands, MayShow}
+use Rattle.bundle_command.specs.Steps.Channels.{ChannelStands, MayShow}
 use Rattle.bundle_command.specs.declared.channel.Channel.{Channel}
 
 -- ---- what a client may turn out to be

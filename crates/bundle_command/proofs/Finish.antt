@@ -27,8 +27,8 @@ use Rattle.tributary_line.specs.TributaryFile.{AreTributaryFrames}
 use Rattle.bundle_command.specs.ChannelInput.{channel_text, ends_whole, texts_of}
 use Rattle.bundle_command.specs.BundleStream.{IsFinished, begun_of, channel_stream, channel_turns, first_slot, lines_told, parts_of, payload_sent, payload_whole, whole_of, woven_begun, woven_in}
 use Rattle.bundle_command.specs.BundleLeft.{BundleRan, IsClientList, IsCut, LeftOf, MayBeInput, OnlyBundled, OutputDue, Tells, place_of}
-use Rattle.bundle_command.specs.Channels.{ChannelAt, ChannelStands, HasChannel, IsUnasked, MayShow, MayShowAll, PacketsEnd, StandsSo, WeavingHas, woven_bytes}
-use Rattle.bundle_command.specs.Settled.{AllEnded, DeadClients, IsEnded, IsSettled, line_of, lines_of}
+use Rattle.bundle_command.specs.Steps.Channels.{ChannelAt, ChannelStands, HasChannel, IsUnasked, MayShow, MayShowAll, PacketsEnd, StandsSo, WeavingHas, woven_bytes}
+use Rattle.bundle_command.specs.Steps.Settled.{AllEnded, DeadClients, IsEnded, IsSettled, line_of, lines_of}
 use Rattle.bundle_command.specs.declared.channel.Channel.{Channel}
 use Rattle.bundle_command.specs.declared.channel.Standing.{Standing}
 use Rattle.bundle_command.specs.declared.channel.Standing.TheVariants as standing

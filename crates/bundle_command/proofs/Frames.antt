@@ -10,8 +10,8 @@ use Rattle.odu_client.specs.ClientFrames.{client_frames, frames_begun, payload_b
 use Rattle.odu_client.specs.ClientOverhead.{HasMadeFrames, MakesFrame, OverheadState}
 use Rattle.odu_client.proofs.FrameLists.{joined_next, joined_size}
 use Rattle.bundle_command.specs.BundleStream.{channel_stream, parts_of}
-use Rattle.bundle_command.specs.Channels.{WeavingStands}
-use Rattle.bundle_command.specs.Framed.{AreReady, FramesHave, FramesStand, left_of}
+use Rattle.bundle_command.specs.Steps.Channels.{WeavingStands}
+use Rattle.bundle_command.specs.Steps.Framed.{AreReady, FramesHave, FramesStand, left_of}
 use Rattle.bundle_command.specs.declared.framing.Framing.{Framing}
 
 pub frame_made : (clients : List ℕ) (first was is : BaysView) (gone payload : List ℕ) (old new : Framing) → old.at ≡ 15296 → length old.frame ≡ 15296 → new.at ≡ 0 → new.trace ≡ old.trace → length payload ≡ 15232

@@ -13,7 +13,7 @@ use Rattle.gfp_linear.proofs.Weaves.{given-push, next-end, next-on, weave-suc}
 use Rattle.odu_client.specs.ClientInput.{ClientInput}
 use Rattle.bundle_command.specs.BundleLeft.{place_of}
 use Rattle.bundle_command.specs.ChannelInput.{channel_text, texts_of}
-use Rattle.bundle_command.specs.Channels.{AreOver, ChannelStands, HasChannel, IsBegun, MayShowAll, PacketsEnd, WeavingReady, WeavingStands, is_over, woven_bytes}
+use Rattle.bundle_command.specs.Steps.Channels.{AreOver, ChannelStands, HasChannel, IsBegun, MayShowAll, PacketsEnd, WeavingReady, WeavingStands, is_over, woven_bytes}
 use Rattle.bundle_command.specs.declared.channel.Channel.{Channel}
 use Rattle.bundle_command.specs.declared.channel.Standing.{Standing}
 use Rattle.bundle_command.specs.declared.channel.Standing.TheVariants as standing

@@ -9,8 +9,8 @@ use Rattle.otn_ports.specs.declared.in_place.InPlaceOf.{InPlaceOf}
 use Rattle.otn_ports.specs.declared.sink.Sink as sink
 use Rattle.otn_ports.specs.declared.source.Source as source
 use Rattle.packet_text.specs.LinesStand.{lines_view}
-use Rattle.bundle_command.specs.Channels.{Answered, ChannelAsked, ChannelStands, HasChannel, news}
-use Rattle.bundle_command.specs.Settled.{ChannelSettled}
+use Rattle.bundle_command.specs.Steps.Channels.{Answered, ChannelAsked, ChannelStands, HasChannel, news}
+use Rattle.bundle_command.specs.Steps.Settled.{ChannelSettled}
 use Rattle.bundle_command.specs.declared.channel.Channel.{Channel}
 use Rattle.bundle_command.specs.declared.channel.Standing.{Standing}
 use Rattle.bundle_command.specs.declared.channel.Standing.TheVariants as standing

@@ -24,8 +24,8 @@ use Rattle.tributary_line.proofs.Endings.{EndsAs, ends_by}
 use Rattle.bundle_command.specs.ChannelInput.{texts_of}
 use Rattle.bundle_command.specs.BundleStream.{IsFinished, begun_of, channel_stream, channel_turns, first_slot, lines_told, parts_of, payload_sent, payload_whole}
 use Rattle.bundle_command.specs.BundleLeft.{BundleRan, IsCut, LeftOf, MayBeInput, OutputDue, Tells, WasAsked, place_of}
-use Rattle.bundle_command.specs.Channels.{ChannelAt, ChannelStands, HasChannel, IsBadLine, MayShowAll, StandsSo, woven_bytes}
-use Rattle.bundle_command.specs.Settled.{IsEnded, IsSettled, lines_of}
+use Rattle.bundle_command.specs.Steps.Channels.{ChannelAt, ChannelStands, HasChannel, IsBadLine, MayShowAll, StandsSo, woven_bytes}
+use Rattle.bundle_command.specs.Steps.Settled.{IsEnded, IsSettled, lines_of}
 use Rattle.bundle_command.specs.declared.channel.Channel.{Channel}
 use Rattle.bundle_command.specs.declared.channel.Standing.{Standing}
 use Rattle.bundle_command.specs.declared.channel.Standing.TheVariants as standing

@@ -13,7 +13,7 @@ use Rattle.gfp_linear.proofs.ChannelAreas.{packet_area_size, loss_area_size}
 use Rattle.gfp_linear.proofs.Weaves.{given-push, weave-length}
 use Rattle.odu_client.proofs.GfpTexts.{total, length-text}
 use Rattle.bundle_command.specs.BundleStream.{woven_begun}
-use Rattle.bundle_command.specs.Channels.{EndsWithPacket, PacketsEnd, woven_bytes}
+use Rattle.bundle_command.specs.Steps.Channels.{EndsWithPacket, PacketsEnd, woven_bytes}
 
 -- ---- sums
 

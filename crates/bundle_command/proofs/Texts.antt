@@ -13,7 +13,7 @@ use Rattle.packet_text.specs.declared.line.Line.TheVariants as line
 use Rattle.gfp_linear.specs.Weave.{ChannelText}
 use Rattle.odu_client.specs.ClientInput.{InputEnding, AtEnd, AtBad, AtDeath, ClientInput, input_of, is_end}
 use Rattle.bundle_command.specs.ChannelInput.{is_short, is_death, channel_text, ends_whole}
-use Rattle.bundle_command.specs.Channels.{ChannelStands, MayShow, StandsSo, IsBadLine}
+use Rattle.bundle_command.specs.Steps.Channels.{ChannelStands, MayShow, StandsSo, IsBadLine}
 use Rattle.bundle_command.specs.declared.channel.Channel.{Channel}
 use Rattle.bundle_command.specs.declared.channel.Standing.{Standing}
 use Rattle.bundle_command.specs.declared.channel.Standing.TheVariants as standing

@@ -12,10 +12,10 @@ use Rattle.tributary_model.specs.Puts.{lengths_of}
 use Rattle.otn_ports.specs.PortViews.{SinkView}
 use Rattle.bundle_command.specs.BundleLeft.{BundleRan, OnlyBundled, place_of}
 use Rattle.bundle_command.specs.BundleStream.{first_slot, parts_of}
-use Rattle.bundle_command.specs.Bundled.{CanTurn, TurnsGone}
-use Rattle.bundle_command.specs.Channels.{ChannelStands, HasChannel, WeavingHas, WeavingStands}
-use Rattle.bundle_command.specs.Framed.{AreReady, FramesHave, FramesStand, OnlyInputs, left_of}
-use Rattle.bundle_command.specs.Settled.{IsSettled}
+use Rattle.bundle_command.specs.Steps.Bundled.{CanTurn, TurnsGone}
+use Rattle.bundle_command.specs.Steps.Channels.{ChannelStands, HasChannel, WeavingHas, WeavingStands}
+use Rattle.bundle_command.specs.Steps.Framed.{AreReady, FramesHave, FramesStand, OnlyInputs, left_of}
+use Rattle.bundle_command.specs.Steps.Settled.{IsSettled}
 use Rattle.bundle_command.specs.declared.bundling.Bundling.{Bundling}
 use Rattle.bundle_command.specs.declared.channel.Channel.{Channel}
 use Rattle.otn_ports.specs.declared.ended.Ended.{Ended}

@@ -7,7 +7,7 @@ use Rattle.gfp_linear.specs.Laws.{IsFront}
 use Rattle.gfp_linear.specs.Weave.{ChannelText, WovenFrame, IdleFrame, PacketFrame, LossFrame, packet_of, packets_given, weave, woven_size, woven_within}
 use Rattle.gfp_linear.proofs.Weaves.{given-push, weave-length, weave-take}
 use Rattle.bundle_command.specs.BundleStream.{woven_begun}
-use Rattle.bundle_command.specs.Channels.{PacketsEnd, woven_bytes}
+use Rattle.bundle_command.specs.Steps.Channels.{PacketsEnd, woven_bytes}
 use Rattle.bundle_command.proofs.Sizes.{bytes-append, bytes-none, bytes-push, many_bytes, packet_bytes, size_some}
 
 -- ---- steps of the definitions

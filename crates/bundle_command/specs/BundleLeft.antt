@@ -1,4 +1,4 @@
--- What the command leaves, from its places and the report as they were first to how they are last.
+-- Believed: what the command leaves, from its places and the report as they were first to how they are last.
 use Rattle.std.specs.Prelude.{◌≡◌, ◌≢◌, ◌⊎◌, ◌↔◌, ◌<◌, ◌≤◌, ◌*◌, ◌+◌, ℕ, Bool, true, false, List, [], ◌++◌, All, length, take, slice_index}
 use Rattle.std.specs.List.{Contains, concat}
 use Rattle.otn_base.specs.declared.limits.TheConstants.{CLIENTS, OTU2_SLOTS}
@@ -29,7 +29,8 @@ place_of clients bays c = client_in_at bays (slice_index clients c)
 
 -- a place of the command is dead
 abbrev pub IsCut : (clients : List ℕ) → BaysView → Type 0
-IsCut clients last = ((c : ℕ) × (c < length clients) × ((place_of clients last c).state ≡ Dead)) ⊎ ((line_out_at last 0).state ≡ Dead)
+IsCut clients last = ((c : ℕ) × (c < length clients) × ((place_of clients last c).state ≡ Dead))
+    ⊎ ((line_out_at last 0).state ≡ Dead)
 
 -- what a client's input may turn out to be, of which these bytes were taken
 pub record MayBeInput (first last : InView) (taken : List ℕ) (more : Bool) (input : ClientInput) : Type 0 where
@@ -37,12 +38,14 @@ pub record MayBeInput (first last : InView) (taken : List ℕ) (more : Bool) (in
   pub may : MayHave more taken given
   pub is : input ≡ input_given (has_died first.state last.state) given
 
--- What was taken of an input tells what stands behind so many packets: nothing more may come of it, or it has a bad line, or one packet more.
+-- What was taken of an input tells what stands behind so many packets: nothing more may come of it, or it has a bad
+-- line, or one packet more.
 abbrev pub TellsBehind : (packets : ℕ) → (more : Bool) → (taken : List ℕ) → Type 0
-TellsBehind packets more taken = (more ≡ false) ⊎ (shows_bad taken ≡ true) ⊎ (packets < length (packets_of (full_lines taken)).packets)
+TellsBehind packets more taken = (more ≡ false) ⊎ (shows_bad taken ≡ true)
+    ⊎ (packets < length (packets_of (full_lines taken)).packets)
 
--- A client of which so many packets are begun was asked once more, until what stands behind them is known; or it was never asked, and nothing
--- of it was taken.
+-- A client of which so many packets are begun was asked once more, until what stands behind them is known; or it was
+-- never asked, and nothing of it was taken.
 abbrev pub WasAsked : (packets : ℕ) → (more : Bool) → (taken : List ℕ) → Type 0
 WasAsked packets more taken = ((packets ≡ 0) × (taken ≡ [])) ⊎ TellsBehind packets more taken
 
@@ -59,22 +62,33 @@ Tells Memory first text last = ⊥
 Tells ended first text last = SinkGot first text last
 
 -- what is left where the clients' inputs are these
-pub record LeftOf (clients : List ℕ) (turns : ℕ) (first last : BaysView) (report told : SinkView) (ended : Ended) (taken : ℕ → List ℕ) (more : ℕ → Bool) (inputs : ℕ → ClientInput) : Type 0 where
-  pub output : OutputDue (channel_turns clients (texts_of (length clients) inputs) turns) turns (line_out_at first 0) (line_out_at last 0)
-  pub tells : Tells ended report (lines_told clients (texts_of (length clients) inputs) turns (λ c. (place_of clients last c).state) (length clients)) told
+pub record LeftOf (clients : List ℕ) (turns : ℕ) (first last : BaysView) (report told : SinkView) (ended : Ended)
+    (taken : ℕ → List ℕ) (more : ℕ → Bool) (inputs : ℕ → ClientInput) : Type 0 where
+  pub output : OutputDue (channel_turns clients (texts_of (length clients) inputs) turns) turns (line_out_at first 0)
+      (line_out_at last 0)
+  pub tells : Tells ended report (lines_told clients (texts_of (length clients) inputs) turns
+      (λ c. (place_of clients last c).state) (length clients)) told
   -- of each text no block was read that was not needed for one packet more than are begun
-  pub read : (c : ℕ) → c < length clients → (short : Bool) × ReadAsNeeded short (length (begun_of clients (texts_of (length clients) inputs) turns c) + 1) (taken c)
+  pub read : (c : ℕ) → c < length clients
+      → (short : Bool) × ReadAsNeeded short (length (begun_of clients (texts_of (length clients) inputs) turns c) + 1)
+      (taken c)
   -- and each that gave a packet was asked for the one behind
-  pub asked : (c : ℕ) → c < length clients → WasAsked (length (begun_of clients (texts_of (length clients) inputs) turns c)) (more c) (taken c)
+  pub asked : (c : ℕ) → c < length clients
+      → WasAsked (length (begun_of clients (texts_of (length clients) inputs) turns c)) (more c) (taken c)
   pub cut : ended ≢ ReportFault → (ended ≡ Cut) ↔ IsCut clients last
-  pub unfinished : ended ≢ ReportFault → (ended ≡ Unfinished) ↔ ((IsCut clients last → ⊥) × (IsFinished clients turns inputs → ⊥))
+  pub unfinished : ended ≢ ReportFault → (ended ≡ Unfinished) ↔
+      ((IsCut clients last → ⊥) × (IsFinished clients turns inputs → ⊥))
 
--- These bytes were taken of the clients. More may stand behind them; whatever their inputs turn out to be, this is left.
-pub record BundleRan (clients : List ℕ) (turns : ℕ) (first last : BaysView) (report told : SinkView) (ended : Ended) : Type 0 where
+-- These bytes were taken of the clients. More may stand behind them; whatever their inputs turn out to be, this is
+-- left.
+pub record BundleRan (clients : List ℕ) (turns : ℕ) (first last : BaysView) (report told : SinkView)
+    (ended : Ended) : Type 0 where
   pub taken : ℕ → List ℕ
   pub more : ℕ → Bool
-  pub client_in : (c : ℕ) → c < length clients → InputLeft (place_of clients first c) (place_of clients last c) (taken c) (more c)
-  pub left : (inputs : ℕ → ClientInput) → ((c : ℕ) → c < length clients → MayBeInput (place_of clients first c) (place_of clients last c) (taken c) (more c) (inputs c))
+  pub client_in : (c : ℕ) → c < length clients
+      → InputLeft (place_of clients first c) (place_of clients last c) (taken c) (more c)
+  pub left : (inputs : ℕ → ClientInput) → ((c : ℕ) → c < length clients
+      → MayBeInput (place_of clients first c) (place_of clients last c) (taken c) (more c) (inputs c))
       → LeftOf clients turns first last report told ended taken more inputs
 
 -- all other places are as they were

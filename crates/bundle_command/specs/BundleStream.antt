@@ -1,5 +1,5 @@
--- What several clients send as the channels of one ODU0. Channels count from 0, in the order of the clients' numbers, which are their CIDs;
--- turns count from 0.
+-- Believed: what several clients send as the channels of one ODU0. Channels count from 0, in the order of the clients'
+-- numbers, which are their CIDs; turns count from 0.
 use Rattle.std.specs.Prelude.{◌≡◌, ℕ, zero, suc, ◌+◌, ◌-◌, ◌*◌, ◌/◌, ◌<◌, nat_lt, if◌then◌else◌, true, List, [], ◌∷◌, ◌++◌, codes, length, take, drop, slice_index}
 use Rattle.std.specs.Fmt.{decimal}
 use Rattle.std.specs.List.{concat}
@@ -16,10 +16,11 @@ use Rattle.bundle_command.specs.ChannelInput.{channel_text, ends_whole, texts_of
 
 -- ---- the line
 
--- G.709 clause 17.4, G.7041 clause 6.1.2.1.3.2: the first n bytes of client frames without end, with an empty trace, that carry the weave of
--- the channels
+-- G.709 clause 17.4, G.7041 clause 6.1.2.1.3.2: the first n bytes of client frames without end, with an empty trace,
+-- that carry the weave of the channels
 abbrev pub channel_stream : (cids : List ℕ) → List ChannelText → (n : ℕ) → List ℕ
-channel_stream cids texts n = take n (concat (client_frames [] (frames_begun n) (weave_text cids texts (payload_begun n))))
+channel_stream cids texts n = take n (concat
+    (client_frames [] (frames_begun n) (weave_text cids texts (payload_begun n))))
 
 -- the first parts of some bytes, so many, each of as many bytes as an ODU0 has in a turn
 unfoldable pub parts_of : (bytes : List ℕ) → (count : ℕ) → List (List ℕ)
@@ -46,7 +47,8 @@ payload_whole turns = CLIENT_PAYLOAD_BYTES * (NOMINAL * turns / CLIENT_FRAME_BYT
 -- of frames one after another, those whose first byte is one of the first n bytes
 unfoldable pub woven_begun : (cids : List ℕ) (n : ℕ) → List WovenFrame → List WovenFrame
 woven_begun cids n [] = []
-woven_begun cids n (frame ∷ frames) = if nat_lt 0 n then frame ∷ woven_begun cids (n - woven_size cids frame) frames else []
+woven_begun cids n (frame ∷ frames) = if nat_lt 0 n then frame ∷ woven_begun cids (n - woven_size cids frame) frames
+    else []
 
 -- enough frames for these turns: n frames have n bytes at least
 abbrev pub woven_in : List ChannelText → (turns : ℕ) → List WovenFrame
@@ -60,19 +62,24 @@ begun_of cids texts turns c = packets_given c (woven_begun cids (payload_sent tu
 abbrev pub whole_of : (cids : List ℕ) → List ChannelText → (turns c : ℕ) → List (List ℕ)
 whole_of cids texts turns c = packets_given c (woven_within cids (payload_whole turns) (woven_in texts turns))
 
--- Each client's input ends at the end of its text, and each packet's frame lies whole in the client frames that are whole in these turns.
+-- Each client's input ends at the end of its text, and each packet's frame lies whole in the client frames that are
+-- whole in these turns.
 pub record IsFinished (clients : List ℕ) (turns : ℕ) (inputs : ℕ → ClientInput) : Type 0 where
   pub ends : (c : ℕ) → c < length clients → ends_whole (inputs c) ≡ true
-  pub whole : (c : ℕ) → c < length clients → whole_of clients (texts_of (length clients) inputs) turns c ≡ (channel_text (inputs c)).packets
+  pub whole : (c : ℕ) → c < length clients
+      → whole_of clients (texts_of (length clients) inputs) turns c ≡ (channel_text (inputs c)).packets
 
 -- ---- the report
 
 -- the line of a channel: its packets that are begun, and its client's place
 abbrev pub channel_line : (client packets : ℕ) → State → List ℕ
-channel_line client packets state = codes "channel " ++ decimal client ++ codes " packets " ++ decimal packets ++ codes " " ++ state_word state ++ codes "\n"
+channel_line client packets state = codes "channel " ++ decimal client ++ codes " packets " ++ decimal packets
+    ++ codes " " ++ state_word state ++ codes "\n"
 
 -- the lines of the first channels, so many
-unfoldable pub lines_told : (clients : List ℕ) → List ChannelText → (turns : ℕ) → (states : ℕ → State) → (count : ℕ) → List ℕ
+unfoldable pub lines_told : (clients : List ℕ) → List ChannelText → (turns : ℕ) → (states : ℕ → State) → (count : ℕ)
+    → List ℕ
 lines_told clients texts turns states zero = []
 lines_told clients texts turns states (suc c) =
-    lines_told clients texts turns states c ++ channel_line (slice_index clients c) (saturated (length (begun_of clients texts turns c))) (states c)
+    lines_told clients texts turns states c
+    ++ channel_line (slice_index clients c) (saturated (length (begun_of clients texts turns c))) (states c)

@@ -1,4 +1,4 @@
--- What a channel has to give of its client's input.
+-- Believed: what a channel has to give of its client's input.
 use Rattle.std.specs.Prelude.{ℕ, nat_le, ◌&&◌, Bool, true, false, List, length, map}
 use Rattle.std.specs.List.{list_all, range_with_len, take_while}
 use Rattle.gfp_linear.specs.Weave.{ChannelText}
@@ -14,9 +14,14 @@ is_death AtEnd = false
 is_death (AtBad n) = false
 is_death AtDeath = true
 
--- The packets before the first that is too long. Its client is lost behind them where the place died; a packet that is too long is as a bad line.
+-- The packets before the first that is too long. Its client is lost behind them where the place died; a packet that is
+-- too long is as a bad line.
 abbrev pub channel_text : ClientInput → ChannelText
-channel_text input = record { packets = take_while is_short input.packets; is_lost = list_all is_short input.packets && is_death input.ending }
+channel_text input = record {
+  packets = take_while is_short input.packets;
+  is_lost = list_all is_short input.packets
+      && is_death input.ending;
+}
 
 -- whether the channel's input ends at the end of its text
 abbrev pub ends_whole : ClientInput → Bool

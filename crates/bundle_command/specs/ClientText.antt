@@ -1,4 +1,4 @@
--- The text of a list of clients.
+-- Believed: the text of a list of clients.
 use Rattle.std.specs.Prelude.{ℕ, List, map}
 use Rattle.std.specs.Fmt.{decimal}
 use Rattle.std.specs.List.{join_with_byte}

@@ -5,8 +5,8 @@ ghost use Rattle.otn_ports.specs.Racks.{bays_view};
 ghost use Rattle.otn_ports.specs.Views.{BaysView};
 ghost use Rattle.bundle_command.specs.BundleLeft.{IsClientList};
 ghost use Rattle.bundle_command.specs.BundleStream.{first_slot};
-ghost use Rattle.bundle_command.specs.Bundled.{CanTurn, TurnsGone};
-ghost use Rattle.bundle_command.specs.Framed.{AreReady, FramesStand, OnlyInputs};
+ghost use Rattle.bundle_command.specs.Steps.Bundled.{CanTurn, TurnsGone};
+ghost use Rattle.bundle_command.specs.Steps.Framed.{AreReady, FramesStand, OnlyInputs};
 
 use crate::framing::Framing;
 use otn_base::limits::{GROUPS, NOMINAL};
@@ -23,23 +23,27 @@ pub(crate) struct Bundling {
 }
 
 impl Bundling {
-    /// The parts before the first turn. Takes all memory that they will ever need; answers `Memory` where there is none.
+    /// The parts before the first turn. Takes all memory that they will ever need; answers `Memory` where there is
+    /// none.
     pub(crate) fn new(alloc: Global, clients: &[u8]) -> Result<Bundling, Memory>
         requires { IsClientList clients.now }
         ensures gone { IfOk result (λ parts. (first : BaysView) → TurnsGone clients.now first first 0 parts) }
-        ensures source { IfOk result (λ parts. parts.feed.source.slots ≡ record { kind = LineKind.Otu2; list = 1 ∷ [] }) }
+        ensures source { IfOk result (λ parts. parts.feed.source.slots
+            ≡ record { kind = LineKind.Otu2; list = 1 ∷ [] }) }
     {
         let framing = Framing::new(alloc, clients)?;
         let feed = Feed::new(alloc, 1, &first_slot())?;
         Ok(Bundling { framing, feed })
     }
 
-    /// A turn: the source takes the next 15,168 bytes of the frames, by way of the room, and the line's frames are written.
+    /// A turn: the source takes the next 15,168 bytes of the frames, by way of the room, and the line's frames are
+    /// written.
     pub(crate) fn turn<I: Source, O: Sink>(&mut self, room: &mut Vec<u8>, bays: &mut Rack<I, O>)
         requires ready { CanTurn (bays_view I.Source O.Sink bays.old) self.old }
         requires source { self.old.feed.source.slots ≡ record { kind = LineKind.Otu2; list = 1 ∷ [] } }
         requires room { vec_len room.old ≡ GROUPS + 1 }
-        ensures gone { (clients : List ℕ) (first : BaysView) (t : ℕ) → TurnsGone clients first (bays_view I.Source O.Sink bays.old) t self.old
+        ensures gone { (clients : List ℕ) (first : BaysView) (t : ℕ)
+            → TurnsGone clients first (bays_view I.Source O.Sink bays.old) t self.old
             → TurnsGone clients first (bays_view I.Source O.Sink bays.new) (t + 1) self.new }
         ensures source { self.new.feed.source.slots ≡ self.old.feed.source.slots }
         ensures room { vec_len room.new ≡ vec_len room.old }
@@ -54,7 +58,8 @@ fn fill_front<I: Source, O: Sink>(framing: &mut Framing, into: &mut [u8], bays: 
     requires ready { AreReady (bays_view I.Source O.Sink bays.old) framing.old }
     requires room { NOMINAL ≤ length into.old }
     ensures size { length into.new ≡ length into.old }
-    ensures stands { (clients : List ℕ) (first : BaysView) (gone : List ℕ) → FramesStand clients first (bays_view I.Source O.Sink bays.old) gone framing.old
+    ensures stands { (clients : List ℕ) (first : BaysView) (gone : List ℕ)
+        → FramesStand clients first (bays_view I.Source O.Sink bays.old) gone framing.old
         → FramesStand clients first (bays_view I.Source O.Sink bays.new) (gone ++ take NOMINAL into.new) framing.new }
     ensures alone { OnlyInputs (bays_view I.Source O.Sink bays.old) (bays_view I.Source O.Sink bays.new) }
 {

@@ -3,14 +3,15 @@ ghost use Rattle.std.specs.Prelude.{◌≡◌, ◌≢◌, ◌⊎◌, ◌<◌, �
 ghost use Rattle.otn_ports.specs.InPlace.{in_view};
 ghost use Rattle.otn_ports.specs.Views.{InView};
 ghost use Rattle.packet_text.specs.LinesStand.{lines_view};
-ghost use Rattle.bundle_command.specs.Channels.{ChannelStands, Answered, count_of, news, standing_of, standing_at_end};
+ghost use Rattle.bundle_command.specs.Steps.Channels.{ChannelStands, Answered, count_of, news, standing_of, standing_at_end};
 
 use otn_base::Memory;
 use otn_ports::{InPlaceOf, Source};
 use packet_text::{Line, PacketLines};
 use std::alloc::Global;
 
-/// Bytes of a packet that a channel carries at most: the area of its frame has 65,535 bytes, 12 of which are headers and FCS.
+/// Bytes of a packet that a channel carries at most: the area of its frame has 65,535 bytes, 12 of which are headers
+/// and FCS.
 pub(crate) const MOST_CARRIED: usize = 65_523;
 
 /// How a channel stands, after what its client's text answered last.
@@ -55,14 +56,18 @@ impl Channel {
         })
     }
 
-    /// Asks for its next packet, which is `packet` where it is Going after that; once it gave none it gives none, and nothing is read.
+    /// Asks for its next packet, which is `packet` where it is Going after that; once it gave none it gives none, and
+    /// nothing is read.
     pub(crate) fn next<I: Source>(&mut self, place: &mut InPlaceOf<I>) -> Standing
         requires open { self.old.standing ≢ Standing.More }
-        ensures answered { (first : InView) (taken : List ℕ) (given : List (List ℕ)) → ChannelStands first (in_view I.Source place.old) taken given self.old
-            → Answered first (in_view I.Source place.new) taken (given ++ news result (lines_view self.new.lines).packet) self.old self.new }
+        ensures answered { (first : InView) (taken : List ℕ) (given : List (List ℕ))
+            → ChannelStands first (in_view I.Source place.old) taken given self.old
+            → Answered first (in_view I.Source place.new) taken
+            (given ++ news result (lines_view self.new.lines).packet) self.old self.new }
         ensures answer { self.new.standing ≡ result }
         ensures closed { (result ≢ Standing.Fresh) × (result ≢ Standing.More) }
-        ensures packet { result ≡ Standing.Going → (1 ≤ length (lines_view self.new.lines).packet) × (length (lines_view self.new.lines).packet ≤ 65523) }
+        ensures packet { result ≡ Standing.Going → (1 ≤ length (lines_view self.new.lines).packet)
+            × (length (lines_view self.new.lines).packet ≤ 65523) }
         ensures client { self.new.client ≡ self.old.client }
     {
         match self.standing {
@@ -75,11 +80,14 @@ impl Channel {
     // Asks for the next packet of its text.
     fn take<I: Source>(&mut self, place: &mut InPlaceOf<I>) -> Standing
         requires open { (self.old.standing ≡ Standing.Fresh) ⊎ (self.old.standing ≡ Standing.Going) }
-        ensures answered { (first : InView) (taken : List ℕ) (given : List (List ℕ)) → ChannelStands first (in_view I.Source place.old) taken given self.old
-            → Answered first (in_view I.Source place.new) taken (given ++ news result (lines_view self.new.lines).packet) self.old self.new }
+        ensures answered { (first : InView) (taken : List ℕ) (given : List (List ℕ))
+            → ChannelStands first (in_view I.Source place.old) taken given self.old
+            → Answered first (in_view I.Source place.new) taken
+            (given ++ news result (lines_view self.new.lines).packet) self.old self.new }
         ensures answer { self.new.standing ≡ result }
         ensures closed { (result ≢ Standing.Fresh) × (result ≢ Standing.More) }
-        ensures packet { result ≡ Standing.Going → (1 ≤ length (lines_view self.new.lines).packet) × (length (lines_view self.new.lines).packet ≤ 65523) }
+        ensures packet { result ≡ Standing.Going → (1 ≤ length (lines_view self.new.lines).packet)
+            × (length (lines_view self.new.lines).packet ≤ 65523) }
         ensures client { self.new.client ≡ self.old.client }
     {
         let line = self.lines.take(place);
@@ -97,7 +105,8 @@ impl Channel {
 
     /// Behind the last turn: where a packet was its last answer it is asked once more, and gives no other.
     pub(crate) fn settle<I: Source>(&mut self, place: &mut InPlaceOf<I>)
-        ensures settled { (first : InView) (taken : List ℕ) (given : List (List ℕ)) → ChannelStands first (in_view I.Source place.old) taken given self.old
+        ensures settled { (first : InView) (taken : List ℕ) (given : List (List ℕ))
+            → ChannelStands first (in_view I.Source place.old) taken given self.old
             → Answered first (in_view I.Source place.new) taken given self.old self.new }
         ensures over { self.new.standing ≢ Standing.Going }
         ensures fresh { self.new.standing ≡ Standing.Fresh → self.old.standing ≡ Standing.Fresh }

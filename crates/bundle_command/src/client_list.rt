@@ -11,7 +11,8 @@ use itoa::Buffer;
 use otn_base::limits::CLIENTS;
 use std::marker::Model;
 
-/// The numbers of the clients whose packets go as channels: one at least, rising, 0 to 15. Contracts see them as their list.
+/// The numbers of the clients whose packets go as channels: one at least, rising, 0 to 15. Contracts see them as their
+/// list.
 #[derive(Clone, Debug, PartialEq, Eq, Drop)]
 pub struct ClientList {
     list: ArrayVec<u8, CLIENTS>,
@@ -98,7 +99,8 @@ fn comma_in(text: &[u8]) -> usize
 
 // Appends the client whose number this text is. None where it is none, or there are sixteen already.
 fn push_client(list: &mut ArrayVec<u8, CLIENTS>, text: &[u8]) -> Option<()>
-    ensures pushed { IfSome result (λ _. (n : ℕ) × (text.now ≡ decimal n) × (n < CLIENTS) × (list.new.items ≡ list.old.items ++ n ∷ [])) }
+    ensures pushed { IfSome result (λ _. (n : ℕ) × (text.now ≡ decimal n) × (n < CLIENTS)
+        × (list.new.items ≡ list.old.items ++ n ∷ [])) }
     ensures none { IfNone result ((n : ℕ) → text.now ≡ decimal n → n < CLIENTS → length list.old.items ≡ CLIENTS) }
 {
     list.try_push(client_of(text)?).ok()

@@ -6,7 +6,7 @@ ghost use Rattle.otn_ports.specs.PortViews.{sink_view};
 ghost use Rattle.otn_ports.specs.Racks.{bays_view};
 ghost use Rattle.otn_ports.specs.Views.{BaysView};
 ghost use Rattle.bundle_command.specs.BundleLeft.{BundleRan, IsClientList, OnlyBundled};
-ghost use Rattle.bundle_command.specs.Bundled.{CanTurn, TurnsGone};
+ghost use Rattle.bundle_command.specs.Steps.Bundled.{CanTurn, TurnsGone};
 
 use crate::bundling::{Bundling, turn_room};
 use crate::report_line::write_channels;
@@ -15,10 +15,11 @@ use otn_base::LineKind;
 use otn_ports::{Ended, Rack, Sink, Source, Written};
 use std::alloc::Global;
 
-/// Puts the packets of these clients, of which there is one at least and whose numbers rise, 0 to 15, on line output 0 for so many turns, 1 to
-/// 16,384: as the channels of a linear extension header, each with its client's number, in an ODU0 in slot 1, tributary port 1,
-/// of a plain OTU2. After the last turn each client whose last answer was a packet is asked once more. Then the report gets
-/// a line for each channel: its packets that are begun, and how its client's place is.
+/// Puts the packets of these clients, of which there is one at least and whose numbers rise, 0 to 15, on line output 0
+/// for so many turns, 1 to 16,384: as the channels of a linear extension header, each with its client's number, in an
+/// ODU0 in slot 1, tributary port 1, of a plain OTU2. After the last turn each client whose last answer was a packet is
+/// asked once more. Then the report gets a line for each channel: its packets that are begun, and how its client's
+/// place is.
 pub fn bundle<I: Source, O: Sink, K: Sink>(
     alloc: Global,
     clients: &[u8],
@@ -30,10 +31,12 @@ pub fn bundle<I: Source, O: Sink, K: Sink>(
     requires some { 1 ≤ turns }
     requires turns { turns ≤ MOST_TURNS }
     ensures memory { result ≡ Ended.Memory → (bays.new ≡ bays.old) × (report.new ≡ report.old) }
-    ensures ran { result ≢ Ended.Memory → BundleRan clients.now turns (bays_view I.Source O.Sink bays.old) (bays_view I.Source O.Sink bays.new)
+    ensures ran { result ≢ Ended.Memory → BundleRan clients.now turns (bays_view I.Source O.Sink bays.old)
+        (bays_view I.Source O.Sink bays.new)
         (sink_view K.Sink report.old) (sink_view K.Sink report.new) result }
 
-    // all other places are as they were; the report's count of faults rose or stands at its end where a write of it failed, and else it is as it was
+    // all other places are as they were; the report's count of faults rose or stands at its end where a write of it
+    // failed, and else it is as it was
     ensures alone { OnlyBundled clients.now (bays_view I.Source O.Sink bays.old) (bays_view I.Source O.Sink bays.new) }
     ensures cause { result ≡ Ended.ReportFault → HasFailed (K.faults report.old) (K.faults report.new) }
     ensures well { result ≢ Ended.ReportFault → K.faults report.new ≡ K.faults report.old }
@@ -58,7 +61,8 @@ fn run_turns<I: Source, O: Sink>(
     requires ready { CanTurn (bays_view I.Source O.Sink bays.old) parts.old }
     requires source { parts.old.feed.source.slots ≡ record { kind = LineKind.Otu2; list = 1 ∷ [] } }
     requires room { vec_len room.old ≡ GROUPS + 1 }
-    ensures gone { (clients : List ℕ) (first : BaysView) → TurnsGone clients first (bays_view I.Source O.Sink bays.old) 0 parts.old
+    ensures gone { (clients : List ℕ) (first : BaysView)
+        → TurnsGone clients first (bays_view I.Source O.Sink bays.old) 0 parts.old
         → TurnsGone clients first (bays_view I.Source O.Sink bays.new) turns parts.new }
 {
     for _ in 0..turns {
@@ -76,8 +80,10 @@ fn finish<I: Source, O: Sink, K: Sink>(
     requires ready { CanTurn (bays_view I.Source O.Sink bays.old) parts.old }
     requires some { 1 ≤ turns }
     requires turns { turns ≤ MOST_TURNS }
-    ensures ran { (clients : List ℕ) (first : BaysView) → TurnsGone clients first (bays_view I.Source O.Sink bays.old) turns parts.old
-        → BundleRan clients turns first (bays_view I.Source O.Sink bays.new) (sink_view K.Sink report.old) (sink_view K.Sink report.new) result
+    ensures ran { (clients : List ℕ) (first : BaysView)
+        → TurnsGone clients first (bays_view I.Source O.Sink bays.old) turns parts.old
+        → BundleRan clients turns first (bays_view I.Source O.Sink bays.new) (sink_view K.Sink report.old)
+        (sink_view K.Sink report.new) result
         × OnlyBundled clients first (bays_view I.Source O.Sink bays.new) }
     ensures some { result ≢ Ended.Memory }
     ensures cause { result ≡ Ended.ReportFault → HasFailed (K.faults report.old) (K.faults report.new) }

@@ -4,7 +4,7 @@ ghost use Rattle.otn_base.specs.declared.limits.TheConstants.{CLIENT_FRAME_BYTES
 ghost use Rattle.otn_ports.specs.Racks.{bays_view};
 ghost use Rattle.otn_ports.specs.Views.{BaysView};
 ghost use Rattle.bundle_command.specs.BundleLeft.{IsClientList};
-ghost use Rattle.bundle_command.specs.Framed.{AreReady, FramesHave, FramesStand, OnlyInputs};
+ghost use Rattle.bundle_command.specs.Steps.Framed.{AreReady, FramesHave, FramesStand, OnlyInputs};
 
 use crate::framing::Framing;
 use crate::weaving::Weaving;
@@ -34,7 +34,8 @@ impl Framing {
     pub(crate) fn fill<I: Source, O: Sink>(&mut self, bays: &mut Rack<I, O>, into: &mut [u8])
         requires ready { AreReady (bays_view I.Source O.Sink bays.old) self.old }
         ensures size { length into.new ≡ length into.old }
-        ensures stands { (clients : List ℕ) (first : BaysView) (gone : List ℕ) → FramesStand clients first (bays_view I.Source O.Sink bays.old) gone self.old
+        ensures stands { (clients : List ℕ) (first : BaysView) (gone : List ℕ)
+            → FramesStand clients first (bays_view I.Source O.Sink bays.old) gone self.old
             → FramesStand clients first (bays_view I.Source O.Sink bays.new) (gone ++ into.new) self.new }
         ensures alone { OnlyInputs (bays_view I.Source O.Sink bays.old) (bays_view I.Source O.Sink bays.new) }
     {
@@ -51,7 +52,8 @@ impl Framing {
         ensures some { 1 ≤ result }
         ensures within { result ≤ length into.old }
         ensures size { length into.new ≡ length into.old }
-        ensures stands { (clients : List ℕ) (first : BaysView) (gone : List ℕ) → FramesHave clients first (bays_view I.Source O.Sink bays.old) gone self.old
+        ensures stands { (clients : List ℕ) (first : BaysView) (gone : List ℕ)
+            → FramesHave clients first (bays_view I.Source O.Sink bays.old) gone self.old
             → FramesStand clients first (bays_view I.Source O.Sink bays.new) (gone ++ take result into.new) self.new }
         ensures alone { OnlyInputs (bays_view I.Source O.Sink bays.old) (bays_view I.Source O.Sink bays.new) }
     {
@@ -62,7 +64,8 @@ impl Framing {
     // Makes the next frame where the one in hand is gone.
     fn have_frame<I: Source, O: Sink>(&mut self, bays: &mut Rack<I, O>)
         requires ready { AreReady (bays_view I.Source O.Sink bays.old) self.old }
-        ensures stands { (clients : List ℕ) (first : BaysView) (gone : List ℕ) → FramesHave clients first (bays_view I.Source O.Sink bays.old) gone self.old
+        ensures stands { (clients : List ℕ) (first : BaysView) (gone : List ℕ)
+            → FramesHave clients first (bays_view I.Source O.Sink bays.old) gone self.old
             → FramesHave clients first (bays_view I.Source O.Sink bays.new) gone self.new }
         ensures some { self.new.at < CLIENT_FRAME_BYTES }
         ensures alone { OnlyInputs (bays_view I.Source O.Sink bays.old) (bays_view I.Source O.Sink bays.new) }
@@ -77,7 +80,8 @@ impl Framing {
     fn make_frame<I: Source, O: Sink>(&mut self, bays: &mut Rack<I, O>)
         requires ready { AreReady (bays_view I.Source O.Sink bays.old) self.old }
         requires gone { self.old.at ≡ CLIENT_FRAME_BYTES }
-        ensures stands { (clients : List ℕ) (first : BaysView) (gone : List ℕ) → FramesHave clients first (bays_view I.Source O.Sink bays.old) gone self.old
+        ensures stands { (clients : List ℕ) (first : BaysView) (gone : List ℕ)
+            → FramesHave clients first (bays_view I.Source O.Sink bays.old) gone self.old
             → FramesHave clients first (bays_view I.Source O.Sink bays.new) gone self.new }
         ensures start { self.new.at ≡ 0 }
         ensures alone { OnlyInputs (bays_view I.Source O.Sink bays.old) (bays_view I.Source O.Sink bays.new) }
@@ -97,7 +101,8 @@ impl Framing {
         ensures bytes { drop self.old.at self.old.frame ≡ take result into.new ++ drop self.new.at self.new.frame }
         ensures at { self.new.at ≡ self.old.at + result }
         ensures frame { self.new.frame ≡ self.old.frame }
-        ensures rest { (self.new.weaving ≡ self.old.weaving) × (self.new.overhead ≡ self.old.overhead) × (self.new.trace ≡ self.old.trace) }
+        ensures rest { (self.new.weaving ≡ self.old.weaving) × (self.new.overhead ≡ self.old.overhead)
+            × (self.new.trace ≡ self.old.trace) }
     {
         let count = into.len().min(CLIENT_FRAME_BYTES - self.at);
         copy_front(into, &self.frame.as_bytes()[self.at..self.at + count]);

@@ -6,8 +6,8 @@ ghost use Rattle.otn_ports.specs.PortViews.{SinkWrites, sink_view};
 ghost use Rattle.otn_ports.specs.Racks.{bays_view};
 ghost use Rattle.device_model.specs.Report.{state_word};
 ghost use Rattle.bundle_command.specs.BundleStream.{channel_line};
-ghost use Rattle.bundle_command.specs.Channels.{HasChannel};
-ghost use Rattle.bundle_command.specs.Settled.{line_of, lines_of};
+ghost use Rattle.bundle_command.specs.Steps.Channels.{HasChannel};
+ghost use Rattle.bundle_command.specs.Steps.Settled.{line_of, lines_of};
 
 use crate::channel::Channel;
 use arrayvec::ArrayString;
@@ -21,7 +21,8 @@ pub(crate) fn write_channels<I: Source, O: Sink, K: Sink>(
     report: &mut K,
 ) -> Written
     requires places { (c : ℕ) (channel : Channel) → HasChannel channels.now c channel → channel.client < 16 }
-    ensures { SinkWrites result (sink_view K.Sink report.old) (lines_of channels.now (bays_view I.Source O.Sink bays.now)) (sink_view K.Sink report.new) }
+    ensures { SinkWrites result (sink_view K.Sink report.old)
+        (lines_of channels.now (bays_view I.Source O.Sink bays.now)) (sink_view K.Sink report.new) }
 {
     for channel in channels {
         if write_channel(channel, bays, report) == Written::Lost {
@@ -38,7 +39,8 @@ fn write_channel<I: Source, O: Sink, K: Sink>(
     report: &mut K,
 ) -> Written
     requires { channel.now.client < 16 }
-    ensures { SinkWrites result (sink_view K.Sink report.old) (line_of channel.now (bays_view I.Source O.Sink bays.now)) (sink_view K.Sink report.new) }
+    ensures { SinkWrites result (sink_view K.Sink report.old) (line_of channel.now (bays_view I.Source O.Sink bays.now))
+        (sink_view K.Sink report.new) }
 {
     write_line(
         channel.client,
@@ -54,7 +56,8 @@ fn write_line<I: Source, K: Sink>(
     place: &InPlaceOf<I>,
     report: &mut K,
 ) -> Written
-    ensures { SinkWrites result (sink_view K.Sink report.old) (channel_line client packets (in_view I.Source place.now).state) (sink_view K.Sink report.new) }
+    ensures { SinkWrites result (sink_view K.Sink report.old)
+        (channel_line client packets (in_view I.Source place.now).state) (sink_view K.Sink report.new) }
 {
     let mut digits = Buffer::new();
     let mut line = ArrayString::<64>::new();

@@ -4,9 +4,9 @@ ghost use Rattle.otn_base.specs.declared.limits.TheConstants.{CLIENT_FRAME_BYTES
 ghost use Rattle.otn_ports.specs.Racks.{bays_view};
 ghost use Rattle.otn_ports.specs.Views.{BaysView, line_out_at};
 ghost use Rattle.bundle_command.specs.BundleStream.{payload_whole};
-ghost use Rattle.bundle_command.specs.Channels.{HasChannel, IsStanding, WeavingStands};
-ghost use Rattle.bundle_command.specs.Framed.{OnlyInputs};
-ghost use Rattle.bundle_command.specs.Settled.{AllEnded, ChannelSettled, DeadClients, IsEnded, IsSettled};
+ghost use Rattle.bundle_command.specs.Steps.Channels.{HasChannel, IsStanding, WeavingStands};
+ghost use Rattle.bundle_command.specs.Steps.Framed.{OnlyInputs};
+ghost use Rattle.bundle_command.specs.Steps.Settled.{AllEnded, ChannelSettled, DeadClients, IsEnded, IsSettled};
 
 use crate::channel::{Channel, Standing};
 use crate::weaving::Weaving;
@@ -17,7 +17,8 @@ use tributary_line::{either, ended_by, is_dead_in, is_dead_out};
 /// Asks each channel once more whose last answer was a packet, in the order of the channels.
 pub(crate) fn settle<I: Source, O: Sink>(weaving: &mut Weaving, bays: &mut Rack<I, O>)
     requires stands { IsStanding (bays_view I.Source O.Sink bays.old) weaving.old }
-    ensures settled { (clients : List ℕ) (first : BaysView) (given : List ℕ) → WeavingStands clients first (bays_view I.Source O.Sink bays.old) given weaving.old
+    ensures settled { (clients : List ℕ) (first : BaysView) (given : List ℕ)
+        → WeavingStands clients first (bays_view I.Source O.Sink bays.old) given weaving.old
         → IsSettled (length clients) clients first (bays_view I.Source O.Sink bays.new) given weaving.new }
     ensures alone { OnlyInputs (bays_view I.Source O.Sink bays.old) (bays_view I.Source O.Sink bays.new) }
 {
@@ -30,7 +31,8 @@ pub(crate) fn settle<I: Source, O: Sink>(weaving: &mut Weaving, bays: &mut Rack<
 fn settle_one<I: Source, O: Sink>(channels: &mut Vec<Channel>, index: usize, bays: &mut Rack<I, O>)
     requires within { index < vec_len channels.old }
     requires place { (channel : Channel) → HasChannel channels.old.items index channel → channel.client < 16 }
-    ensures settled { ChannelSettled index (bays_view I.Source O.Sink bays.old) channels.old.items (bays_view I.Source O.Sink bays.new) channels.new.items }
+    ensures settled { ChannelSettled index (bays_view I.Source O.Sink bays.old) channels.old.items
+        (bays_view I.Source O.Sink bays.new) channels.new.items }
     ensures alone { OnlyInputs (bays_view I.Source O.Sink bays.old) (bays_view I.Source O.Sink bays.new) }
     ensures many { vec_len channels.new ≡ vec_len channels.old }
 {
@@ -41,7 +43,8 @@ fn settle_one<I: Source, O: Sink>(channels: &mut Vec<Channel>, index: usize, bay
 /// How the command ended after so many turns, where the report did not fail.
 pub(crate) fn ended<I: Source, O: Sink>(weaving: &Weaving, turns: u32, bays: &Rack<I, O>) -> Ended
     requires turns { turns ≤ MOST_TURNS }
-    requires places { (c : ℕ) (channel : Channel) → HasChannel weaving.now.channels.items c channel → channel.client < 16 }
+    requires places { (c : ℕ) (channel : Channel) → HasChannel weaving.now.channels.items c channel
+        → channel.client < 16 }
     ensures { IsEnded weaving.now turns (bays_view I.Source O.Sink bays.now) result }
 {
     let dead = either(

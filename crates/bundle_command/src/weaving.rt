@@ -8,8 +8,8 @@ ghost use Rattle.odu_client.specs.AlignedRuns.{payload_of};
 ghost use Rattle.bundle_command.specs.BundleLeft.{IsClientList};
 ghost use Rattle.gfp_linear.specs.Weaver.{HasWoven, woven_first};
 ghost use Rattle.packet_text.specs.LinesStand.{lines_view};
-ghost use Rattle.bundle_command.specs.Channels.{AreFresh, AreOpen, AreOver, ChannelAsked, HasChannel, IsAsked, IsReady, IsTold, GoesRound, WeavingStands, WeavingReady, is_over};
-ghost use Rattle.bundle_command.specs.Framed.{OnlyInputs};
+ghost use Rattle.bundle_command.specs.Steps.Channels.{AreFresh, AreOpen, AreOver, ChannelAsked, HasChannel, IsAsked, IsReady, IsTold, GoesRound, WeavingStands, WeavingReady, is_over};
+ghost use Rattle.bundle_command.specs.Steps.Framed.{OnlyInputs};
 
 use crate::channel::{Channel, Standing};
 use frame_geometry::Frame;
@@ -56,8 +56,10 @@ impl Weaving {
     )
         requires ready { IsReady (bays_view I.Source O.Sink bays.old) self.old }
         ensures size { length (payload_of frame.new) ≡ CLIENT_PAYLOAD_BYTES }
-        ensures stands { (clients : List ℕ) (first : BaysView) (given : List ℕ) → WeavingStands clients first (bays_view I.Source O.Sink bays.old) given self.old
-            → WeavingStands clients first (bays_view I.Source O.Sink bays.new) (given ++ payload_of frame.new) self.new }
+        ensures stands { (clients : List ℕ) (first : BaysView) (given : List ℕ)
+            → WeavingStands clients first (bays_view I.Source O.Sink bays.old) given self.old
+            → WeavingStands clients first (bays_view I.Source O.Sink bays.new)
+            (given ++ payload_of frame.new) self.new }
         ensures alone { OnlyInputs (bays_view I.Source O.Sink bays.old) (bays_view I.Source O.Sink bays.new) }
     {
         self.fill_row(bays, frame, 1);
@@ -77,9 +79,12 @@ impl Weaving {
         requires row_low { 1 ≤ row }
         requires row_high { row ≤ 4 }
         ensures size { length (payload_row_of CLIENT_COLUMNS row frame.new) ≡ PAYLOAD_COLUMNS }
-        ensures others { (r : ℕ) → 1 ≤ r → r ≤ 4 → r ≢ row → payload_row_of CLIENT_COLUMNS r frame.new ≡ payload_row_of CLIENT_COLUMNS r frame.old }
-        ensures stands { (clients : List ℕ) (first : BaysView) (given : List ℕ) → WeavingStands clients first (bays_view I.Source O.Sink bays.old) given self.old
-            → WeavingStands clients first (bays_view I.Source O.Sink bays.new) (given ++ payload_row_of CLIENT_COLUMNS row frame.new) self.new }
+        ensures others { (r : ℕ) → 1 ≤ r → r ≤ 4 → r ≢ row
+            → payload_row_of CLIENT_COLUMNS r frame.new ≡ payload_row_of CLIENT_COLUMNS r frame.old }
+        ensures stands { (clients : List ℕ) (first : BaysView) (given : List ℕ)
+            → WeavingStands clients first (bays_view I.Source O.Sink bays.old) given self.old
+            → WeavingStands clients first (bays_view I.Source O.Sink bays.new)
+            (given ++ payload_row_of CLIENT_COLUMNS row frame.new) self.new }
         ensures ready { IsReady (bays_view I.Source O.Sink bays.new) self.new }
         ensures alone { OnlyInputs (bays_view I.Source O.Sink bays.old) (bays_view I.Source O.Sink bays.new) }
     {
@@ -90,7 +95,8 @@ impl Weaving {
     fn fill<I: Source, O: Sink>(&mut self, bays: &mut Rack<I, O>, into: &mut [u8])
         requires ready { IsReady (bays_view I.Source O.Sink bays.old) self.old }
         ensures size { length into.new ≡ length into.old }
-        ensures stands { (clients : List ℕ) (first : BaysView) (given : List ℕ) → WeavingStands clients first (bays_view I.Source O.Sink bays.old) given self.old
+        ensures stands { (clients : List ℕ) (first : BaysView) (given : List ℕ)
+            → WeavingStands clients first (bays_view I.Source O.Sink bays.old) given self.old
             → WeavingStands clients first (bays_view I.Source O.Sink bays.new) (given ++ into.new) self.new }
         ensures ready { IsReady (bays_view I.Source O.Sink bays.new) self.new }
         ensures alone { OnlyInputs (bays_view I.Source O.Sink bays.old) (bays_view I.Source O.Sink bays.new) }
@@ -101,15 +107,18 @@ impl Weaving {
         }
     }
 
-    // The next bytes of the stream: how many. Once no channel gives a frame any more, and none is in hand, all of them are idle frames.
+    // The next bytes of the stream: how many. Once no channel gives a frame any more, and none is in hand, all of them
+    // are idle frames.
     fn step<I: Source, O: Sink>(&mut self, bays: &mut Rack<I, O>, into: &mut [u8]) -> usize
         requires ready { IsReady (bays_view I.Source O.Sink bays.old) self.old }
         requires room { 1 ≤ length into.old }
         ensures some { 1 ≤ result }
         ensures within { result ≤ length into.old }
         ensures size { length into.new ≡ length into.old }
-        ensures stands { (clients : List ℕ) (first : BaysView) (given : List ℕ) → WeavingStands clients first (bays_view I.Source O.Sink bays.old) given self.old
-            → WeavingStands clients first (bays_view I.Source O.Sink bays.new) (given ++ take result into.new) self.new }
+        ensures stands { (clients : List ℕ) (first : BaysView) (given : List ℕ)
+            → WeavingStands clients first (bays_view I.Source O.Sink bays.old) given self.old
+            → WeavingStands clients first (bays_view I.Source O.Sink bays.new)
+            (given ++ take result into.new) self.new }
         ensures ready { IsReady (bays_view I.Source O.Sink bays.new) self.new }
         ensures alone { OnlyInputs (bays_view I.Source O.Sink bays.old) (bays_view I.Source O.Sink bays.new) }
     {
@@ -137,7 +146,8 @@ impl Weaving {
         requires room { 1 ≤ length into.old }
         ensures count { result ≡ length into.old }
         ensures size { length into.new ≡ length into.old }
-        ensures stands { (clients : List ℕ) (first now : BaysView) (given : List ℕ) → WeavingReady clients first now given self.old
+        ensures stands { (clients : List ℕ) (first now : BaysView) (given : List ℕ)
+            → WeavingReady clients first now given self.old
             → WeavingStands clients first now (given ++ into.new) self.new }
     {
         self.maker.give_idle(into);
@@ -152,8 +162,10 @@ impl Weaving {
         ensures some { 1 ≤ result }
         ensures within { result ≤ length into.old }
         ensures size { length into.new ≡ length into.old }
-        ensures stands { (clients : List ℕ) (first : BaysView) (given : List ℕ) → WeavingStands clients first (bays_view I.Source O.Sink bays.old) given self.old
-            → WeavingStands clients first (bays_view I.Source O.Sink bays.new) (given ++ take result into.new) self.new }
+        ensures stands { (clients : List ℕ) (first : BaysView) (given : List ℕ)
+            → WeavingStands clients first (bays_view I.Source O.Sink bays.old) given self.old
+            → WeavingStands clients first (bays_view I.Source O.Sink bays.new)
+            (given ++ take result into.new) self.new }
         ensures ready { IsReady (bays_view I.Source O.Sink bays.new) self.new }
         ensures alone { OnlyInputs (bays_view I.Source O.Sink bays.old) (bays_view I.Source O.Sink bays.new) }
     {
@@ -167,7 +179,8 @@ impl Weaving {
     fn have_frame<I: Source, O: Sink>(&mut self, bays: &mut Rack<I, O>)
         requires ready { IsReady (bays_view I.Source O.Sink bays.old) self.old }
         ensures some { self.new.maker.maker.hand ≢ [] }
-        ensures stands { (clients : List ℕ) (first : BaysView) (given : List ℕ) → WeavingReady clients first (bays_view I.Source O.Sink bays.old) given self.old
+        ensures stands { (clients : List ℕ) (first : BaysView) (given : List ℕ)
+            → WeavingReady clients first (bays_view I.Source O.Sink bays.old) given self.old
             → WeavingReady clients first (bays_view I.Source O.Sink bays.new) given self.new }
         ensures alone { OnlyInputs (bays_view I.Source O.Sink bays.old) (bays_view I.Source O.Sink bays.new) }
     {
@@ -185,7 +198,8 @@ impl Weaving {
         requires idle { self.old.maker.maker.hand ≡ [] }
         requires within { index < length self.old.maker.cids }
         requires asked { IsAsked index self.old.maker }
-        ensures stands { (clients : List ℕ) (first : BaysView) (given : List ℕ) → WeavingReady clients first (bays_view I.Source O.Sink bays.old) given self.old
+        ensures stands { (clients : List ℕ) (first : BaysView) (given : List ℕ)
+            → WeavingReady clients first (bays_view I.Source O.Sink bays.old) given self.old
             → WeavingReady clients first (bays_view I.Source O.Sink bays.new) given self.new }
         ensures round { GoesRound self.old.maker self.new.maker }
         ensures alone { OnlyInputs (bays_view I.Source O.Sink bays.old) (bays_view I.Source O.Sink bays.new) }
@@ -198,9 +212,11 @@ impl Weaving {
     fn tell(&mut self, index: usize, answer: Standing)
         requires idle { self.old.maker.maker.hand ≡ [] }
         requires within { index < vec_len self.old.channels }
-        requires packet { (channel : Channel) → answer ≡ Standing.Going → HasChannel self.old.channels.items index channel
+        requires packet { (channel : Channel) → answer ≡ Standing.Going
+            → HasChannel self.old.channels.items index channel
             → (1 ≤ length (lines_view channel.lines).packet) × (length (lines_view channel.lines).packet ≤ 65523) }
-        ensures told { (channel : Channel) → HasChannel self.old.channels.items index channel → IsTold answer (lines_view channel.lines).packet self.old self.new }
+        ensures told { (channel : Channel) → HasChannel self.old.channels.items index channel
+            → IsTold answer (lines_view channel.lines).packet self.old self.new }
         ensures round { GoesRound self.old.maker self.new.maker }
     {
         match answer {
@@ -216,7 +232,8 @@ impl Weaving {
         requires within { index < vec_len self.old.channels }
         requires packet { (channel : Channel) → HasChannel self.old.channels.items index channel
             → (1 ≤ length (lines_view channel.lines).packet) × (length (lines_view channel.lines).packet ≤ 65523) }
-        ensures told { (channel : Channel) → HasChannel self.old.channels.items index channel → IsTold Standing.Going (lines_view channel.lines).packet self.old self.new }
+        ensures told { (channel : Channel) → HasChannel self.old.channels.items index channel
+            → IsTold Standing.Going (lines_view channel.lines).packet self.old self.new }
         ensures hand { self.new.maker.maker.hand ≢ [] }
     {
         let packet = self.channels[index].packet();
@@ -261,7 +278,8 @@ fn ask_channel<I: Source, O: Sink>(
     requires within { index < vec_len channels.old }
     requires place { (channel : Channel) → HasChannel channels.old.items index channel → channel.client < 16 }
     requires open { AreOpen channels.old.items }
-    ensures asked { ChannelAsked index (bays_view I.Source O.Sink bays.old) channels.old.items (bays_view I.Source O.Sink bays.new) channels.new.items result }
+    ensures asked { ChannelAsked index (bays_view I.Source O.Sink bays.old) channels.old.items
+        (bays_view I.Source O.Sink bays.new) channels.new.items result }
     ensures alone { OnlyInputs (bays_view I.Source O.Sink bays.old) (bays_view I.Source O.Sink bays.new) }
 {
     let client = channels[index].client;

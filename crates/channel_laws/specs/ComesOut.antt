@@ -1,4 +1,4 @@
--- What a line on which clients' packets go as channels brings out where its channels are taken apart.
+-- API: what a line on which clients' packets go as channels brings out where its channels are taken apart.
 use Rattle.std.specs.Prelude.{◌≡◌, ℕ, ◌+◌, ◌-◌, ◌*◌, ◌<◌, ◌≤◌, All, Bool, List, flat_map, length, get_or, slice_index}
 use Rattle.std.specs.List.{concat}
 use Rattle.otn_base.specs.declared.limits.TheConstants.{OTU2_SLOTS}
@@ -32,19 +32,27 @@ AreInputsCarried = (died : Bool) (given : List ℕ) → AreCarried (channel_text
 -- Of the file on which channels go, what arrives until turn t is, in order, the packets and losses of these frames.
 -- The last such turn is that in which the file ends. Behind it the sink emits AIS.
 abbrev pub ArrivesAsBundled : Type 0
-ArrivesAsBundled = (b : ℕ) (cids : List ℕ) (texts : List ChannelText) (turns t : ℕ) (frames : List (List ℕ)) → All AreCarried texts
-    → IsTributaryFile b first_slot (channel_turns cids texts turns) (OTU2_SLOTS * turns) frames → 1 ≤ turns → t ≤ turns + 1
-    → arrived_before (concat frames) t ≡ flat_map (arrivals_of cids) (woven_within cids (payload_whole (t - 2)) (woven_in texts turns))
+ArrivesAsBundled = (b : ℕ) (cids : List ℕ) (texts : List ChannelText) (turns t : ℕ) (frames : List (List ℕ))
+    → All AreCarried texts
+    → IsTributaryFile b first_slot (channel_turns cids texts turns)
+    (OTU2_SLOTS * turns) frames → 1 ≤ turns → t ≤ turns + 1
+    → arrived_before (concat frames) t ≡ flat_map (arrivals_of cids)
+    (woven_within cids (payload_whole (t - 2)) (woven_in texts turns))
 
 -- What was due to the line output of `bundle` is what the line input of `unbundle` has: to the client output of each
 -- channel's number the text of these packets is due.
 abbrev pub ComesOut : Type 0
-ComesOut = (cids : List ℕ) (texts : List ChannelText) (turns t : ℕ) (was is : OutView) (first last : BaysView) (report told : SinkView) (ended : Ended)
-    → IsCidList cids → length texts ≡ length cids → All AreCarried texts → (due : OutputDue (channel_turns cids texts turns) turns was is)
-    → (ran : UnbundleRan t first last report told ended) → MayHave ran.more ran.taken (concat due.frames) → 1 ≤ turns → t ≤ turns + 1
+ComesOut = (cids : List ℕ) (texts : List ChannelText) (turns t : ℕ) (was is : OutView) (first last : BaysView)
+    (report told : SinkView) (ended : Ended)
+    → IsCidList cids → length texts ≡ length cids → All AreCarried texts
+    → (due : OutputDue (channel_turns cids texts turns) turns was is)
+    → (ran : UnbundleRan t first last report told ended) → MayHave ran.more ran.taken (concat due.frames) → 1 ≤ turns
+    → t ≤ turns + 1
     → (c : ℕ) → c < length cids → slice_index cids c < 16
-    → IsSent (client_out_at first (slice_index cids c)) (hex_text (out_of cids texts turns t c)) (client_out_at last (slice_index cids c))
+    → IsSent (client_out_at first (slice_index cids c)) (hex_text (out_of cids texts turns t c))
+    (client_out_at last (slice_index cids c))
 
 -- They are the first of its packets.
 abbrev pub FirstComeOut : Type 0
-FirstComeOut = (cids : List ℕ) (texts : List ChannelText) (turns t c : ℕ) → IsFront (out_of cids texts turns t c) (get_or texts c no_text).packets
+FirstComeOut = (cids : List ℕ) (texts : List ChannelText) (turns t c : ℕ)
+    → IsFront (out_of cids texts turns t c) (get_or texts c no_text).packets

@@ -10,7 +10,8 @@ use Rattle.plan_file.proofs.Texts.{same_table}
 use Rattle.otn_base.specs.declared.memory.Memory.{Memory as NoMemory}
 use Rattle.plan_file.specs.declared.error.PlanError.{PlanError}
 use Rattle.plan_file.specs.declared.plan.Plan.{Plan}
-use Rattle.check_command.specs.PlanCheck.{CheckAnswers, check_status, CheckRun, CheckEnds, PlanTold}
+use Rattle.check_command.specs.PlanCheck.{CheckAnswers, check_status, CheckRun, CheckEnds}
+use Rattle.check_command.specs.Steps.PlanCheck.{PlanTold}
 use Rattle.otn_ports.specs.PortViews.{SourceView, SinkView, SinkLater}
 use Rattle.command_base.specs.Device.{Device}
 use Rattle.check_command.specs.PlanReading.{IsAll, PlanReading, WasRead, most_read}

@@ -1,2 +1,3 @@
 pub mod PlanCheck
 pub mod PlanReading
+pub mod Steps

@@ -1,5 +1,5 @@
--- What `check` reads, and what it answers.
-use Rattle.std.specs.Prelude.{◌≡◌, ◌≤◌, ℕ, List, [], ◌∷◌, ◌++◌, Option, Result, Ok, Err, length, codes}
+-- Believed: what `check` reads, and what it answers.
+use Rattle.std.specs.Prelude.{◌≡◌, ◌≤◌, ℕ, List, ◌∷◌, ◌++◌, Option, Result, Ok, Err, length, codes}
 use Rattle.otn_base.specs.declared.memory.Memory.{Memory as NoMemory}
 use Rattle.std.specs.Fmt.{decimal}
 use Rattle.otn_ports.specs.Bytes.{before, after}
@@ -26,19 +26,15 @@ check_status (Err memory) = status.Memory
 
 -- what is written of an accepted plan: `plan connections N turns T` and a line feed
 abbrev pub plan_text : Plan → List ℕ
-plan_text plan = codes "plan connections " ++ (decimal (length plan.connections) ++ (codes " turns " ++ (decimal plan.turns ++ 10 ∷ [])))
-
--- the answer once a plan is accepted
-abbrev pub PlanTold : Status → Plan → (old new : Option (List ℕ)) → Type 0
-PlanTold status.Done plan old new = new ≡ after old (plan_text plan)
-PlanTold status.ReportFault plan old new = GainsPart old new (plan_text plan)
-PlanTold status.Memory plan old new = new ≡ old
-PlanTold other plan old new = ⊥
+plan_text plan = codes "plan connections "
+    ++ (decimal (length plan.connections) ++ (codes " turns " ++ (decimal plan.turns ++ 10 ∷ [])))
 
 -- the answer to a text, and what was written of it
 abbrev pub CheckEnds : Status → List ℕ → (old new : Option (List ℕ)) → Type 0
-CheckEnds status.Done text old new = (plan : Plan) × ((plan_of_text text ≡ Ok plan) × (new ≡ after old (plan_text plan)))
-CheckEnds status.ReportFault text old new = (plan : Plan) × ((plan_of_text text ≡ Ok plan) × GainsPart old new (plan_text plan))
+CheckEnds status.Done text old new = (plan : Plan)
+    × ((plan_of_text text ≡ Ok plan) × (new ≡ after old (plan_text plan)))
+CheckEnds status.ReportFault text old new = (plan : Plan)
+    × ((plan_of_text text ≡ Ok plan) × GainsPart old new (plan_text plan))
 CheckEnds (status.Plan error place) text old new = (plan_of_text text ≡ Err (Refused error place)) × (new ≡ old)
 CheckEnds status.Memory text old new = new ≡ old
 CheckEnds status.PlanFault text old new = new ≡ old

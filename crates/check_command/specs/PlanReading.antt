@@ -1,4 +1,4 @@
--- What reading a plan's source comes to.
+-- Believed: what reading a plan's source comes to.
 use Rattle.std.specs.Prelude.{◌≡◌, ◌<◌, ◌≤◌, ◌⊎◌, ◌+◌, ℕ, List, [], None, Result, Ok, Err, length}
 use Rattle.otn_base.specs.declared.limits.TheConstants.{MOST_PLAN_BYTES}
 use Rattle.otn_base.specs.declared.memory.Memory.{Memory as NoMemory}
@@ -21,8 +21,8 @@ most_read = MOST_PLAN_BYTES + 1
 abbrev pub IsAll : List ℕ → SourceView → Type 0
 IsAll text source = HasEnded source.left source.ended ⊎ (length text ≡ most_read)
 
--- what was read before an answer: all; fewer than the most, where a read failed, and that before the source's end; all or nothing, where
--- there was no memory
+-- what was read before an answer: all; fewer than the most, where a read failed, and that before the source's end; all
+-- or nothing, where there was no memory
 abbrev pub WasRead : Status → List ℕ → (old new : SourceView) → Type 0
 WasRead status.PlanFault text old new = (length text < most_read) × (new.ended ≡ old.ended)
 WasRead status.Memory text old new = (text ≡ []) ⊎ IsAll text new

@@ -1,7 +1,8 @@
 // The command `check`: whether the plan is one, and how large.
 ghost use Rattle.std.specs.Prelude.{◌≡◌, IfOk, string_bytes};
 ghost use Rattle.otn_ports.specs.PortViews.{source_view, sink_view, SinkLater};
-ghost use Rattle.check_command.specs.PlanCheck.{CheckRun, PlanTold, check_status, plan_text};
+ghost use Rattle.check_command.specs.PlanCheck.{CheckRun, check_status, plan_text};
+ghost use Rattle.check_command.specs.Steps.PlanCheck.{PlanTold};
 ghost use Rattle.command_base.specs.AnswerWords.{CountsBy, IsRefusal};
 
 use crate::plan_text::{Planned, read_plan};
@@ -44,7 +45,8 @@ pub fn check_plan<P: Source, K: Sink>(
     plan: &mut P,
     report: &mut K,
 ) -> Result<Checked, Memory>
-    ensures run { CheckRun (source_view P.Source plan.old) (source_view P.Source plan.new) (sink_view K.Sink report.old) (sink_view K.Sink report.new) (check_status result) }
+    ensures run { CheckRun (source_view P.Source plan.old) (source_view P.Source plan.new) (sink_view K.Sink report.old)
+        (sink_view K.Sink report.new) (check_status result) }
     ensures refused { IsRefusal (check_status result) → report.new ≡ report.old }
 {
     match read_plan(alloc, plan)? {

@@ -6,6 +6,7 @@ ghost use Rattle.check_command.specs.PlanCheck.{CheckAnswers, CheckEnds};
 
 /// `check`, by the whole text of a source that tells it.
 pub fn check_of_text()
-    ensures { (text : List ℕ) (old new : Device) (answer : Status) → CheckAnswers old new answer → old.plan.left ≡ Some text
+    ensures { (text : List ℕ) (old new : Device) (answer : Status) → CheckAnswers old new answer
+        → old.plan.left ≡ Some text
         → answer ≢ Status.Memory → answer ≢ Status.PlanFault → CheckEnds answer text old.report.got new.report.got }
 {}

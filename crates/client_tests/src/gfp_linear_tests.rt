@@ -138,7 +138,8 @@ fn packets_arrive_in_blocks(rt: HostRuntime) -> Result<(), Fail> {
     Ok(())
 }
 
-// Both channels' loss frames arrive, and none with a wrong bit in the eHEC of the first, which the descrambler passes on.
+// Both channels' loss frames arrive, and none with a wrong bit in the eHEC of the first, which the descrambler passes
+// on.
 #[test]
 fn losses_arrive(rt: HostRuntime) -> Result<(), Fail> {
     let mut reader = ChannelReader::new(rt.alloc())?;

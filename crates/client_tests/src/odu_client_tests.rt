@@ -45,8 +45,8 @@ fn an_open_connection_then_a_client(rt: HostRuntime) -> Result<(), Fail> {
     Ok(())
 }
 
-// The first bytes that a framer makes of a place, and the rest of its first frame; whether it is spent after each; how many packets
-// are begun, and the bad line.
+// The first bytes that a framer makes of a place, and the rest of its first frame; whether it is spent after each; how
+// many packets are begun, and the bad line.
 #[derive(Drop)]
 struct FirstFrame {
     first: [u8; 16],

@@ -176,8 +176,8 @@ fn digits_behind(alloc: Global, text: &[u8], count: u32) -> Result<Vec<u8>, Allo
     Ok(bytes)
 }
 
-// The first answer that is no packet, of a place whose source fails at the call of this number; how often it is given in three more
-// calls; and whether the place is live then.
+// The first answer that is no packet, of a place whose source fails at the call of this number; how often it is given
+// in three more calls; and whether the place is live then.
 fn last_answer(
     alloc: Global,
     text: Vec<u8>,

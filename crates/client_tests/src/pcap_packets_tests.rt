@@ -17,8 +17,8 @@ const HIGH: [u8; 59] = [
     0, 5, 0xFF,
 ];
 
-// What comes of a capture, of which each call gives at most so many bytes, and the calls of these numbers fail: the text in
-// order, and how many calls of its own failed.
+// What comes of a capture, of which each call gives at most so many bytes, and the calls of these numbers fail: the
+// text in order, and how many calls of its own failed.
 fn text_of(
     alloc: Global,
     capture: &[u8],

@@ -1,4 +1,5 @@
--- The bytes JC4 to JC6 of a message (G.709 Annex D): the remainder in ten bits D1 to D10, D1 the most significant.
+-- Believed: the bytes JC4 to JC6 of a message (G.709 Annex D): the remainder in ten bits D1 to D10, D1 the most
+-- significant.
 use Rattle.std.specs.Prelude.{ℕ, ◌+◌, ◌*◌, ◌/◌, ◌%◌, List, [], ◌∷◌, ◌==◌, nat_lt, ◌&&◌, if◌then◌else◌, Option, Some, None}
 use Rattle.crc_small.specs.LongDivision.{crc5_of}
 

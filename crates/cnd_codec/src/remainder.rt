@@ -11,7 +11,8 @@ use crc_small::crc5;
 pub fn say_d(d: u16) -> [u8; 3]
     requires { d < 1024 }
     ensures said { result ≡ says_rest d }
-    ensures heard_back { (m : ℕ) → d < m → hears_rest m (slice_index result 0) (slice_index result 1) (slice_index result 2) ≡ Some d }
+    ensures heard_back { (m : ℕ) → d < m → hears_rest m (slice_index result 0) (slice_index result 1)
+        (slice_index result 2) ≡ Some d }
 {
     let jc4 = (d / 32) as u8;
     let jc5 = (d % 32) as u8;

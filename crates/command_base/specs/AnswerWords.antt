@@ -1,4 +1,5 @@
--- What the records of the commands share: what a report gained, which answers a line has and which refuse, and faults.
+-- Believed: what the records of the commands share: what a report gained, which answers a line has and which refuse,
+-- and faults.
 use Rattle.std.specs.Prelude.{◌≡◌, ◌≢◌, ℕ, List, Option}
 use Rattle.otn_ports.specs.Bytes.{after, HasFailed}
 use Rattle.command_base.specs.Gains.{GainsPart}

@@ -1,4 +1,4 @@
--- Asking a line for one byte more.
+-- API: asking a line for one byte more.
 use Rattle.std.specs.Prelude.{◌≡◌, ℕ, List, [], length}
 use Rattle.otn_ports.specs.Given.{Gave}
 use Rattle.otn_ports.specs.Reads.{HasEnded}

@@ -1,4 +1,4 @@
--- The numbers that the program ends with.
+-- Believed: the numbers that the program ends with.
 use Rattle.std.specs.Prelude.{ℕ}
 use Rattle.command_base.specs.declared.status.Status.{Status}
 use Rattle.command_base.specs.declared.status.Status.TheVariants.{Done, Unfinished, Words, Plan, PlanFault, ReportFault, Cut, Memory}

@@ -1,8 +1,6 @@
--- How a command ends, and what the top call then answers.
-use Rattle.std.specs.Prelude.{◌≡◌, Option, Some, None}
+-- Believed: how a command ends, and what the top call then answers.
+use Rattle.std.specs.Prelude.{◌≡◌, Option, Some}
 use Rattle.otn_ports.specs.Bytes.{HasFailed}
-use Rattle.otn_ports.specs.declared.drain.Written.{Written}
-use Rattle.otn_ports.specs.declared.drain.Written.TheVariants as written
 use Rattle.otn_ports.specs.PortViews.{SinkView, SinkLater}
 use Rattle.otn_ports.specs.declared.ended.Ended.{Ended}
 use Rattle.otn_ports.specs.declared.ended.Ended.TheVariants.{Done, Unfinished, Cut, ReportFault, Memory}
@@ -22,12 +20,8 @@ abbrev pub FaultsBy : Option Ended → (old new : SinkView) → Type 0
 FaultsBy (Some ReportFault) old new = HasFailed old.faults new.faults
 FaultsBy other old new = new.faults ≡ old.faults
 
--- the report after a step of a command: the same sink, and its count of faults. The step ended the command so; None where it goes on.
+-- the report after a step of a command: the same sink, and its count of faults. The step ended the command so; None
+-- where it goes on.
 pub record ReportAfter (answer : Option Ended) (old new : SinkView) : Type 0 where
   pub later : SinkLater old new
   pub faults : FaultsBy answer old new
-
--- how a write ends a command
-abbrev pub step_of : Written → Option Ended
-step_of written.Whole = None
-step_of written.Lost = Some ReportFault

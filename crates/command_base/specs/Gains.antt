@@ -1,4 +1,4 @@
--- What a report gains where a write of it fails.
+-- Believed: what a report gains where a write of it fails.
 use Rattle.std.specs.Prelude.{◌≡◌, ◌<◌, ℕ, List, Option, length, take}
 use Rattle.otn_ports.specs.Bytes.{after}
 

@@ -4,3 +4,4 @@ pub mod Codes
 pub mod Device
 pub mod Ends
 pub mod Gains
+pub mod Steps

@@ -29,8 +29,8 @@ pub enum Status {
     /// The line input, or after `run` a place that the plan uses, or after `protect` one of its three, is dead: a call
     /// of its port failed, or it was handed in dead.
     Cut,
-    /// There was no memory, or a place of the trial had no room: all places and the report are as they were. `check` and `run` may have read the plan,
-    /// and `trial` may have asked the chooser.
+    /// There was no memory, or a place of the trial had no room: all places and the report are as they were. `check`
+    /// and `run` may have read the plan, and `trial` may have asked the chooser.
     Memory,
 }
 

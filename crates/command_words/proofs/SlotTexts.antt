@@ -20,8 +20,8 @@ slots_text-end [] slot = refl
 slots_text-end (first ∷ []) slot = refl
 slots_text-end (first ∷ second ∷ done) slot = ap (λ xs. (48 + first) ∷ 44 ∷ xs) (slots_text-end (second ∷ done) slot)
 
--- What is left to read where a text that is read so far is that of slots: the text of the slots that are not read, of which
--- there is one at least.
+-- What is left to read where a text that is read so far is that of slots: the text of the slots that are not read, of
+-- which there is one at least.
 pub record Left (done rest slots : List ℕ) : Type 0 where
   pub slot : ℕ
   pub more : List ℕ

@@ -1,4 +1,4 @@
--- The words of the commands.
+-- Believed: the words of the commands.
 use Rattle.std.specs.Prelude.{◌≡◌, ◌+◌, ◌<◌, ◌≤◌, ◌^◌, ℕ, List, [], ◌∷◌, length, map, codes, string_bytes, String}
 use Rattle.std.specs.Str.Parse.{IsNumeral, digits_value}
 use Rattle.std.specs.declared.alloc.Global.{Global}
@@ -25,13 +25,17 @@ slots_text [] = []
 slots_text (slot ∷ []) = digit slot
 slots_text (slot ∷ next ∷ slots) = (48 + slot) ∷ 44 ∷ slots_text (next ∷ slots)
 
--- the text of a number: its value in decimal digits, of which there are 1 to 20, with zeros in front allowed; it has 64 bits at most
+-- the text of a number: its value in decimal digits, of which there are 1 to 20, with zeros in front allowed; it has 64
+-- bits at most
 abbrev pub IsNumberText : List ℕ → ℕ → Type 0
-IsNumberText text number = IsNumeral 10 text × (length text ≤ NUMBER_DIGITS) × (digits_value 10 text ≡ number) × (number < 2 ^ 64)
+IsNumberText text number = IsNumeral 10 text × (length text ≤ NUMBER_DIGITS) × (digits_value 10 text ≡ number)
+    × (number < 2 ^ 64)
 
--- the text of a number of turns to wait: its value in decimal digits, of which there are 1 to 5, with zeros in front allowed; 16,384 at most
+-- the text of a number of turns to wait: its value in decimal digits, of which there are 1 to 5, with zeros in front
+-- allowed; 16,384 at most
 abbrev pub IsWaitText : List ℕ → ℕ → Type 0
-IsWaitText text number = IsNumeral 10 text × (length text ≤ TURN_DIGITS) × (digits_value 10 text ≡ number) × (number ≤ MOST_TURNS)
+IsWaitText text number = IsNumeral 10 text × (length text ≤ TURN_DIGITS) × (digits_value 10 text ≡ number)
+    × (number ≤ MOST_TURNS)
 
 -- the text of a number of turns, likewise, of which there is one at least
 abbrev pub IsTurnsText : List ℕ → ℕ → Type 0
@@ -41,16 +45,21 @@ IsTurnsText text number = IsWaitText text number × (1 ≤ number)
 abbrev pub IsForm : List (List ℕ) → Command → Type 0
 IsForm words (Slot slot) = (words ≡ codes "slot" ∷ digit slot ∷ []) × (1 ≤ slot) × (slot ≤ OTU2_SLOTS)
 IsForm words (Pull port slots) =
-    (words ≡ codes "pull" ∷ digit port ∷ slots_text slots.list ∷ []) × (1 ≤ port) × (port ≤ OTU2_SLOTS) × (slots.kind ≡ Otu2) × IsSlotList OTU2_SLOTS slots.list
+    (words ≡ codes "pull" ∷ digit port ∷ slots_text slots.list ∷ []) × (1 ≤ port) × (port ≤ OTU2_SLOTS)
+    × (slots.kind ≡ Otu2) × IsSlotList OTU2_SLOTS slots.list
 IsForm words Check = words ≡ codes "check" ∷ []
 IsForm words Run = words ≡ codes "run" ∷ []
-IsForm words (RunOrdered number) = (text : List ℕ) × (words ≡ codes "run" ∷ codes "--order" ∷ text ∷ []) × IsNumberText text number
+IsForm words (RunOrdered number) = (text : List ℕ) × (words ≡ codes "run" ∷ codes "--order" ∷ text ∷ [])
+    × IsNumberText text number
 IsForm words RunCaptures = words ≡ codes "run" ∷ codes "--pcap" ∷ []
 IsForm words (Trial number) = (text : List ℕ) × (words ≡ codes "trial" ∷ text ∷ []) × IsNumberText text number
 IsForm words (Protect port slots turns wait) =
-    (turns_text : List ℕ) × (wait_text : List ℕ) × (words ≡ codes "protect" ∷ digit port ∷ slots_text slots.list ∷ turns_text ∷ wait_text ∷ [])
-    × (1 ≤ port) × (port ≤ OTU2_SLOTS) × (slots.kind ≡ Otu2) × IsSlotList OTU2_SLOTS slots.list × IsTurnsText turns_text turns × IsWaitText wait_text wait
-IsForm words (Bundle clients turns) = (text : List ℕ) × (words ≡ codes "bundle" ∷ clients_text clients ∷ text ∷ []) × IsClientList clients × IsTurnsText text turns
+    (turns_text : List ℕ) × (wait_text : List ℕ)
+    × (words ≡ codes "protect" ∷ digit port ∷ slots_text slots.list ∷ turns_text ∷ wait_text ∷ [])
+    × (1 ≤ port) × (port ≤ OTU2_SLOTS) × (slots.kind ≡ Otu2) × IsSlotList OTU2_SLOTS slots.list
+    × IsTurnsText turns_text turns × IsWaitText wait_text wait
+IsForm words (Bundle clients turns) = (text : List ℕ) × (words ≡ codes "bundle" ∷ clients_text clients ∷ text ∷ [])
+    × IsClientList clients × IsTurnsText text turns
 IsForm words (Unbundle turns) = (text : List ℕ) × (words ≡ codes "unbundle" ∷ text ∷ []) × IsTurnsText text turns
 
 -- words that are the form of no command

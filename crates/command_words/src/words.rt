@@ -26,12 +26,15 @@ pub enum Command {
     RunCaptures,
     /// `trial N`: packets drawn by the number N, of 64 bits, carried through four nodes in a row.
     Trial(u64),
-    /// `protect PORT K,K T N`: the tributary of this port, 1 to 8, and these slots of line inputs 0 and 1, of which the better one goes to
-    /// line output 0, for T turns, 1 to 16,384; N turns of a working line that is Up again bring it back, 0 to 16,384, and 0 never does.
+    /// `protect PORT K,K T N`: the tributary of this port, 1 to 8, and these slots of line inputs 0 and 1, of which the
+    /// better one goes to line output 0, for T turns, 1 to 16,384; N turns of a working line that is Up again bring it
+    /// back, 0 to 16,384, and 0 never does.
     Protect(u8, Slots, u32, u32),
-    /// `bundle C,C T`: the packets of these clients, as the channels of the tributary of port 1 and slot 1 of line output 0, for T turns, 1 to 16,384.
+    /// `bundle C,C T`: the packets of these clients, as the channels of the tributary of port 1 and slot 1 of line
+    /// output 0, for T turns, 1 to 16,384.
     Bundle(ClientList, u32),
-    /// `unbundle T`: the channels of the tributary of port 1 and slot 1 of line input 0, which go to client outputs, for T turns, 1 to 16,384.
+    /// `unbundle T`: the channels of the tributary of port 1 and slot 1 of line input 0, which go to client outputs,
+    /// for T turns, 1 to 16,384.
     Unbundle(u32),
 }
 
@@ -248,7 +251,8 @@ fn wait_of_digits(text: &str) -> Option<u32>
     Some(number as u32)
 }
 
-// The number that these digits write, of `run --order` and of `trial`: 1 to 20 of them, with no sign, and a value of 64 bits.
+// The number that these digits write, of `run --order` and of `trial`: 1 to 20 of them, with no sign, and a value of 64
+// bits.
 fn number_of_digits(text: &str) -> Option<u64>
     ensures number { IfSome result (IsNumberText text.now) }
     ensures none { IfNone result ((number : ℕ) → IsNumberText text.now number → ⊥) }
@@ -275,7 +279,8 @@ fn one_digit(text: &[u8]) -> Option<u8>
 
 // The slots, 1 to 8 and rising, whose digits this text has, with commas between them.
 fn slot_digits(text: &[u8]) -> Option<Slots>
-    ensures slots { IfSome result (λ slots. (text.now ≡ slots_text slots.list) × (slots.kind ≡ LineKind.Otu2) × IsSlotList OTU2_SLOTS slots.list) }
+    ensures slots { IfSome result (λ slots. (text.now ≡ slots_text slots.list) × (slots.kind ≡ LineKind.Otu2)
+        × IsSlotList OTU2_SLOTS slots.list) }
     ensures none { IfNone result ((slots : List ℕ) → text.now ≡ slots_text slots → IsSlotList OTU2_SLOTS slots → ⊥) }
 {
     let mut slots: ArrayVec<u8, OTU2_SLOTS> = ArrayVec::new();
@@ -293,8 +298,10 @@ fn slot_digits(text: &[u8]) -> Option<Slots>
 
 // Appends the number, 1 to 8, that this text is the digit of. None where it is none, or there are eight already.
 fn push_digit(slots: &mut ArrayVec<u8, OTU2_SLOTS>, text: &[u8]) -> Option<()>
-    ensures pushed { IfSome result (λ _. (n : ℕ) × (text.now ≡ digit n) × (slots.new.items ≡ slots.old.items ++ n ∷ [])) }
-    ensures none { IfNone result ((n : ℕ) → text.now ≡ digit n → 1 ≤ n → n ≤ OTU2_SLOTS → length slots.old.items ≡ OTU2_SLOTS) }
+    ensures pushed { IfSome result (λ _. (n : ℕ) × (text.now ≡ digit n)
+        × (slots.new.items ≡ slots.old.items ++ n ∷ [])) }
+    ensures none { IfNone result ((n : ℕ) → text.now ≡ digit n → 1 ≤ n → n ≤ OTU2_SLOTS
+        → length slots.old.items ≡ OTU2_SLOTS) }
 {
     slots.try_push(one_digit(text)?).ok()
 }

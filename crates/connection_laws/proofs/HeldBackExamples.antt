@@ -1,5 +1,5 @@
--- What is held back, worked through: groups of three bytes, of a sender that takes 4, 0, 0, 5, 0 and 0 bytes. Of the first four a group is
--- emitted; the byte over comes with the group that the five complete.
+-- What is held back, worked through: groups of three bytes, of a sender that takes 4, 0, 0, 5, 0 and 0 bytes. Of the
+-- first four a group is emitted; the byte over comes with the group that the five complete.
 use Rattle.std.specs.Prelude.{◌≡◌, ℕ, List, [], ◌∷◌}
 use Rattle.std.proofs.Common.{refl}
 use Rattle.connection_laws.specs.HeldBack.{emitted_after}

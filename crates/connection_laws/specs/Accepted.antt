@@ -1,4 +1,4 @@
--- What a sound plan gives to the laws of carriage.
+-- API: what a sound plan gives to the laws of carriage.
 use Rattle.std.specs.Prelude.{◌≡◌, ℕ, Some, length, slice_get}
 use Rattle.otn_base.specs.LineSlots.{LineSlots}
 use Rattle.plan_file.specs.declared.connection.Connection.{Connection}
@@ -17,5 +17,6 @@ GoesAsAsked = (plan : Plan) (i b port : ℕ) (x : Connection) (slots : LineSlots
 -- One that comes from a line too has as many slots there.
 abbrev pub HasAsManySlots : Type 0
 HasAsManySlots = (plan : Plan) (i a from b port : ℕ) (x : Connection) (slots others : LineSlots)
-    → IsSoundPlan plan → slice_get plan.connections i ≡ Some x → x.from ≡ from_end.Line a from slots → x.to ≡ to_end.Line b port others
+    → IsSoundPlan plan → slice_get plan.connections i ≡ Some x → x.from ≡ from_end.Line a from slots
+    → x.to ≡ to_end.Line b port others
     → length others.list ≡ length slots.list

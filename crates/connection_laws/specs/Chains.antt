@@ -1,4 +1,4 @@
--- Several nodes in a row: each reads the line file that the one before it made.
+-- API: several nodes in a row: each reads the line file that the one before it made.
 use Rattle.std.specs.Prelude.{◌≡◌, ℕ, suc, ◌-◌, ◌≤◌, List, [], ◌∷◌, Option, length}
 use Rattle.std.specs.List.{concat}
 use Rattle.otn_base.specs.LineSlots.{LineSlots}
@@ -14,8 +14,8 @@ use Rattle.device_model.specs.Entries.{first_turn, form_in, form_out}
 use Rattle.device_model.specs.LineViews.{view_at}
 use Rattle.device_model.specs.Through.{Inputs}
 
--- A connection in a run of a node: the run's plan and inputs, the line, port and slots that it comes from and those that it goes to, and the
--- frames of the file of the line that it goes to.
+-- A connection in a run of a node: the run's plan and inputs, the line, port and slots that it comes from and those
+-- that it goes to, and the frames of the file of the line that it goes to.
 pub record Hop : Type 0 where
   pub plan : Plan
   pub inputs : Inputs
@@ -55,11 +55,13 @@ pub record IsHop (hop : Hop) : Type 0 where
   pub same : length hop.slots_out.list ≡ length hop.slots_in.list
   pub made : IsMadeTo hop.plan hop.inputs hop.x hop.line_out (last_turn hop.x) hop.frames
 
--- The next reads this one's file as a line of the same kind and mask, on the slots and the port that were written, in the same turns, though
--- it may stop before.
+-- The next reads this one's file as a line of the same kind and mask, on the slots and the port that were written, in
+-- the same turns, though it may stop before.
 pub record ReadsOn (hop next : Hop) : Type 0 where
   pub form : form_in next.plan next.line_in ≡ form_out hop.plan hop.line_out
-  pub file : next.inputs.line next.line_in ≡ through_mask (form_in next.plan next.line_in).scrambled (through_mask (form_out hop.plan hop.line_out).scrambled (concat hop.frames))
+  pub file : next.inputs.line next.line_in
+      ≡ through_mask (form_in next.plan next.line_in).scrambled
+      (through_mask (form_out hop.plan hop.line_out).scrambled (concat hop.frames))
   pub slots : next.slots_in ≡ hop.slots_out
   pub port : next.port_in ≡ hop.port_out
   pub start : next.x.start ≡ hop.x.start
@@ -75,10 +77,12 @@ abbrev pub last_hop : Hop → List Hop → Hop
 last_hop hop [] = hop
 last_hop hop (next ∷ hops) = last_hop next hops
 
--- Where the first one's input carries bytes in all of its turns, the last one's file carries the same bytes in all of its own, by the same
--- numbers three turns later for each node.
+-- Where the first one's input carries bytes in all of its turns, the last one's file carries the same bytes in all of
+-- its own, by the same numbers three turns later for each node.
 abbrev pub CarriesThroughAll : Type 0
 CarriesThroughAll = (hop : Hop) (hops : List Hop) (bytes p : List ℕ) → AreInARow hop hops
-    → Arrives (own_in hop) bytes p (views_in hop) (first_turn hop.x) (first_turn hop.x) (first_turn hop.x) (last_turn hop.x)
+    → Arrives (own_in hop) bytes p (views_in hop) (first_turn hop.x) (first_turn hop.x) (first_turn hop.x)
+    (last_turn hop.x)
     → let last = last_hop hop hops in
-    Arrives (own_out last) bytes (later (suc (length hops)) p) (views_out last) (first_turn last.x) (first_turn last.x) (first_turn last.x) (last_turn last.x)
+    Arrives (own_out last) bytes (later (suc (length hops)) p) (views_out last) (first_turn last.x) (first_turn last.x)
+    (first_turn last.x) (last_turn last.x)

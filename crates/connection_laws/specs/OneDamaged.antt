@@ -1,4 +1,4 @@
--- One damaged message, on the line that a connection comes from.
+-- Believed: one damaged message, on the line that a connection comes from.
 use Rattle.std.specs.Prelude.{◌≡◌, ℕ, ◌+◌, ◌-◌, ◌<◌, ◌≤◌, Bool, List, Option, Some, length}
 use Rattle.otn_base.specs.LineSlots.{LineSlots}
 use Rattle.plan_file.specs.declared.connection.Connection.{Connection}
@@ -13,8 +13,9 @@ use Rattle.device_model.specs.Entries.{first_turn}
 use Rattle.device_model.specs.LineViews.{view_at}
 use Rattle.device_model.specs.Through.{Inputs, OwnInput, own_input, emits, got_by, arrived_by, text_by, state_in}
 
--- In the turns from start + 1 to stop two lines show the same of a tributary, but for the message of turn i + 1, before which its sink is Up: on
--- the first line this is damaged, on the other it gives the pair of the turn before. On neither are three messages in a row damaged.
+-- In the turns from start + 1 to stop two lines show the same of a tributary, but for the message of turn i + 1, before
+-- which its sink is Up: on the first line this is damaged, on the other it gives the pair of the turn before. On
+-- neither are three messages in a row damaged.
 pub record DifferInOneMessage (own : Tributary) (one other : ℕ → Option View) (start stop i : ℕ) : Type 0 where
   pub turn : (start ≤ i) × (i < stop)
   pub views : (t : ℕ) → start ≤ t → t < stop → (t ≡ i → ⊥) → one t ≡ other t
@@ -38,10 +39,11 @@ pub record AgreeButForOne (one other : Inputs) (x : Connection) : Type 0 where
   pub slots : LineSlots
   pub comes : x.from ≡ from_end.Line line port slots
   pub turn : ℕ
-  pub differ : DifferInOneMessage (tributary_of slots port) (view_at (tributary_of slots port) (one.line line)) (view_at (tributary_of slots port) (other.line line)) (first_turn x) x.stop turn
+  pub differ : DifferInOneMessage (tributary_of slots port) (view_at (tributary_of slots port) (one.line line))
+      (view_at (tributary_of slots port) (other.line line)) (first_turn x) x.stop turn
 
--- In each of its own turns the same leaves on the connection: what its from end emits, what its to end gets, of that the bytes and the text that
--- arrive at a client, and what the from end is.
+-- In each of its own turns the same leaves on the connection: what its from end emits, what its to end gets, of that
+-- the bytes and the text that arrive at a client, and what the from end is.
 pub record LeavesAlikeInItsTurns (x : Connection) (one other : OwnInput) : Type 0 where
   pub emitted : (j : ℕ) → first_turn x + j < x.stop → emits x one j ≡ emits x other j
   pub got : (n : ℕ) → first_turn x + n ≤ x.stop → got_by x one n ≡ got_by x other n
@@ -51,4 +53,5 @@ pub record LeavesAlikeInItsTurns (x : Connection) (one other : OwnInput) : Type 
 
 -- So the damaged message changes nothing of what leaves.
 abbrev pub LeavesAsIfRepeated : Type 0
-LeavesAsIfRepeated = (one other : Inputs) (x : Connection) → AgreeButForOne one other x → LeavesAlikeInItsTurns x (own_input one x) (own_input other x)
+LeavesAsIfRepeated = (one other : Inputs) (x : Connection) → AgreeButForOne one other x
+    → LeavesAlikeInItsTurns x (own_input one x) (own_input other x)

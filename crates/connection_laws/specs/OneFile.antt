@@ -1,4 +1,4 @@
--- A line file is one function of its plan and of the own inputs of the connections that go to the line.
+-- API: a line file is one function of its plan and of the own inputs of the connections that go to the line.
 use Rattle.std.specs.Prelude.{◌≡◌, ℕ, ◌≤◌, List, take}
 use Rattle.std.specs.List.{Contains}
 use Rattle.otn_base.specs.LineSlots.{LineSlots}
@@ -16,10 +16,12 @@ HasOneFile = (plan : Plan) (inputs : Inputs) (b count more : ℕ) (frames others
 
 -- Each connection of the plan that goes to line b has the same input of its own in both.
 abbrev pub SameInputsTo : (plan : Plan) (one other : Inputs) (b : ℕ) → Type 0
-SameInputsTo plan one other b = (x : Connection) (port : ℕ) (slots : LineSlots) → Contains plan.connections x → x.to ≡ to_end.Line b port slots
+SameInputsTo plan one other b = (x : Connection) (port : ℕ) (slots : LineSlots) → Contains plan.connections x
+    → x.to ≡ to_end.Line b port slots
     → SameInput (own_input one x) (own_input other x)
 
 -- Then the whole file is the same, whatever other lines and clients bring.
 abbrev pub HasOneFileForItsInputs : Type 0
 HasOneFileForItsInputs = (plan : Plan) (one other : Inputs) (b count more : ℕ) (frames others : List (List ℕ))
-    → SameInputsTo plan one other b → IsLineFile plan one b count frames → IsLineFile plan other b more others → count ≤ more → frames ≡ take count others
+    → SameInputsTo plan one other b → IsLineFile plan one b count frames → IsLineFile plan other b more others
+    → count ≤ more → frames ≡ take count others

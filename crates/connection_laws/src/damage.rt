@@ -13,8 +13,8 @@ pub fn healing()
     ensures carried { CarriesWhatItGets }
 {}
 
-/// One damaged message, while the sink is Up and where no three in a row are damaged, is as the pair of the turn before, said again:
-/// in each of a connection's own turns the same leaves on it.
+/// One damaged message, while the sink is Up and where no three in a row are damaged, is as the pair of the turn
+/// before, said again: in each of a connection's own turns the same leaves on it.
 pub fn one_damaged_message()
     ensures { LeavesAsIfRepeated }
 {}

@@ -1,4 +1,5 @@
-// The laws of two worlds, each the contract of a function: what leaves on a connection is fixed by its own entry and its own input.
+// The laws of two worlds, each the contract of a function: what leaves on a connection is fixed by its own entry and
+// its own input.
 ghost use Rattle.connection_laws.specs.OneFile.{HasOneFile, HasOneFileForItsInputs};
 ghost use Rattle.connection_laws.specs.TwoWorlds.{GivesTheSameInput, IsSameWhereShared, LeavesTheSame, OwesTheSame, ReportsTheSame, SendsTheSame, WritesTheSame};
 ghost use Rattle.connection_laws.specs.UpToTurn.{LooksNotAhead, ShowsTheSameUpTo, WritesNothingAhead};

@@ -6,7 +6,7 @@ use Rattle.std.proofs.lemmas.Nat.{xor_lt}
 use Rattle.std.proofs.lemmas.Bool.{agree_below_at, eqb-true, eq-eqb}
 use Rattle.crc_small.specs.LongDivision.{crc8_of}
 use Rattle.crc_small.specs.Changes.{ChangesOneByte}
-use Rattle.crc_small.specs.Shifted.{after_byte}
+use Rattle.crc_small.specs.Steps.Shifted.{after_byte}
 use Rattle.crc_small.proofs.Linear.{zeros, zeros-xor, zeros-lt}
 use Rattle.crc_small.proofs.Register.{generator_8, shifted_8, crc8-two}
 

@@ -4,8 +4,8 @@ use Rattle.std.specs.Prelude.{bit_xor, ◌==◌}
 use Rattle.std.specs.Int.Bits.{xor_self, xor_zero_l, xor_zero_r, xor_assoc}
 use Rattle.std.proofs.lemmas.Nat.{xor_lt, xor_block}
 use Rattle.std.proofs.lemmas.Bool.{agree_below_at, eqb-true}
-use Rattle.crc_small.specs.Shifted.{after_byte}
-use Rattle.crc_small.specs.Folding.{after_some, sum_at, places, pending}
+use Rattle.crc_small.specs.Steps.Shifted.{after_byte}
+use Rattle.crc_small.specs.Steps.Folding.{after_some, sum_at, places, pending}
 use Rattle.crc_small.proofs.Linear.{zeros, zeros_zero, xor_swap}
 use Rattle.crc_small.proofs.Inverted.{register_32, register-none, register-more}
 use Rattle.crc_small.proofs.Words.{z, z-xor, z-lt, one_byte, both}

@@ -6,7 +6,7 @@ use Rattle.std.proofs.lemmas.Nat.{xor_comm, xor_lt, xor_shr, xor_mod, xor_block,
 use Rattle.std.proofs.lemmas.Bool.{agree_below_at, eqb-true, eq-eqb, false≢true}
 use Rattle.crc_small.specs.LongDivision.{crc16_of}
 use Rattle.crc_small.specs.Header.{IsRightHeader, IsWithinOneBit}
-use Rattle.crc_small.specs.Shifted.{after_byte}
+use Rattle.crc_small.specs.Steps.Shifted.{after_byte}
 use Rattle.crc_small.proofs.Changes.{same_front}
 use Rattle.crc_small.proofs.Linear.{zeros, zeros-xor, zeros-lt, xor_swap}
 use Rattle.crc_small.proofs.Register.{generator_16, shifted_16, crc16-two}

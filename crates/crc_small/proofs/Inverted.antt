@@ -6,7 +6,7 @@ use Rattle.std.proofs.lemmas.Nat.{xor_comm, xor_lt}
 use Rattle.std.proofs.Math.Seq.{take-length}
 use Rattle.std.proofs.lemmas.List.{length-take-le, get_or-take, get_or-drop, take_more}
 use Rattle.crc_small.specs.LongDivision.{bring_down, remainder_from, check_of, low_bits, bits_of, inverted, crc32_of}
-use Rattle.crc_small.specs.Shifted.{take_in, after_byte, after_word}
+use Rattle.crc_small.specs.Steps.Shifted.{take_in, after_byte, after_word}
 use Rattle.crc_small.proofs.Linear.{Generator, zeros, bring_down-xor, bring_down-lt, check-append, check-nil, first_bit, other_bits, bit_at_top}
 use Rattle.crc_small.proofs.Register.{bits_of-bits, bits_of-push, fed}
 use Rattle.std.proofs.lemmas.List.Sums.{fold-append}

@@ -9,7 +9,7 @@ use Rattle.std.proofs.Math.Nat.{lt-div-mul-add, div-eq_of_lt, zero-mul, one-mul,
 use Rattle.std.proofs.lemmas.List.{append_assoc}
 use Rattle.std.specs.Prelude.{All}
 use Rattle.std.proofs.lemmas.List.Elements.{All-push}
-use Rattle.crc_small.specs.Shifted.{take_in}
+use Rattle.crc_small.specs.Steps.Shifted.{take_in}
 use Rattle.crc_small.specs.LongDivision.{bring_down, remainder_from, check_of}
 
 -- (a + b) + (c + d) is (a + c) + (b + d)

@@ -7,7 +7,7 @@ use Rattle.std.proofs.lemmas.Bool.{agree_below_at, eqb-true}
 use Rattle.std.proofs.Math.Nat.{pow-succ', le-mul_of_pos_right, add-mul-mod_self_right, mod-eq_of_lt}
 use Rattle.crc_small.specs.declared.tables.TheConstants.{HEADER_STEPS}
 use Rattle.crc_small.specs.declared.frame_tables.TheConstants.{FRAME_STEPS}
-use Rattle.crc_small.specs.Shifted.{after_byte}
+use Rattle.crc_small.specs.Steps.Shifted.{after_byte}
 use Rattle.crc_small.proofs.Linear.{zeros, zeros-xor}
 use Rattle.crc_small.proofs.Register.{shift_under, above, generator_16, shifted_16}
 use Rattle.crc_small.proofs.Inverted.{generator_32, shifted_32}

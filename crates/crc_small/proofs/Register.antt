@@ -8,7 +8,7 @@ use Rattle.std.proofs.lemmas.List.Concat.{flat_map-append}
 use Rattle.std.proofs.Math.Nat.{zero-mul, pow-succ', mod-eq_of_lt, zero-add, div-eq_of_lt-le}
 use Rattle.std.proofs.lemmas.List.Elements.{All-append}
 use Rattle.std.proofs.lemmas.List.Sums.{fold-append}
-use Rattle.crc_small.specs.Shifted.{take_in, after_byte, after_five}
+use Rattle.crc_small.specs.Steps.Shifted.{take_in, after_byte, after_five}
 use Rattle.crc_small.specs.LongDivision.{bring_down, check_of, low_bits, bits_of, crc5_of, crc8_of, crc16_of}
 use Rattle.crc_small.proofs.Linear.{Generator, zeros, zeros_late, bring_down-xor, bring_down-lt, bring_down_small, check-append, check-nil, bit_at_top}
 

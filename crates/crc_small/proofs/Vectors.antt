@@ -9,8 +9,8 @@ use Rattle.std.proofs.lemmas.Bool.{cases_lt}
 use Rattle.std.proofs.lemmas.List.{ext_get_or, get_or_past, get_or-append-add, append_assoc, length-append, get_or-append_right}
 use Rattle.std.proofs.Math.ListN.{get_or-append}
 use Rattle.crc_small.specs.declared.long_message.Window.{Window}
-use Rattle.crc_small.specs.Folding.{after_some, sum_at, places, pending}
-use Rattle.crc_small.specs.Window.{IsVector, IsWindow, all_bytes, window_byte}
+use Rattle.crc_small.specs.Steps.Folding.{after_some, sum_at, places, pending}
+use Rattle.crc_small.specs.Steps.Window.{IsVector, IsWindow, all_bytes, window_byte}
 use Rattle.crc_small.proofs.Words.{both}
 use Rattle.crc_small.proofs.Folding.{folded, side_by_side, places_same, pending_same, pending-lt, pending_zero, sum_at-lt, some_split, taken_away}
 

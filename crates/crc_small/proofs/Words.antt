@@ -5,8 +5,8 @@ use Rattle.std.specs.Int.Bits.{xor_assoc}
 use Rattle.std.proofs.lemmas.Nat.{xor_lt}
 use Rattle.std.proofs.lemmas.Bool.{agree_below_at, eqb-true, ltb-true, false≢true}
 use Rattle.crc_small.specs.declared.frame_tables.TheConstants.{FRAME_STEPS}
-use Rattle.crc_small.specs.LookUp.{looked_up}
-use Rattle.crc_small.specs.Shifted.{after_byte, after_word}
+use Rattle.crc_small.specs.Steps.LookUp.{looked_up}
+use Rattle.crc_small.specs.Steps.Shifted.{after_byte, after_word}
 use Rattle.crc_small.proofs.Linear.{zeros, zeros-xor, zeros-lt}
 use Rattle.crc_small.proofs.Register.{above}
 use Rattle.crc_small.proofs.Inverted.{generator_32, shifted_32}

@@ -1,4 +1,4 @@
--- Bytes that are changed on the way.
+-- API: bytes that are changed on the way.
 use Rattle.std.specs.Prelude.{◌≡◌, ◌≢◌, ℕ, ◌⊎◌, List, [], ◌∷◌}
 
 -- two lists of bytes that differ in exactly one place

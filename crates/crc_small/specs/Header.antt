@@ -1,4 +1,4 @@
--- A GFP header of four bytes, as the number of 32 bits whose most significant byte is the first one.
+-- API: a GFP header of four bytes, as the number of 32 bits whose most significant byte is the first one.
 use Rattle.std.specs.Prelude.{◌≡◌, ℕ, ◌/◌, ◌%◌, ◌^◌, ◌<◌, ◌⊎◌, [], ◌∷◌, bit_xor}
 use Rattle.crc_small.specs.LongDivision.{crc16_of}
 

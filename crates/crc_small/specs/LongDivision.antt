@@ -1,6 +1,5 @@
--- The remainder of long division over bits. A polynomial is the number whose bits are its coefficients, so
--- x^8 + x^3 + x^2 + 1 is 0x10D. A bit list has its first bit first, and a byte's first bit is its most
--- significant one.
+-- Believed: the remainder of long division over bits. A polynomial is the number whose bits are its coefficients, so
+-- x^8 + x^3 + x^2 + 1 is 0x10D. A bit list has its first bit first, and a byte's first bit is its most significant one.
 use Rattle.std.specs.Prelude.{ℕ, zero, suc, ◌+◌, ◌-◌, ◌*◌, ◌/◌, ◌%◌, ◌^◌, List, [], ◌∷◌, ◌++◌, fold, flat_map, replicate, bit_xor}
 
 -- one step: bring down the next bit, and take the generator off where it goes in

@@ -2,7 +2,7 @@
 
 ghost use Rattle.std.specs.Prelude.{◌≡◌, ◌≤◌, length, slice_index};
 ghost use Rattle.crc_small.specs.LongDivision.{crc32_of};
-ghost use Rattle.crc_small.specs.Folding.{after_some};
+ghost use Rattle.crc_small.specs.Steps.Folding.{after_some};
 
 use crate::long_message::front32;
 use crate::steps::{byte32, four_words32, word, word32};

@@ -2,15 +2,15 @@
 ghost use Rattle.std.specs.Prelude.{◌≡◌, ℕ, ◌+◌, ◌≤◌, ◌<◌, ◌++◌, bit_xor, length, slice_index};
 ghost use Rattle.std.specs.Simd.Lanes.{pick_l};
 ghost use Rattle.std.specs.List.{range_with_len};
-ghost use Rattle.crc_small.specs.Folding.{after_some, sum_at, places, pending};
-ghost use Rattle.crc_small.specs.Window.{IsVector, IsWindow, window_byte};
+ghost use Rattle.crc_small.specs.Steps.Folding.{after_some, sum_at, places, pending};
+ghost use Rattle.crc_small.specs.Steps.Window.{IsVector, IsWindow, window_byte};
 
 use crate::steps::sixteen32;
 use std::simd::u8x16;
 
 /// The register of the check of 32 bits after the first bytes of a message, and how many they are: each sixteen bytes
-/// but for the last are added to bytes behind them, 16, 19, 35, 43, 64, 75, 77, 81 and 93 bytes on. That leaves the check as
-/// it was, since these numbers are those of a multiple of the generator.
+/// but for the last are added to bytes behind them, 16, 19, 35, 43, 64, 75, 77, 81 and 93 bytes on. That leaves the
+/// check as it was, since these numbers are those of a multiple of the generator.
 pub(crate) fn front32(bytes: &[u8]) -> (u32, usize)
     requires { 96 ≤ length bytes.now }
     ensures within { result.1 ≤ length bytes.now }
@@ -79,7 +79,8 @@ impl Window {
         requires window { IsWindow self }
         requires next { IsVector next }
         ensures vector { IsVector result }
-        ensures bytes { (j : ℕ) → j < 16 → slice_index result j ≡ bit_xor (slice_index next j) (sum_at (λ c. window_byte self (j + c)) places) }
+        ensures bytes { (j : ℕ) → j < 16 → slice_index result j
+            ≡ bit_xor (slice_index next j) (sum_at (λ c. window_byte self (j + c)) places) }
     {
         let near = from_13(self.v3 ^ self.v2, self.v2 ^ self.v1);
         let far = from_5(self.v5 ^ self.v3, self.v4 ^ self.v2);
@@ -91,7 +92,14 @@ impl Window {
     // The window sixteen bytes on.
     #[inline(always)]
     fn push(self, newest: u8x16) -> Window
-        ensures { result ≡ record { v1 = newest; v2 = self.v1; v3 = self.v2; v4 = self.v3; v5 = self.v4; v6 = self.v5 } }
+        ensures { result ≡ record {
+          v1 = newest;
+          v2 = self.v1;
+          v3 = self.v2;
+          v4 = self.v3;
+          v5 = self.v4;
+          v6 = self.v5;
+        } }
     {
         Window {
             v1: newest,

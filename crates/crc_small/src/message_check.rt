@@ -2,14 +2,15 @@
 
 ghost use Rattle.std.specs.Prelude.{◌≡◌, ◌≢◌, ℕ, ◌<◌, [], ◌∷◌};
 ghost use Rattle.crc_small.specs.LongDivision.{crc8_of, crc5_of, bring_down};
-ghost use Rattle.crc_small.specs.Shifted.{after_byte, after_five};
+ghost use Rattle.crc_small.specs.Steps.Shifted.{after_byte, after_five};
 ghost use Rattle.crc_small.specs.Changes.{ChangesOneByte};
 
 /// The check of 8 bits that JC3 carries (G.709 Annex D): the remainder of the bits of JC1 and JC2, followed
 /// by 8 zeros, by x^8 + x^3 + x^2 + 1. A change within one of the three bytes is always found.
 pub fn crc8(jc1: u8, jc2: u8) -> u8
     ensures check { result ≡ crc8_of (jc1 ∷ jc2 ∷ []) }
-    ensures one_byte_changed { (a b c : ℕ) → a < 256 → b < 256 → ChangesOneByte (jc1 ∷ jc2 ∷ result ∷ []) (a ∷ b ∷ c ∷ [])
+    ensures one_byte_changed { (a b c : ℕ) → a < 256 → b < 256
+        → ChangesOneByte (jc1 ∷ jc2 ∷ result ∷ []) (a ∷ b ∷ c ∷ [])
         → c ≢ crc8_of (a ∷ b ∷ []) }
 {
     byte8(byte8(0, jc1), jc2)

@@ -1,9 +1,9 @@
 // What some bytes do to a register: look-ups in tables.
 
 ghost use Rattle.std.specs.Prelude.{◌≡◌, ◌+◌, ◌/◌, ◌%◌, ◌^◌, ◌≤◌, length, slice_index};
-ghost use Rattle.crc_small.specs.Folding.{after_some};
-ghost use Rattle.crc_small.specs.Shifted.{after_byte, after_word};
-ghost use Rattle.crc_small.specs.LookUp.{looked_up};
+ghost use Rattle.crc_small.specs.Steps.Folding.{after_some};
+ghost use Rattle.crc_small.specs.Steps.Shifted.{after_byte, after_word};
+ghost use Rattle.crc_small.specs.Steps.LookUp.{looked_up};
 
 use crate::frame_tables::FRAME_STEPS;
 use crate::tables::HEADER_STEPS;
@@ -46,7 +46,8 @@ pub(crate) fn word32(register: u32, word: u32) -> u32
 /// sixteen bytes too, go on beside them.
 #[inline]
 pub(crate) fn four_words32(register: u32, first: u32, second: u32, third: u32, fourth: u32) -> u32
-    ensures { let after = after_word 31 0x104C11DB7 in result ≡ after (after (after (after register first) second) third) fourth }
+    ensures { let after = after_word 31 0x104C11DB7 in result
+        ≡ after (after (after (after register first) second) third) fourth }
 {
     let two = look_up(
         second,

@@ -5,7 +5,7 @@ use Rattle.std.proofs.lemmas.Option.{slice_get-get_or}
 use Rattle.plan_file.specs.declared.connection.Connection.{Connection}
 use Rattle.plan_file.specs.declared.plan.Plan.{Plan}
 use Rattle.device_model.specs.SoundPlans.{IsSoundPlan}
-use Rattle.cross_matrix.specs.Pipes.{IsFit}
+use Rattle.cross_matrix.specs.Steps.Pipes.{IsFit}
 
 pub entry_fits : (plan : Plan) (i : ℕ) (x : Connection) → IsSoundPlan plan → slice_get plan.connections i ≡ Some x → IsFit x
 entry_fits plan i x sound known =

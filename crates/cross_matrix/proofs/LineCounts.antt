@@ -15,7 +15,8 @@ use Rattle.otn_ports.proofs.GivenLaws.{gained_twice, empty_not_live, dead_not_li
 use Rattle.otn_base.specs.Counts.{saturated}
 use Rattle.packet_text.specs.PacketText.{packet_line, hex_text}
 use Rattle.device_model.specs.Numbers.{whole_lines, counted_packets}
-use Rattle.cross_matrix.specs.Receiving.{is_dead, LinesSent, HeldView, NoneHeld, LinesHeld}
+use Rattle.cross_matrix.specs.Receiving.{HeldView, NoneHeld}
+use Rattle.cross_matrix.specs.Steps.Receiving.{is_dead, LinesSent, LinesHeld}
 
 -- ---- whole lines
 

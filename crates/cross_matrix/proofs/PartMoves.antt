@@ -26,7 +26,8 @@ use Rattle.tributary_model.specs.Carries.{past_of}
 use Rattle.tributary_model.specs.Places.{Tributary, Taken, View, tributary_of}
 use Rattle.device_model.specs.Entries.{first_turn}
 use Rattle.device_model.specs.Through.{OwnInput, of_line, of_client, of_signal, got_by}
-use Rattle.cross_matrix.specs.Parts.{TakesFrom, GivesTo, TakingStands, GivingStands, IsInputOf, TextStands, TextTook, MayShow, MayTell}
+use Rattle.cross_matrix.specs.Parts.{TakesFrom, GivesTo, TakingStands, GivingStands, IsInputOf, TextStands, MayShow, MayTell}
+use Rattle.cross_matrix.specs.Steps.Parts.{TextTook}
 use Rattle.cross_matrix.specs.declared.taking.ClientText.{ClientText}
 use Rattle.cross_matrix.specs.declared.taking.TakingPart.{TakingPart}
 use Rattle.cross_matrix.specs.declared.taking.TakingPart.TheVariants as taking

@@ -13,7 +13,8 @@ use Rattle.tributary_model.specs.Places.{Tributary, Taken, View, tributary_of}
 use Rattle.tributary_model.specs.Puts.{WasPut}
 use Rattle.device_model.specs.Through.{OwnInput, of_line, of_client, of_signal, emits, emits_by, got_in, got_by, arrived_by}
 use Rattle.cross_matrix.specs.Receiving.{ReceiverStands}
-use Rattle.cross_matrix.specs.Parts.{TakesFrom, GivesTo, OnSource, OnReceiver, IsToClient, IsOfClient, TakingStands, GivingStands, ClientOutStands, TextTook, MayShow}
+use Rattle.cross_matrix.specs.Parts.{TakesFrom, GivesTo, OnSource, OnReceiver, IsToClient, IsOfClient, TakingStands, GivingStands, ClientOutStands, MayShow}
+use Rattle.cross_matrix.specs.Steps.Parts.{TextTook}
 use Rattle.cross_matrix.specs.Pipes.{PipeView, IsPipeOf, PipeStands, ClientTook}
 use Rattle.cross_matrix.specs.declared.taking.TakingPart.{TakingPart}
 use Rattle.cross_matrix.specs.declared.taking.TakingPart.TheVariants as taking

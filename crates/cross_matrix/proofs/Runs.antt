@@ -19,7 +19,8 @@ use Rattle.otn_ports.proofs.GivenLaws.{gained_none}
 use Rattle.otn_base.specs.Counts.{saturated}
 use Rattle.packet_text.specs.PacketText.{hex_text}
 use Rattle.device_model.specs.Numbers.{counted_packets}
-use Rattle.cross_matrix.specs.Receiving.{ReceiverView, last_run, ReceiverStands, LinesSent, HeldView, NoneHeld, LinesHeld, RunRead, AllRead, HoldsAfter}
+use Rattle.cross_matrix.specs.Receiving.{ReceiverView, last_run, ReceiverStands, HeldView, NoneHeld}
+use Rattle.cross_matrix.specs.Steps.Receiving.{LinesSent, LinesHeld, RunRead, AllRead, HoldsAfter}
 use Rattle.cross_matrix.proofs.LineCounts.{none_held}
 
 -- all runs but the last

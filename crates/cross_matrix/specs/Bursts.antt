@@ -1,4 +1,4 @@
--- The bytes of one turn.
+-- API: the bytes of one turn.
 use Rattle.std.specs.Prelude.{ℕ, List}
 
 -- the bytes, and how many there is room for

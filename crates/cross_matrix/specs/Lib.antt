@@ -3,3 +3,4 @@ pub mod Receiving
 pub mod Parts
 pub mod Pipes
 pub mod InTurn
+pub mod Steps

@@ -1,7 +1,7 @@
--- The parts of a connection: the one that takes from its input, and the one that gives to its output.
-use Rattle.std.specs.Prelude.{◌≡◌, ◌≢◌, ⊤, ℕ, suc, Bool, true, false, if◌then◌else◌, List, ◌++◌, length, IsSome}
+-- API: the parts of a connection: the one that takes from its input, and the one that gives to its output.
+use Rattle.std.specs.Prelude.{◌≡◌, ◌≢◌, ⊤, ℕ, suc, Bool, true, false, if◌then◌else◌, List, length, IsSome}
 use Rattle.maintenance_signals.specs.Given.{HasGiven}
-use Rattle.odu_client.specs.ClientInput.{ClientInput, input_of, input_emits, emitted_before}
+use Rattle.odu_client.specs.ClientInput.{ClientInput, input_of, emitted_before}
 use Rattle.odu_client.specs.Framing.{ClientStands, MayDie}
 use Rattle.otn_ports.specs.Views.{InView, OutView}
 use Rattle.packet_text.specs.LinesStand.{LinesView, lines_view, MayBe}
@@ -91,24 +91,31 @@ IsTextOver (taking.Signal stream) = ⊥
 abbrev pub turns_taken : (j : ℕ) → (ended : Bool) → ℕ
 turns_taken j ended = if ended then suc j else j
 
--- The taking part in own turn j, of which these frames of a line were taken: what it has of a client's text is told with its place.
-abbrev pub TakingStands : FromEnd → Connection → OwnInput → (j : ℕ) → (frames : List Taken) → (ended : Bool) → TakingPart → Type 0
+-- The taking part in own turn j, of which these frames of a line were taken: what it has of a client's text is told
+-- with its place.
+abbrev pub TakingStands : FromEnd → Connection → OwnInput → (j : ℕ) → (frames : List Taken) → (ended : Bool)
+    → TakingPart → Type 0
 TakingStands (from_end.Line a port slots) x (of_line shows) j frames ended (taking.Line sink) =
     SinkStands (tributary_of slots port) (past_of shows (first_turn x) (turns_taken j ended)) frames sink
 TakingStands (from_end.Client n) x (of_client input) j frames ended (taking.Client client) = ⊤
-TakingStands (from_end.Signal signal) x of_signal j frames ended (taking.Signal stream) = HasGiven signal (emitted_before x.pace j) stream
+TakingStands (from_end.Signal signal) x of_signal j frames ended (taking.Signal stream) = HasGiven signal
+    (emitted_before x.pace j) stream
 TakingStands from x input j frames ended other = ⊥
 
--- the giving part in own turn j, in which so many frames of a line were filled: what it has given to a client is told with its place
+-- the giving part in own turn j, in which so many frames of a line were filled: what it has given to a client is told
+-- with its place
 abbrev pub GivingStands : ToEnd → Connection → OwnInput → (j filled : ℕ) → GivingPart → Type 0
-GivingStands (to_end.Line b port slots) x input j filled (giving.Line source) = SourceStands (tributary_of slots port) (got_by x input (suc j)) filled source
+GivingStands (to_end.Line b port slots) x input j filled (giving.Line source) = SourceStands (tributary_of slots port)
+    (got_by x input (suc j)) filled source
 GivingStands (to_end.Client n) x input j filled (giving.Client receiver) = ⊤
 GivingStands to x input j filled other = ⊥
 
 -- ---- with the place of a client
 
--- A client's text, of which these bytes were taken between two views of its place, has emitted what the first n own turns ask.
-pub record TextStands (x : Connection) (first now : InView) (taken : List ℕ) (n : ℕ) (client : ClientText) : Type 0 where
+-- A client's text, of which these bytes were taken between two views of its place, has emitted what the first n own
+-- turns ask.
+pub record TextStands (x : Connection) (first now : InView) (taken : List ℕ) (n : ℕ)
+    (client : ClientText) : Type 0 where
   pub gone : List ℕ
   pub count : length gone ≡ emitted_before x.pace n
   pub stands : ClientStands first now taken gone (lines_view client.lines) client.framer
@@ -135,14 +142,6 @@ MayShow (taking.Line sink) taken (of_line shows) = ⊤
 MayShow (taking.Client client) taken (of_client input) = MayTell (lines_view client.lines) taken input
 MayShow (taking.Signal stream) taken of_signal = ⊤
 MayShow other taken input = ⊥
-
--- A client was taken in own turn n: more bytes of its text, and what it may turn out to be from then on it might be before. Whatever it is,
--- these bytes are what it emits in the turn.
-pub record TextTook (x : Connection) (first now : InView) (taken : List ℕ) (n : ℕ) (old new : TakingPart) (bytes : List ℕ) : Type 0 where
-  pub more : List ℕ
-  pub stands : ClientInStands x first now (taken ++ more) (suc n) new
-  pub earlier : (input : OwnInput) → MayShow new (taken ++ more) input → MayShow old taken input
-  pub emitted : (input : ClientInput) → MayShow new (taken ++ more) (of_client input) → bytes ≡ input_emits x.trace x.fcs x.pace input n
 
 -- what the first n own turns gave has arrived at a client, and its text was due to the place
 abbrev pub ClientOutStands : Connection → OwnInput → (first now : OutView) → (n : ℕ) → GivingPart → Type 0

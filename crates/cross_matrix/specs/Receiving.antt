@@ -1,17 +1,16 @@
--- A client's output: the packets that arrive, written as text.
-use Rattle.std.specs.Prelude.{◌≡◌, ℕ, Bool, true, false, List, [], ◌∷◌, ◌++◌, length, flat_map}
+-- API: a client's output: the packets that arrive, written as text.
+use Rattle.std.specs.Prelude.{◌≡◌, ℕ, List, ◌∷◌}
 use Rattle.otn_ports.specs.Sent.{IsSent}
-use Rattle.otn_ports.specs.Views.{State, Empty, Live, Dead, OutView}
-use Rattle.gfp_frames.specs.Delivered.{delivered}
+use Rattle.otn_ports.specs.Views.{OutView}
 use Rattle.gfp_frames.specs.Reader.{ReaderState, HasRead}
-use Rattle.odu_client.specs.AlignedRuns.{Arrival, arrivals, runs_of}
+use Rattle.odu_client.specs.AlignedRuns.{arrivals, runs_of}
 use Rattle.odu_client.specs.Aligner.{AlignerState, HasAligned}
 use Rattle.odu_client.specs.ClientOutput.{arriving_packets, arriving_text, arriving_frames}
 use Rattle.otn_base.specs.Counts.{saturated}
 use Rattle.device_model.specs.Numbers.{counted_packets}
-use Rattle.packet_text.specs.PacketText.{hex_text}
 
--- what is seen of a receiver: its aligner, its GFP reader, how many whole frames were handed on, and how many packets count
+-- what is seen of a receiver: its aligner, its GFP reader, how many whole frames were handed on, and how many packets
+-- count
 pub record ReceiverView : Type 0 where
   pub aligner : AlignerState
   pub reader : ReaderState
@@ -24,8 +23,8 @@ last_run [] = []
 last_run (run ∷ []) = run
 last_run (run ∷ next ∷ runs) = last_run (next ∷ runs)
 
--- These bytes have arrived at the receiver since its start. `first` and `now` are views of its place: between them the text of the packets
--- that the bytes deliver was due to it.
+-- These bytes have arrived at the receiver since its start. `first` and `now` are views of its place: between them the
+-- text of the packets that the bytes deliver was due to it.
 pub record ReceiverStands (first now : OutView) (arrived : List ℕ) (receiver : ReceiverView) : Type 0 where
   pub aligned : HasAligned arrived receiver.aligner
   pub read : HasRead (last_run (runs_of (arrivals arrived))) receiver.reader
@@ -34,17 +33,6 @@ pub record ReceiverStands (first now : OutView) (arrived : List ℕ) (receiver :
   pub packets : receiver.packets ≡ saturated (counted_packets first.state (arriving_packets arrived) sent.went)
 
 -- ---- steps of a receiver
-
--- whether a place is dead
-abbrev pub is_dead : State → Bool
-is_dead Empty = false
-is_dead Live = false
-is_dead Dead = true
-
--- the text of these packets was due to a place, and so many of them count
-pub record LinesSent (first now : OutView) (packets : List (List ℕ)) (count : ℕ) : Type 0 where
-  pub sent : IsSent first (hex_text packets) now
-  pub counted : count ≡ saturated (counted_packets first.state packets sent.went)
 
 -- what is seen of lines that are held: their text, how many they are, and how many packets count
 pub record HeldView : Type 0 where
@@ -56,37 +44,3 @@ pub record HeldView : Type 0 where
 pub record NoneHeld (held : HeldView) : Type 0 where
   pub text : held.text ≡ []
   pub count : held.count ≡ 0
-
--- and no packet counts
-pub record IsNew (held : HeldView) : Type 0 where
-  pub none : NoneHeld held
-  pub packets : held.packets ≡ 0
-
--- Of these packets, the text of the first was due to a place, and so many of them count; that of the others is held. For a dead place
--- none is held.
-pub record LinesHeld (first now : OutView) (packets : List (List ℕ)) (held : HeldView) : Type 0 where
-  pub gone : List (List ℕ)
-  pub waiting : List (List ℕ)
-  pub parts : gone ++ waiting ≡ packets
-  pub sent : LinesSent first now gone held.packets
-  pub text : held.text ≡ hex_text waiting
-  pub count : held.count ≡ length waiting
-  pub dead : now.state ≡ Dead → waiting ≡ []
-
--- the reader has read these bytes of a run: behind earlier packets, those that they deliver are due to the place
-pub record RunRead (first now : OutView) (earlier : List (List ℕ)) (taken : List ℕ) (reader : ReaderState) (held : HeldView) : Type 0 where
-  pub read : HasRead taken reader
-  pub lines : LinesHeld first now (earlier ++ delivered taken) held
-
--- all that arrived was read
-pub record AllRead (first now : OutView) (came : List Arrival) (reader : ReaderState) (held : HeldView) : Type 0 where
-  pub read : HasRead (last_run (runs_of came)) reader
-  pub lines : LinesHeld first now (flat_map delivered (runs_of came)) held
-
--- These bytes have arrived at a receiver with this aligner and this reader, where so many whole frames were handed on: the packets that
--- they deliver are due to the place.
-pub record HoldsAfter (first now : OutView) (arrived : List ℕ) (aligner : AlignerState) (frames : ℕ) (reader : ReaderState) (held : HeldView) : Type 0 where
-  pub aligned : HasAligned arrived aligner
-  pub whole : frames ≡ saturated (arriving_frames arrived)
-  pub read : HasRead (last_run (runs_of (arrivals arrived))) reader
-  pub lines : LinesHeld first now (arriving_packets arrived) held

@@ -6,7 +6,8 @@ ghost use Rattle.plan_file.specs.declared.connection.Connection.{Connection};
 ghost use Rattle.plan_file.specs.declared.connection.FromEnd.TheVariants as from_end;
 ghost use Rattle.device_model.specs.Entries.{slot_count, slots_between};
 ghost use Rattle.cross_matrix.specs.Parts.{TakesFrom, GivesTo, HasSlots, GivesSlots};
-ghost use Rattle.cross_matrix.specs.Pipes.{IsPipeOf, IsFit};
+ghost use Rattle.cross_matrix.specs.Pipes.{IsPipeOf};
+ghost use Rattle.cross_matrix.specs.Steps.Pipes.{IsFit};
 
 use crate::Pipe;
 use crate::burst::Burst;
@@ -25,8 +26,8 @@ use trib_sink::TribSink;
 use trib_source::TribSource;
 
 impl Pipe {
-    /// The pipe of entry `i`, from 0, of an accepted plan, which is to be started. Takes all memory that it will ever need: under
-    /// 1,000,000 bytes, and under 4,000,000 with 32 slots; answers `Memory` where there is none.
+    /// The pipe of entry `i`, from 0, of an accepted plan, which is to be started. Takes all memory that it will ever
+    /// need: under 1,000,000 bytes, and under 4,000,000 with 32 slots; answers `Memory` where there is none.
     pub fn new(alloc: Global, plan: &Plan, i: u32) -> Result<Pipe, Memory>
         requires accepted { fault_in plan.now ≡ None }
         requires entry { i < length plan.now.connections }
@@ -37,10 +38,10 @@ impl Pipe {
     }
 }
 
-// The most, in bytes, is a client's on all eight slots of a line: 869,320. These are the two bursts, and the two of the line's
-// source, each of 8 * 15,233; of that source also a row of 30,464 and a ring of 8; of the framer a frame of 15,296 and a GFP
-// frame of 65,539; of the text a block of 4,096, a line of 135,151, two packets of 65,527, and the marks of 256 digits. The
-// paces and what each of these is told by come to it.
+// The most, in bytes, is a client's on all eight slots of a line: 869,320. These are the two bursts, and the two of the
+// line's source, each of 8 * 15,233; of that source also a row of 30,464 and a ring of 8; of the framer a frame of
+// 15,296 and a GFP frame of 65,539; of the text a block of 4,096, a line of 135,151, two packets of 65,527, and the
+// marks of 256 digits. The paces and what each of these is told by come to it.
 fn pipe_of(alloc: Global, x: &Connection) -> Result<Pipe, Memory>
     requires fit { IsFit x.now }
     ensures { IfOk result (IsPipeOf x.now) }

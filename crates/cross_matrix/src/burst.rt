@@ -79,9 +79,11 @@ impl Burst {
     pub(crate) fn take_turn(&mut self, sink: &mut TribSink, whole: bool)
         requires whole { IsTrue whole → sink.old.taken ≡ slots_of sink.old.slots.kind }
         requires room { self.old.room ≡ length sink.old.slots.list * (GROUPS + 1) }
-        ensures bytes { (own : Tributary) (past : List (Option View)) (frames : List Taken) → StandsAfter own past frames sink.old
+        ensures bytes { (own : Tributary) (past : List (Option View)) (frames : List Taken)
+            → StandsAfter own past frames sink.old
             → self.new.bytes ≡ emission own (signal_byte Ais) past (ended_view own whole frames) }
-        ensures stands { (own : Tributary) (past : List (Option View)) (frames : List Taken) → StandsAfter own past frames sink.old
+        ensures stands { (own : Tributary) (past : List (Option View)) (frames : List Taken)
+            → StandsAfter own past frames sink.old
             → StandsAfter own (ended_view own whole frames ∷ past) [] sink.new }
         ensures taken { sink.new.taken ≡ 0 }
         ensures slots { sink.new.slots ≡ sink.old.slots }
@@ -93,12 +95,14 @@ impl Burst {
         self.last = emitted.end;
     }
 
-    /// Begins a turn of a source, which takes the bytes, and the buffer, in exchange for one of its own: no bytes are left. Of
-    /// more than complete the groups of a multiframe it takes the first.
+    /// Begins a turn of a source, which takes the bytes, and the buffer, in exchange for one of its own: no bytes are
+    /// left. Of more than complete the groups of a multiframe it takes the first.
     pub(crate) fn give_turn(&mut self, source: &mut TribSource)
         requires room { self.old.room ≡ length source.old.slots.list * (GROUPS + 1) }
-        ensures stands { (own : Tributary) (turns : List (List ℕ)) (filled : ℕ) → SourceStands own turns filled source.old
-            → (sent (lengths_of turns) (length turns) + length self.old.bytes) / length own.slots ≤ sent (lengths_of turns) (length turns) / length own.slots + GROUPS
+        ensures stands { (own : Tributary) (turns : List (List ℕ)) (filled : ℕ)
+            → SourceStands own turns filled source.old
+            → (sent (lengths_of turns) (length turns) + length self.old.bytes) / length own.slots ≤ sent
+            (lengths_of turns) (length turns) / length own.slots + GROUPS
             → SourceStands own (turns ++ self.old.bytes ∷ []) 0 source.new }
         ensures begun { IsSome source.new.said }
         ensures filled { source.new.filled ≡ 0 }
@@ -120,8 +124,10 @@ impl Burst {
     )
         requires room { count ≤ self.old.room }
         ensures count { length self.new.bytes ≡ count }
-        ensures fills { (first : InView) (taken gone : List ℕ) → ClientStands first (in_view P.Source place.old) taken gone (lines_view lines.old) framer.old
-            → Fills first (in_view P.Source place.new) taken gone self.new.bytes (lines_view lines.old) (lines_view lines.new) framer.old framer.new }
+        ensures fills { (first : InView) (taken gone : List ℕ)
+            → ClientStands first (in_view P.Source place.old) taken gone (lines_view lines.old) framer.old
+            → Fills first (in_view P.Source place.new) taken gone self.new.bytes (lines_view lines.old)
+            (lines_view lines.new) framer.old framer.new }
         ensures over { framer.old.stream.answer ≢ Line.Packet → lines.new ≡ lines.old }
         ensures quiet { framer.old.stream.answer ≢ Line.Packet → place.new ≡ place.old }
         ensures room_stays { self.new.room ≡ self.old.room }
@@ -134,8 +140,10 @@ impl Burst {
     /// The next bytes, so many, of a signal's stream.
     pub(crate) fn take_signal(&mut self, stream: &mut SignalBytes, count: usize)
         requires room { count ≤ self.old.room }
-        ensures bytes { (signal : Signal) (given : ℕ) → HasGiven signal given stream.old → self.new.bytes ≡ signal_bytes signal given count }
-        ensures given { (signal : Signal) (given : ℕ) → HasGiven signal given stream.old → HasGiven signal (given + count) stream.new }
+        ensures bytes { (signal : Signal) (given : ℕ) → HasGiven signal given stream.old
+            → self.new.bytes ≡ signal_bytes signal given count }
+        ensures given { (signal : Signal) (given : ℕ) → HasGiven signal given stream.old
+            → HasGiven signal (given + count) stream.new }
         ensures room_stays { self.new.room ≡ self.old.room }
     {
         next_front(stream, &mut self.buffer, count);
@@ -154,8 +162,10 @@ fn fill_front<P: Source>(
 )
     requires { count ≤ length into.old }
     ensures size { length into.new ≡ length into.old }
-    ensures fills { (first : InView) (taken gone : List ℕ) → ClientStands first (in_view P.Source place.old) taken gone (lines_view lines.old) framer.old
-        → Fills first (in_view P.Source place.new) taken gone (take count into.new) (lines_view lines.old) (lines_view lines.new) framer.old framer.new }
+    ensures fills { (first : InView) (taken gone : List ℕ)
+        → ClientStands first (in_view P.Source place.old) taken gone (lines_view lines.old) framer.old
+        → Fills first (in_view P.Source place.new) taken gone (take count into.new) (lines_view lines.old)
+        (lines_view lines.new) framer.old framer.new }
     ensures over { framer.old.stream.answer ≢ Line.Packet → lines.new ≡ lines.old }
     ensures quiet { framer.old.stream.answer ≢ Line.Packet → place.new ≡ place.old }
 {
@@ -165,8 +175,10 @@ fn fill_front<P: Source>(
 // The next bytes of a signal's stream, so many, to the front of a slice.
 fn next_front(stream: &mut SignalBytes, into: &mut [u8], count: usize)
     requires { count ≤ length into.old }
-    ensures bytes { (signal : Signal) (given : ℕ) → HasGiven signal given stream.old → take count into.new ≡ signal_bytes signal given count }
-    ensures given { (signal : Signal) (given : ℕ) → HasGiven signal given stream.old → HasGiven signal (given + count) stream.new }
+    ensures bytes { (signal : Signal) (given : ℕ) → HasGiven signal given stream.old
+        → take count into.new ≡ signal_bytes signal given count }
+    ensures given { (signal : Signal) (given : ℕ) → HasGiven signal given stream.old
+        → HasGiven signal (given + count) stream.new }
 {
     stream.next(&mut into[..count]);
 }

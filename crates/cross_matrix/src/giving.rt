@@ -29,7 +29,8 @@ pub(crate) enum GivingPart {
 
 /// Begins anew, as for another run of the connection: nothing is given in its first turn.
 pub(crate) fn restart_giving(part: &mut GivingPart)
-    ensures stands { (to : ToEnd) (x : Connection) (input : OwnInput) → GivesTo to part.old → GivingStands to x input 0 0 part.new }
+    ensures stands { (to : ToEnd) (x : Connection) (input : OwnInput) → GivesTo to part.old
+        → GivingStands to x input 0 0 part.new }
     ensures text { (first : OutView) → IsToClient part.old → OnReceiver part.new (ReceiverStands first first []) }
     ensures entry { (to : ToEnd) → GivesTo to part.old → GivesTo to part.new }
     ensures filled { frames_filled part.new ≡ 0 }
@@ -57,8 +58,10 @@ fn restart_line(source: &mut TribSource)
 /// sink's emission does, and no pace. For a client they are kept.
 pub(crate) fn begin_turn(part: &mut GivingPart, gives: &mut Burst)
     requires room { (m : ℕ) × GivesSlots m part.old × (gives.old.room ≡ m * (GROUPS + 1)) }
-    ensures stands { (own : Tributary) (turns : List (List ℕ)) (filled : ℕ) → OnSource part.old (StandsAfter own turns filled)
-        → (sent (lengths_of turns) (length turns) + length gives.old.bytes) / length own.slots ≤ sent (lengths_of turns) (length turns) / length own.slots + GROUPS
+    ensures stands { (own : Tributary) (turns : List (List ℕ)) (filled : ℕ)
+        → OnSource part.old (StandsAfter own turns filled)
+        → (sent (lengths_of turns) (length turns) + length gives.old.bytes) / length own.slots ≤ sent (lengths_of turns)
+        (length turns) / length own.slots + GROUPS
         → OnSource part.new (StandsAfter own (turns ++ gives.old.bytes ∷ []) 0) }
     ensures receiver { IsToClient part.old → part.new ≡ part.old }
     ensures kept { IsToClient part.new → gives.new ≡ gives.old }
@@ -76,11 +79,15 @@ pub(crate) fn begin_turn(part: &mut GivingPart, gives: &mut Burst)
 
 /// Fills frame `n` of the turn of the output line.
 pub(crate) fn fill_line<F: FillFrame>(part: &mut GivingPart, n: u8, frame: &mut F)
-    requires line { OnSource part.old (λ source. (n < slots_of source.slots.kind) × (n ≡ source.filled) × IsSome source.said) }
-    ensures put { (own : Tributary) (turns : List (List ℕ)) → OnSource part.old (StandsAfter own turns n) → WasPut own turns (length turns - 1) n (F.bytes frame.old) (F.bytes frame.new) }
-    ensures stands { (own : Tributary) (turns : List (List ℕ)) → OnSource part.old (StandsAfter own turns n) → OnSource part.new (StandsAfter own turns (n + 1)) }
+    requires line { OnSource part.old (λ source. (n < slots_of source.slots.kind) × (n ≡ source.filled)
+        × IsSome source.said) }
+    ensures put { (own : Tributary) (turns : List (List ℕ)) → OnSource part.old (StandsAfter own turns n)
+        → WasPut own turns (length turns - 1) n (F.bytes frame.old) (F.bytes frame.new) }
+    ensures stands { (own : Tributary) (turns : List (List ℕ)) → OnSource part.old (StandsAfter own turns n)
+        → OnSource part.new (StandsAfter own turns (n + 1)) }
     ensures kept { (port row column : ℕ) → 1 ≤ row → row ≤ ROWS → 1 ≤ column → column ≤ COLUMNS
-        → OnSource part.old (λ source. IsSourcePlace (tributary_of source.slots port) n row column → ⊥) → byte_at (F.bytes frame.new) row column ≡ byte_at (F.bytes frame.old) row column }
+        → OnSource part.old (λ source. IsSourcePlace (tributary_of source.slots port) n row column → ⊥)
+        → byte_at (F.bytes frame.new) row column ≡ byte_at (F.bytes frame.old) row column }
     ensures entry { (to : ToEnd) → GivesTo to part.old → GivesTo to part.new }
     ensures filled { frames_filled part.new ≡ frames_filled part.old + 1 }
     ensures begun { IsBegun part.new }
@@ -95,7 +102,8 @@ pub(crate) fn fill_line<F: FillFrame>(part: &mut GivingPart, n: u8, frame: &mut 
 /// The bytes arrive at the client.
 pub(crate) fn give_text<K: Sink>(part: &mut GivingPart, bytes: &[u8], place: &mut OutPlaceOf<K>)
     requires client { IsToClient part.old }
-    ensures gave { (first : OutView) (arrived : List ℕ) → OnReceiver part.old (ReceiverStands first (out_view K.Sink place.old) arrived)
+    ensures gave { (first : OutView) (arrived : List ℕ)
+        → OnReceiver part.old (ReceiverStands first (out_view K.Sink place.old) arrived)
         → OnReceiver part.new (ReceiverStands first (out_view K.Sink place.new) (arrived ++ bytes.now)) }
     ensures client { IsToClient part.new }
     ensures slots { (m : ℕ) → GivesSlots m part.new }

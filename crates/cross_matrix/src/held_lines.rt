@@ -7,7 +7,7 @@ ghost use Rattle.otn_ports.specs.declared.drain.Written.TheVariants as written;
 ghost use Rattle.device_model.specs.Numbers.{whole_lines};
 ghost use Rattle.packet_text.specs.PacketText.{packet_line};
 ghost use Rattle.cross_matrix.specs.declared.held_lines.TheConstants.{ROOM};
-ghost use Rattle.cross_matrix.specs.Receiving.{is_dead};
+ghost use Rattle.cross_matrix.specs.Steps.Receiving.{is_dead};
 
 use otn_base::Memory;
 use otn_base::limits::MOST_DELIVERED;
@@ -24,8 +24,8 @@ const MOST_LINE: usize = 2 * MOST_DELIVERED + 1;
 // Bytes that are held at most: the longest line, and many short ones.
 const ROOM: usize = 65_536 + MOST_LINE;
 
-/// Lines that were made and not yet written, how many they are, and how many packets count: those whose line was written
-/// whole or, on an empty place, given up for writing.
+/// Lines that were made and not yet written, how many they are, and how many packets count: those whose line was
+/// written whole or, on an empty place, given up for writing.
 #[derive(Drop)]
 pub(crate) struct HeldLines {
     digits: ByteDigits,
@@ -48,7 +48,8 @@ impl Model for HeldLines {
 }
 
 impl HeldLines {
-    ghost use Rattle.cross_matrix.specs.Receiving.{HeldView, IsNew, NoneHeld, LinesHeld, LinesSent};
+    ghost use Rattle.cross_matrix.specs.Receiving.{HeldView, NoneHeld};
+    ghost use Rattle.cross_matrix.specs.Steps.Receiving.{IsNew, LinesHeld, LinesSent};
 
     /// No line, and no packet that counts. All memory is taken here.
     pub(crate) fn new(alloc: Global) -> Result<HeldLines, Memory>
@@ -82,7 +83,8 @@ impl HeldLines {
     /// The line of a packet is due to the place. Those before it leave where it has no room behind them.
     pub(crate) fn take<K: Sink>(&mut self, packet: &[u8], place: &mut OutPlaceOf<K>)
         requires fits { length packet.now ≤ MOST_DELIVERED }
-        ensures { (first : OutView) (packets : List (List ℕ)) → LinesHeld first (out_view K.Sink place.old) packets self.old
+        ensures { (first : OutView) (packets : List (List ℕ))
+            → LinesHeld first (out_view K.Sink place.old) packets self.old
             → LinesHeld first (out_view K.Sink place.new) (packets ++ packet.now ∷ []) self.new }
     {
         self.make_room(packet, place);
@@ -92,7 +94,8 @@ impl HeldLines {
     /// All lines leave.
     pub(crate) fn flush<K: Sink>(&mut self, place: &mut OutPlaceOf<K>)
         ensures none { NoneHeld self.new }
-        ensures sent { (first : OutView) (packets : List (List ℕ)) → LinesHeld first (out_view K.Sink place.old) packets self.old
+        ensures sent { (first : OutView) (packets : List (List ℕ))
+            → LinesHeld first (out_view K.Sink place.old) packets self.old
             → LinesSent first (out_view K.Sink place.new) packets self.new.packets }
     {
         let (answer, went) = place.write_lines(&self.text[..self.len]);
@@ -106,7 +109,8 @@ impl HeldLines {
     fn make_room<K: Sink>(&mut self, packet: &[u8], place: &mut OutPlaceOf<K>)
         requires fits { length packet.now ≤ MOST_DELIVERED }
         ensures room { length self.new.text + (2 * length packet.now + 1) ≤ ROOM }
-        ensures held { (first : OutView) (packets : List (List ℕ)) → LinesHeld first (out_view K.Sink place.old) packets self.old
+        ensures held { (first : OutView) (packets : List (List ℕ))
+            → LinesHeld first (out_view K.Sink place.old) packets self.old
             → LinesHeld first (out_view K.Sink place.new) packets self.new }
     {
         if self.len + (2 * packet.len() + 1) > ROOM {
@@ -118,7 +122,8 @@ impl HeldLines {
     fn add<K: Sink>(&mut self, packet: &[u8], place: &OutPlaceOf<K>)
         requires fits { length packet.now ≤ MOST_DELIVERED }
         requires room { length self.old.text + (2 * length packet.now + 1) ≤ ROOM }
-        ensures { (first : OutView) (packets : List (List ℕ)) → LinesHeld first (out_view K.Sink place.now) packets self.old
+        ensures { (first : OutView) (packets : List (List ℕ))
+            → LinesHeld first (out_view K.Sink place.now) packets self.old
             → LinesHeld first (out_view K.Sink place.now) (packets ++ packet.now ∷ []) self.new }
     {
         if has_died(place) {

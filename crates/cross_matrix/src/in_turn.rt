@@ -1,5 +1,5 @@
-// The calls of a pipe for a caller that keeps no count of its frames: each does nothing where the pipe has had its part of the
-// turn, or has no such part.
+// The calls of a pipe for a caller that keeps no count of its frames: each does nothing where the pipe has had its part
+// of the turn, or has no such part.
 ghost use Rattle.std.specs.Prelude.{◌≡◌, ◌<◌, ◌≤◌, ◌+◌, ℕ, suc, Bool, true, false, ◌&&◌, ◌==◌, if◌then◌else◌, List, [], ◌∷◌, ◌++◌, Option, length, nat_le, nat_lt, is_some, option_map};
 ghost use Rattle.odu_client.specs.ClientInput.{ClientInput, packets_begun, is_spent, bad_line, emitted_before};
 ghost use Rattle.otn_base.specs.LineSlots.{LineSlots, slots_of};
@@ -16,7 +16,8 @@ ghost use Rattle.tributary_model.specs.Places.{Taken, View, tributary_of, byte_a
 ghost use Rattle.tributary_model.specs.Puts.{WasPut, IsSourcePlace};
 ghost use Rattle.device_model.specs.Entries.{first_turn};
 ghost use Rattle.device_model.specs.Through.{OwnInput, of_line, of_client, got_by};
-ghost use Rattle.cross_matrix.specs.InTurn.{some_if, next_taken, may_end, next_filled, takes_one_slot, is_of_client, is_to_client};
+ghost use Rattle.cross_matrix.specs.InTurn.{takes_one_slot};
+ghost use Rattle.cross_matrix.specs.Steps.InTurn.{some_if, next_taken, may_end, next_filled, is_of_client, is_to_client};
 ghost use Rattle.cross_matrix.specs.Parts.{IsOfClient, IsToClient, ClientInStands, ClientOutStands, MayShow, IsOver, IsReceived};
 ghost use Rattle.cross_matrix.specs.Pipes.{IsPipeOf, PipeStands, ClientTook};
 
@@ -32,9 +33,11 @@ use trib_source::TribSource;
 impl Pipe {
     /// Takes the next frame of the turn's multiframe of the connection's line, with the MFAS that is expected of it.
     pub fn take_next<F: TakeFrame>(&mut self, frame: &F, expected: u8)
-        ensures stands { (x : Connection) (a port : ℕ) (slots : LineSlots) (input : OwnInput) (j filled : ℕ) (frames : List Taken) → x.from ≡ from_end.Line a port slots
+        ensures stands { (x : Connection) (a port : ℕ) (slots : LineSlots) (input : OwnInput) (j filled : ℕ)
+            (frames : List Taken) → x.from ≡ from_end.Line a port slots
             → length frames < slots_of slots.kind → PipeStands x input j frames false filled self.old
-            → PipeStands x input j (frames ++ record { frame = F.bytes frame.now; expected = expected } ∷ []) false filled self.new }
+            → PipeStands x input j (frames ++ record { frame = F.bytes frame.now; expected = expected } ∷ []) false
+            filled self.new }
         ensures entry { (x : Connection) → IsPipeOf x self.old → IsPipeOf x self.new }
         ensures giving { self.new.giving ≡ self.old.giving }
     {
@@ -52,9 +55,12 @@ impl Pipe {
 
     /// Ends the turn of the connection's line: `whole` says that it has a multiframe.
     pub fn end_line(&mut self, whole: bool)
-        ensures stands { (x : Connection) (a port : ℕ) (slots : LineSlots) (shows : ℕ → Option View) (j filled : ℕ) (frames : List Taken) → x.from ≡ from_end.Line a port slots
-            → (whole ≡ true → length frames ≡ slots_of slots.kind) → PipeStands x (of_line shows) j frames false filled self.old
-            → ended_view (tributary_of slots port) whole frames ≡ shows (first_turn x + j) → PipeStands x (of_line shows) j [] true filled self.new }
+        ensures stands { (x : Connection) (a port : ℕ) (slots : LineSlots) (shows : ℕ → Option View) (j filled : ℕ)
+            (frames : List Taken) → x.from ≡ from_end.Line a port slots
+            → (whole ≡ true → length frames ≡ slots_of slots.kind)
+            → PipeStands x (of_line shows) j frames false filled self.old
+            → ended_view (tributary_of slots port) whole frames ≡ shows (first_turn x + j)
+            → PipeStands x (of_line shows) j [] true filled self.new }
         ensures entry { (x : Connection) → IsPipeOf x self.old → IsPipeOf x self.new }
         ensures giving { self.new.giving ≡ self.old.giving }
     {
@@ -65,10 +71,14 @@ impl Pipe {
 
     /// Fills the connection's own places in the next frame of the turn of its output line. Every other byte stays.
     pub fn fill_next<F: FillFrame>(&mut self, frame: &mut F)
-        ensures put { (x : Connection) (b port : ℕ) (slots : LineSlots) (input : OwnInput) (j n : ℕ) (frames : List Taken) (ended : Bool) → x.to ≡ to_end.Line b port slots
-            → n < slots_of slots.kind → PipeStands x input j frames ended n self.old → WasPut (tributary_of slots port) (got_by x input (suc j)) j n (F.bytes frame.old) (F.bytes frame.new) }
-        ensures stands { (x : Connection) (b port : ℕ) (slots : LineSlots) (input : OwnInput) (j n : ℕ) (frames : List Taken) (ended : Bool) → x.to ≡ to_end.Line b port slots
-            → n < slots_of slots.kind → PipeStands x input j frames ended n self.old → PipeStands x input j frames ended (n + 1) self.new }
+        ensures put { (x : Connection) (b port : ℕ) (slots : LineSlots) (input : OwnInput) (j n : ℕ)
+            (frames : List Taken) (ended : Bool) → x.to ≡ to_end.Line b port slots
+            → n < slots_of slots.kind → PipeStands x input j frames ended n self.old
+            → WasPut (tributary_of slots port) (got_by x input (suc j)) j n (F.bytes frame.old) (F.bytes frame.new) }
+        ensures stands { (x : Connection) (b port : ℕ) (slots : LineSlots) (input : OwnInput) (j n : ℕ)
+            (frames : List Taken) (ended : Bool) → x.to ≡ to_end.Line b port slots
+            → n < slots_of slots.kind → PipeStands x input j frames ended n self.old
+            → PipeStands x input j frames ended (n + 1) self.new }
         ensures entry { (x : Connection) → IsPipeOf x self.old → IsPipeOf x self.new }
         ensures taking { self.new.taking ≡ self.old.taking }
     {
@@ -79,7 +89,8 @@ impl Pipe {
 
     /// Takes from the connection's client what turn `turn` of the plan emits, where the connection has started.
     pub fn take_text<P: Source>(&mut self, turn: u32, place: &mut InPlaceOf<P>)
-        ensures took { (x : Connection) (first : InView) (taken : List ℕ) (j : ℕ) → IsPipeOf x self.old → turn ≡ x.start + j
+        ensures took { (x : Connection) (first : InView) (taken : List ℕ) (j : ℕ) → IsPipeOf x self.old
+            → turn ≡ x.start + j
             → ClientInStands x first (in_view P.Source place.old) taken j self.old.taking
             → ClientTook x first (in_view P.Source place.new) taken j self.old self.new }
         ensures entry { (x : Connection) → IsPipeOf x self.old → IsPipeOf x self.new }
@@ -92,9 +103,12 @@ impl Pipe {
 
     /// Gives the connection's client what this turn brings it.
     pub fn give_text<K: Sink>(&mut self, place: &mut OutPlaceOf<K>)
-        ensures gave { (x : Connection) (input : OwnInput) (first : OutView) (j filled : ℕ) (frames : List Taken) (ended : Bool) → PipeStands x input j frames ended filled self.old
-            → ClientOutStands x input first (out_view K.Sink place.old) j self.old.giving → ClientOutStands x input first (out_view K.Sink place.new) (suc j) self.new.giving }
-        ensures stands { (x : Connection) (input : OwnInput) (j filled : ℕ) (frames : List Taken) (ended : Bool) → PipeStands x input j frames ended filled self.old
+        ensures gave { (x : Connection) (input : OwnInput) (first : OutView) (j filled : ℕ) (frames : List Taken)
+            (ended : Bool) → PipeStands x input j frames ended filled self.old
+            → ClientOutStands x input first (out_view K.Sink place.old) j self.old.giving
+            → ClientOutStands x input first (out_view K.Sink place.new) (suc j) self.new.giving }
+        ensures stands { (x : Connection) (input : OwnInput) (j filled : ℕ) (frames : List Taken) (ended : Bool)
+            → PipeStands x input j frames ended filled self.old
             → PipeStands x input j frames ended filled self.new }
         ensures entry { (x : Connection) → IsPipeOf x self.old → IsPipeOf x self.new }
         ensures taking { self.new.taking ≡ self.old.taking }
@@ -104,10 +118,11 @@ impl Pipe {
         }
     }
 
-    /// Ends turn `turn` of the plan, where the connection has started: a signal emits what the turn brings, and what came is handed on
-    /// to the next turn.
+    /// Ends turn `turn` of the plan, where the connection has started: a signal emits what the turn brings, and what
+    /// came is handed on to the next turn.
     pub fn end_turn(&mut self, turn: u32)
-        ensures stands { (x : Connection) (input : OwnInput) (j filled : ℕ) (ended : Bool) → turn ≡ x.start + j → IsOver x.from ended
+        ensures stands { (x : Connection) (input : OwnInput) (j filled : ℕ) (ended : Bool) → turn ≡ x.start + j
+            → IsOver x.from ended
             → PipeStands x input j [] ended filled self.old → PipeStands x input (suc j) [] false 0 self.new }
         ensures client { IsOfClient self.old.taking → self.new.taking ≡ self.old.taking }
         ensures receiver { IsToClient self.old.giving → self.new.giving ≡ self.old.giving }
@@ -120,9 +135,15 @@ impl Pipe {
 
     /// The numbers of the connection's client input, as `client_in` tells them: none where it has no such input.
     pub fn text_counts(&self) -> (u64, bool, Option<u64>)
-        ensures { (x : Connection) (first now : InView) (taken : List ℕ) (n : ℕ) (input : ClientInput) → ClientInStands x first now taken n self.now.taking
+        ensures { (x : Connection) (first now : InView) (taken : List ℕ) (n : ℕ) (input : ClientInput)
+            → ClientInStands x first now taken n self.now.taking
             → MayShow self.now.taking taken (of_client input)
-            → result ≡ (saturated (packets_begun input.packets x.fcs (emitted_before x.pace n)), is_spent input x.fcs (emitted_before x.pace n), option_map saturated (bad_line input x.fcs (emitted_before x.pace n))) }
+            → result ≡ (
+              saturated (packets_begun input.packets x.fcs (emitted_before x.pace n)),
+              is_spent input x.fcs
+                  (emitted_before x.pace n),
+              option_map saturated (bad_line input x.fcs (emitted_before x.pace n)),
+            ) }
     {
         if self.takes_text() {
             self.client_in()
@@ -256,7 +277,8 @@ fn next_to_fill(part: &GivingPart) -> Option<u8>
 }
 
 fn next_of_source(source: &TribSource) -> Option<u8>
-    ensures { result ≡ some_if (is_some source.now.said && nat_lt source.now.filled (slots_of source.now.slots.kind)) source.now.filled }
+    ensures { result ≡ some_if (is_some source.now.said && nat_lt source.now.filled (slots_of source.now.slots.kind))
+        source.now.filled }
 {
     let n = source.filled();
     if source.has_begun() && n < source.slots().kind().slots() {

@@ -1,6 +1,6 @@
-// The pipe of a connection. What its input brings in a turn is kept beside what it brought in the turn before, which goes
-// to the output: so the two parts may be used in any order within a turn, and `fence` turns the sides. There a line's source
-// takes over what it is to give, without a copy; for a client it stays in the pipe.
+// The pipe of a connection. What its input brings in a turn is kept beside what it brought in the turn before, which
+// goes to the output: so the two parts may be used in any order within a turn, and `fence` turns the sides. There a
+// line's source takes over what it is to give, without a copy; for a client it stays in the pipe.
 ghost use Rattle.std.specs.Prelude.{◌≡◌, ◌<◌, ◌≤◌, ◌+◌, ℕ, suc, Bool, true, false, List, [], ◌∷◌, ◌++◌, Option, IsSome, IsTrue, option_map};
 ghost use Rattle.otn_base.specs.LineSlots.{LineSlots, slots_of};
 ghost use Rattle.otn_base.specs.declared.limits.TheConstants.{LINE_COLUMNS as COLUMNS, ROWS};
@@ -34,9 +34,9 @@ use otn_ports::{InPlaceOf, OutPlaceOf, Sink, Source};
 use std::marker::Model;
 use std::mem;
 
-/// The pipe of one connection of a plan. Contracts say where it stands: in which of the connection's own turns, counted from
-/// 0; which frames of its line it has taken in that turn, or that its own part of the turn has ended; and how many frames of
-/// its output line were filled. No call after `new` takes memory.
+/// The pipe of one connection of a plan. Contracts say where it stands: in which of the connection's own turns, counted
+/// from 0; which frames of its line it has taken in that turn, or that its own part of the turn has ended; and how many
+/// frames of its output line were filled. No call after `new` takes memory.
 #[derive(Drop)]
 pub struct Pipe {
     pub(crate) taking: TakingPart,
@@ -61,9 +61,12 @@ impl Model for Pipe {
 impl Pipe {
     /// Begins the connection: every part is as new, and nothing is on the way. The first own turn has begun.
     pub fn start(&mut self)
-        ensures stands { (x : Connection) (input : OwnInput) → IsPipeOf x self.old → IsInputOf x.from input → PipeStands x input 0 [] false 0 self.new }
-        ensures client_in { (x : Connection) (n : ℕ) (first : InView) → IsPipeOf x self.old → x.from ≡ from_end.Client n → ClientInStands x first first [] 0 self.new.taking }
-        ensures client_out { (x : Connection) (n : ℕ) (input : OwnInput) (first : OutView) → IsPipeOf x self.old → x.to ≡ to_end.Client n → ClientOutStands x input first first 0 self.new.giving }
+        ensures stands { (x : Connection) (input : OwnInput) → IsPipeOf x self.old → IsInputOf x.from input
+            → PipeStands x input 0 [] false 0 self.new }
+        ensures client_in { (x : Connection) (n : ℕ) (first : InView) → IsPipeOf x self.old → x.from ≡ from_end.Client n
+            → ClientInStands x first first [] 0 self.new.taking }
+        ensures client_out { (x : Connection) (n : ℕ) (input : OwnInput) (first : OutView) → IsPipeOf x self.old
+            → x.to ≡ to_end.Client n → ClientOutStands x input first first 0 self.new.giving }
         ensures entry { (x : Connection) → IsPipeOf x self.old → IsPipeOf x self.new }
         ensures taken { frames_taken self.new.taking ≡ 0 }
         ensures filled { frames_filled self.new.giving ≡ 0 }
@@ -75,11 +78,14 @@ impl Pipe {
         self.gives.clear();
     }
 
-    /// Takes frame `n`, from 0, of the turn's multiframe of the connection's line, with the MFAS that is expected of it.
+    /// Takes frame `n`, from 0, of the turn's multiframe of the connection's line, with the MFAS that is expected of
+    /// it.
     pub fn take_frame<F: TakeFrame>(&mut self, n: u8, frame: &F, expected: u8)
         requires line { OnSink self.old.taking (λ sink. (n < slots_of sink.slots.kind) × (n ≡ sink.taken)) }
-        ensures stands { (x : Connection) (input : OwnInput) (j filled : ℕ) (frames : List Taken) → PipeStands x input j frames false filled self.old
-            → PipeStands x input j (frames ++ record { frame = F.bytes frame.now; expected = expected } ∷ []) false filled self.new }
+        ensures stands { (x : Connection) (input : OwnInput) (j filled : ℕ) (frames : List Taken)
+            → PipeStands x input j frames false filled self.old
+            → PipeStands x input j (frames ++ record { frame = F.bytes frame.now; expected = expected } ∷ []) false
+            filled self.new }
         ensures entry { (x : Connection) → IsPipeOf x self.old → IsPipeOf x self.new }
         ensures taken { frames_taken self.new.taking ≡ frames_taken self.old.taking + 1 }
         ensures giving { self.new.giving ≡ self.old.giving }
@@ -90,8 +96,10 @@ impl Pipe {
     /// Ends the turn of the connection's line: `whole` says that it has a multiframe, all of whose frames were taken.
     pub fn end_frames(&mut self, whole: bool)
         requires line { OnSink self.old.taking (λ sink. IsTrue whole → sink.taken ≡ slots_of sink.slots.kind) }
-        ensures stands { (x : Connection) (a port : ℕ) (slots : LineSlots) (shows : ℕ → Option View) (j filled : ℕ) (frames : List Taken) → x.from ≡ from_end.Line a port slots
-            → PipeStands x (of_line shows) j frames false filled self.old → ended_view (tributary_of slots port) whole frames ≡ shows (first_turn x + j)
+        ensures stands { (x : Connection) (a port : ℕ) (slots : LineSlots) (shows : ℕ → Option View) (j filled : ℕ)
+            (frames : List Taken) → x.from ≡ from_end.Line a port slots
+            → PipeStands x (of_line shows) j frames false filled self.old
+            → ended_view (tributary_of slots port) whole frames ≡ shows (first_turn x + j)
             → PipeStands x (of_line shows) j [] true filled self.new }
         ensures entry { (x : Connection) → IsPipeOf x self.old → IsPipeOf x self.new }
         ensures taken { frames_taken self.new.taking ≡ 0 }
@@ -104,7 +112,8 @@ impl Pipe {
     pub fn take_client<P: Source>(&mut self, turn: u32, place: &mut InPlaceOf<P>)
         requires client { IsOfClient self.old.taking }
         requires turn { self.old.start ≤ turn }
-        ensures took { (x : Connection) (first : InView) (taken : List ℕ) (j : ℕ) → IsPipeOf x self.old → turn ≡ x.start + j
+        ensures took { (x : Connection) (first : InView) (taken : List ℕ) (j : ℕ) → IsPipeOf x self.old
+            → turn ≡ x.start + j
             → ClientInStands x first (in_view P.Source place.old) taken j self.old.taking
             → ClientTook x first (in_view P.Source place.new) taken j self.old self.new }
 
@@ -119,13 +128,18 @@ impl Pipe {
 
     /// Fills the connection's own places in frame `n`, from 0, of the turn of its output line. Every other byte stays.
     pub fn fill_frame<F: FillFrame>(&mut self, n: u8, frame: &mut F)
-        requires line { OnSource self.old.giving (λ source. (n < slots_of source.slots.kind) × (n ≡ source.filled) × IsSome source.said) }
-        ensures put { (x : Connection) (b port : ℕ) (slots : LineSlots) (input : OwnInput) (j : ℕ) (frames : List Taken) (ended : Bool) → x.to ≡ to_end.Line b port slots
-            → PipeStands x input j frames ended n self.old → WasPut (tributary_of slots port) (got_by x input (suc j)) j n (F.bytes frame.old) (F.bytes frame.new) }
-        ensures stands { (x : Connection) (input : OwnInput) (j : ℕ) (frames : List Taken) (ended : Bool) → PipeStands x input j frames ended n self.old
+        requires line { OnSource self.old.giving
+            (λ source. (n < slots_of source.slots.kind) × (n ≡ source.filled) × IsSome source.said) }
+        ensures put { (x : Connection) (b port : ℕ) (slots : LineSlots) (input : OwnInput) (j : ℕ) (frames : List Taken)
+            (ended : Bool) → x.to ≡ to_end.Line b port slots
+            → PipeStands x input j frames ended n self.old
+            → WasPut (tributary_of slots port) (got_by x input (suc j)) j n (F.bytes frame.old) (F.bytes frame.new) }
+        ensures stands { (x : Connection) (input : OwnInput) (j : ℕ) (frames : List Taken) (ended : Bool)
+            → PipeStands x input j frames ended n self.old
             → PipeStands x input j frames ended (n + 1) self.new }
         ensures kept { (port row column : ℕ) → 1 ≤ row → row ≤ ROWS → 1 ≤ column → column ≤ COLUMNS
-            → OnSource self.old.giving (λ source. IsSourcePlace (tributary_of source.slots port) n row column → ⊥) → byte_at (F.bytes frame.new) row column ≡ byte_at (F.bytes frame.old) row column }
+            → OnSource self.old.giving (λ source. IsSourcePlace (tributary_of source.slots port) n row column → ⊥)
+            → byte_at (F.bytes frame.new) row column ≡ byte_at (F.bytes frame.old) row column }
         ensures entry { (x : Connection) → IsPipeOf x self.old → IsPipeOf x self.new }
         ensures filled { frames_filled self.new.giving ≡ frames_filled self.old.giving + 1 }
         ensures begun { IsBegun self.new.giving }
@@ -137,9 +151,12 @@ impl Pipe {
     /// Gives the connection's client what this turn brings it: each packet that is delivered, as a line of text.
     pub fn give_client<K: Sink>(&mut self, place: &mut OutPlaceOf<K>)
         requires client { IsToClient self.old.giving }
-        ensures gave { (x : Connection) (input : OwnInput) (first : OutView) (j filled : ℕ) (frames : List Taken) (ended : Bool) → PipeStands x input j frames ended filled self.old
-            → ClientOutStands x input first (out_view K.Sink place.old) j self.old.giving → ClientOutStands x input first (out_view K.Sink place.new) (suc j) self.new.giving }
-        ensures stands { (x : Connection) (input : OwnInput) (j filled : ℕ) (frames : List Taken) (ended : Bool) → PipeStands x input j frames ended filled self.old
+        ensures gave { (x : Connection) (input : OwnInput) (first : OutView) (j filled : ℕ) (frames : List Taken)
+            (ended : Bool) → PipeStands x input j frames ended filled self.old
+            → ClientOutStands x input first (out_view K.Sink place.old) j self.old.giving
+            → ClientOutStands x input first (out_view K.Sink place.new) (suc j) self.new.giving }
+        ensures stands { (x : Connection) (input : OwnInput) (j filled : ℕ) (frames : List Taken) (ended : Bool)
+            → PipeStands x input j frames ended filled self.old
             → PipeStands x input j frames ended filled self.new }
         ensures entry { (x : Connection) → IsPipeOf x self.old → IsPipeOf x self.new }
         ensures taking { self.new.taking ≡ self.old.taking }
@@ -150,7 +167,8 @@ impl Pipe {
     /// Ends turn `turn` of the plan: a signal emits what the turn brings, and what came is handed on to the next turn.
     pub fn fence(&mut self, turn: u32)
         requires turn { self.old.start ≤ turn }
-        ensures stands { (x : Connection) (input : OwnInput) (j filled : ℕ) (ended : Bool) → turn ≡ x.start + j → IsOver x.from ended
+        ensures stands { (x : Connection) (input : OwnInput) (j filled : ℕ) (ended : Bool) → turn ≡ x.start + j
+            → IsOver x.from ended
             → PipeStands x input j [] ended filled self.old → PipeStands x input (suc j) [] false 0 self.new }
         ensures client { IsOfClient self.old.taking → self.new.taking ≡ self.old.taking }
         ensures receiver { IsToClient self.old.giving → self.new.giving ≡ self.old.giving }
@@ -168,24 +186,32 @@ impl Pipe {
 
     /// What the connection comes from is, after the turns that it took.
     pub fn from_state(&self) -> FromState
-        ensures { (x : Connection) (input : OwnInput) (j filled : ℕ) (frames : List Taken) (ended : Bool) → PipeStands x input j frames ended filled self.now
+        ensures { (x : Connection) (input : OwnInput) (j filled : ℕ) (frames : List Taken) (ended : Bool)
+            → PipeStands x input j frames ended filled self.now
             → result ≡ state_in x input (turns_taken j ended) }
     {
         state_of(&self.taking)
     }
 
-    /// Of the connection's client input: how many packets were begun, whether it is spent, and the number of its bad line, once
-    /// that is seen.
+    /// Of the connection's client input: how many packets were begun, whether it is spent, and the number of its bad
+    /// line, once that is seen.
     pub fn client_in(&self) -> (u64, bool, Option<u64>)
         requires client { IsOfClient self.now.taking }
-        ensures { (x : Connection) (first now : InView) (taken : List ℕ) (n : ℕ) (input : ClientInput) → ClientInStands x first now taken n self.now.taking
+        ensures { (x : Connection) (first now : InView) (taken : List ℕ) (n : ℕ) (input : ClientInput)
+            → ClientInStands x first now taken n self.now.taking
             → MayShow self.now.taking taken (of_client input)
-            → result ≡ (saturated (packets_begun input.packets x.fcs (emitted_before x.pace n)), is_spent input x.fcs (emitted_before x.pace n), option_map saturated (bad_line input x.fcs (emitted_before x.pace n))) }
+            → result ≡ (
+              saturated (packets_begun input.packets x.fcs (emitted_before x.pace n)),
+              is_spent input x.fcs
+                  (emitted_before x.pace n),
+              option_map saturated (bad_line input x.fcs (emitted_before x.pace n)),
+            ) }
     {
         text_numbers(&self.taking)
     }
 
-    /// Of the connection's client output: how many whole frames were handed on, and how many packets delivered and counted.
+    /// Of the connection's client output: how many whole frames were handed on, and how many packets delivered and
+    /// counted.
     pub fn client_out(&self) -> (u64, u64)
         requires client { IsToClient self.now.giving }
         ensures { IsReceived self.now.giving result }

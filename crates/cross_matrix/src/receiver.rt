@@ -5,7 +5,7 @@ ghost use Rattle.odu_client.specs.Aligner.{news};
 ghost use Rattle.odu_client.specs.View.{aligner_state};
 ghost use Rattle.otn_ports.specs.OutPlace.{out_view};
 ghost use Rattle.otn_ports.specs.Views.{OutView};
-ghost use Rattle.cross_matrix.specs.Receiving.{RunRead, AllRead, HoldsAfter};
+ghost use Rattle.cross_matrix.specs.Steps.Receiving.{RunRead, AllRead, HoldsAfter};
 
 use crate::held_lines::HeldLines;
 use frame_geometry::Frame;
@@ -62,7 +62,8 @@ impl Receiver {
 
     /// Takes the bytes that arrive, and writes the packets that they deliver.
     pub(crate) fn take<K: Sink>(&mut self, bytes: &[u8], place: &mut OutPlaceOf<K>)
-        ensures { (first : OutView) (arrived : List ℕ) → ReceiverStands first (out_view K.Sink place.old) arrived self.old
+        ensures { (first : OutView) (arrived : List ℕ)
+            → ReceiverStands first (out_view K.Sink place.old) arrived self.old
             → ReceiverStands first (out_view K.Sink place.new) (arrived ++ bytes.now) self.new }
     {
         take_all(
@@ -98,8 +99,11 @@ fn take_all<K: Sink>(
     lines: &mut HeldLines,
     place: &mut OutPlaceOf<K>,
 )
-    ensures { (first : OutView) (arrived : List ℕ) → HoldsAfter first (out_view K.Sink place.old) arrived (aligner_state aligner.old) aligner.old.frames reader.old lines.old
-        → HoldsAfter first (out_view K.Sink place.new) (arrived ++ bytes.now) (aligner_state aligner.new) aligner.new.frames reader.new lines.new }
+    ensures { (first : OutView) (arrived : List ℕ)
+        → HoldsAfter first (out_view K.Sink place.old) arrived
+        (aligner_state aligner.old) aligner.old.frames reader.old lines.old
+        → HoldsAfter first (out_view K.Sink place.new) (arrived ++ bytes.now)
+        (aligner_state aligner.new) aligner.new.frames reader.new lines.new }
 {
     let mut done = 0;
     while done < bytes.len() {
@@ -117,8 +121,11 @@ fn take_some<K: Sink>(
 ) -> usize
     ensures within { result ≤ length bytes.now }
     ensures some { 1 ≤ length bytes.now → 1 ≤ result }
-    ensures holds { (first : OutView) (arrived : List ℕ) → HoldsAfter first (out_view K.Sink place.old) arrived (aligner_state aligner.old) aligner.old.frames reader.old lines.old
-        → HoldsAfter first (out_view K.Sink place.new) (arrived ++ take result bytes.now) (aligner_state aligner.new) aligner.new.frames reader.new lines.new }
+    ensures holds { (first : OutView) (arrived : List ℕ)
+        → HoldsAfter first (out_view K.Sink place.old) arrived
+        (aligner_state aligner.old) aligner.old.frames reader.old lines.old
+        → HoldsAfter first (out_view K.Sink place.new) (arrived ++ take result bytes.now)
+        (aligner_state aligner.new) aligner.new.frames reader.new lines.new }
 {
     let (aligned, count) = aligner.take_some(bytes);
     hand_on(aligned, aligner.frame(), reader, lines, place);
@@ -133,7 +140,8 @@ fn hand_on<K: Sink>(
     lines: &mut HeldLines,
     place: &mut OutPlaceOf<K>,
 )
-    ensures { (first : OutView) (came : List Arrival) → AllRead first (out_view K.Sink place.old) came reader.old lines.old
+    ensures { (first : OutView) (came : List Arrival)
+        → AllRead first (out_view K.Sink place.old) came reader.old lines.old
         → AllRead first (out_view K.Sink place.new) (came ++ news aligned frame.now) reader.new lines.new }
 {
     match aligned {
@@ -150,7 +158,8 @@ fn read_frame<K: Sink>(
     lines: &mut HeldLines,
     place: &mut OutPlaceOf<K>,
 )
-    ensures { (first : OutView) (earlier : List (List ℕ)) (taken : List ℕ) → RunRead first (out_view K.Sink place.old) earlier taken reader.old lines.old
+    ensures { (first : OutView) (earlier : List (List ℕ)) (taken : List ℕ)
+        → RunRead first (out_view K.Sink place.old) earlier taken reader.old lines.old
         → RunRead first (out_view K.Sink place.new) earlier (taken ++ payload_of frame.now) reader.new lines.new }
 {
     read_bytes(frame.payload_row(1), reader, lines, place);
@@ -166,7 +175,8 @@ fn read_bytes<K: Sink>(
     lines: &mut HeldLines,
     place: &mut OutPlaceOf<K>,
 )
-    ensures { (first : OutView) (earlier : List (List ℕ)) (taken : List ℕ) → RunRead first (out_view K.Sink place.old) earlier taken reader.old lines.old
+    ensures { (first : OutView) (earlier : List (List ℕ)) (taken : List ℕ)
+        → RunRead first (out_view K.Sink place.old) earlier taken reader.old lines.old
         → RunRead first (out_view K.Sink place.new) earlier (taken ++ bytes.now) reader.new lines.new }
 {
     let mut done = 0;
@@ -184,7 +194,8 @@ fn read_some<K: Sink>(
 ) -> usize
     ensures within { result ≤ length bytes.now }
     ensures some { 1 ≤ length bytes.now → 1 ≤ result }
-    ensures stands { (first : OutView) (earlier : List (List ℕ)) (taken : List ℕ) → RunRead first (out_view K.Sink place.old) earlier taken reader.old lines.old
+    ensures stands { (first : OutView) (earlier : List (List ℕ)) (taken : List ℕ)
+        → RunRead first (out_view K.Sink place.old) earlier taken reader.old lines.old
         → RunRead first (out_view K.Sink place.new) earlier (taken ++ take result bytes.now) reader.new lines.new }
 {
     match reader.take_some(bytes) {

@@ -13,7 +13,8 @@ ghost use Rattle.trib_sink.specs.Sink.{ended_view};
 ghost use Rattle.tributary_model.specs.Places.{Taken, View, tributary_of};
 ghost use Rattle.device_model.specs.Entries.{first_turn};
 ghost use Rattle.device_model.specs.Through.{OwnInput, of_line, of_client, emits_by, state_by, sink_state};
-ghost use Rattle.cross_matrix.specs.Parts.{OnSink, IsOfClient, IsTextOver, TakesFrom, HasSlots, IsInputOf, IsOver, frames_taken, turns_taken, TakingStands, TextStands, ClientInStands, MayShow, TextTook};
+ghost use Rattle.cross_matrix.specs.Parts.{OnSink, IsOfClient, IsTextOver, TakesFrom, HasSlots, IsInputOf, IsOver, frames_taken, turns_taken, TakingStands, TextStands, ClientInStands, MayShow};
+ghost use Rattle.cross_matrix.specs.Steps.Parts.{TextTook};
 
 use crate::FromState;
 use crate::burst::Burst;
@@ -45,8 +46,10 @@ pub(crate) enum TakingPart {
 
 /// Begins anew, as for another run of the connection.
 pub(crate) fn restart_taking(part: &mut TakingPart)
-    ensures stands { (from : FromEnd) (x : Connection) (input : OwnInput) → TakesFrom from x part.old → IsInputOf from input → TakingStands from x input 0 [] false part.new }
-    ensures text { (x : Connection) (n : ℕ) (first : InView) → TakesFrom (from_end.Client n) x part.old → ClientInStands x first first [] 0 part.new }
+    ensures stands { (from : FromEnd) (x : Connection) (input : OwnInput) → TakesFrom from x part.old
+        → IsInputOf from input → TakingStands from x input 0 [] false part.new }
+    ensures text { (x : Connection) (n : ℕ) (first : InView) → TakesFrom (from_end.Client n) x part.old
+        → ClientInStands x first first [] 0 part.new }
     ensures entry { (from : FromEnd) (x : Connection) → TakesFrom from x part.old → TakesFrom from x part.new }
     ensures taken { frames_taken part.new ≡ 0 }
     ensures slots { (m : ℕ) → HasSlots m part.old → HasSlots m part.new }
@@ -59,7 +62,8 @@ pub(crate) fn restart_taking(part: &mut TakingPart)
 }
 
 fn restart_text(client: &mut ClientText)
-    ensures stands { (x : Connection) (first : InView) → client.old.trace ≡ x.trace → client.old.fcs ≡ x.fcs → TextStands x first first [] 0 client.new }
+    ensures stands { (x : Connection) (first : InView) → client.old.trace ≡ x.trace → client.old.fcs ≡ x.fcs
+        → TextStands x first first [] 0 client.new }
     ensures trace { client.new.trace ≡ client.old.trace }
     ensures fcs { client.new.fcs ≡ client.old.fcs }
 {
@@ -70,8 +74,10 @@ fn restart_text(client: &mut ClientText)
 /// Takes a frame of the connection's line.
 pub(crate) fn take_line<F: TakeFrame>(part: &mut TakingPart, n: u8, frame: &F, expected: u8)
     requires line { OnSink part.old (λ sink. (n < slots_of sink.slots.kind) × (n ≡ sink.taken)) }
-    ensures stands { (from : FromEnd) (x : Connection) (input : OwnInput) (j : ℕ) (frames : List Taken) → TakingStands from x input j frames false part.old
-        → TakingStands from x input j (frames ++ record { frame = F.bytes frame.now; expected = expected } ∷ []) false part.new }
+    ensures stands { (from : FromEnd) (x : Connection) (input : OwnInput) (j : ℕ) (frames : List Taken)
+        → TakingStands from x input j frames false part.old
+        → TakingStands from x input j (frames ++ record { frame = F.bytes frame.now; expected = expected } ∷ []) false
+        part.new }
     ensures entry { (from : FromEnd) (x : Connection) → TakesFrom from x part.old → TakesFrom from x part.new }
     ensures taken { frames_taken part.new ≡ frames_taken part.old + 1 }
     ensures slots { (m : ℕ) → HasSlots m part.old → HasSlots m part.new }
@@ -87,11 +93,15 @@ pub(crate) fn take_line<F: TakeFrame>(part: &mut TakingPart, n: u8, frame: &F, e
 pub(crate) fn end_line(part: &mut TakingPart, whole: bool, came: &mut Burst)
     requires line { OnSink part.old (λ sink. IsTrue whole → sink.taken ≡ slots_of sink.slots.kind) }
     requires room { OnSink part.old (λ sink. came.old.room ≡ length sink.slots.list * (GROUPS + 1)) }
-    ensures stands { (x : Connection) (a port : ℕ) (slots : LineSlots) (shows : ℕ → Option View) (j : ℕ) (frames : List Taken)
-        → TakingStands (from_end.Line a port slots) x (of_line shows) j frames false part.old → ended_view (tributary_of slots port) whole frames ≡ shows (first_turn x + j)
+    ensures stands { (x : Connection) (a port : ℕ) (slots : LineSlots) (shows : ℕ → Option View) (j : ℕ)
+        (frames : List Taken)
+        → TakingStands (from_end.Line a port slots) x (of_line shows) j frames false part.old
+        → ended_view (tributary_of slots port) whole frames ≡ shows (first_turn x + j)
         → TakingStands (from_end.Line a port slots) x (of_line shows) j [] true part.new }
-    ensures bytes { (x : Connection) (a port : ℕ) (slots : LineSlots) (shows : ℕ → Option View) (j : ℕ) (frames : List Taken)
-        → TakingStands (from_end.Line a port slots) x (of_line shows) j frames false part.old → ended_view (tributary_of slots port) whole frames ≡ shows (first_turn x + j)
+    ensures bytes { (x : Connection) (a port : ℕ) (slots : LineSlots) (shows : ℕ → Option View) (j : ℕ)
+        (frames : List Taken)
+        → TakingStands (from_end.Line a port slots) x (of_line shows) j frames false part.old
+        → ended_view (tributary_of slots port) whole frames ≡ shows (first_turn x + j)
         → came.new.bytes ≡ emits_by (from_end.Line a port slots) x (of_line shows) j }
     ensures entry { (from : FromEnd) (x : Connection) → TakesFrom from x part.old → TakesFrom from x part.new }
     ensures taken { frames_taken part.new ≡ 0 }
@@ -114,7 +124,8 @@ pub(crate) fn take_text<P: Source>(
 )
     requires client { IsOfClient part.old }
     requires room { count ≤ came.old.room }
-    ensures took { (x : Connection) (first : InView) (taken : List ℕ) (n : ℕ) → count ≡ pace_of x.pace n → ClientInStands x first (in_view P.Source place.old) taken n part.old
+    ensures took { (x : Connection) (first : InView) (taken : List ℕ) (n : ℕ) → count ≡ pace_of x.pace n
+        → ClientInStands x first (in_view P.Source place.old) taken n part.old
         → TextTook x first (in_view P.Source place.new) taken n part.old part.new came.new.bytes }
     ensures quiet { IsTextOver part.old → place.new ≡ place.old }
     ensures entry { (from : FromEnd) (x : Connection) → TakesFrom from x part.old → TakesFrom from x part.new }
@@ -136,10 +147,13 @@ pub(crate) fn take_text<P: Source>(
 /// A signal emits so many bytes; a line and a client have had their turn.
 pub(crate) fn emit_signal(part: &mut TakingPart, count: usize, came: &mut Burst)
     requires room { count ≤ came.old.room }
-    ensures stands { (from : FromEnd) (x : Connection) (input : OwnInput) (j : ℕ) (ended : Bool) → count ≡ pace_of x.pace j → IsOver from ended
+    ensures stands { (from : FromEnd) (x : Connection) (input : OwnInput) (j : ℕ) (ended : Bool)
+        → count ≡ pace_of x.pace j → IsOver from ended
         → TakingStands from x input j [] ended part.old → TakingStands from x input (suc j) [] false part.new }
-    ensures bytes { (from : FromEnd) (x : Connection) (input : OwnInput) (j : ℕ) (ended : Bool) → count ≡ pace_of x.pace j → IsOver from ended
-        → TakingStands from x input j [] ended part.old → (ended ≡ true → came.old.bytes ≡ emits_by from x input j) → came.new.bytes ≡ emits_by from x input j }
+    ensures bytes { (from : FromEnd) (x : Connection) (input : OwnInput) (j : ℕ) (ended : Bool)
+        → count ≡ pace_of x.pace j → IsOver from ended
+        → TakingStands from x input j [] ended part.old → (ended ≡ true → came.old.bytes ≡ emits_by from x input j)
+        → came.new.bytes ≡ emits_by from x input j }
     ensures client { IsOfClient part.old → part.new ≡ part.old }
     ensures entry { (from : FromEnd) (x : Connection) → TakesFrom from x part.old → TakesFrom from x part.new }
     ensures taken { frames_taken part.new ≡ frames_taken part.old }
@@ -155,7 +169,8 @@ pub(crate) fn emit_signal(part: &mut TakingPart, count: usize, came: &mut Burst)
 
 /// What the part takes from is.
 pub(crate) fn state_of(part: &TakingPart) -> FromState
-    ensures { (from : FromEnd) (x : Connection) (input : OwnInput) (j : ℕ) (frames : List Taken) (ended : Bool) → TakingStands from x input j frames ended part.now
+    ensures { (from : FromEnd) (x : Connection) (input : OwnInput) (j : ℕ) (frames : List Taken) (ended : Bool)
+        → TakingStands from x input j frames ended part.now
         → result ≡ state_by from x input (turns_taken j ended) }
 {
     match part {
@@ -178,8 +193,14 @@ fn of_sink(state: SinkState) -> FromState
 /// A client's packets begun, whether it is spent, and its bad line.
 pub(crate) fn text_numbers(part: &TakingPart) -> (u64, bool, Option<u64>)
     requires client { IsOfClient part.now }
-    ensures { (x : Connection) (first now : InView) (taken : List ℕ) (n : ℕ) (input : ClientInput) → ClientInStands x first now taken n part.now → MayShow part.now taken (of_client input)
-        → result ≡ (saturated (packets_begun input.packets x.fcs (emitted_before x.pace n)), is_spent input x.fcs (emitted_before x.pace n), option_map saturated (bad_line input x.fcs (emitted_before x.pace n))) }
+    ensures { (x : Connection) (first now : InView) (taken : List ℕ) (n : ℕ) (input : ClientInput)
+        → ClientInStands x first now taken n part.now → MayShow part.now taken (of_client input)
+        → result ≡ (
+          saturated (packets_begun input.packets x.fcs (emitted_before x.pace n)),
+          is_spent input x.fcs
+              (emitted_before x.pace n),
+          option_map saturated (bad_line input x.fcs (emitted_before x.pace n)),
+        ) }
 {
     match part {
         TakingPart::Client(client) => (

@@ -1,4 +1,5 @@
--- Two connections of a plan that breaks no rule are the same where they have a client, or in one turn a slot or a tributary port of a line.
+-- Two connections of a plan that breaks no rule are the same where they have a client, or in one turn a slot or a
+-- tributary port of a line.
 use Rattle.std.proofs.Common.{◌≡◌, ◌<◌, ℕ, zero, suc, ◌+◌, pos, Bool, true, false, ◌&&◌, map, Some, slice_get, refl, ap, ◌∙◌, arith}
 use Rattle.std.proofs.lemmas.Bool.{or_left, or_right}
 use Rattle.std.specs.List.{Contains}

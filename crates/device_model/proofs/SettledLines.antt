@@ -113,7 +113,8 @@ length_at_end : (form : LineForm) (taken came raw given : List ℕ) → (may : M
 length_at_end form taken came raw given may e =
     ap length (e ∙ ap (through_mask form.scrambled) (may.parts ∙ append_assoc taken came may.rest)) ∙ length_parts form.scrambled taken came may.rest
 
--- Of the line was taken what its turns want, and one byte more, or all that there is; and more was there exactly where that byte came.
+-- Of the line was taken what its turns want, and one byte more, or all that there is; and more was there exactly where
+-- that byte came.
 pub record EndOfLine (form : LineForm) (taken came given : List ℕ) (t : ℕ) : Type 0 where
   pub took : length (taken ++ came) ≡ min (length given) (suc (line_taken form given t 0))
   pub more : has_come came ≡ true → line_taken form given t 0 < length given

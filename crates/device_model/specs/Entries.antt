@@ -1,5 +1,6 @@
--- The connections of a plan: where each comes from and goes to, and in which turns it is active. Turns are counted by those that are past:
--- the turns of a plan from 0, and a connection's own turns from 0 too, its first being the turn of its start.
+-- Believed: the connections of a plan: where each comes from and goes to, and in which turns it is active. Turns are
+-- counted by those that are past: the turns of a plan from 0, and a connection's own turns from 0 too, its first being
+-- the turn of its start.
 use Rattle.std.specs.Prelude.{◌≡◌, ℕ, ◌+◌, ◌-◌, ◌≤◌, ◌==◌, Bool, true, false, if◌then◌else◌, List, length}
 use Rattle.std.specs.List.{Contains, list_any}
 use Rattle.otn_base.specs.LineSlots.{LineSlots, slots_of}
@@ -74,9 +75,13 @@ form_in plan line = record { kind = kind_by plan.otu3_in line; scrambled = list_
 
 -- the kind of an output line, and whether it is scrambled
 abbrev pub form_out : Plan → (line : ℕ) → LineForm
-form_out plan line = record { kind = kind_by plan.otu3_out line; scrambled = list_any (λ n. n == line) plan.scrambled_out }
+form_out plan line = record {
+  kind = kind_by plan.otu3_out line;
+  scrambled = list_any (λ n. n == line) plan.scrambled_out;
+}
 
--- A connection of the plan that is active in turn past + 1, and goes to these slots of line b, with this tributary port.
+-- A connection of the plan that is active in turn past + 1, and goes to these slots of line b, with this tributary
+-- port.
 pub record IsSentOn (plan : Plan) (b past : ℕ) (x : Connection) (port : ℕ) (slots : LineSlots) : Type 0 where
   pub is_of : Contains plan.connections x
   pub to : x.to ≡ to_end.Line b port slots

@@ -1,5 +1,5 @@
--- What the turns of a line show of a tributary, and what a sink on it emits. The bytes are those of the line, through its mask; a
--- multiframe has as many frames as the line has slots.
+-- Believed: what the turns of a line show of a tributary, and what a sink on it emits. The bytes are those of the line,
+-- through its mask; a multiframe has as many frames as the line has slots.
 use Rattle.std.specs.Prelude.{ℕ, zero, suc, ◌+◌, ◌%◌, List, [], ◌∷◌, length, map, Option, option_map}
 use Rattle.std.specs.List.{range_with_len}
 use Rattle.line_side.specs.LineFile.{frame_at, mfas_of}
@@ -20,7 +20,8 @@ frames_of size given lock = map (member_at given lock) (range_with_len 0 size)
 
 -- what turn t + 1 of a line of these bytes shows of a tributary: nothing where it has no multiframe
 unfoldable pub view_at : Tributary → List ℕ → (t : ℕ) → Option View
-view_at own given t = turn_view own (option_map (frames_of own.line_slots given) (multiframe own.line_slots (mfas_of given) t))
+view_at own given t = turn_view own (option_map (frames_of own.line_slots given)
+    (multiframe own.line_slots (mfas_of given) t))
 
 -- what the turns 1 to t show, the last first
 unfoldable pub views_until : Tributary → List ℕ → (t : ℕ) → List (Option View)
@@ -33,4 +34,5 @@ emitted_at own given t = emission own (signal_byte Ais) (views_until own given t
 
 -- A turn with a multiframe shows every group.
 abbrev pub ShowsWholeTurns : Type 0
-ShowsWholeTurns = (own : Tributary) (given : List ℕ) (t : ℕ) → IsTributary own → IsWholeTurn (length own.slots) (view_at own given t)
+ShowsWholeTurns = (own : Tributary) (given : List ℕ) (t : ℕ) → IsTributary own
+    → IsWholeTurn (length own.slots) (view_at own given t)

@@ -1,4 +1,4 @@
--- What the file of an output line shows to whoever reads it, through its mask.
+-- API: what the file of an output line shows to whoever reads it, through its mask.
 use Rattle.std.specs.Prelude.{◌≡◌, ℕ, ◌+◌, ◌*◌, ◌%◌, ◌≤◌, List, Some}
 use Rattle.std.specs.List.{concat}
 use Rattle.otn_base.specs.LineSlots.{LineSlots, slots_of}
@@ -21,7 +21,8 @@ pub record IsLineEnd (plan : Plan) (b port : ℕ) (slots : LineSlots) : Type 0 w
   pub list : IsSlotList (slots_of slots.kind) slots.list
   pub port_least : 1 ≤ port
 
--- the multiframe of turn past + 1 of a line that was made: as many of the same size went before it, and MFAS goes on from turn to turn
+-- the multiframe of turn past + 1 of a line that was made: as many of the same size went before it, and MFAS goes on
+-- from turn to turn
 abbrev pub made_lock : (size past : ℕ) → Lock
 made_lock size past = record { frame = size * past; expected = size * past % 256 }
 
@@ -29,11 +30,13 @@ made_lock size past = record { frame = size * past; expected = size * past % 256
 abbrev pub HasItsMultiframes : Type 0
 HasItsMultiframes = (plan : Plan) (inputs : Inputs) (b count past : ℕ) (frames : List (List ℕ))
     → IsLineFile plan inputs b count frames → size_of (form_out plan b) * (past + 1) ≤ count
-    → multiframe (size_of (form_out plan b)) (mfas_of (concat frames)) past ≡ Some (made_lock (size_of (form_out plan b)) past)
+    → multiframe (size_of (form_out plan b)) (mfas_of (concat frames)) past
+    ≡ Some (made_lock (size_of (form_out plan b)) past)
 
 -- Its frames show of each connection that goes to the line what the connection got until then, as a source puts it.
 abbrev pub ShowsItsConnections : Type 0
-ShowsItsConnections = (plan : Plan) (inputs : Inputs) (b count past : ℕ) (frames : List (List ℕ)) (x : Connection) (port : ℕ) (slots : LineSlots)
+ShowsItsConnections = (plan : Plan) (inputs : Inputs) (b count past : ℕ) (frames : List (List ℕ)) (x : Connection)
+    (port : ℕ) (slots : LineSlots)
     → IsLineFile plan inputs b count frames → size_of (form_out plan b) * (past + 1) ≤ count
     → IsSentOn plan b past x port slots → IsLineEnd plan b port slots
     → ShowsTurn (tributary_of slots port) (got_by x (own_input inputs x) (own_turn x past + 1)) (own_turn x past)

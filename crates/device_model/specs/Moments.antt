@@ -1,6 +1,6 @@
--- The moments of a run. A run is made of pieces: in each turn of a plan a line that it uses has one for each frame of a multiframe, and a
--- client that it uses has one. A moment is a turn, and how many of its pieces each port has done. What is due at a moment is said port by port:
--- no definition of it names two ports.
+-- Believed: the moments of a run. A run is made of pieces: in each turn of a plan a line that it uses has one for each
+-- frame of a multiframe, and a client that it uses has one. A moment is a turn, and how many of its pieces each port
+-- has done. What is due at a moment is said port by port: no definition of it names two ports.
 use Rattle.std.specs.Prelude.{◌≡◌, ℕ, ◌+◌, ◌-◌, ◌*◌, min, Bool, true, ◌&&◌, if◌then◌else◌, nat_le, List, length, map, sum}
 use Rattle.std.specs.List.{concat, list_any, range_with_len}
 use Rattle.otn_base.specs.declared.kind.PortName.{PortName}
@@ -48,14 +48,17 @@ over_ports count =
 
 -- ---- what is due at a moment
 
--- how many bytes an input line of the plan has given: what the turns and pieces so far want, or all where they want a frame that is not whole
+-- how many bytes an input line of the plan has given: what the turns and pieces so far want, or all where they want a
+-- frame that is not whole
 abbrev pub line_taken : LineForm → (given : List ℕ) → (past pieces : ℕ) → ℕ
-line_taken form given past pieces = took LINE_FRAME_BYTES (length given) (mfas_of given) (wanted_so_far (size_of form) (mfas_of given) past pieces)
+line_taken form given past pieces = took LINE_FRAME_BYTES (length given) (mfas_of given)
+    (wanted_so_far (size_of form) (mfas_of given) past pieces)
 
--- How many of its own turns a client of this connection has done, in or out, before turn past + 1 and by so many pieces of it. A client's
--- piece of a turn in which its connection is not active does nothing.
+-- How many of its own turns a client of this connection has done, in or out, before turn past + 1 and by so many pieces
+-- of it. A client's piece of a turn in which its connection is not active does nothing.
 abbrev pub turns_done : Connection → (past pieces : ℕ) → ℕ
-turns_done x past pieces = min past x.stop - first_turn x + (if nat_le x.start (past + 1) && nat_le (past + 1) x.stop then pieces else 0)
+turns_done x past pieces = min past x.stop - first_turn x +
+    (if nat_le x.start (past + 1) && nat_le (past + 1) x.stop then pieces else 0)
 
 -- how many bytes of its stream a client's input has emitted
 abbrev pub emitted_by : Connection → (past pieces : ℕ) → ℕ

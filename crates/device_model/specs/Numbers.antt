@@ -1,4 +1,4 @@
--- The numbers of a run, by its plan, what its inputs gave, and what went to its outputs.
+-- Believed: the numbers of a run, by its plan, what its inputs gave, and what went to its outputs.
 use Rattle.std.specs.Prelude.{◌≡◌, ◌-◌, ◌*◌, ◌==◌, ℕ, true, ◌&&◌, if◌then◌else◌, nat_le, nat_lt, List, length, filter, Option, Some, None, option_map, slice_get}
 use Rattle.std.specs.List.{Contains}
 use Rattle.otn_base.specs.declared.kind.PortName.TheVariants as port
@@ -27,8 +27,8 @@ use Rattle.device_model.specs.declared.outcome.FromState.{FromState}
 
 -- ---- of a line
 
--- How a line that was read stands with its place in the end: the place is dead; or its end was seen, where the turns wanted a frame that is not
--- whole; or neither.
+-- How a line that was read stands with its place in the end: the place is dead; or its end was seen, where the turns
+-- wanted a frame that is not whole; or neither.
 abbrev pub ending_of : State → (whole wanted : ℕ) → Ending
 ending_of Dead whole wanted = Died
 ending_of Live whole wanted = if nat_lt whole wanted then Seen else Open
@@ -36,7 +36,8 @@ ending_of Empty whole wanted = if nat_lt whole wanted then Seen else Open
 
 -- the same of a line of this form, of which these bytes were given, after the turns 1 to `turns`
 abbrev pub line_ending : State → LineForm → (given : List ℕ) → (turns : ℕ) → Ending
-line_ending state form given turns = ending_of state (length (mfas_of given)) (wanted (size_of form) (mfas_of given) turns)
+line_ending state form given turns = ending_of state (length (mfas_of given))
+    (wanted (size_of form) (mfas_of given) turns)
 
 -- ---- of a client
 
@@ -64,13 +65,17 @@ client_numbers x input = client_numbers_by x input (emitted_in_all x)
 
 -- of its client output, to which this text went; a place that was so at first
 abbrev pub output_numbers : State → (arrived went : List ℕ) → ClientOutNumbers
-output_numbers first arrived went = record { frames = saturated (arriving_frames arrived); packets = saturated (counted_packets first (arriving_packets arrived) went) }
+output_numbers first arrived went = record {
+  frames = saturated (arriving_frames arrived);
+  packets = saturated (counted_packets first (arriving_packets arrived) went);
+}
 
 -- ---- of a connection
 
 -- what its from end was after turn `past` of the plan; nothing where the connection was not active in that
 abbrev pub state_after_turn : (past : ℕ) → Connection → OwnInput → Option FromState
-state_after_turn past x input = if nat_le x.start past && nat_le past x.stop then Some (state_in x input (past - first_turn x)) else None
+state_after_turn past x input = if nat_le x.start past && nat_le past x.stop
+    then Some (state_in x input (past - first_turn x)) else None
 
 -- what it was after the last turn of the plan
 abbrev pub last_state : (turns : ℕ) → Connection → OwnInput → Option FromState
@@ -84,13 +89,20 @@ pub record Went : Type 0 where
   pub client : (n : ℕ) → List ℕ
 
 -- The numbers of a run whose places were first and last so, whose inputs gave these, and to whose outputs this went.
-pub record AreNumbers (plan : Plan) (inputs : Inputs) (went : Went) (first last : BaysView) (numbers : Numbers) : Type 0 where
+pub record AreNumbers (plan : Plan) (inputs : Inputs) (went : Went) (first last : BaysView)
+    (numbers : Numbers) : Type 0 where
   pub line_in : (a : ℕ) → uses plan (port.LineIn a) ≡ true
-      → numbers.line_in a ≡ numbers_of (form_in plan a) (line_ending (place_state last (port.LineIn a)) (form_in plan a) (inputs.line a) plan.turns) (inputs.line a) plan.turns 0
-  pub line_out : (b : ℕ) (frames : List (List ℕ)) → uses plan (port.LineOut b) ≡ true → IsLineFile plan inputs b (size_of (form_out plan b) * plan.turns) frames
+      → numbers.line_in a ≡ numbers_of (form_in plan a)
+      (line_ending (place_state last (port.LineIn a)) (form_in plan a) (inputs.line a) plan.turns)
+      (inputs.line a) plan.turns 0
+  pub line_out : (b : ℕ) (frames : List (List ℕ)) → uses plan (port.LineOut b) ≡ true
+      → IsLineFile plan inputs b (size_of (form_out plan b) * plan.turns) frames
       → numbers.line_out b ≡ saturated (counted_frames (place_state first (port.LineOut b)) frames (went.line b))
-  pub client_in : (x : Connection) (n : ℕ) → Contains plan.connections x → x.from ≡ from_end.Client n → numbers.client_in n ≡ client_numbers x (inputs.client n)
+  pub client_in : (x : Connection) (n : ℕ) → Contains plan.connections x → x.from ≡ from_end.Client n
+      → numbers.client_in n ≡ client_numbers x (inputs.client n)
   pub client_out : (x : Connection) (n : ℕ) → Contains plan.connections x → x.to ≡ to_end.Client n
-      → numbers.client_out n ≡ output_numbers (place_state first (port.ClientOut n)) (arrived_by x (own_input inputs x) (turns_done x plan.turns 0)) (went.client n)
-  pub from : (i : ℕ) (x : Connection) → slice_get plan.connections i ≡ Some x → numbers.from i ≡ last_state plan.turns x (own_input inputs x)
+      → numbers.client_out n ≡ output_numbers (place_state first (port.ClientOut n))
+      (arrived_by x (own_input inputs x) (turns_done x plan.turns 0)) (went.client n)
+  pub from : (i : ℕ) (x : Connection) → slice_get plan.connections i ≡ Some x
+      → numbers.from i ≡ last_state plan.turns x (own_input inputs x)
   pub outcome : IsOutcome plan inputs last numbers.outcome

@@ -1,4 +1,4 @@
--- How a run ends.
+-- Believed: how a run ends.
 use Rattle.std.specs.Prelude.{◌≡◌, ◌≢◌, ◌⊎◌, ◌↔◌, ℕ, ◌-◌, ◌<◌, false, true, List, length}
 use Rattle.std.specs.List.{Contains}
 use Rattle.otn_base.specs.declared.kind.PortName.{PortName}
@@ -45,8 +45,8 @@ pub record HasOpen (plan : Plan) (inputs : Inputs) : Type 0 where
   pub from : x.from ≡ from_end.Client n
   pub unspent : is_spent (inputs.client n) x.fcs (emitted_in_all x) ≡ false
 
--- Cut where a place that the plan uses is dead at the end; else Unfinished where a line has more than its turns want, or a client is not
--- spent; else Done.
+-- Cut where a place that the plan uses is dead at the end; else Unfinished where a line has more than its turns want,
+-- or a client is not spent; else Done.
 pub record IsOutcome (plan : Plan) (inputs : Inputs) (last : BaysView) (outcome : Outcome) : Type 0 where
   pub cut : (outcome ≡ Cut) ↔ HasDead plan last
   pub unfinished : (outcome ≡ Unfinished) ↔ ((HasDead plan last → ⊥) × (HasMore plan inputs ⊎ HasOpen plan inputs))

@@ -1,4 +1,4 @@
--- The report of a run, as text.
+-- Believed: the report of a run, as text.
 use Rattle.std.specs.Prelude.{ℕ, zero, suc, ◌+◌, Bool, true, false, if◌then◌else◌, List, [], ◌∷◌, ◌++◌, Option, Some, None, codes}
 use Rattle.std.specs.Fmt.{decimal}
 use Rattle.std.specs.List.{concat, flat_map, range_with_len}
@@ -17,7 +17,8 @@ use Rattle.device_model.specs.declared.outcome.Outcome.TheVariants as outcome
 
 -- ---- the numbers of the ports
 
--- of a client input: how many packets were begun, whether it is spent, and the number of its bad line, once that is seen
+-- of a client input: how many packets were begun, whether it is spent, and the number of its bad line, once that is
+-- seen
 pub record ClientInNumbers : Type 0 where
   pub packets : ℕ
   pub spent : Bool
@@ -28,8 +29,8 @@ pub record ClientOutNumbers : Type 0 where
   pub frames : ℕ
   pub packets : ℕ
 
--- of all ports, by number; what the from end of each connection, from 0, was after the last turn, nothing where it was not active in that;
--- and how the run ended
+-- of all ports, by number; what the from end of each connection, from 0, was after the last turn, nothing where it was
+-- not active in that; and how the run ended
 pub record Numbers : Type 0 where
   pub line_in : (a : ℕ) → LineCounts
   pub line_out : (b : ℕ) → ℕ
@@ -75,23 +76,28 @@ line_of parts = concat parts ++ 10 ∷ []
 
 -- an input line: its frames, its lead-in, its lost multiframes, its rest, its wrong FAS and BIP-8, and its place
 unfoldable pub line_in_line : (a : ℕ) → LineCounts → State → List ℕ
-line_in_line a counts state = line_of (codes "line-in " ∷ decimal a ∷ codes " frames " ∷ decimal counts.frames ∷ codes " lead-in " ∷ decimal counts.lead_in
-    ∷ codes " lost " ∷ decimal counts.lost ∷ codes " rest " ∷ decimal counts.rest ∷ codes " fas " ∷ decimal counts.fas ∷ codes " sm " ∷ decimal counts.sm
+line_in_line a counts state = line_of (codes "line-in " ∷ decimal a ∷ codes " frames " ∷ decimal counts.frames
+    ∷ codes " lead-in " ∷ decimal counts.lead_in
+    ∷ codes " lost " ∷ decimal counts.lost ∷ codes " rest " ∷ decimal counts.rest ∷ codes " fas " ∷ decimal counts.fas
+    ∷ codes " sm " ∷ decimal counts.sm
     ∷ codes " pm " ∷ decimal counts.pm ∷ codes " " ∷ state_word state ∷ [])
 
 -- an output line: its frames, and its place
 unfoldable pub line_out_line : (b frames : ℕ) → State → List ℕ
-line_out_line b frames state = line_of (codes "line-out " ∷ decimal b ∷ codes " frames " ∷ decimal frames ∷ codes " " ∷ state_word state ∷ [])
+line_out_line b frames state = line_of (codes "line-out " ∷ decimal b ∷ codes " frames " ∷ decimal frames ∷ codes " "
+    ∷ state_word state ∷ [])
 
 -- a client input: its packets, how its text ends, and its place
 unfoldable pub client_in_line : (n : ℕ) → ClientInNumbers → State → List ℕ
 client_in_line n numbers state =
-    line_of (codes "client-in " ∷ decimal n ∷ codes " packets " ∷ decimal numbers.packets ∷ codes " " ∷ client_word numbers.spent numbers.bad ∷ codes " " ∷ state_word state ∷ [])
+    line_of (codes "client-in " ∷ decimal n ∷ codes " packets " ∷ decimal numbers.packets ∷ codes " "
+    ∷ client_word numbers.spent numbers.bad ∷ codes " " ∷ state_word state ∷ [])
 
 -- a client output: its frames, its packets, and its place
 unfoldable pub client_out_line : (n : ℕ) → ClientOutNumbers → State → List ℕ
 client_out_line n numbers state =
-    line_of (codes "client-out " ∷ decimal n ∷ codes " frames " ∷ decimal numbers.frames ∷ codes " packets " ∷ decimal numbers.packets ∷ codes " " ∷ state_word state ∷ [])
+    line_of (codes "client-out " ∷ decimal n ∷ codes " frames " ∷ decimal numbers.frames ∷ codes " packets "
+    ∷ decimal numbers.packets ∷ codes " " ∷ state_word state ∷ [])
 
 -- a connection: its name, and its from end
 unfoldable pub connection_line : (name : List ℕ) → Option FromState → List ℕ
@@ -108,14 +114,18 @@ abbrev pub connection_lines : (i : ℕ) → (state : ℕ → Option FromState) �
 connection_lines i state [] = []
 connection_lines i state (x ∷ xs) = connection_line x.name (state i) ++ connection_lines (suc i) state xs
 
--- The report of a run over a plan that left the places so: the turns, a line for each port that is used, one for each connection, and how
--- the run ended.
+-- The report of a run over a plan that left the places so: the turns, a line for each port that is used, one for each
+-- connection, and how the run ended.
 unfoldable pub report_text : Plan → Numbers → (last : BaysView) → List ℕ
 report_text plan numbers last =
     line_of (codes "turns " ∷ decimal plan.turns ∷ [])
-    ++ used_lines LINES (λ a. uses plan (port.LineIn a)) (λ a. line_in_line a (numbers.line_in a) (place_state last (port.LineIn a)))
-    ++ used_lines LINES (λ b. uses plan (port.LineOut b)) (λ b. line_out_line b (numbers.line_out b) (place_state last (port.LineOut b)))
-    ++ used_lines CLIENTS (λ n. uses plan (port.ClientIn n)) (λ n. client_in_line n (numbers.client_in n) (place_state last (port.ClientIn n)))
-    ++ used_lines CLIENTS (λ n. uses plan (port.ClientOut n)) (λ n. client_out_line n (numbers.client_out n) (place_state last (port.ClientOut n)))
+    ++ used_lines LINES (λ a. uses plan (port.LineIn a))
+    (λ a. line_in_line a (numbers.line_in a) (place_state last (port.LineIn a)))
+    ++ used_lines LINES (λ b. uses plan (port.LineOut b))
+    (λ b. line_out_line b (numbers.line_out b) (place_state last (port.LineOut b)))
+    ++ used_lines CLIENTS (λ n. uses plan (port.ClientIn n))
+    (λ n. client_in_line n (numbers.client_in n) (place_state last (port.ClientIn n)))
+    ++ used_lines CLIENTS (λ n. uses plan (port.ClientOut n))
+    (λ n. client_out_line n (numbers.client_out n) (place_state last (port.ClientOut n)))
     ++ connection_lines 0 numbers.from plan.connections
     ++ line_of (codes "status " ∷ outcome_word numbers.outcome ∷ [])

@@ -1,4 +1,4 @@
--- The place of a client after the stop of its connection.
+-- Believed: the place of a client after the stop of its connection.
 use Rattle.std.specs.Prelude.{Bool, if◌then◌else◌}
 use Rattle.otn_ports.specs.Retiring.{retired_in, retired_out}
 use Rattle.otn_ports.specs.Views.{InView, OutView}

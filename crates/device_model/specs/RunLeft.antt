@@ -1,4 +1,5 @@
--- What a run of a plan leaves, from its places as they were first to how they are last. No node is named here.
+-- Believed: what a run of a plan leaves, from its places as they were first to how they are last. No node is named
+-- here.
 use Rattle.std.specs.Prelude.{◌≡◌, ℕ, suc, min, Bool, true, false, List, [], ◌++◌, length}
 use Rattle.std.specs.List.{Contains}
 use Rattle.otn_base.specs.declared.kind.PortName.{PortName}
@@ -31,18 +32,20 @@ pub record Takings : Type 0 where
   pub client : (n : ℕ) → List ℕ
   pub client_more : (n : ℕ) → Bool
 
--- What the inputs of a run may turn out to be, each for itself: of a line the bytes through its mask, of a client the packets of its text, or
--- of what is left of it where its place died.
+-- What the inputs of a run may turn out to be, each for itself: of a line the bytes through its mask, of a client the
+-- packets of its text, or of what is left of it where its place died.
 pub record MayBeInputs (plan : Plan) (first last : BaysView) (takings : Takings) (inputs : Inputs) : Type 0 where
   pub line : (a : ℕ) → uses plan (port.LineIn a) ≡ true
-      → (given : List ℕ) × MayHave (takings.line_more a) (takings.line a) given × (inputs.line a ≡ through_mask (form_in plan a).scrambled given)
+      → (given : List ℕ) × MayHave (takings.line_more a) (takings.line a) given
+      × (inputs.line a ≡ through_mask (form_in plan a).scrambled given)
   pub client : (n : ℕ) → uses plan (port.ClientIn n) ≡ true
       → (given : List ℕ) × MayHave (takings.client_more n) (takings.client n) given
       × (inputs.client n ≡ input_given (has_died (client_in_at first n).state (client_in_at last n).state) given)
 
 -- ---- inputs
 
--- the place of a client, as it was until its connection's stop, and as it is: emptied there where it was live and its connection retires
+-- the place of a client, as it was until its connection's stop, and as it is: emptied there where it was live and its
+-- connection retires
 pub record ClientInLeft (retires : Bool) (first last : InView) (taken : List ℕ) (more : Bool) : Type 0 where
   pub was : InView
   pub left : InputLeft first was taken more
@@ -50,8 +53,8 @@ pub record ClientInLeft (retires : Bool) (first last : InView) (taken : List ℕ
 
 -- ---- outputs
 
--- of the bytes that were due to an output place these went out: a part from the front, and all of them where it is live (as `IsSent` has it,
--- with the bytes that went)
+-- of the bytes that were due to an output place these went out: a part from the front, and all of them where it is live
+-- (as `IsSent` has it, with the bytes that went)
 pub record OutputLeft (first : OutView) (due went : List ℕ) (last : OutView) : Type 0 where
   pub rest : List ℕ
   pub parts : went ++ rest ≡ due
@@ -59,20 +62,24 @@ pub record OutputLeft (first : OutView) (due went : List ℕ) (last : OutView) :
   pub whole : last.state ≡ Live → rest ≡ []
 
 -- to output line b, of the whole of its file, which is due
-pub record LineOutLeft (plan : Plan) (inputs : Inputs) (b : ℕ) (first : OutView) (went : List ℕ) (last : OutView) : Type 0 where
+pub record LineOutLeft (plan : Plan) (inputs : Inputs) (b : ℕ) (first : OutView) (went : List ℕ)
+    (last : OutView) : Type 0 where
   pub due : List ℕ
   pub is_due : LineDue plan inputs b plan.turns 0 due
   pub left : OutputLeft first due went last
 
--- to the client of a connection, the text of all that arrived; the place was emptied then where it was live and the connection retires
-pub record ClientOutLeft (plan : Plan) (inputs : Inputs) (x : Connection) (first : OutView) (went : List ℕ) (last : OutView) : Type 0 where
+-- to the client of a connection, the text of all that arrived; the place was emptied then where it was live and the
+-- connection retires
+pub record ClientOutLeft (plan : Plan) (inputs : Inputs) (x : Connection) (first : OutView) (went : List ℕ)
+    (last : OutView) : Type 0 where
   pub was : OutView
   pub left : OutputLeft first (client_due x (own_input inputs x) plan.turns 0) went was
   pub place : last ≡ out_after_retire x.retire was
 
 -- to each output that the plan uses
 pub record OutputsLeft (plan : Plan) (inputs : Inputs) (first : BaysView) (went : Went) (last : BaysView) : Type 0 where
-  pub line : (b : ℕ) → uses plan (port.LineOut b) ≡ true → LineOutLeft plan inputs b (line_out_at first b) (went.line b) (line_out_at last b)
+  pub line : (b : ℕ) → uses plan (port.LineOut b) ≡ true
+      → LineOutLeft plan inputs b (line_out_at first b) (went.line b) (line_out_at last b)
   pub client : (x : Connection) (n : ℕ) → Contains plan.connections x → x.to ≡ to_end.Client n
       → ClientOutLeft plan inputs x (client_out_at first n) (went.client n) (client_out_at last n)
 
@@ -87,26 +94,32 @@ SamePlace (port.ClientOut n) first last = client_out_at last n ≡ client_out_at
 
 -- of a line was taken what the turns of the plan want, and one byte more, or all that there is
 abbrev pub TookOf : Plan → Inputs → Takings → (a : ℕ) → Type 0
-TookOf plan inputs takings a = length (takings.line a) ≡ min (length (inputs.line a)) (suc (line_taken (form_in plan a) (inputs.line a) plan.turns 0))
+TookOf plan inputs takings a = length (takings.line a)
+    ≡ min (length (inputs.line a)) (suc (line_taken (form_in plan a) (inputs.line a) plan.turns 0))
 
--- Of the text of a client no block of 4,096 bytes was read that was not needed: what was taken before the last one has fewer packets than are begun
--- in all its turns, and shows no bad line.
+-- Of the text of a client no block of 4,096 bytes was read that was not needed: what was taken before the last one has
+-- fewer packets than are begun in all its turns, and shows no bad line.
 abbrev pub TookOfText : Connection → ClientInput → (taken : List ℕ) → Type 0
-TookOfText x input taken = (short : Bool) × ReadAsNeeded short (packets_asked input.packets x.fcs (emitted_in_all x)) taken
+TookOfText x input taken = (short : Bool)
+    × ReadAsNeeded short (packets_asked input.packets x.fcs (emitted_in_all x)) taken
 
 -- what a run leaves, where its inputs are these
-pub record RunOf (plan : Plan) (first last : BaysView) (takings : Takings) (numbers : Numbers) (inputs : Inputs) : Type 0 where
+pub record RunOf (plan : Plan) (first last : BaysView) (takings : Takings) (numbers : Numbers)
+    (inputs : Inputs) : Type 0 where
   pub took : (a : ℕ) → uses plan (port.LineIn a) ≡ true → TookOf plan inputs takings a
-  pub text : (x : Connection) (n : ℕ) → Contains plan.connections x → x.from ≡ from_end.Client n → TookOfText x (inputs.client n) (takings.client n)
+  pub text : (x : Connection) (n : ℕ) → Contains plan.connections x → x.from ≡ from_end.Client n
+      → TookOfText x (inputs.client n) (takings.client n)
   pub went : Went
   pub outputs : OutputsLeft plan inputs first went last
   pub numbers_are : AreNumbers plan inputs went first last numbers
 
--- What a run of a plan leaves: these bytes were taken of its inputs, and for whatever these may turn out to be there is what went to its outputs, and these
--- are its numbers. Each place that the plan does not use is as it was.
+-- What a run of a plan leaves: these bytes were taken of its inputs, and for whatever these may turn out to be there is
+-- what went to its outputs, and these are its numbers. Each place that the plan does not use is as it was.
 pub record RunLeft (plan : Plan) (first last : BaysView) (takings : Takings) (numbers : Numbers) : Type 0 where
-  pub line_in : (a : ℕ) → uses plan (port.LineIn a) ≡ true → InputLeft (line_in_at first a) (line_in_at last a) (takings.line a) (takings.line_more a)
+  pub line_in : (a : ℕ) → uses plan (port.LineIn a) ≡ true
+      → InputLeft (line_in_at first a) (line_in_at last a) (takings.line a) (takings.line_more a)
   pub client_in : (x : Connection) (n : ℕ) → Contains plan.connections x → x.from ≡ from_end.Client n
       → ClientInLeft x.retire (client_in_at first n) (client_in_at last n) (takings.client n) (takings.client_more n)
   pub idle : (name : PortName) → uses plan name ≡ false → SamePlace name first last
-  pub of_inputs : (inputs : Inputs) → MayBeInputs plan first last takings inputs → RunOf plan first last takings numbers inputs
+  pub of_inputs : (inputs : Inputs) → MayBeInputs plan first last takings inputs
+      → RunOf plan first last takings numbers inputs

@@ -1,4 +1,4 @@
--- The numbers of a settled run, as its report sees them.
+-- API: the numbers of a settled run, as its report sees them.
 use Rattle.std.specs.Prelude.{false, None, get_or}
 use Rattle.line_side.specs.declared.counts.LineCounts.{LineCounts}
 use Rattle.device_model.specs.Report.{ClientInNumbers, ClientOutNumbers, Numbers}

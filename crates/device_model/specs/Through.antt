@@ -1,4 +1,5 @@
--- What leaves on a connection: one function of its plan entry and of what its own input shows. A connection's own turns are counted from 0.
+-- Believed: what leaves on a connection: one function of its plan entry and of what its own input shows. A connection's
+-- own turns are counted from 0.
 use Rattle.std.specs.Prelude.{ℕ, zero, suc, ◌+◌, List, [], ◌∷◌, ◌++◌, Option}
 use Rattle.std.specs.List.{concat}
 use Rattle.maintenance_signals.specs.Stream.{signal_byte, signal_bytes}
@@ -20,8 +21,8 @@ use Rattle.device_model.specs.LineViews.{view_at}
 use Rattle.device_model.specs.declared.outcome.FromState.{FromState}
 use Rattle.device_model.specs.declared.outcome.FromState.TheVariants as from
 
--- What a connection's own input shows: of a line, what each turn of the plan, from 0, shows of the tributary; of a client, its packets and
--- how they end; of a signal, nothing.
+-- What a connection's own input shows: of a line, what each turn of the plan, from 0, shows of the tributary; of a
+-- client, its packets and how they end; of a signal, nothing.
 pub data OwnInput : Type 0 where
   of_line : (shows : ℕ → Option View) → OwnInput
   of_client : ClientInput → OwnInput
@@ -57,7 +58,8 @@ emits_by (from_end.Signal signal) x input j = signal_emits signal x.pace j
 emits_by (from_end.Line a port slots) x input j = []
 emits_by (from_end.Client n) x input j = []
 
--- what its from end emits in own turn j: the emission of a sink; the next bytes of a client's stream, or of a signal's, as many as the pace
+-- what its from end emits in own turn j: the emission of a sink; the next bytes of a client's stream, or of a signal's,
+-- as many as the pace
 unfoldable pub emits : Connection → OwnInput → (j : ℕ) → List ℕ
 emits x input j = emits_by x.from x input j
 
@@ -93,7 +95,8 @@ sink_state sink.Down = from.Down
 
 -- what a from end is after n own turns: at a line by its sink
 abbrev pub state_by : FromEnd → Connection → OwnInput → (n : ℕ) → FromState
-state_by (from_end.Line a port slots) x (of_line shows) n = sink_state (state_after (tributary_of slots port) (past_of shows (first_turn x) n))
+state_by (from_end.Line a port slots) x (of_line shows) n = sink_state
+    (state_after (tributary_of slots port) (past_of shows (first_turn x) n))
 state_by (from_end.Line a port slots) x input n = from.Waiting
 state_by (from_end.Client m) x input n = from.Client
 state_by (from_end.Signal signal) x input n = from.Signal

@@ -18,8 +18,8 @@ pub enum FromState {
 /// How a run ends.
 #[derive(Clone, Copy, Debug, PartialEq, Eq)]
 pub enum Outcome {
-    /// No place that the plan uses is dead, no line that it uses has more than its turns want, and each client input that it uses is
-    /// spent.
+    /// No place that the plan uses is dead, no line that it uses has more than its turns want, and each client input
+    /// that it uses is spent.
     Done,
     /// No such place is dead, and a line has more than the turns want or a client is not spent.
     Unfinished,

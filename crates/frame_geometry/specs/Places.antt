@@ -1,4 +1,4 @@
--- Where the bytes of a frame stand.
+-- Believed: where the bytes of a frame stand.
 use Rattle.std.specs.Prelude.{◌≡◌, ℕ, ◌+◌, ◌-◌, ◌*◌, ◌/◌, ◌%◌, ◌<◌, ◌≤◌, ◌⊎◌, List, ◌++◌, length, take, drop}
 use Rattle.std.proofs.Common.{arith, ap, sym, ◌∙◌, add-zero}
 use Rattle.std.proofs.Math.Nat.{mul-add-div, mul-add-mod_self_left, div-eq_of_lt, mod-eq_of_lt}
@@ -18,7 +18,8 @@ payload_row_of cols row frame = take PAYLOAD_COLUMNS (drop (place_of cols row 17
 
 -- The frame after the payload columns of a row were written.
 abbrev pub with_payload_row : (cols row : ℕ) → (frame payload : List ℕ) → List ℕ
-with_payload_row cols row frame payload = take (place_of cols row 17) frame ++ (payload ++ drop (place_of cols row 17 + length payload) frame)
+with_payload_row cols row frame payload = take (place_of cols row 17) frame
+    ++ (payload ++ drop (place_of cols row 17 + length payload) frame)
 
 -- Two places are equal only where both the row and the column are.
 pub same_place : (cols row col row' col' : ℕ) → 1 ≤ row → 1 ≤ row' → 1 ≤ col → col ≤ cols → 1 ≤ col' → col' ≤ cols
@@ -27,8 +28,12 @@ same_place cols row col row' col' a b c d e f same =
     let inside : col - 1 < cols = omega arith in
     let inside' : col' - 1 < cols = omega arith in
     let wide : 0 < cols = omega arith in
-    let row_is : (d c : ℕ) → c < cols → (cols * d + c) / cols ≡ d = λ d c h. mul-add-div wide d c ∙ ap (λ n. d + n) (div-eq_of_lt h) ∙ add-zero d in
-    let column_is : (d c : ℕ) → c < cols → (cols * d + c) % cols ≡ c = λ d c h. mul-add-mod_self_left cols d c ∙ mod-eq_of_lt h in
-    let rows : row - 1 ≡ row' - 1 = sym (row_is (row - 1) (col - 1) inside) ∙ ap (λ place. place / cols) same ∙ row_is (row' - 1) (col' - 1) inside' in
-    let columns : col - 1 ≡ col' - 1 = sym (column_is (row - 1) (col - 1) inside) ∙ ap (λ place. place % cols) same ∙ column_is (row' - 1) (col' - 1) inside' in
+    let row_is : (d c : ℕ) → c < cols → (cols * d + c) / cols ≡ d = λ d c h. mul-add-div wide d c
+    ∙ ap (λ n. d + n) (div-eq_of_lt h) ∙ add-zero d in
+    let column_is : (d c : ℕ) → c < cols → (cols * d + c) % cols ≡ c = λ d c h. mul-add-mod_self_left cols d c
+    ∙ mod-eq_of_lt h in
+    let rows : row - 1 ≡ row' - 1 = sym (row_is (row - 1) (col - 1) inside) ∙ ap (λ place. place / cols) same
+    ∙ row_is (row' - 1) (col' - 1) inside' in
+    let columns : col - 1 ≡ col' - 1 = sym (column_is (row - 1) (col - 1) inside) ∙ ap (λ place. place % cols) same
+    ∙ column_is (row' - 1) (col' - 1) inside' in
     (omega arith, omega arith)

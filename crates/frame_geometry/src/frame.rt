@@ -7,9 +7,8 @@ use otn_base::limits::ROWS;
 use std::alloc::Global;
 use std::marker::Model;
 
-/// A frame of four rows of `COLS` columns (G.709 clause 11.1): 4,080 of them for a frame of an OTU2
-/// or an OTU3 with its FEC field, 3,824 for an ODU frame. It is seen as the list of its bytes, row by row. Rows and columns
-/// count from 1.
+/// A frame of four rows of `COLS` columns (G.709 clause 11.1): 4,080 of them for a frame of an OTU2 or an OTU3 with its
+/// FEC field, 3,824 for an ODU frame. It is seen as the list of its bytes, row by row. Rows and columns count from 1.
 #[derive(Drop)]
 pub struct Frame<const COLS: usize> {
     pub(crate) bytes: Vec<u8>,
@@ -107,7 +106,8 @@ impl<const COLS: usize> Frame<COLS> {
 
     /// All bytes, row by row, to be written.
     pub fn as_bytes_mut(&mut self) -> &mut [u8]
-        ensures* writes_back { sem 𝓛 (Lends (the_row COLS.row) (Array byte 0) self.entry result (after_loan COLS self.entry.now)) }
+        ensures* writes_back { sem 𝓛 (Lends (the_row COLS.row) (Array byte 0) self.entry result
+            (after_loan COLS self.entry.now)) }
         ensures bytes { result.now ≡ self.old }
         ensures size { length result.now ≡ 4 * COLS }
         ensures width { IsWidth COLS }

@@ -26,7 +26,8 @@ impl<const COLS: usize> Frame<COLS> {
     pub fn payload_row_mut(&mut self, row: u32) -> &mut [u8]
         requires row_low { 1 ≤ row }
         requires row_high { row ≤ 4 }
-        ensures* writes_back { sem 𝓛 (Lends (the_row COLS.row) (Array byte 0) self.entry result (after_row_loan COLS row self.entry.now)) }
+        ensures* writes_back { sem 𝓛 (Lends (the_row COLS.row) (Array byte 0) self.entry result
+            (after_row_loan COLS row self.entry.now)) }
         ensures bytes { result.now ≡ payload_row_of COLS row self.old }
         ensures size { length result.now ≡ PAYLOAD_COLUMNS }
         ensures frame { length self.old ≡ 4 * COLS }

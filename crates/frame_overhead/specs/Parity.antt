@@ -1,4 +1,4 @@
--- The BIP-8 parity of a frame.
+-- Believed: the BIP-8 parity of a frame.
 use Rattle.std.specs.Prelude.{ℕ, ◌+◌, ◌-◌, List, ◌++◌, take, drop, fold, bit_xor}
 use Rattle.otn_base.specs.declared.limits.TheConstants.{LAST_PAYLOAD_COLUMN}
 use Rattle.frame_geometry.specs.declared.overhead.TheConstants.{OPU_COLUMN}
@@ -10,7 +10,8 @@ opu_row_of cols row frame = take (LAST_PAYLOAD_COLUMN + 1 - OPU_COLUMN) (drop (p
 
 -- the OPU area of all four rows
 abbrev pub opu_of : (cols : ℕ) → List ℕ → List ℕ
-opu_of cols frame = opu_row_of cols 1 frame ++ (opu_row_of cols 2 frame ++ (opu_row_of cols 3 frame ++ opu_row_of cols 4 frame))
+opu_of cols frame = opu_row_of cols 1 frame
+    ++ (opu_row_of cols 2 frame ++ (opu_row_of cols 3 frame ++ opu_row_of cols 4 frame))
 
 -- G.709 clauses 15.7.2.1 and 15.8.2.1: the BIP-8 of a frame, each bit of which makes the number of ones among the bits
 -- of its place in the bytes of the OPU area even

@@ -1,4 +1,4 @@
--- The parity that a frame carries is that of the frame two before it.
+-- Believed: the parity that a frame carries is that of the frame two before it.
 use Rattle.std.specs.Prelude.{◌≡◌, ℕ, ◌+◌, ◌==◌, if◌then◌else◌, List, [], ◌∷◌, reverse, Option, Some, None, option_map, slice_index}
 use Rattle.otn_base.specs.Counts.{saturated}
 use Rattle.frame_geometry.specs.Places.{place_of}
@@ -35,9 +35,11 @@ wrong_one (Some parity) byte = if byte == parity then 0 else 1
 unfoldable pub wrong_back : (cols row col : ℕ) → (back : List (List ℕ)) → ℕ
 wrong_back cols row col [] = 0
 wrong_back cols row col (frame ∷ back) =
-    wrong_one (option_map (parity_of cols) (second back)) (slice_index frame (place_of cols row col)) + wrong_back cols row col back
+    wrong_one (option_map (parity_of cols) (second back))
+    (slice_index frame (place_of cols row col)) + wrong_back cols row col back
 
--- of frames as they were sent, how many have another byte in this row and column than the parity of the frame two before
+-- of frames as they were sent, how many have another byte in this row and column than the parity of the frame two
+-- before
 abbrev pub wrong_parities : (cols row col : ℕ) → (frames : List (List ℕ)) → ℕ
 wrong_parities cols row col frames = wrong_back cols row col (reverse frames)
 

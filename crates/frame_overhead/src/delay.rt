@@ -43,14 +43,16 @@ impl ParityDelay {
 
     /// The byte that the next frame carries: the parity that is due, 0 in the first two frames.
     pub fn due_byte(&self) -> u8
-        ensures { (cols : ℕ) (frames : List (List ℕ)) → HasSent cols frames self.now → result ≡ or_zero (parity_due cols frames) }
+        ensures { (cols : ℕ) (frames : List (List ℕ)) → HasSent cols frames self.now
+            → result ≡ or_zero (parity_due cols frames) }
     {
         or_zero(self.before)
     }
 
     /// A frame of this parity is sent.
     pub fn send(&mut self, parity: u8)
-        ensures { (cols : ℕ) (frames : List (List ℕ)) (frame : List ℕ) → HasSent cols frames self.old → parity ≡ parity_of cols frame
+        ensures { (cols : ℕ) (frames : List (List ℕ)) (frame : List ℕ) → HasSent cols frames self.old
+            → parity ≡ parity_of cols frame
             → HasSent cols (frames ++ frame ∷ []) self.new }
     {
         self.before = self.last;

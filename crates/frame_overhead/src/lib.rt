@@ -1,5 +1,5 @@
-//! What section and path overhead have in common: bytes in a row of a frame, and the BIP-8 parity of frames (G.709 clauses
-//! 15.7.2.1 and 15.8.2.1), which stands two frames after the frame that it is of.
+//! What section and path overhead have in common: bytes in a row of a frame, and the BIP-8 parity of frames (G.709
+//! clauses 15.7.2.1 and 15.8.2.1), which stands two frames after the frame that it is of.
 //!
 //! - `runs`: `put_run` and `put_overhead`, which write bytes into a row.
 //! - `opu`: the parity of a frame.

@@ -23,8 +23,8 @@ pub fn put_run<const COLS: usize>(frame: &mut Frame<COLS>, row: u32, col: u32, b
     );
 }
 
-/// Writes bytes into the overhead columns of a row (1 to 4), of which there are 16, from the first on; every other byte of the
-/// frame stays.
+/// Writes bytes into the overhead columns of a row (1 to 4), of which there are 16, from the first on; every other byte
+/// of the frame stays.
 pub fn put_overhead<const COLS: usize>(frame: &mut Frame<COLS>, row: u32, bytes: &[u8])
     requires row_low { 1 ≤ row }
     requires row_high { row ≤ 4 }

@@ -1,4 +1,5 @@
--- Of any first bytes of a stream exactly the areas are found, and the packets delivered, whose frames are whole in them.
+-- Of any first bytes of a stream exactly the areas are found, and the packets delivered, whose frames are whole in
+-- them.
 use Rattle.std.proofs.Common.{◌≡◌, ℕ, zero, suc, ◌+◌, ◌-◌, ◌*◌, ◌/◌, ◌%◌, ◌^◌, ◌<◌, ◌≤◌, ◌⊎◌, List, [], ◌∷◌, ◌++◌, Bool, true, false, cond, Some, None, length, take, drop, get_or, refl, ap, ◌∙◌, sym, arith, inl, inr, append_assoc, length-append, length-drop, length-take}
 use Rattle.std.specs.Prelude.{All, map, bit_xor, nat_lt, replicate, ◌==◌, ◌&&◌, option_to_list}
 use Rattle.std.specs.Int.Bits.{xor_self, xor_assoc, xor_zero_r}

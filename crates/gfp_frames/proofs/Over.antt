@@ -8,7 +8,8 @@ use Rattle.crc_small.specs.LongDivision.{crc16_of, check_of, remainder_from, bit
 use Rattle.gfp_frames.specs.CoreHeader.{core_header, header_in, number_of_four, pattern, near_pli, right_pli}
 use Rattle.gfp_frames.specs.Maker.{idle_bytes}
 use Rattle.gfp_frames.specs.Delineation.{from_sync}
-use Rattle.gfp_frames.specs.Reader.{ReaderState, may_want, areas_from, to_come, kept_some, three_bytes, hunts_after, slid, Goes, GoesOver}
+use Rattle.gfp_frames.specs.Reader.{ReaderState, may_want, areas_from, to_come}
+use Rattle.gfp_frames.specs.Steps.Reader.{kept_some, three_bytes, hunts_after, slid, Goes, GoesOver}
 use Rattle.gfp_frames.specs.declared.phase.Phase.{Phase}
 use Rattle.gfp_frames.specs.declared.phase.Phase.TheVariants.{Hunt, Sync}
 use Rattle.gfp_frames.proofs.Texts.{header_size}

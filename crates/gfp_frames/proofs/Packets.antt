@@ -7,7 +7,8 @@ use Rattle.std.proofs.lemmas.List.{append-nil, append_cancel_left, take-append-l
 use Rattle.std.proofs.lemmas.Bool.{cases_lt, false≢true}
 use Rattle.gfp_frames.specs.Area.{packet_in}
 use Rattle.gfp_frames.specs.Delivered.{packets_in, areas_in, delivered}
-use Rattle.gfp_frames.specs.Reader.{ReaderState, to_come, HasRead, news, Goes, GoesOver, GoesTo, NoneBefore}
+use Rattle.gfp_frames.specs.Reader.{ReaderState, to_come, HasRead, news}
+use Rattle.gfp_frames.specs.Steps.Reader.{Goes, GoesOver, GoesTo, NoneBefore}
 use Rattle.gfp_frames.proofs.Reading.{delivered_is, packets-append, found_on, reads_on}
 
 -- nothing comes of itself

@@ -48,7 +48,8 @@ corrected : delivered one_wrong ≡ packets
 unfolding packets one_wrong stream delivered plain_areas sync_areas hunting right_at near_at right_pli near_pli turned_pli descrambled packet_in core_header crc16_of crc32_of check_of remainder_from bits_of low_bits inverted
 corrected = refl
 
--- two wrong bits there: the second frame is lost in HUNT, the third is the PRESYNC frame, and the fourth is descrambled wrong
+-- two wrong bits there: the second frame is lost in HUNT, the third is the PRESYNC frame, and the fourth is descrambled
+-- wrong
 two_wrong : List ℕ
 unfolding stream
 two_wrong = take 14 stream ++ 0xB5 ∷ drop 15 stream

@@ -1,4 +1,4 @@
--- The payload area of a client frame: type, tHEC, the packet, and its FCS where there is one.
+-- Believed: the payload area of a client frame: type, tHEC, the packet, and its FCS where there is one.
 use Rattle.std.specs.Prelude.{ℕ, ◌-◌, ◌/◌, ◌%◌, ◌^◌, ◌==◌, nat_lt, ◌&&◌, List, [], ◌∷◌, ◌++◌, Bool, true, if◌then◌else◌, Option, None, Some, length, take, drop, slice_index}
 use Rattle.crc_small.specs.LongDivision.{crc16_of, crc32_of}
 use Rattle.gfp_frames.specs.CoreHeader.{two_bytes, four_bytes, number_of_two, number_of_four}
@@ -36,7 +36,8 @@ upi area = slice_index area 1
 
 -- the tHEC, bytes 3 and 4, is the CRC-16 of bytes 1 and 2
 abbrev pub thec_is_right : List ℕ → Bool
-thec_is_right area = crc16_of (slice_index area 0 ∷ slice_index area 1 ∷ []) == number_of_two (slice_index area 2) (slice_index area 3)
+thec_is_right area = crc16_of (slice_index area 0 ∷ slice_index area 1 ∷ []) == number_of_two (slice_index area 2)
+    (slice_index area 3)
 
 -- client data without an extension header
 abbrev pub is_client : List ℕ → Bool
@@ -53,7 +54,8 @@ packet_of area = take (packet_size area) (drop 4 area)
 -- the number in the last four bytes of an area
 abbrev pub last_four : List ℕ → ℕ
 last_four area =
-    number_of_four (slice_index area (length area - 4)) (slice_index area (length area - 3)) (slice_index area (length area - 2)) (slice_index area (length area - 1))
+    number_of_four (slice_index area (length area - 4)) (slice_index area (length area - 3))
+    (slice_index area (length area - 2)) (slice_index area (length area - 1))
 
 -- the FCS, where PFI says that there is one, is the CRC-32 of the packet
 abbrev pub fcs_is_right : List ℕ → Bool
@@ -61,4 +63,5 @@ fcs_is_right area = if pfi area == 1 then crc32_of (packet_of area) == last_four
 
 -- the packet that is delivered of an area, if all six checks hold: PTI, EXI, UPI, tHEC, at least one byte, FCS
 unfoldable pub packet_in : List ℕ → Option (List ℕ)
-packet_in area = if is_client area && nat_lt 0 (packet_size area) && fcs_is_right area then Some (packet_of area) else None
+packet_in area = if is_client area && nat_lt 0 (packet_size area) && fcs_is_right area then Some (packet_of area)
+    else None

@@ -1,4 +1,4 @@
--- The core header of a GFP frame: the payload length indicator PLI and its check cHEC.
+-- Believed: the core header of a GFP frame: the payload length indicator PLI and its check cHEC.
 use Rattle.std.specs.Prelude.{ℕ, zero, suc, ◌+◌, ◌*◌, ◌/◌, ◌%◌, ◌^◌, ◌==◌, List, [], ◌∷◌, nat_lt, if◌then◌else◌, Option, None, Some, length, slice_index, bit_xor}
 use Rattle.crc_small.specs.LongDivision.{crc16_of}
 
@@ -18,7 +18,8 @@ number_of_two a b = a * 2 ^ 8 + b
 abbrev pub number_of_four : (a b c d : ℕ) → ℕ
 number_of_four a b c d = a * 2 ^ 24 + b * 2 ^ 16 + c * 2 ^ 8 + d
 
--- G.7041 clause 6.1.1.1: PLI 0 to 3 are control frames of four bytes; a PLI from 4 on is the length of the payload area.
+-- G.7041 clause 6.1.1.1: PLI 0 to 3 are control frames of four bytes; a PLI from 4 on is the length of the payload
+-- area.
 abbrev pub area_size : ℕ → ℕ
 area_size pli = if nat_lt pli 4 then 0 else pli
 
@@ -32,7 +33,8 @@ core_header pli = four_bytes (bit_xor (pli * 2 ^ 16 + crc16_of (two_bytes pli)) 
 
 -- the header that stands at the front of a list of four or more bytes, without the pattern
 abbrev pub header_in : List ℕ → ℕ
-header_in bytes = bit_xor (number_of_four (slice_index bytes 0) (slice_index bytes 1) (slice_index bytes 2) (slice_index bytes 3)) pattern
+header_in bytes = bit_xor (number_of_four (slice_index bytes 0) (slice_index bytes 1) (slice_index bytes 2)
+    (slice_index bytes 3)) pattern
 
 -- the PLI of a header whose cHEC is right
 unfoldable pub right_pli : ℕ → Option ℕ

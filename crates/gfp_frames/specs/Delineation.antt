@@ -1,4 +1,5 @@
--- Frames in any list of bytes (G.7041 clause 6.3.1). A list is looked at from a place on; what comes before the place does not count.
+-- Believed: frames in any list of bytes (G.7041 clause 6.3.1). A list is looked at from a place on; what comes before
+-- the place does not count.
 use Rattle.std.specs.Prelude.{ℕ, zero, suc, ◌+◌, nat_lt, ◌||◌, List, [], ◌∷◌, ◌++◌, if◌then◌else◌, None, Some, length, take, drop}
 use Rattle.gfp_frames.specs.CoreHeader.{area_size, right_at, near_at}
 
@@ -21,7 +22,8 @@ unfoldable mutual
     | None ↦ hunting places (drop 1 bytes)
   ]
 
-  -- After the PRESYNC frame: a right header there begins a frame in sync. With any other, the hunt goes on one byte further.
+  -- After the PRESYNC frame: a right header there begins a frame in sync. With any other, the hunt goes on one byte
+  -- further.
   pub after_presync : (places : ℕ) → List ℕ → List (List ℕ)
   after_presync zero bytes = []
   after_presync (suc places) bytes = elim (right_at bytes) [
@@ -50,6 +52,7 @@ from_presync bytes = after_presync (length bytes) bytes
 abbrev pub from_sync : List ℕ → List (List ℕ)
 from_sync bytes = in_sync (length bytes) bytes
 
--- the areas of all frames that begin in sync and lie whole in the list, as they came; the first hunt begins at the list's front
+-- the areas of all frames that begin in sync and lie whole in the list, as they came; the first hunt begins at the
+-- list's front
 unfoldable pub sync_areas : List ℕ → List (List ℕ)
 sync_areas bytes = from_hunt bytes

@@ -1,4 +1,4 @@
--- The plain payload areas in a list of bytes, and the packets that it delivers.
+-- Believed: the plain payload areas in a list of bytes, and the packets that it delivers.
 use Rattle.std.specs.Prelude.{ℕ, List, [], ◌∷◌, length, take, drop, flat_map, option_to_list}
 use Rattle.gfp_scrambler.specs.Register.{descrambled}
 use Rattle.gfp_frames.specs.Area.{packet_in}

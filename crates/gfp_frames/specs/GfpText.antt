@@ -1,10 +1,11 @@
--- The bytes of a stream of GFP frames.
+-- Believed: the bytes of a stream of GFP frames.
 use Rattle.std.specs.Prelude.{ℕ, List, [], ◌∷◌, ◌++◌, Bool, length, take, drop, map, flat_map, replicate}
 use Rattle.gfp_scrambler.specs.Register.{scrambled}
 use Rattle.gfp_frames.specs.CoreHeader.{core_header}
 use Rattle.gfp_frames.specs.Area.{client_area}
 
--- a frame that a sender makes: an idle frame, one that carries a packet, with or without FCS, or one of any other plain payload area
+-- a frame that a sender makes: an idle frame, one that carries a packet, with or without FCS, or one of any other plain
+-- payload area
 pub data Frame : Type 0 where
   Idle : Frame
   Client : (packet : List ℕ) (fcs : Bool) → Frame
@@ -20,11 +21,13 @@ area_of (WithArea area) = area
 abbrev pub areas_of : List Frame → List ℕ
 areas_of frames = flat_map area_of frames
 
--- the frames one after another, each with its own part of what is sent for the areas: core headers pass beside the scrambler
+-- the frames one after another, each with its own part of what is sent for the areas: core headers pass beside the
+-- scrambler
 unfoldable pub laid_out : (sent : List ℕ) → List Frame → List ℕ
 laid_out sent [] = []
 laid_out sent (frame ∷ frames) =
-    core_header (length (area_of frame)) ++ take (length (area_of frame)) sent ++ laid_out (drop (length (area_of frame)) sent) frames
+    core_header (length (area_of frame)) ++ take (length (area_of frame)) sent
+    ++ laid_out (drop (length (area_of frame)) sent) frames
 
 -- G.7041 clause 6.1.2.3: the payload areas of a stream are scrambled as one list of bits.
 unfoldable pub text_of : List Frame → List ℕ

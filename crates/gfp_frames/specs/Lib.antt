@@ -8,6 +8,7 @@ pub mod Within
 pub mod Maker
 pub mod Reader
 pub mod Lending
+pub mod Steps
 pub use Rattle.crc_small.specs.LongDivision
 pub use Rattle.crc_small.specs.Header
 pub use Rattle.gfp_scrambler.specs.BitList

@@ -1,4 +1,4 @@
--- A maker of GFP frames, as contracts see it.
+-- API: a maker of GFP frames, as contracts see it.
 use Rattle.std.specs.Prelude.{◌≡◌, ℕ, ◌+◌, ◌-◌, ◌/◌, List, [], ◌∷◌, ◌++◌, length, flat_map, replicate}
 use Rattle.gfp_scrambler.specs.Register.{last_bits, scrambled}
 use Rattle.gfp_frames.specs.CoreHeader.{core_header}
@@ -9,7 +9,8 @@ pub record MakerState : Type 0 where
   pub hand : List ℕ
   pub register : ℕ
 
--- Since its start the maker began these frames and gave these bytes: together with what it has in hand they are the frames' text.
+-- Since its start the maker began these frames and gave these bytes: together with what it has in hand they are the
+-- frames' text.
 pub record HasMade (frames : List Frame) (given : List ℕ) (maker : MakerState) : Type 0 where
   pub text : given ++ maker.hand ≡ text_of frames
   pub last : maker.register ≡ last_bits 0 (scrambled 0 (areas_of frames))
@@ -39,4 +40,7 @@ fresh = record { hand = core_header 0; register = 0 }
 -- a maker that has the frame of this plain area in hand, scrambled after these last bits
 abbrev pub made_frame : (area : List ℕ) (register : ℕ) → MakerState
 made_frame area register =
-    record { hand = core_header (length area) ++ scrambled register area; register = last_bits register (scrambled register area) }
+    record {
+      hand = core_header (length area) ++ scrambled register area;
+      register = last_bits register (scrambled register area);
+    }

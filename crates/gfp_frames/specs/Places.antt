@@ -1,4 +1,4 @@
--- The same frames by the places of their headers in the whole list (G.7041 clause 6.3.1).
+-- API: the same frames by the places of their headers in the whole list (G.7041 clause 6.3.1).
 use Rattle.std.specs.Prelude.{◌≡◌, ℕ, ◌+◌, ◌<◌, ◌≤◌, List, [], ◌∷◌, Some, None, length, take, drop, map, ◌↔◌, ◌⊎◌}
 use Rattle.gfp_frames.specs.CoreHeader.{area_size, right_at, near_at}
 
@@ -10,18 +10,23 @@ mutual
   -- a hunt begins at this place: at the front, and one byte after a place where a header was expected and none stands
   pub data HuntAt (bytes : List ℕ) : (place : ℕ) → Type 0 where
     at_front : HuntAt bytes 0
-    presync_lost : (place pli : ℕ) → PresyncAt bytes place pli → right_at (drop (place_after place pli) bytes) ≡ None → HuntAt bytes (place_after place pli + 1)
-    sync_lost : (place pli : ℕ) → SyncAt bytes place pli → near_at (drop (place_after place pli) bytes) ≡ None → HuntAt bytes (place_after place pli + 1)
+    presync_lost : (place pli : ℕ) → PresyncAt bytes place pli → right_at (drop (place_after place pli) bytes) ≡ None
+        → HuntAt bytes (place_after place pli + 1)
+    sync_lost : (place pli : ℕ) → SyncAt bytes place pli → near_at (drop (place_after place pli) bytes) ≡ None
+        → HuntAt bytes (place_after place pli + 1)
 
   -- the header that a hunt finds: the first place from the hunt's on where a right header stands
   pub data PresyncAt (bytes : List ℕ) : (place pli : ℕ) → Type 0 where
-    found : (hunt place pli : ℕ) → HuntAt bytes hunt → hunt ≤ place → ((k : ℕ) → hunt ≤ k → k < place → right_at (drop k bytes) ≡ None)
+    found : (hunt place pli : ℕ) → HuntAt bytes hunt → hunt ≤ place
+        → ((k : ℕ) → hunt ≤ k → k < place → right_at (drop k bytes) ≡ None)
         → right_at (drop place bytes) ≡ Some pli → PresyncAt bytes place pli
 
   -- a header that begins a frame in sync
   pub data SyncAt (bytes : List ℕ) : (place pli : ℕ) → Type 0 where
-    confirmed : (place pli next : ℕ) → PresyncAt bytes place pli → right_at (drop (place_after place pli) bytes) ≡ Some next → SyncAt bytes (place_after place pli) next
-    followed : (place pli next : ℕ) → SyncAt bytes place pli → near_at (drop (place_after place pli) bytes) ≡ Some next → SyncAt bytes (place_after place pli) next
+    confirmed : (place pli next : ℕ) → PresyncAt bytes place pli
+        → right_at (drop (place_after place pli) bytes) ≡ Some next → SyncAt bytes (place_after place pli) next
+    followed : (place pli next : ℕ) → SyncAt bytes place pli → near_at (drop (place_after place pli) bytes) ≡ Some next
+        → SyncAt bytes (place_after place pli) next
 
 -- a frame in sync that has an area, which is whole
 pub record WholeAt (bytes : List ℕ) (place pli : ℕ) : Type 0 where

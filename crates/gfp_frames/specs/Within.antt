@@ -1,4 +1,4 @@
--- The packets, and the payload areas, whose frames are whole in the first bytes of a stream.
+-- Believed: the packets, and the payload areas, whose frames are whole in the first bytes of a stream.
 use Rattle.std.specs.Prelude.{ℕ, ◌+◌, ◌-◌, ◌≤◌, nat_lt, List, [], ◌∷◌, ◌++◌, if◌then◌else◌, length, option_to_list}
 use Rattle.gfp_frames.specs.Area.{packet_in}
 use Rattle.gfp_frames.specs.GfpText.{Frame, Idle, Client, WithArea, area_of}

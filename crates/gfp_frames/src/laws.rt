@@ -40,7 +40,8 @@ pub fn made_is_the_stream()
 /// The areas that are delivered from are, in order, those of the frames in sync that lie whole in the
 /// list, by the places of their headers.
 pub fn frames_stand_by_place()
-    ensures { (bytes : List ℕ) → (frames : List (ℕ × ℕ)) × (AreFramesInSync bytes frames × (sync_areas bytes ≡ areas_at bytes frames)) }
+    ensures { (bytes : List ℕ) → (frames : List (ℕ × ℕ))
+        × (AreFramesInSync bytes frames × (sync_areas bytes ≡ areas_at bytes frames)) }
 {}
 
 /// In SYNC the PLI that counts is that of the one right header within one bit, and there is none
@@ -48,7 +49,8 @@ pub fn frames_stand_by_place()
 pub fn one_wrong_bit_is_corrected()
     ensures corrected { (header right : ℕ) → header < 2 ^ 32 → IsRightHeader right → IsWithinOneBit header right →
         near_pli header ≡ Some (right / 2 ^ 16) }
-    ensures refused { (header : ℕ) → header < 2 ^ 32 → ((right : ℕ) → IsRightHeader right → ¬ IsWithinOneBit header right) →
+    ensures refused { (header : ℕ) → header < 2 ^ 32
+        → ((right : ℕ) → IsRightHeader right → ¬ IsWithinOneBit header right) →
         near_pli header ≡ None }
 {}
 

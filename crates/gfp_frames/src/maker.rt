@@ -139,7 +139,8 @@ impl GfpMaker {
     pub fn fill(&mut self, into: &mut [u8])
         ensures made { (frames : List Frame) (given : List ℕ) → HasMade frames given self.old →
             HasMade (frames ++ replicate (idles_begun self.old.hand (length into.old)) Idle) (given ++ into.new) self.new }
-        ensures bytes { into.new ++ self.new.hand ≡ self.old.hand ++ idle_bytes (idles_begun self.old.hand (length into.old)) }
+        ensures bytes { into.new ++ self.new.hand ≡ self.old.hand
+            ++ idle_bytes (idles_begun self.old.hand (length into.old)) }
         ensures register { self.new.register ≡ self.old.register }
     {
         let count = self.give(into);

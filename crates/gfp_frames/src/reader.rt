@@ -6,7 +6,8 @@ ghost use Rattle.gfp_scrambler.specs.Register.{last_bits, descrambled};
 ghost use Rattle.gfp_frames.specs.CoreHeader.{four_bytes, header_in, right_pli, near_pli};
 ghost use Rattle.gfp_frames.specs.Area.{packet_in};
 ghost use Rattle.gfp_frames.specs.Delivered.{areas_in, delivered};
-ghost use Rattle.gfp_frames.specs.Reader.{ReaderState, may_want, HasRead, kept, kept_some, three_bytes, hunts_after, slid, after_header, presync_after, sync_after, area_after, news, Goes, GoesOver, GoesTo, NoneBefore};
+ghost use Rattle.gfp_frames.specs.Reader.{ReaderState, may_want, HasRead, news};
+ghost use Rattle.gfp_frames.specs.Steps.Reader.{kept, kept_some, three_bytes, hunts_after, slid, after_header, presync_after, sync_after, area_after, Goes, GoesOver, GoesTo, NoneBefore};
 ghost use Rattle.gfp_frames.specs.Maker.{idle_bytes};
 
 use crate::area::packet_size;
@@ -152,7 +153,8 @@ impl GfpReader {
         (count, area)
     }
 
-    /// As `take_some_area`, but for the area itself, which `area` gives: how many bytes, and whether an area ends with the last of them.
+    /// As `take_some_area`, but for the area itself, which `area` gives: how many bytes, and whether an area ends with
+    /// the last of them.
     pub fn find_area(&mut self, bytes: &[u8]) -> (usize, bool)
         ensures read { (taken : List ℕ) → HasRead taken self.old → HasRead (taken ++ take result.0 bytes.now) self.new }
         ensures areas { (taken : List ℕ) → HasRead taken self.old →
@@ -199,7 +201,8 @@ impl GfpReader {
 
     // Goes on over bytes up to and with the one that delivers a packet, or over all: how many, and the packet's size.
     fn find_packet(&mut self, bytes: &[u8]) -> (usize, Option<usize>)
-        ensures goes { GoesTo self.old (take result.0 bytes.now) (option_map (λ n. take n (drop 4 self.new.area)) result.1) self.new }
+        ensures goes { GoesTo self.old (take result.0 bytes.now)
+            (option_map (λ n. take n (drop 4 self.new.area)) result.1) self.new }
         ensures before { NoneBefore self.old bytes.now result.0 }
         ensures within { result.0 ≤ length bytes.now }
         ensures all { IsNone result.1 → result.0 ≡ length bytes.now }
@@ -366,7 +369,8 @@ impl GfpReader {
     fn end_hunt_header(&mut self, byte: u8)
         requires wanted { self.old.wanted ≡ 4 }
         requires last { length self.old.held ≡ 3 }
-        ensures { self.new ≡ option_map_or (presync_after self.old) (right_pli (header_in (self.old.held ++ byte ∷ []))) (slid self.old byte) }
+        ensures { self.new ≡ option_map_or (presync_after self.old) (right_pli (header_in (self.old.held ++ byte ∷ [])))
+            (slid self.old byte) }
     {
         let header = self.header(byte);
         match checked_pli(header) {
@@ -379,7 +383,8 @@ impl GfpReader {
     fn end_presync_header(&mut self, byte: u8)
         requires wanted { self.old.wanted ≡ 4 }
         requires last { length self.old.held ≡ 3 }
-        ensures { self.new ≡ option_map_or (sync_after self.old) (right_pli (header_in (self.old.held ++ byte ∷ []))) (slid self.old byte) }
+        ensures { self.new ≡ option_map_or (sync_after self.old) (right_pli (header_in (self.old.held ++ byte ∷ [])))
+            (slid self.old byte) }
     {
         let confirming = self.header(byte);
         match checked_pli(confirming) {
@@ -392,7 +397,8 @@ impl GfpReader {
     fn end_sync_header(&mut self, byte: u8)
         requires wanted { self.old.wanted ≡ 4 }
         requires last { length self.old.held ≡ 3 }
-        ensures { self.new ≡ option_map_or (sync_after self.old) (near_pli (header_in (self.old.held ++ byte ∷ []))) (slid self.old byte) }
+        ensures { self.new ≡ option_map_or (sync_after self.old) (near_pli (header_in (self.old.held ++ byte ∷ [])))
+            (slid self.old byte) }
     {
         match corrected_pli(self.header(byte)) {
             Some(pli) => self.await_frame(pli as usize, Phase::Sync, Phase::SyncArea),
@@ -450,7 +456,13 @@ impl GfpReader {
     // An area of this many bytes is to come.
     fn await_area(&mut self, phase: Phase, pli: usize)
         requires { IsTrue (may_want phase pli) }
-        ensures { self.new ≡ record { phase = phase; wanted = pli; held = []; register = self.old.register; area = [] } }
+        ensures { self.new ≡ record {
+          phase = phase;
+          wanted = pli;
+          held = [];
+          register = self.old.register;
+          area = [];
+        } }
     {
         self.phase = phase;
         self.wanted = pli;
@@ -501,7 +513,8 @@ fn idles_before(bytes: &[u8]) -> usize
 // last three bytes then.
 fn hunted(three: u32, bytes: &[u8]) -> (usize, u32)
     requires { three < 2 ^ 24 }
-    ensures goes { (register : ℕ) → GoesOver (hunts_after three register) (take result.0 bytes.now) false (hunts_after result.1 register) }
+    ensures goes { (register : ℕ) → GoesOver (hunts_after three register) (take result.0 bytes.now) false
+        (hunts_after result.1 register) }
     ensures within { result.0 ≤ length bytes.now }
     ensures small { result.1 < 2 ^ 24 }
 {

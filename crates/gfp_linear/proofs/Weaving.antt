@@ -13,7 +13,8 @@ use Rattle.gfp_frames.specs.CoreHeader.{core_header}
 use Rattle.gfp_frames.proofs.Texts.{frame_made, idle_made, header_size, header_some}
 use Rattle.gfp_linear.specs.ChannelFrames.{packet_area, loss_area, IsCidList}
 use Rattle.gfp_linear.specs.Weave.{WovenFrame, IdleFrame, PacketFrame, LossFrame, made_of, is_loss_of, giver_or, giver_after, last_giver, is_loss_late, loss_due, asked_first}
-use Rattle.gfp_linear.specs.Weaver.{idle_put, WeaverState, Woven, woven_first, channel_at, woven_on, wait_behind, wait_of, packet_put, loss_put, idles_on, HasWoven}
+use Rattle.gfp_linear.specs.Weaver.{WeaverState, Woven, woven_first, channel_at, woven_on, wait_behind, wait_of, idles_on, HasWoven}
+use Rattle.gfp_linear.specs.Steps.Weaver.{idle_put, packet_put, loss_put}
 
 -- ---- what the frames so far say, one frame later
 

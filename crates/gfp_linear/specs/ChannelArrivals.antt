@@ -1,5 +1,5 @@
--- What arrives on channels in a list of bytes.
-use Rattle.std.specs.Prelude.{ℕ, ◌≤◌, ◌-◌, ◌==◌, nat_lt, nat_le, ◌&&◌, Bool, true, if◌then◌else◌, List, [], ◌∷◌, Option, Some, None, length, take, drop, flat_map, option_to_list, slice_index}
+-- Believed: what arrives on channels in a list of bytes.
+use Rattle.std.specs.Prelude.{ℕ, ◌≤◌, ◌-◌, ◌==◌, nat_lt, nat_le, ◌&&◌, Bool, true, if◌then◌else◌, List, ◌∷◌, Option, Some, None, length, take, drop, flat_map, option_to_list, slice_index}
 use Rattle.crc_small.specs.LongDivision.{crc16_of, crc32_of}
 use Rattle.gfp_frames.specs.CoreHeader.{number_of_two}
 use Rattle.gfp_frames.specs.Area.{pti, pfi, exi, upi, thec_is_right, last_four}
@@ -16,7 +16,8 @@ pub data ChannelArrival : Type 0 where
 
 -- the eHEC, bytes 7 and 8, is the CRC-16 of bytes 5 and 6; the second of these is spare
 abbrev pub ehec_is_right : List ℕ → Bool
-ehec_is_right area = crc16_of (slice_index area 4 ∷ slice_index area 5 ∷ []) == number_of_two (slice_index area 6) (slice_index area 7)
+ehec_is_right area = crc16_of (slice_index area 4 ∷ slice_index area 5 ∷ []) == number_of_two (slice_index area 6)
+    (slice_index area 7)
 
 -- an area of a linear frame: a type and an extension header, each with a right check; EXI 0001, UPI 01
 abbrev pub is_linear : List ℕ → Bool
@@ -49,7 +50,8 @@ has_loss area = pti area == 4 && pfi area == 0 && length area == 8
 -- what arrives with an area
 unfoldable pub arrival_in : List ℕ → Option ChannelArrival
 arrival_in area =
-    if is_linear area then (if has_packet area then Some (PacketOn (cid_of area) (payload_of area)) else if has_loss area then Some (LossOn (cid_of area)) else None) else None
+    if is_linear area then (if has_packet area then Some (PacketOn (cid_of area) (payload_of area))
+    else if has_loss area then Some (LossOn (cid_of area)) else None) else None
 
 -- what arrives with these areas
 abbrev pub arrivals_in : List (List ℕ) → List ChannelArrival
@@ -58,10 +60,6 @@ arrivals_in areas = flat_map (λ area. option_to_list (arrival_in area)) areas
 -- what arrives in a list of bytes, in order
 unfoldable pub channel_arrivals : List ℕ → List ChannelArrival
 channel_arrivals bytes = arrivals_in (areas_in bytes)
-
--- what arrives with an area that was found, if it was
-abbrev pub found_in : Bool → (area : List ℕ) → List ChannelArrival
-found_in found area = if found then option_to_list (arrival_in area) else []
 
 -- a packet that arrives has 1 to 65,527 bytes
 abbrev pub IsSized : ChannelArrival → Type 0

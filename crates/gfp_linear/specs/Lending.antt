@@ -1,4 +1,4 @@
--- What a reader is once the arrival that borrows it is gone.
+-- API: what a reader is once the arrival that borrows it is gone.
 use Rattle.std.specs.Prelude.{ℕ, ⊤, List, [], ◌∷◌, ◌++◌}
 use Rattle.std.specs.Borrow.{MutBor, Fml, follows_so}
 use mathlib.Core.Option.{none}
@@ -8,9 +8,11 @@ use Rattle.gfp_linear.specs.contracts.reader.ChannelReader.{the_row}
 -- it has read one byte more
 abbrev pub EndsHavingRead : MutBor ReaderState → ℕ → Fml
 EndsHavingRead reader byte =
-    follows_so the_row the_row reader.ghost_name none (λ _ _. ⊤) (λ last. (taken : List ℕ) → HasRead taken reader.now → HasRead (taken ++ byte ∷ []) last)
+    follows_so the_row the_row reader.ghost_name none (λ _ _. ⊤) (λ last. (taken : List ℕ) → HasRead taken reader.now
+    → HasRead (taken ++ byte ∷ []) last)
 
 -- it has read these bytes more
 abbrev pub EndsHavingReadAll : MutBor ReaderState → List ℕ → Fml
 EndsHavingReadAll reader bytes =
-    follows_so the_row the_row reader.ghost_name none (λ _ _. ⊤) (λ last. (taken : List ℕ) → HasRead taken reader.now → HasRead (taken ++ bytes) last)
+    follows_so the_row the_row reader.ghost_name none (λ _ _. ⊤) (λ last. (taken : List ℕ) → HasRead taken reader.now
+    → HasRead (taken ++ bytes) last)

@@ -4,6 +4,7 @@ pub mod ChannelArrivals
 pub mod Weaver
 pub mod Lending
 pub mod Laws
+pub mod Steps
 pub use Rattle.gfp_frames.specs.CoreHeader
 pub use Rattle.gfp_frames.specs.Area
 pub use Rattle.gfp_frames.specs.GfpText

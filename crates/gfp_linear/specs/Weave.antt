@@ -1,4 +1,4 @@
--- The frames of several channels in one stream. Channels count from 0, in the order of their CIDs.
+-- Believed: the frames of several channels in one stream. Channels count from 0, in the order of their CIDs.
 use Rattle.std.specs.Prelude.{ℕ, zero, suc, ◌+◌, ◌-◌, ◌%◌, ◌≤◌, ◌==◌, All, nat_lt, Bool, true, false, if◌then◌else◌, List, [], ◌∷◌, ◌++◌, Option, Some, None, length, take, map, flat_map, reverse, get_or, slice_get, slice_index}
 use Rattle.std.specs.List.{list_any}
 use Rattle.gfp_frames.specs.GfpText.{Frame, Idle, WithArea, text_of}
@@ -73,7 +73,8 @@ asked_after count last others = (asked_first count last + others) % count
 abbrev pub loss_due : (channel : ℕ) → List WovenFrame → Option WovenFrame
 loss_due c frames = if is_loss_late c frames then None else Some (LossFrame c)
 
--- what a channel gives, if these are its packets that are left: the next one, and behind the last its loss frame where its client is lost
+-- what a channel gives, if these are its packets that are left: the next one, and behind the last its loss frame where
+-- its client is lost
 abbrev pub given_of : (channel : ℕ) → List WovenFrame → (left : Option (List ℕ)) → (is_lost : Bool) → Option WovenFrame
 given_of c frames (Some packet) is_lost = Some (PacketFrame c packet)
 given_of c frames None true = loss_due c frames
@@ -92,7 +93,8 @@ abbrev pub frame_or : Option WovenFrame → WovenFrame → WovenFrame
 frame_or (Some frame) other = frame
 frame_or None other = other
 
--- the next frame, where so many channels are left to be asked: the first that gives one fixes it, and where none does it is idle
+-- the next frame, where so many channels are left to be asked: the first that gives one fixes it, and where none does
+-- it is idle
 unfoldable pub next_of : (left : ℕ) (texts : List ChannelText) (frames : List WovenFrame) (others : ℕ) → WovenFrame
 next_of zero texts frames others = IdleFrame
 next_of (suc left) texts frames others =

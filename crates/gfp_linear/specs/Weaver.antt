@@ -1,12 +1,10 @@
--- A maker of the frames of several channels, as contracts see it.
-use Rattle.std.specs.Prelude.{replicate, ◌≡◌, ℕ, ◌+◌, ◌-◌, ◌%◌, ◌<◌, nat_lt, if◌then◌else◌, List, [], ◌∷◌, ◌++◌, Option, Some, None, length, map, reverse, slice_index, slice_set}
-use Rattle.gfp_frames.specs.CoreHeader.{core_header}
-use Rattle.gfp_frames.specs.Maker.{MakerState, HasMade, made_frame}
-use Rattle.gfp_linear.specs.ChannelFrames.{packet_area, loss_area}
+-- API: a maker of the frames of several channels, as contracts see it.
+use Rattle.std.specs.Prelude.{replicate, ◌≡◌, ℕ, ◌+◌, ◌-◌, ◌<◌, nat_lt, if◌then◌else◌, List, ◌∷◌, ◌++◌, Option, Some, None, length, map, reverse, slice_index}
+use Rattle.gfp_frames.specs.Maker.{MakerState, HasMade}
 use Rattle.gfp_linear.specs.Weave.{ChannelText, WovenFrame, IdleFrame, made_of, is_loss_of, last_giver, asked_first, asked_after, next_of, next_frame, weave}
 
--- the channels' CIDs; for each how many frames have to pass before its next loss frame; the maker of the frames; which channel is asked
--- first for the next one, and how many others gave nothing
+-- the channels' CIDs; for each how many frames have to pass before its next loss frame; the maker of the frames; which
+-- channel is asked first for the next one, and how many others gave nothing
 pub record WeaverState : Type 0 where
   pub cids : List ℕ
   pub waits : List ℕ
@@ -27,10 +25,12 @@ woven_first = record { frames = IdleFrame ∷ []; others = 0 }
 abbrev pub channel_at : (count : ℕ) → Woven → ℕ
 channel_at count at = asked_after count (last_giver at.frames) at.others
 
--- The channel that is asked gave this frame, which begins; or nothing, and the next channel is asked, or behind the last an idle frame begins.
+-- The channel that is asked gave this frame, which begins; or nothing, and the next channel is asked, or behind the
+-- last an idle frame begins.
 abbrev pub woven_on : (count : ℕ) → Woven → Option WovenFrame → Woven
 woven_on count at (Some frame) = record { frames = at.frames ++ frame ∷ []; others = 0 }
-woven_on count at None = if nat_lt (at.others + 1) count then record { frames = at.frames; others = at.others + 1 } else record { frames = at.frames ++ IdleFrame ∷ []; others = 0 }
+woven_on count at None = if nat_lt (at.others + 1) count then record { frames = at.frames; others = at.others + 1 }
+    else record { frames = at.frames ++ IdleFrame ∷ []; others = 0 }
 
 -- no channel gives a frame any more, and so many idle frames begin
 abbrev pub idles_on : (idles : ℕ) → Woven → Woven
@@ -46,29 +46,8 @@ wait_of c frames = wait_behind c (reverse frames)
 
 -- ---- steps of the maker
 
--- no channel gave a frame, and an idle one begins
-abbrev pub idle_put : WeaverState → WeaverState
-idle_put m = record m { waits = map (λ wait. wait - 1) m.waits; maker = record m.maker { hand = core_header 0 }; asked = 0 }
-
--- a channel gave a frame: the one after it is asked first for the next, and one frame has passed
-abbrev pub given_on : WeaverState → (channel : ℕ) → WeaverState
-given_on m channel = record m { waits = map (λ wait. wait - 1) m.waits; first = (channel + 1) % length m.cids; asked = 0 }
-
--- a channel gave its packet's frame
-abbrev pub packet_put : WeaverState → (channel : ℕ) → (packet : List ℕ) → WeaverState
-packet_put m channel packet = given_on (record m { maker = made_frame (packet_area (slice_index m.cids channel) packet) m.maker.register }) channel
-
--- a channel gave its loss frame, and waits for the next
-abbrev pub loss_put : WeaverState → (channel : ℕ) → WeaverState
-loss_put m channel = record {
-  cids = m.cids;
-  waits = slice_set (map (λ wait. wait - 1) m.waits) channel 1000;
-  maker = made_frame (loss_area (slice_index m.cids channel)) m.maker.register;
-  first = (channel + 1) % length m.cids;
-  asked = 0;
-}
-
--- Since its start the maker was told for each frame what the channels of these CIDs gave, and is so far; and it gave these bytes.
+-- Since its start the maker was told for each frame what the channels of these CIDs gave, and is so far; and it gave
+-- these bytes.
 pub record HasWoven (cids : List ℕ) (at : Woven) (given : List ℕ) (maker : WeaverState) : Type 0 where
   pub made : HasMade (map (made_of cids) at.frames) given maker.maker
   pub same : maker.cids ≡ cids
@@ -77,8 +56,8 @@ pub record HasWoven (cids : List ℕ) (at : Woven) (given : List ℕ) (maker : W
   pub sizes : length maker.waits ≡ length cids
   pub waits : (c : ℕ) → c < length cids → slice_index maker.waits c ≡ wait_of c at.frames
 
--- A stream that is the weave of these texts, so far: its frames are the first of it, and the channels that were asked for the next one had
--- nothing to give.
+-- A stream that is the weave of these texts, so far: its frames are the first of it, and the channels that were asked
+-- for the next one had nothing to give.
 pub record IsWeave (texts : List ChannelText) (at : Woven) : Type 0 where
   pub begun : ℕ
   pub begins : at.frames ≡ weave texts begun

@@ -1,5 +1,5 @@
-//! Linear GFP (G.7041 clause 6.1.2.1.3.2): the packets of several channels in one stream of frames, told apart by a channel
-//! identifier (CID), and the loss of a channel's client.
+//! Linear GFP (G.7041 clause 6.1.2.1.3.2): the packets of several channels in one stream of frames, told apart by a
+//! channel identifier (CID), and the loss of a channel's client.
 #![tactic(auto)]
 
 mod area;

@@ -2,7 +2,8 @@
 ghost use Rattle.std.specs.Prelude.{◌≡◌, ◌≢◌, ℕ, ◌+◌, ◌-◌, ◌/◌, ◌%◌, ◌<◌, ◌≤◌, min, List, [], ◌∷◌, ◌++◌, IsNone, IfNone, IfSome, IfOk, Some, None, length, take, drop, map, replicate, true, false, slice_index, vec_len};
 ghost use Rattle.gfp_linear.specs.ChannelFrames.{IsCidList};
 ghost use Rattle.gfp_linear.specs.Weave.{WovenFrame, PacketFrame, loss_due};
-ghost use Rattle.gfp_linear.specs.Weaver.{WeaverState, Woven, woven_first, woven_on, channel_at, idle_put, given_on, packet_put, loss_put, idles_on, HasWoven};
+ghost use Rattle.gfp_linear.specs.Weaver.{WeaverState, Woven, woven_first, woven_on, channel_at, idles_on, HasWoven};
+ghost use Rattle.gfp_linear.specs.Steps.Weaver.{idle_put, given_on, packet_put, loss_put};
 
 use crate::area::{append_loss_area, append_packet_area};
 use gfp_frames::GfpMaker;
@@ -19,9 +20,10 @@ const IDLE_BYTES: usize = 4;
 /// How many frames pass between two loss frames of a channel at least.
 const LOSS_PAUSE: u32 = 1_000;
 
-/// Makes the bytes of a stream of linear GFP frames (G.7041 clause 6.1.2.1.3.2) that carries several channels. Channels count from
-/// 0, in the order of their channel identifiers. Where no frame is in hand, the channels are asked in turn for the next one,
-/// beginning after the channel that gave the last; each answer is told by `give`, `nothing` or `lost`.
+/// Makes the bytes of a stream of linear GFP frames (G.7041 clause 6.1.2.1.3.2) that carries several channels. Channels
+/// count from 0, in the order of their channel identifiers. Where no frame is in hand, the channels are asked in turn
+/// for the next one, beginning after the channel that gave the last; each answer is told by `give`, `nothing` or
+/// `lost`.
 #[derive(Drop)]
 pub struct ChannelMaker {
     cids: Vec<u8>,
@@ -48,11 +50,12 @@ impl Model for ChannelMaker {
 }
 
 impl ChannelMaker {
-    /// A maker for the channels of these identifiers, with the first idle frame in hand; None where the list is empty or does not
-    /// rise strictly. All memory is taken here.
+    /// A maker for the channels of these identifiers, with the first idle frame in hand; None where the list is empty
+    /// or does not rise strictly. All memory is taken here.
     pub fn new(alloc: Global, cids: &[u8]) -> Result<Option<ChannelMaker>, Memory>
         ensures none { IfOk result (λ made. IfNone made (IsCidList cids.now → ⊥)) }
-        ensures some { IfOk result (λ made. IfSome made (λ maker. IsCidList cids.now × HasWoven cids.now woven_first [] maker)) }
+        ensures some { IfOk result (λ made. IfSome made
+            (λ maker. IsCidList cids.now × HasWoven cids.now woven_first [] maker)) }
     {
         if !are_cids(cids) {
             return Ok(None);
@@ -101,7 +104,9 @@ impl ChannelMaker {
         ensures woven { (cids : List ℕ) (at : Woven) (given : List ℕ) → HasWoven cids at given self.old →
             HasWoven cids (woven_on (length cids) at None) given self.new }
         // The channels are asked once round: while none gives a frame, one more was asked each time.
-        ensures round { self.new.maker.hand ≡ [] → (self.new.asked ≡ self.old.asked + 1) × (self.new.asked < length self.new.cids) × (self.new.cids ≡ self.old.cids) }
+        ensures round { self.new.maker.hand ≡ []
+            → (self.new.asked ≡ self.old.asked + 1) × (self.new.asked < length self.new.cids)
+            × (self.new.cids ≡ self.old.cids) }
     {
         if self.asked + 1 < self.cids.len() {
             self.asked += 1;
@@ -110,13 +115,15 @@ impl ChannelMaker {
         }
     }
 
-    /// The client of the channel that is asked is lost: its loss frame is in hand, where none of the last 1,000 frames is one;
-    /// else it gives nothing.
+    /// The client of the channel that is asked is lost: its loss frame is in hand, where none of the last 1,000 frames
+    /// is one; else it gives nothing.
     pub fn lost(&mut self)
         requires { self.old.maker.hand ≡ [] }
         ensures woven { (cids : List ℕ) (at : Woven) (given : List ℕ) → HasWoven cids at given self.old →
             HasWoven cids (woven_on (length cids) at (loss_due (channel_at (length cids) at) at.frames)) given self.new }
-        ensures round { self.new.maker.hand ≡ [] → (self.new.asked ≡ self.old.asked + 1) × (self.new.asked < length self.new.cids) × (self.new.cids ≡ self.old.cids) }
+        ensures round { self.new.maker.hand ≡ []
+            → (self.new.asked ≡ self.old.asked + 1) × (self.new.asked < length self.new.cids)
+            × (self.new.cids ≡ self.old.cids) }
     {
         let channel = self.channel();
         if self.wait_of(channel) > 0 {
@@ -136,8 +143,8 @@ impl ChannelMaker {
         self.maker.next_byte()
     }
 
-    /// The next bytes of the frame in hand, as many as there is room for: how many. Where no frame is in hand it gives none, and a
-    /// channel is to be asked.
+    /// The next bytes of the frame in hand, as many as there is room for: how many. Where no frame is in hand it gives
+    /// none, and a channel is to be asked.
     pub fn give_bytes(&mut self, into: &mut [u8]) -> usize
         ensures woven { (cids : List ℕ) (at : Woven) (given : List ℕ) → HasWoven cids at given self.old →
             HasWoven cids at (given ++ take result into.new) self.new }
@@ -148,7 +155,8 @@ impl ChannelMaker {
         self.maker.give(into)
     }
 
-    /// No channel gives anything for these bytes: idle frames, of which the last may stay in hand in part. No channel is asked for them.
+    /// No channel gives anything for these bytes: idle frames, of which the last may stay in hand in part. No channel
+    /// is asked for them.
     pub fn give_idle(&mut self, into: &mut [u8])
         requires { self.old.maker.hand ≡ [] }
         ensures woven { (cids : List ℕ) (at : Woven) (given : List ℕ) → HasWoven cids at given self.old →

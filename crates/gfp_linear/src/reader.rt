@@ -1,7 +1,8 @@
 // What arrives on channels, out of any list of bytes.
 ghost use Rattle.std.specs.Prelude.{◌≡◌, ℕ, ◌+◌, ◌-◌, ◌≤◌, ◌<◌, true, false, IsNone, IfSome, List, [], ◌∷◌, ◌++◌, IfOk, length, take, drop, option_map, option_to_list};
 ghost use Rattle.gfp_frames.specs.Reader.{ReaderState, HasRead};
-ghost use Rattle.gfp_linear.specs.ChannelArrivals.{arrival_in, found_in, channel_arrivals, seen, IsSized};
+ghost use Rattle.gfp_linear.specs.ChannelArrivals.{arrival_in, channel_arrivals, seen, IsSized};
+ghost use Rattle.gfp_linear.specs.Steps.ChannelArrivals.{found_in};
 ghost use Rattle.std.specs.Option.{is_some};
 
 use crate::Arrival;
@@ -11,8 +12,8 @@ use otn_base::Memory;
 use std::alloc::Global;
 use std::marker::Model;
 
-/// Finds the linear GFP frames of a stream of bytes, and gives what arrives on its channels. Contracts see how far it is in
-/// the frame at hand.
+/// Finds the linear GFP frames of a stream of bytes, and gives what arrives on its channels. Contracts see how far it
+/// is in the frame at hand.
 #[derive(Drop)]
 pub struct ChannelReader {
     reader: GfpReader,
@@ -83,7 +84,8 @@ impl ChannelReader {
         }
     }
 
-    // Goes on over bytes up to and with the one with which something arrives, or over all: how many, and whether something does.
+    // Goes on over bytes up to and with the one with which something arrives, or over all: how many, and whether
+    // something does.
     fn find_arrival(&mut self, bytes: &[u8]) -> (usize, bool)
         ensures read { (taken : List ℕ) → HasRead taken self.old → HasRead (taken ++ take result.0 bytes.now) self.new }
         ensures arrivals { (taken : List ℕ) → HasRead taken self.old →

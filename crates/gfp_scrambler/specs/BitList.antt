@@ -1,4 +1,4 @@
--- The self-synchronous scrambler x^43 + 1, as one list of bits.
+-- API: the self-synchronous scrambler x^43 + 1, as one list of bits.
 use Rattle.std.specs.Prelude.{◌≡◌, ℕ, ◌+◌, ◌-◌, ◌*◌, ◌/◌, ◌%◌, ◌<◌, nat_lt, List, if◌then◌else◌, length, slice_index}
 use Rattle.std.specs.Int.{bit_at}
 

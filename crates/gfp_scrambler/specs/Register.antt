@@ -1,4 +1,4 @@
--- The scrambler as a register of the last 43 bits, the latest the least significant.
+-- Believed: the scrambler as a register of the last 43 bits, the latest the least significant.
 use Rattle.std.specs.Prelude.{◌≡◌, ℕ, ◌+◌, ◌*◌, ◌/◌, ◌%◌, ◌^◌, List, [], ◌∷◌, bit_xor}
 use Rattle.gfp_scrambler.specs.BitList.{AreBytes, IsScrambled, IsDescrambled}
 

@@ -4,7 +4,8 @@ use Rattle.std.specs.Prelude.{nat_lt}
 use Rattle.std.proofs.lemmas.Bool.Decides.{nat_tests}
 use Rattle.gmp_rule.specs.DataRule.{data_count}
 
--- from the product at one group to that at the next, the quotient grows by one exactly where the remainder is below the number
+-- from the product at one group to that at the next, the quotient grows by one exactly where the remainder is below the
+-- number
 quotient_step : (c a b : ℕ) → c ≤ 15232 → b ≡ a + c → b / 15232 ≡ a / 15232 + cond (nat_lt (b % 15232) c) 1 0
 quotient_step c a b h e = grind (arith, nat_tests)
 

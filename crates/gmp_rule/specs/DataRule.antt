@@ -1,4 +1,4 @@
--- Which groups of a multiframe are data, and how many of them are.
+-- Believed: which groups of a multiframe are data, and how many of them are.
 use Rattle.std.specs.Prelude.{ℕ, zero, suc, ◌+◌, ◌*◌, ◌%◌, ◌<◌, nat_lt, Bool, if◌then◌else◌}
 use Rattle.otn_base.specs.declared.limits.TheConstants.{GROUPS}
 

@@ -1,4 +1,4 @@
--- How often an output has failed: its file, and where it is a capture, the capture by itself.
+-- API: how often an output has failed: its file, and where it is a capture, the capture by itself.
 use Rattle.std.specs.Prelude.{ℕ}
 use Rattle.pcap_packets.specs.Sinks.{written_faults}
 use Rattle.hostile_ports.specs.Ports.{file_faults}

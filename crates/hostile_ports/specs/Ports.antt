@@ -1,5 +1,5 @@
--- What is seen of the ports of a trial: how often each has failed, and of an input whether it has answered that it ended.
--- They tell no bytes.
+-- API: what is seen of the ports of a trial: how often each has failed, and of an input whether it has answered that it
+-- ended. They tell no bytes.
 use Rattle.std.specs.Prelude.{ℕ, Bool}
 use Rattle.otn_ports.specs.Listed.{listed_ended, read_faults}
 use Rattle.pcap_packets.specs.Captures.{capture_ended, capture_faults}

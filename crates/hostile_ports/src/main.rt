@@ -1,11 +1,11 @@
 //! `hostile_ports` does what `otn` does, over ports in memory of which some fail as the file `ports.txt` of the current
 //! folder says. It is there to be run by the scripts of `checks/`.
 //!
-//! A line of `ports.txt` names a port and says what befalls it, as `line-in 0 most 4096 failing 3`, `client-out 2 room 100`
-//! or `plan failing 1`: an input gives at most so many bytes a read, an output and the `report` have room for so many, and
-//! the calls of these numbers fail, from 1, with commas between them. All other ports never fail. When the answer is there,
-//! the program writes the files of all outputs, the report to standard output, and to `places.txt` what became of the
-//! places.
+//! A line of `ports.txt` names a port and says what befalls it, as `line-in 0 most 4096 failing 3`, `client-out 2 room
+//! 100` or `plan failing 1`: an input gives at most so many bytes a read, an output and the `report` have room for so
+//! many, and the calls of these numbers fail, from 1, with commas between them. All other ports never fail. When the
+//! answer is there, the program writes the files of all outputs, the report to standard output, and to `places.txt`
+//! what became of the places.
 #![tactic(auto)]
 
 mod listing;

@@ -16,8 +16,8 @@ pub type Places = Rack<InputPort, OutputPort>;
 /// Bytes of text that are written at once at most: a packet in hex, and its line's end.
 pub const MOST_TEXT: usize = 2 * MOST_DELIVERED + 1;
 
-/// All places. An input is empty where it has no file; each output is live. With captures a client's input is one where it has
-/// no file of lines, and each client's output is one.
+/// All places. An input is empty where it has no file; each output is live. With captures a client's input is one where
+/// it has no file of lines, and each client's output is one.
 pub fn fill(
     rt: &HostRuntime,
     fates: &[Fate],
@@ -134,8 +134,8 @@ pub fn source(
     }
 }
 
-/// A sink with this fate, to which so many bytes are written at once at most. Its room is the listed one, or else enough up
-/// to the first call that fails, the last one that is made. None where nothing is listed.
+/// A sink with this fate, to which so many bytes are written at once at most. Its room is the listed one, or else
+/// enough up to the first call that fails, the last one that is made. None where nothing is listed.
 pub fn sink(alloc: Global, fate: Option<&Fate>, most: usize) -> io::Result<Option<ListedSink>> {
     let Some(fate) = fate else {
         return Ok(None);

@@ -66,7 +66,8 @@ impl Source for InputPort {
     }
 }
 
-/// The file of an output. It takes what its sink takes, or all there is where it has none, and fails where there is no memory.
+/// The file of an output. It takes what its sink takes, or all there is where it has none, and fails where there is no
+/// memory.
 #[derive(Drop)]
 pub struct OutputFile {
     sink: Option<ListedSink>,

@@ -1,5 +1,5 @@
--- The bytes JC1 to JC3 of a message (G.709 Annex D): how the number Cm is said after the former one, and heard.
--- The inversion patterns and the meaning of the indicators II and DI are this project's reading of the annex.
+-- Believed: the bytes JC1 to JC3 of a message (G.709 Annex D): how the number Cm is said after the former one, and
+-- heard. The inversion patterns and the meaning of the indicators II and DI are this project's reading of the annex.
 use Rattle.std.specs.Prelude.{ℕ, ◌+◌, ◌*◌, ◌/◌, ◌%◌, ◌^◌, ◌-◌, List, [], ◌∷◌, length, ◌==◌, ◌&&◌, nat_le, Bool, true, false, if◌then◌else◌, Option, Some, None, codes}
 use Rattle.crc_small.specs.LongDivision.{crc8_of, low_bits}
 use Rattle.jc_codec.specs.declared.listener.Heard.{Heard}
@@ -82,7 +82,8 @@ binary next = record { bits = next; ii = 1; di = 1 }
 abbrev pub word_in : List Row → (former next : ℕ) → Word
 word_in [] former next = binary next
 word_in (row ∷ rows) former next =
-    if is_change former next row then record { bits = turned row.letters former; ii = row.ii; di = row.di } else word_in rows former next
+    if is_change former next row then record { bits = turned row.letters former; ii = row.ii; di = row.di }
+    else word_in rows former next
 
 -- what JC1 and JC2 hold to say the next number, with a former one or with none
 abbrev pub word_said : Option ℕ → ℕ → Word

@@ -61,7 +61,8 @@ impl Listener {
 
         // A right message that was changed within one byte is damaged.
         ensures one_byte_changed { (a b : ℕ) → a < 256 → b < 256
-            → ChangesOneByte (a ∷ b ∷ crc8_of (a ∷ b ∷ []) ∷ []) (slice_index bytes 0 ∷ slice_index bytes 1 ∷ slice_index bytes 2 ∷ [])
+            → ChangesOneByte (a ∷ b ∷ crc8_of (a ∷ b ∷ []) ∷ [])
+            (slice_index bytes 0 ∷ slice_index bytes 1 ∷ slice_index bytes 2 ∷ [])
             → result ≡ Heard.Damaged }
 
         // So it does not matter in which order the table's rows are tried.
@@ -86,7 +87,8 @@ ghost use Rattle.jc_codec.specs.Message.{hears, hears_word, heard_in, table, in_
 fn heard_after(former: Option<u16>, jc1: u8, jc2: u8, jc3: u8) -> Heard
     requires { ForSome former (λ n. n ≤ GROUPS) }
     ensures heard { result ≡ hears former jc1 jc2 jc3 }
-    ensures one_byte_changed { (a b : ℕ) → a < 256 → b < 256 → ChangesOneByte (a ∷ b ∷ crc8_of (a ∷ b ∷ []) ∷ []) (jc1 ∷ jc2 ∷ jc3 ∷ [])
+    ensures one_byte_changed { (a b : ℕ) → a < 256 → b < 256
+        → ChangesOneByte (a ∷ b ∷ crc8_of (a ∷ b ∷ []) ∷ []) (jc1 ∷ jc2 ∷ jc3 ∷ [])
         → result ≡ Heard.Damaged }
 {
     if jc3 == crc8(jc1, jc2) {

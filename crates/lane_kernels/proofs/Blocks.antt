@@ -4,7 +4,7 @@ use Rattle.std.proofs.lemmas.List.{ext_get_or}
 use Rattle.std.proofs.lemmas.Simd.{length-chunk, get_or-chunk}
 use Rattle.std.specs.Simd.Lanes.{chunk, pick_l}
 use Rattle.lane_kernels.specs.declared.block.Block.{Block}
-use Rattle.lane_kernels.specs.Blocks.{by_groups, by_bytes, interleaved, seconds, eight, sixteen, two_groups, bytes_from}
+use Rattle.lane_kernels.specs.Steps.Blocks.{by_groups, by_bytes, interleaved, seconds, eight, sixteen, two_groups, bytes_from}
 
 by_four : (f : ℕ → ℕ → ℕ) → interleaved (interleaved (interleaved (interleaved (by_groups f)))) ≡ by_bytes f
 unfolding interleaved by_groups by_bytes

@@ -2,7 +2,7 @@
 use Rattle.std.proofs.Common.{◌≡◌, ℕ, zero, suc, ◌+◌, ◌-◌, ◌*◌, ◌<◌, ◌≤◌, ◌⊎◌, inl, inr, List, [], ◌∷◌, length, get_or, refl, ap, subst, ◌∙◌, arith}
 use Rattle.std.proofs.lemmas.Simd.{length-put_chunk, get_or-put_chunk_below, get_or-put_chunk_at, get_or-put_chunk_above}
 use Rattle.std.specs.Simd.Lanes.{put_chunk}
-use Rattle.lane_kernels.specs.Blocks.{puts, eight, sixteen, byte_lists, group_lists}
+use Rattle.lane_kernels.specs.Steps.Blocks.{puts, eight, sixteen, byte_lists, group_lists}
 use Rattle.lane_kernels.proofs.Blocks.{get_eight, get_sixteen}
 
 -- an earlier place lies a whole step lower

@@ -9,7 +9,7 @@ use lib.Dec.{T}
 use mir.Val.{zeroes}
 use borrow.Rule.Simd.Moves.{SwzOk, swz_l}
 use Rattle.otn_base.specs.SlotList.{IsSlotList}
-use Rattle.lane_kernels.specs.Spread.{SpreadLanes}
+use Rattle.lane_kernels.specs.Steps.Spread.{SpreadLanes}
 use Rattle.lane_kernels.proofs.Rising.{higher}
 use Rattle.lane_kernels.proofs.Puts.{lower, no_higher}
 

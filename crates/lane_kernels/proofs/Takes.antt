@@ -2,7 +2,7 @@
 use Rattle.std.proofs.Common.{◌≡◌, ℕ, ◌+◌, ◌-◌, ◌*◌, ◌<◌, ◌≤◌, ◌⊎◌, inl, inr, List, length, get_or, ap, ◌∙◌, arith}
 use Rattle.std.proofs.lemmas.Simd.{get_or-put_chunk_below, get_or-put_chunk_at}
 use Rattle.std.specs.Simd.Lanes.{put_chunk}
-use Rattle.lane_kernels.specs.Blocks.{bytes_from, sixteen}
+use Rattle.lane_kernels.specs.Steps.Blocks.{bytes_from, sixteen}
 use Rattle.lane_kernels.proofs.Blocks.{get_sixteen}
 
 pub block_below : (into v : List ℕ) (to : ℕ) → (j : ℕ) → j < to → get_or (put_chunk to into v) j 0 ≡ get_or into j 0

@@ -1,4 +1,3 @@
-pub mod Blocks
 pub mod Loans
 pub mod SlotPlaces
-pub mod Spread
+pub mod Steps

@@ -1,4 +1,4 @@
--- Where the bytes of tributary slots stand, in a row and slot after slot.
+-- API: where the bytes of tributary slots stand, in a row and slot after slot.
 use Rattle.std.specs.Prelude.{◌≡◌, ℕ, ◌-◌, ◌*◌, ◌/◌, ◌⊎◌, List, take, drop}
 use Rattle.otn_base.specs.declared.limits.TheConstants.{OTU2_SLOTS, OTU3_SLOTS, PAYLOAD_COLUMNS}
 

@@ -1,7 +1,7 @@
 // Sixteen groups of eight bytes: group after group, or first the first byte of every group, then the
 // second of every group, and so on.
 ghost use Rattle.std.specs.Prelude.{◌≡◌, ℕ, ◌+◌, ◌*◌, ◌<◌, ◌≤◌, length, slice_index};
-ghost use Rattle.lane_kernels.specs.Blocks.{by_groups, by_bytes, interleaved, low_half, high_half, seconds, two_groups, bytes_from, eight, sixteen, group_lists, byte_lists, puts};
+ghost use Rattle.lane_kernels.specs.Steps.Blocks.{by_groups, by_bytes, interleaved, low_half, high_half, seconds, two_groups, bytes_from, eight, sixteen, group_lists, byte_lists, puts};
 ghost use Rattle.std.specs.Simd.Lanes.{put_chunk};
 
 use std::simd::{u8x8, u8x16};
@@ -200,7 +200,8 @@ fn load_two(row: &[u8], first: usize, second: usize) -> u8x16
 fn store_two(v: u8x16, into: &mut [u8], first: usize, second: usize)
     requires first { first + 8 ≤ length into.old }
     requires second { second + 8 ≤ length into.old }
-    ensures { (f g : ℕ → ℕ) → v ≡ two_groups f g → into.new ≡ put_chunk second (put_chunk first into.old (eight f)) (eight g) }
+    ensures { (f g : ℕ → ℕ) → v ≡ two_groups f g
+        → into.new ≡ put_chunk second (put_chunk first into.old (eight f)) (eight g) }
 {
     let a: u8x8 = v.swizzle([0, 1, 2, 3, 4, 5, 6, 7]);
     let b: u8x8 = v.swizzle([8, 9, 10, 11, 12, 13, 14, 15]);

@@ -26,7 +26,8 @@ fn parity_from(start: u8, bytes: &[u8]) -> u8
 /// Writes over each byte its exclusive or with the byte of the mask at the same place.
 pub fn xor_mask(bytes: &mut [u8], mask: &[u8])
     requires { length mask.now ≡ length bytes.old }
-    ensures { (i : ℕ) → i < length bytes.old → slice_index bytes.new i ≡ bit_xor (slice_index bytes.old i) (slice_index mask.now i) }
+    ensures { (i : ℕ) → i < length bytes.old
+        → slice_index bytes.new i ≡ bit_xor (slice_index bytes.old i) (slice_index mask.now i) }
 {
     for (i, byte) in bytes.iter_mut().enumerate() {
         *byte ^= mask[i];

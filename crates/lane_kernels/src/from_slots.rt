@@ -13,7 +13,8 @@ use otn_base::limits::{OTU2_SLOTS, OTU3_SLOTS};
 /// `x % SLOTS + 1` (G.709 clause 19.1).
 pub fn join<const SLOTS: usize>(rows: &SlotRows<SLOTS>, into: &mut [u8])
     requires { length into.old ≡ PAYLOAD_COLUMNS }
-    ensures { (x : ℕ) → x < PAYLOAD_COLUMNS → slice_index into.new x ≡ slice_index (slot_bytes SLOTS (x % SLOTS + 1) rows.now) (x / SLOTS) }
+    ensures { (x : ℕ) → x < PAYLOAD_COLUMNS
+        → slice_index into.new x ≡ slice_index (slot_bytes SLOTS (x % SLOTS + 1) rows.now) (x / SLOTS) }
 {
     if SLOTS == OTU2_SLOTS {
         join_eight(&rows.bytes, into);
@@ -25,7 +26,8 @@ pub fn join<const SLOTS: usize>(rows: &SlotRows<SLOTS>, into: &mut [u8])
 /// `join` for the 8 slots of an OPU2.
 pub fn join8(rows: &SlotRows<OTU2_SLOTS>, into: &mut [u8])
     requires { length into.old ≡ PAYLOAD_COLUMNS }
-    ensures { (x : ℕ) → x < PAYLOAD_COLUMNS → slice_index into.new x ≡ slice_index (slot_bytes OTU2_SLOTS (x % OTU2_SLOTS + 1) rows.now) (x / OTU2_SLOTS) }
+    ensures { (x : ℕ) → x < PAYLOAD_COLUMNS
+        → slice_index into.new x ≡ slice_index (slot_bytes OTU2_SLOTS (x % OTU2_SLOTS + 1) rows.now) (x / OTU2_SLOTS) }
 {
     join(rows, into);
 }
@@ -33,7 +35,8 @@ pub fn join8(rows: &SlotRows<OTU2_SLOTS>, into: &mut [u8])
 fn join_eight(lists: &[u8], into: &mut [u8])
     requires lists { length lists.now ≡ PAYLOAD_COLUMNS }
     requires into { length into.old ≡ PAYLOAD_COLUMNS }
-    ensures { (k j : ℕ) → k < OTU2_SLOTS → j < OTU2_SLOT_ROW → slice_index into.new (OTU2_SLOTS * j + k) ≡ slice_index lists.now (OTU2_SLOT_ROW * k + j) }
+    ensures { (k j : ℕ) → k < OTU2_SLOTS → j < OTU2_SLOT_ROW
+        → slice_index into.new (OTU2_SLOTS * j + k) ≡ slice_index lists.now (OTU2_SLOT_ROW * k + j) }
 {
     turn::together(lists, 0, OTU2_SLOT_ROW, into, 0, OTU2_SLOTS);
 }
@@ -42,7 +45,8 @@ fn join_eight(lists: &[u8], into: &mut [u8])
 fn join_thirty_two(lists: &[u8], into: &mut [u8])
     requires lists { length lists.now ≡ PAYLOAD_COLUMNS }
     requires into { length into.old ≡ PAYLOAD_COLUMNS }
-    ensures { (k j : ℕ) → k < OTU3_SLOTS → j < OTU3_SLOT_ROW → slice_index into.new (OTU3_SLOTS * j + k) ≡ slice_index lists.now (OTU3_SLOT_ROW * k + j) }
+    ensures { (k j : ℕ) → k < OTU3_SLOTS → j < OTU3_SLOT_ROW
+        → slice_index into.new (OTU3_SLOTS * j + k) ≡ slice_index lists.now (OTU3_SLOT_ROW * k + j) }
 {
     for quarter in 0..4_usize {
         turn::together(

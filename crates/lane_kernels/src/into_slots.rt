@@ -13,7 +13,8 @@ use otn_base::limits::{OTU2_SLOTS, OTU3_SLOTS};
 /// `x % SLOTS + 1` (G.709 clause 19.1).
 pub fn split<const SLOTS: usize>(row: &[u8], into: &mut SlotRows<SLOTS>)
     requires { length row.now ≡ PAYLOAD_COLUMNS }
-    ensures { (x : ℕ) → x < PAYLOAD_COLUMNS → slice_index (slot_bytes SLOTS (x % SLOTS + 1) into.new) (x / SLOTS) ≡ slice_index row.now x }
+    ensures { (x : ℕ) → x < PAYLOAD_COLUMNS
+        → slice_index (slot_bytes SLOTS (x % SLOTS + 1) into.new) (x / SLOTS) ≡ slice_index row.now x }
 {
     if SLOTS == OTU2_SLOTS {
         split_eight(row, &mut into.bytes);
@@ -25,7 +26,8 @@ pub fn split<const SLOTS: usize>(row: &[u8], into: &mut SlotRows<SLOTS>)
 /// `split` for the 8 slots of an OPU2.
 pub fn split8(row: &[u8], into: &mut SlotRows<OTU2_SLOTS>)
     requires { length row.now ≡ PAYLOAD_COLUMNS }
-    ensures { (x : ℕ) → x < PAYLOAD_COLUMNS → slice_index (slot_bytes OTU2_SLOTS (x % OTU2_SLOTS + 1) into.new) (x / OTU2_SLOTS) ≡ slice_index row.now x }
+    ensures { (x : ℕ) → x < PAYLOAD_COLUMNS
+        → slice_index (slot_bytes OTU2_SLOTS (x % OTU2_SLOTS + 1) into.new) (x / OTU2_SLOTS) ≡ slice_index row.now x }
 {
     split(row, into);
 }
@@ -33,7 +35,8 @@ pub fn split8(row: &[u8], into: &mut SlotRows<OTU2_SLOTS>)
 fn split_eight(row: &[u8], into: &mut [u8])
     requires row { length row.now ≡ PAYLOAD_COLUMNS }
     requires into { length into.old ≡ PAYLOAD_COLUMNS }
-    ensures { (k j : ℕ) → k < OTU2_SLOTS → j < OTU2_SLOT_ROW → slice_index into.new (OTU2_SLOT_ROW * k + j) ≡ slice_index row.now (OTU2_SLOTS * j + k) }
+    ensures { (k j : ℕ) → k < OTU2_SLOTS → j < OTU2_SLOT_ROW
+        → slice_index into.new (OTU2_SLOT_ROW * k + j) ≡ slice_index row.now (OTU2_SLOTS * j + k) }
 {
     turn::apart(row, 0, OTU2_SLOTS, into, 0, OTU2_SLOT_ROW);
 }
@@ -42,7 +45,8 @@ fn split_eight(row: &[u8], into: &mut [u8])
 fn split_thirty_two(row: &[u8], into: &mut [u8])
     requires row { length row.now ≡ PAYLOAD_COLUMNS }
     requires into { length into.old ≡ PAYLOAD_COLUMNS }
-    ensures { (k j : ℕ) → k < OTU3_SLOTS → j < OTU3_SLOT_ROW → slice_index into.new (OTU3_SLOT_ROW * k + j) ≡ slice_index row.now (OTU3_SLOTS * j + k) }
+    ensures { (k j : ℕ) → k < OTU3_SLOTS → j < OTU3_SLOT_ROW
+        → slice_index into.new (OTU3_SLOT_ROW * k + j) ≡ slice_index row.now (OTU3_SLOTS * j + k) }
 {
     for quarter in 0..4_usize {
         turn::apart(

@@ -83,7 +83,8 @@ fn take_rest(row: &[u8], slots: usize, first: usize, into: &mut [u8], from: usiz
     requires size { length row.now ≡ slots * length into.old }
     requires from { from ≤ length into.old }
     ensures before { (j : ℕ) → j < from → slice_index into.new j ≡ slice_index into.old j }
-    ensures rest { (j : ℕ) → from ≤ j → j < length into.old → slice_index into.new j ≡ slice_index row.now (slots * j + first) }
+    ensures rest { (j : ℕ) → from ≤ j → j < length into.old
+        → slice_index into.new j ≡ slice_index row.now (slots * j + first) }
 {
     for j in from..into.len() {
         into[j] = row[slots * j + first];

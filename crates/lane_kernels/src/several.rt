@@ -8,15 +8,17 @@ ghost use Rattle.otn_base.specs.declared.limits.TheConstants.{MOST_SLOTS, OTU2_S
 use otn_base::limits::{OTU2_SLOTS, OTU3_SLOTS};
 use std::simd::u8x16;
 
-/// Writes a byte of each of these slots, in slot order, for each of some whole cycles of `SLOTS` columns, as the 3,808 payload bytes of a row
-/// (G.709 clause 19.1).
+/// Writes a byte of each of these slots, in slot order, for each of some whole cycles of `SLOTS` columns, as the 3,808
+/// payload bytes of a row (G.709 clause 19.1).
 #[inline]
 pub fn take_slots<const SLOTS: usize>(row: &[u8], cycles: usize, slots: &[u8], into: &mut [u8])
     requires line { IsSlotCount SLOTS }
     requires slots { IsSlotList SLOTS slots.now }
     requires row { length row.now ≡ SLOTS * cycles }
     requires into { length into.old ≡ length slots.now * cycles }
-    ensures { (j p : ℕ) → j < cycles → p < length slots.now → slice_index into.new (length slots.now * j + p) ≡ slice_index row.now (SLOTS * j + (slice_index slots.now p - 1)) }
+    ensures { (j p : ℕ) → j < cycles → p < length slots.now
+        → slice_index into.new (length slots.now * j + p)
+        ≡ slice_index row.now (SLOTS * j + (slice_index slots.now p - 1)) }
 {
     let done = if SLOTS == OTU2_SLOTS {
         take_pairs(row, cycles, slots, into)
@@ -35,7 +37,9 @@ fn take_pairs(row: &[u8], cycles: usize, slots: &[u8], into: &mut [u8]) -> usize
     requires row { length row.now ≡ OTU2_SLOTS * cycles }
     requires into { length into.old ≡ length slots.now * cycles }
     ensures count { result ≤ cycles }
-    ensures bytes { (j p : ℕ) → j < result → p < length slots.now → slice_index into.new (length slots.now * j + p) ≡ slice_index row.now (OTU2_SLOTS * j + (slice_index slots.now p - 1)) }
+    ensures bytes { (j p : ℕ) → j < result → p < length slots.now
+        → slice_index into.new (length slots.now * j + p)
+        ≡ slice_index row.now (OTU2_SLOTS * j + (slice_index slots.now p - 1)) }
 {
     let lanes = pair_lanes(slots);
     let two = 2 * slots.len();
@@ -52,7 +56,8 @@ fn pair_lanes(slots: &[u8]) -> u8x16
     requires slots { IsSlotList OTU2_SLOTS slots.now }
     requires few { length slots.now ≤ OTU2_SLOTS }
     ensures first { (p : ℕ) → p < length slots.now → slice_index result p ≡ slice_index slots.now p - 1 }
-    ensures second { (p : ℕ) → p < length slots.now → slice_index result (length slots.now + p) ≡ OTU2_SLOTS + (slice_index slots.now p - 1) }
+    ensures second { (p : ℕ) → p < length slots.now
+        → slice_index result (length slots.now + p) ≡ OTU2_SLOTS + (slice_index slots.now p - 1) }
     ensures low { Each1 (λ i. i < 16) result }
     ensures long { length result ≡ 16 }
 {
@@ -72,7 +77,9 @@ fn take_halves(row: &[u8], cycles: usize, slots: &[u8], into: &mut [u8]) -> usiz
     requires row { length row.now ≡ OTU3_SLOTS * cycles }
     requires into { length into.old ≡ length slots.now * cycles }
     ensures count { result ≤ cycles }
-    ensures bytes { (j p : ℕ) → j < result → p < length slots.now → slice_index into.new (length slots.now * j + p) ≡ slice_index row.now (OTU3_SLOTS * j + (slice_index slots.now p - 1)) }
+    ensures bytes { (j p : ℕ) → j < result → p < length slots.now
+        → slice_index into.new (length slots.now * j + p)
+        ≡ slice_index row.now (OTU3_SLOTS * j + (slice_index slots.now p - 1)) }
 {
     let low = low_slots(slots);
     let first = half_lanes(&slots[..low], 0);
@@ -149,7 +156,9 @@ fn take_cycles(row: &[u8], line: usize, cycles: usize, slots: &[u8], into: &mut 
     requires row { length row.now ≡ line * cycles }
     requires into { length into.old ≡ length slots.now * cycles }
     ensures before { (n : ℕ) → n < length slots.now * from → slice_index into.new n ≡ slice_index into.old n }
-    ensures rest { (j p : ℕ) → from ≤ j → j < cycles → p < length slots.now → slice_index into.new (length slots.now * j + p) ≡ slice_index row.now (line * j + (slice_index slots.now p - 1)) }
+    ensures rest { (j p : ℕ) → from ≤ j → j < cycles → p < length slots.now
+        → slice_index into.new (length slots.now * j + p)
+        ≡ slice_index row.now (line * j + (slice_index slots.now p - 1)) }
 {
     for cycle in from..cycles {
         take_cycle(row, line * cycle, slots, into, slots.len() * cycle);
@@ -161,7 +170,8 @@ fn take_cycle(row: &[u8], at: usize, slots: &[u8], into: &mut [u8], to: usize)
     requires slots { All (λ k. (1 ≤ k) × (at + k ≤ length row.now)) slots.now }
     requires into { to + length slots.now ≤ length into.old }
     ensures below { (n : ℕ) → n < to → slice_index into.new n ≡ slice_index into.old n }
-    ensures here { (p : ℕ) → p < length slots.now → slice_index into.new (to + p) ≡ slice_index row.now (at + (slice_index slots.now p - 1)) }
+    ensures here { (p : ℕ) → p < length slots.now
+        → slice_index into.new (to + p) ≡ slice_index row.now (at + (slice_index slots.now p - 1)) }
 {
     for (p, k) in slots.iter().enumerate() {
         into[to + p] = row[at + (*k as usize - 1)];

@@ -68,7 +68,8 @@ impl<const SLOTS: usize> SlotRows<SLOTS> {
     pub fn slot_mut(&mut self, k: u8) -> &mut [u8]
         requires low { 1 ≤ k }
         requires high { k ≤ SLOTS }
-        ensures* writes_back { sem 𝓛 (Lends (the_row SLOTS.row) (Array byte 0) self.entry result (after_slot_loan SLOTS k self.entry.now)) }
+        ensures* writes_back { sem 𝓛 (Lends (the_row SLOTS.row) (Array byte 0) self.entry result
+            (after_slot_loan SLOTS k self.entry.now)) }
         ensures bytes { result.now ≡ slot_bytes SLOTS k self.old }
         ensures size { length result.now ≡ PAYLOAD_COLUMNS / SLOTS }
         ensures all { length self.old ≡ PAYLOAD_COLUMNS }

@@ -1,7 +1,7 @@
 // Bytes of several slots into a row, cycle by cycle.
 ghost use Rattle.std.specs.Prelude.{◌≡◌, ◌≢◌, ℕ, ◌+◌, ◌-◌, ◌*◌, ◌%◌, ◌<◌, ◌≤◌, ◌⊎◌, All, if◌then◌else◌, nat_lt, length, slice_index};
 ghost use Rattle.lane_kernels.specs.SlotPlaces.{IsSlotCount};
-ghost use Rattle.lane_kernels.specs.Spread.{HalfLanes, SpreadLanes};
+ghost use Rattle.lane_kernels.specs.Steps.Spread.{HalfLanes, SpreadLanes};
 ghost use Rattle.otn_base.specs.SlotList.{IsSlotList};
 ghost use Rattle.otn_base.specs.declared.limits.TheConstants.{MOST_SLOTS, OTU2_SLOTS, OTU3_SLOTS};
 
@@ -18,8 +18,11 @@ pub fn put_slots<const SLOTS: usize>(bytes: &[u8], cycles: usize, slots: &[u8], 
     requires slots { IsSlotList SLOTS slots.now }
     requires bytes { length bytes.now ≡ length slots.now * cycles }
     requires row { length row.old ≡ SLOTS * cycles }
-    ensures here { (j p : ℕ) → j < cycles → p < length slots.now → slice_index row.new (SLOTS * j + (slice_index slots.now p - 1)) ≡ slice_index bytes.now (length slots.now * j + p) }
-    ensures others { (x : ℕ) → ((p : ℕ) → p < length slots.now → x % SLOTS + 1 ≢ slice_index slots.now p) → slice_index row.new x ≡ slice_index row.old x }
+    ensures here { (j p : ℕ) → j < cycles → p < length slots.now
+        → slice_index row.new (SLOTS * j + (slice_index slots.now p - 1))
+        ≡ slice_index bytes.now (length slots.now * j + p) }
+    ensures others { (x : ℕ) → ((p : ℕ) → p < length slots.now → x % SLOTS + 1 ≢ slice_index slots.now p)
+        → slice_index row.new x ≡ slice_index row.old x }
 {
     let done = if SLOTS == OTU2_SLOTS {
         put_pairs(bytes, cycles, slots, row)
@@ -37,8 +40,11 @@ fn put_pairs(bytes: &[u8], cycles: usize, slots: &[u8], row: &mut [u8]) -> usize
     requires bytes { length bytes.now ≡ length slots.now * cycles }
     requires row { length row.old ≡ OTU2_SLOTS * cycles }
     ensures count { result ≤ cycles }
-    ensures here { (j p : ℕ) → j < result → p < length slots.now → slice_index row.new (OTU2_SLOTS * j + (slice_index slots.now p - 1)) ≡ slice_index bytes.now (length slots.now * j + p) }
-    ensures others { (x : ℕ) → ((p : ℕ) → p < length slots.now → x % OTU2_SLOTS + 1 ≢ slice_index slots.now p) → slice_index row.new x ≡ slice_index row.old x }
+    ensures here { (j p : ℕ) → j < result → p < length slots.now
+        → slice_index row.new (OTU2_SLOTS * j + (slice_index slots.now p - 1))
+        ≡ slice_index bytes.now (length slots.now * j + p) }
+    ensures others { (x : ℕ) → ((p : ℕ) → p < length slots.now → x % OTU2_SLOTS + 1 ≢ slice_index slots.now p)
+        → slice_index row.new x ≡ slice_index row.old x }
 {
     let lanes = spread_lanes(slots);
     let two = 2 * slots.len();
@@ -72,8 +78,11 @@ fn put_halves(bytes: &[u8], cycles: usize, slots: &[u8], row: &mut [u8]) -> usiz
     requires bytes { length bytes.now ≡ length slots.now * cycles }
     requires row { length row.old ≡ OTU3_SLOTS * cycles }
     ensures count { result ≤ cycles }
-    ensures here { (j p : ℕ) → j < result → p < length slots.now → slice_index row.new (OTU3_SLOTS * j + (slice_index slots.now p - 1)) ≡ slice_index bytes.now (length slots.now * j + p) }
-    ensures others { (x : ℕ) → ((p : ℕ) → p < length slots.now → x % OTU3_SLOTS + 1 ≢ slice_index slots.now p) → slice_index row.new x ≡ slice_index row.old x }
+    ensures here { (j p : ℕ) → j < result → p < length slots.now
+        → slice_index row.new (OTU3_SLOTS * j + (slice_index slots.now p - 1))
+        ≡ slice_index bytes.now (length slots.now * j + p) }
+    ensures others { (x : ℕ) → ((p : ℕ) → p < length slots.now → x % OTU3_SLOTS + 1 ≢ slice_index slots.now p)
+        → slice_index row.new x ≡ slice_index row.old x }
 {
     let low = low_slots(slots);
     let first = half_spread(&slots[..low], 0);
@@ -118,8 +127,10 @@ fn put_pair(bytes: &[u8], from: usize, lanes: u8x16, row: &mut [u8], at: usize)
     requires row { at + 16 ≤ length row.old }
     requires low { (i : ℕ) → (slice_index lanes i < 16) ⊎ (slice_index lanes i ≡ 128) }
     requires long { length lanes ≡ 16 }
-    ensures here { (i : ℕ) → i < 16 → slice_index lanes i < 16 → slice_index row.new (at + i) ≡ slice_index bytes.now (from + slice_index lanes i) }
-    ensures kept { (i : ℕ) → i < 16 → slice_index lanes i ≡ 128 → slice_index row.new (at + i) ≡ slice_index row.old (at + i) }
+    ensures here { (i : ℕ) → i < 16 → slice_index lanes i < 16
+        → slice_index row.new (at + i) ≡ slice_index bytes.now (from + slice_index lanes i) }
+    ensures kept { (i : ℕ) → i < 16 → slice_index lanes i ≡ 128
+        → slice_index row.new (at + i) ≡ slice_index row.old (at + i) }
     ensures outside { (n : ℕ) → (n < at) ⊎ (at + 16 ≤ n) → slice_index row.new n ≡ slice_index row.old n }
 {
     let new = u8x16::from_slice(&bytes[from..]).swizzle_dyn(lanes);
@@ -135,7 +146,8 @@ fn where_low(lanes: u8x16, new: u8x16, old: u8x16) -> u8x16
     requires new { length new ≡ 16 }
     requires old { length old ≡ 16 }
     ensures long { length result ≡ 16 }
-    ensures each { (i : ℕ) → i < 16 → slice_index result i ≡ (if nat_lt (slice_index lanes i) 128 then slice_index new i else slice_index old i) }
+    ensures each { (i : ℕ) → i < 16 → slice_index result i
+        ≡ (if nat_lt (slice_index lanes i) 128 then slice_index new i else slice_index old i) }
 {
     lanes.simd_lt(u8x16::splat(128)).select(new, old)
 }
@@ -149,8 +161,11 @@ fn put_cycles(bytes: &[u8], cycles: usize, slots: &[u8], row: &mut [u8], line: u
     requires bytes { length bytes.now ≡ length slots.now * cycles }
     requires row { length row.old ≡ line * cycles }
     ensures before { (n : ℕ) → n < line * from → slice_index row.new n ≡ slice_index row.old n }
-    ensures rest { (j p : ℕ) → from ≤ j → j < cycles → p < length slots.now → slice_index row.new (line * j + (slice_index slots.now p - 1)) ≡ slice_index bytes.now (length slots.now * j + p) }
-    ensures others { (x : ℕ) → ((p : ℕ) → p < length slots.now → x % line + 1 ≢ slice_index slots.now p) → slice_index row.new x ≡ slice_index row.old x }
+    ensures rest { (j p : ℕ) → from ≤ j → j < cycles → p < length slots.now
+        → slice_index row.new (line * j + (slice_index slots.now p - 1))
+        ≡ slice_index bytes.now (length slots.now * j + p) }
+    ensures others { (x : ℕ) → ((p : ℕ) → p < length slots.now → x % line + 1 ≢ slice_index slots.now p)
+        → slice_index row.new x ≡ slice_index row.old x }
 {
     for cycle in from..cycles {
         put_cycle(bytes, slots.len() * cycle, slots, row, line * cycle, line);
@@ -162,8 +177,10 @@ fn put_cycle(bytes: &[u8], from: usize, slots: &[u8], row: &mut [u8], at: usize,
     requires slots { IsSlotList line slots.now }
     requires bytes { from + length slots.now ≤ length bytes.now }
     requires row { at + line ≤ length row.old }
-    ensures here { (p : ℕ) → p < length slots.now → slice_index row.new (at + (slice_index slots.now p - 1)) ≡ slice_index bytes.now (from + p) }
-    ensures others { (n : ℕ) → ((p : ℕ) → p < length slots.now → n ≢ at + (slice_index slots.now p - 1)) → slice_index row.new n ≡ slice_index row.old n }
+    ensures here { (p : ℕ) → p < length slots.now
+        → slice_index row.new (at + (slice_index slots.now p - 1)) ≡ slice_index bytes.now (from + p) }
+    ensures others { (n : ℕ) → ((p : ℕ) → p < length slots.now → n ≢ at + (slice_index slots.now p - 1))
+        → slice_index row.new n ≡ slice_index row.old n }
 {
     for (p, k) in slots.iter().enumerate() {
         row[at + (*k as usize - 1)] = bytes[from + p];

@@ -13,7 +13,8 @@ pub(crate) fn apart(row: &[u8], first: usize, step: usize, into: &mut [u8], to: 
     requires count { 16 ≤ count }
     requires row { first + step * count + 8 ≤ length row.now + step }
     requires into { to + count * 8 ≤ length into.old }
-    ensures here { (k j : ℕ) → k < 8 → j < count → slice_index into.new (to + count * k + j) ≡ slice_index row.now (first + step * j + k) }
+    ensures here { (k j : ℕ) → k < 8 → j < count
+        → slice_index into.new (to + count * k + j) ≡ slice_index row.now (first + step * j + k) }
     ensures others { (n : ℕ) → (n < to) ⊎ (to + count * 8 ≤ n) → slice_index into.new n ≡ slice_index into.old n }
 {
     for block in 0..count / 16 + 1 {
@@ -36,8 +37,10 @@ pub(crate) fn together(
     requires step { 8 ≤ step }
     requires lists { at + count * 8 ≤ length lists.now }
     requires into { first + step * count + 8 ≤ length into.old + step }
-    ensures here { (k j : ℕ) → k < 8 → j < count → slice_index into.new (first + step * j + k) ≡ slice_index lists.now (at + count * k + j) }
-    ensures others { (n : ℕ) → ((j : ℕ) → j < count → (n < first + step * j) ⊎ (first + step * j + 8 ≤ n)) → slice_index into.new n ≡ slice_index into.old n }
+    ensures here { (k j : ℕ) → k < 8 → j < count
+        → slice_index into.new (first + step * j + k) ≡ slice_index lists.now (at + count * k + j) }
+    ensures others { (n : ℕ) → ((j : ℕ) → j < count → (n < first + step * j) ⊎ (first + step * j + 8 ≤ n))
+        → slice_index into.new n ≡ slice_index into.old n }
 {
     for block in 0..count / 16 + 1 {
         let from = (16 * block).min(count - 16);
@@ -50,8 +53,10 @@ fn block_apart(row: &[u8], at: usize, step: usize, into: &mut [u8], to: usize, c
     requires row { at + step * 15 + 8 ≤ length row.now }
     requires into { to + count * 7 + 16 ≤ length into.old }
     requires count { 16 ≤ count }
-    ensures here { (g b : ℕ) → g < 16 → b < 8 → slice_index into.new (to + count * b + g) ≡ slice_index row.now (at + step * g + b) }
-    ensures others { (n : ℕ) → ((b : ℕ) → b < 8 → (n < to + count * b) ⊎ (to + count * b + 16 ≤ n)) → slice_index into.new n ≡ slice_index into.old n }
+    ensures here { (g b : ℕ) → g < 16 → b < 8
+        → slice_index into.new (to + count * b + g) ≡ slice_index row.now (at + step * g + b) }
+    ensures others { (n : ℕ) → ((b : ℕ) → b < 8 → (n < to + count * b) ⊎ (to + count * b + 16 ≤ n))
+        → slice_index into.new n ≡ slice_index into.old n }
 {
     let block = Block::load_groups(row, at, step);
     block.into_bytes().store_bytes(into, to, count);
@@ -62,8 +67,10 @@ fn block_together(lists: &[u8], at: usize, count: usize, into: &mut [u8], to: us
     requires lists { at + count * 7 + 16 ≤ length lists.now }
     requires into { to + step * 15 + 8 ≤ length into.old }
     requires step { 8 ≤ step }
-    ensures here { (g b : ℕ) → g < 16 → b < 8 → slice_index into.new (to + step * g + b) ≡ slice_index lists.now (at + count * b + g) }
-    ensures others { (n : ℕ) → ((g : ℕ) → g < 16 → (n < to + step * g) ⊎ (to + step * g + 8 ≤ n)) → slice_index into.new n ≡ slice_index into.old n }
+    ensures here { (g b : ℕ) → g < 16 → b < 8
+        → slice_index into.new (to + step * g + b) ≡ slice_index lists.now (at + count * b + g) }
+    ensures others { (n : ℕ) → ((g : ℕ) → g < 16 → (n < to + step * g) ⊎ (to + step * g + 8 ≤ n))
+        → slice_index into.new n ≡ slice_index into.old n }
 {
     let block = Block::load_bytes(lists, at, count);
     block.into_groups().store_groups(into, to, step);

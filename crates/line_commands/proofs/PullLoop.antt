@@ -22,7 +22,8 @@ use Rattle.command_base.specs.Ends.{ReportAfter}
 use Rattle.command_base.specs.Gains.{GainsPart}
 use Rattle.device_model.specs.LineViews.{emitted_at}
 use Rattle.line_commands.specs.PullReport.{emitted_until, pull_report, frames_wanted, bytes_taken, LeavesBytes}
-use Rattle.line_commands.specs.PullRuns.{PullEnded, TurnRun, AnswerRun}
+use Rattle.line_commands.specs.PullRuns.{PullEnded}
+use Rattle.line_commands.specs.Steps.PullRuns.{TurnRun, AnswerRun}
 use Rattle.line_commands.specs.PullReport.{MayFollow}
 use Rattle.tributary_line.specs.TapTurn.{TapView, TapStands}
 use Rattle.line_commands.specs.declared.pull.After.{After}

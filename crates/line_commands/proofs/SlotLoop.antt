@@ -10,7 +10,8 @@ use Rattle.line_side.specs.LineFile.{frame_at}
 use Rattle.otn_ports.specs.PortViews.{SinkView}
 use Rattle.command_base.specs.Ends.{ReportAfter}
 use Rattle.line_commands.specs.SlotReport.{slot_bytes, slot_bytes_until, slot_report, whole_frames_used}
-use Rattle.line_commands.specs.SlotRuns.{SlotEnded, SlotStep}
+use Rattle.line_commands.specs.SlotRuns.{SlotEnded}
+use Rattle.line_commands.specs.Steps.SlotRuns.{SlotStep}
 use Rattle.line_commands.specs.SlotReport.{StoppedInFrame}
 use Rattle.command_base.specs.Gains.{GainsPart}
 use Rattle.command_base.specs.Beyond.{ByteRun}

@@ -6,8 +6,8 @@ use Rattle.otn_ports.specs.Views.{State, Empty, Live, Dead, InView}
 use Rattle.otn_ports.specs.declared.in_place.Reading.TheVariants.{Full, End}
 use Rattle.otn_ports.specs.declared.drain.Written.{Written}
 use Rattle.otn_ports.specs.declared.drain.Written.TheVariants.{Whole, Lost}
-use Rattle.command_base.specs.Ends.{step_of}
-use Rattle.line_commands.specs.SlotRuns.{SlotStep, SlotWritten}
+use Rattle.command_base.specs.Steps.Ends.{step_of}
+use Rattle.line_commands.specs.Steps.SlotRuns.{SlotStep, SlotWritten}
 
 -- a place that filled a slice with room is live
 pub live_of : (s : State) (n : ℕ) → s ≢ Dead → (s ≢ Live → Full ≡ idle_reading (suc n)) → s ≡ Live

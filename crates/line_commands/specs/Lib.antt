@@ -6,3 +6,4 @@ pub mod PullReport
 pub mod PullRuns
 pub mod SlotReport
 pub mod SlotRuns
+pub mod Steps

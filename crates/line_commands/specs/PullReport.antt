@@ -1,4 +1,4 @@
--- What `pull` writes, of an OTU2 line.
+-- Believed: what `pull` writes, of an OTU2 line.
 use Rattle.std.specs.Prelude.{◌≡◌, ℕ, ◌+◌, ◌*◌, ◌<◌, ◌≤◌, min, not, Bool, true, false, List, [], Option, length, filter}
 use Rattle.std.specs.List.{flat_map, range_with_len}
 use Rattle.line_side.specs.LineFile.{mfas_of}
@@ -13,8 +13,8 @@ use Rattle.command_base.specs.Gains.{GainsPart}
 abbrev pub tributary : (port : ℕ) → (slots : List ℕ) → Tributary
 tributary port slots = record { line_slots = OTU2_SLOTS; slots = slots; port = port }
 
--- The turns that are carried out, each said by the number of turns before it: 16,384 at most, and none after the one in which
--- the line ended. The list has the MFAS bytes of the line's whole frames.
+-- The turns that are carried out, each said by the number of turns before it: 16,384 at most, and none after the one in
+-- which the line ended. The list has the MFAS bytes of the line's whole frames.
 unfoldable pub turns_of : (mfas : List ℕ) → List ℕ
 turns_of ms = filter (λ t. not (has_ended (line_state OTU2_SLOTS ms t))) (range_with_len 0 MOST_TURNS)
 
@@ -30,7 +30,8 @@ pull_report own given = flat_map (emitted_at own given) (turns_of (mfas_of given
 abbrev pub frames_wanted : List ℕ → ℕ
 frames_wanted given = wanted OTU2_SLOTS (mfas_of given) (length (turns_of (mfas_of given)))
 
--- how many bytes `pull` takes of a line: these frames and the one byte more that it asks for, or all where there are fewer
+-- how many bytes `pull` takes of a line: these frames and the one byte more that it asks for, or all where there are
+-- fewer
 abbrev pub bytes_taken : List ℕ → ℕ
 bytes_taken given = min (length given) (LINE_FRAME_BYTES * frames_wanted given + 1)
 
@@ -38,8 +39,8 @@ bytes_taken given = min (length given) (LINE_FRAME_BYTES * frames_wanted given +
 abbrev pub bytes_wanted : List ℕ → (t : ℕ) → ℕ
 bytes_wanted given t = min (length given) (LINE_FRAME_BYTES * wanted OTU2_SLOTS (mfas_of given) t)
 
--- Bytes stand after the whole frames that these turns wanted. Where the line has ended that is all whole frames, so that the
--- bytes are its rest. A frame that a hunt only looked ahead at counts as wanted.
+-- Bytes stand after the whole frames that these turns wanted. Where the line has ended that is all whole frames, so
+-- that the bytes are its rest. A frame that a hunt only looked ahead at counts as wanted.
 abbrev pub LeavesBytes : List ℕ → Type 0
 LeavesBytes given = LINE_FRAME_BYTES * min (length (mfas_of given)) (frames_wanted given) < length given
 
@@ -48,9 +49,9 @@ abbrev pub MayFollow : (more : Bool) → (rest : List ℕ) → Type 0
 MayFollow true rest = Unit {0}
 MayFollow false rest = rest ≡ []
 
--- A write failed, and ended the command at once: of a line of these bytes so many were taken, all that the turns up to turn t + 1
--- want. The report gained what the sink emits in the turns before this one, and of what it emits in this one a part, from the front,
--- and not all.
+-- A write failed, and ended the command at once: of a line of these bytes so many were taken, all that the turns up to
+-- turn t + 1 want. The report gained what the sink emits in the turns before this one, and of what it emits in this one
+-- a part, from the front, and not all.
 pub record StoppedInTurn (own : Tributary) (given : List ℕ) (count t : ℕ) (old new : Option (List ℕ)) : Type 0 where
   pub few : t < MOST_TURNS
   pub unended : (s : ℕ) → s ≤ t → has_ended (line_state OTU2_SLOTS (mfas_of given) s) ≡ false

@@ -1,4 +1,4 @@
--- What `slot` writes.
+-- Believed: what `slot` writes.
 use Rattle.std.specs.Prelude.{◌≡◌, ℕ, ◌+◌, ◌*◌, ◌/◌, ◌<◌, min, List, Option, length}
 use Rattle.std.specs.List.{flat_map, range_with_len}
 use Rattle.line_side.specs.LineFile.{frame_at}
@@ -31,8 +31,9 @@ slot_report slot bytes = slot_bytes_until slot bytes (whole_frames_used (length 
 abbrev pub HasBytesBehind : (bytes : ℕ) → Type 0
 HasBytesBehind bytes = whole_frames_used bytes * LINE_FRAME_BYTES < bytes
 
--- A write failed, and ended the command at once: of a line of these bytes so many were taken, up to the end of frame f, from 0. The
--- report gained the slot's bytes of the frames before it, and of its own a part, from the front, and not all.
+-- A write failed, and ended the command at once: of a line of these bytes so many were taken, up to the end of frame f,
+-- from 0. The report gained the slot's bytes of the frames before it, and of its own a part, from the front, and not
+-- all.
 pub record StoppedInFrame (slot : ℕ) (given : List ℕ) (count : ℕ) (old new : Option (List ℕ)) : Type 0 where
   pub f : ℕ
   pub last : count ≡ LINE_FRAME_BYTES * (f + 1)

@@ -1,27 +1,29 @@
--- How `slot` goes: what it took of its line, what its report gained, and why it ended.
-use Rattle.std.specs.Prelude.{◌≡◌, ◌≢◌, ◌<◌, ◌≤◌, ◌⊎◌, ◌*◌, ℕ, List, [], Option, Some, None, length}
+-- API: how `slot` goes: what it took of its line, what its report gained, and why it ended.
+use Rattle.std.specs.Prelude.{◌≡◌, ◌≢◌, ◌<◌, ◌≤◌, ◌⊎◌, ◌*◌, ℕ, List, Option, length}
 use Rattle.otn_base.specs.declared.limits.TheConstants.{LINE_FRAME_BYTES}
 use Rattle.otn_ports.specs.Bytes.{after}
 use Rattle.otn_ports.specs.Given.{Gave, DiedUnended}
 use Rattle.otn_ports.specs.Reads.{HasEnded}
 use Rattle.otn_ports.specs.Views.{InView, Dead}
-use Rattle.otn_ports.specs.declared.drain.Written.{Written}
-use Rattle.otn_ports.specs.declared.drain.Written.TheVariants as written
-use Rattle.command_base.specs.Gains.{GainsPart}
-use Rattle.line_commands.specs.SlotReport.{slot_bytes, slot_report, whole_frames_used, most_taken, StoppedInFrame}
+use Rattle.line_commands.specs.SlotReport.{slot_report, whole_frames_used, most_taken, StoppedInFrame}
 use Rattle.otn_ports.specs.declared.ended.Ended.{Ended}
 use Rattle.otn_ports.specs.declared.ended.Ended.TheVariants.{Done, Unfinished, Cut, ReportFault, Memory}
 
 -- the answer of a command that took these bytes of its line, of the most frames and one byte more at most
-abbrev pub SlotEnds : Ended → (slot : ℕ) → (taken : List ℕ) → (first now : InView) → (old new : Option (List ℕ)) → Type 0
+abbrev pub SlotEnds : Ended → (slot : ℕ) → (taken : List ℕ) → (first now : InView) → (old new : Option (List ℕ))
+    → Type 0
 SlotEnds Done slot taken first now old new =
-    (new ≡ after old (slot_report slot taken)) × (now.state ≢ Dead) × HasEnded now.left now.ended × (length taken ≡ whole_frames_used (length taken) * LINE_FRAME_BYTES)
+    (new ≡ after old (slot_report slot taken)) × (now.state ≢ Dead) × HasEnded now.left now.ended
+    × (length taken ≡ whole_frames_used (length taken) * LINE_FRAME_BYTES)
     × (length taken ≤ most_taken)
 SlotEnds Unfinished slot taken first now old new =
-    (new ≡ after old (slot_report slot taken)) × (now.state ≢ Dead) × (whole_frames_used (length taken) * LINE_FRAME_BYTES < length taken)
+    (new ≡ after old (slot_report slot taken)) × (now.state ≢ Dead)
+    × (whole_frames_used (length taken) * LINE_FRAME_BYTES < length taken)
     × (HasEnded now.left now.ended ⊎ (length taken ≡ most_taken)) × (length taken ≤ most_taken)
-SlotEnds Cut slot taken first now old new = (new ≡ after old (slot_report slot taken)) × (now.state ≡ Dead) × (length taken ≤ most_taken)
-SlotEnds ReportFault slot taken first now old new = StoppedInFrame slot taken (length taken) old new × (now.state ≡ first.state) × (length taken ≤ most_taken)
+SlotEnds Cut slot taken first now old new = (new ≡ after old (slot_report slot taken)) × (now.state ≡ Dead)
+    × (length taken ≤ most_taken)
+SlotEnds ReportFault slot taken first now old new = StoppedInFrame slot taken (length taken) old new
+    × (now.state ≡ first.state) × (length taken ≤ most_taken)
 SlotEnds Memory slot taken first now old new = ⊥
 
 -- a command from the line and the report as they were to how they are
@@ -30,25 +32,3 @@ pub record SlotEnded (slot : ℕ) (first now : InView) (old new : Option (List �
   pub gave : Gave first taken now
   pub died : DiedUnended first now
   pub ends : SlotEnds ended slot taken first now old new
-
--- the answer of a step that took these bytes
-abbrev pub StepEnds : Option Ended → (slot : ℕ) → (taken : List ℕ) → (first now : InView) → (old new : Option (List ℕ)) → Type 0
-StepEnds None slot taken first now old new = (length taken ≡ LINE_FRAME_BYTES) × (now.state ≡ first.state) × (new ≡ after old (slot_bytes slot taken)) × (now.ended ≡ first.ended)
-StepEnds (Some ReportFault) slot taken first now old new =
-    (length taken ≡ LINE_FRAME_BYTES) × (now.state ≡ first.state) × GainsPart old new (slot_bytes slot taken)
-StepEnds (Some Done) slot taken first now old new = (taken ≡ []) × (now.state ≡ first.state) × HasEnded now.left now.ended × (new ≡ old)
-StepEnds (Some Unfinished) slot taken first now old new =
-    (0 < length taken) × (length taken < LINE_FRAME_BYTES) × (now.state ≡ first.state) × HasEnded now.left now.ended × (new ≡ old)
-StepEnds (Some Cut) slot taken first now old new = (length taken < LINE_FRAME_BYTES) × (now.state ≡ Dead) × (new ≡ old) × (now.ended ≡ first.ended)
-StepEnds (Some Memory) slot taken first now old new = ⊥
-
--- a step: a frame was asked for, and where it came whole its slot's bytes were written
-pub record SlotStep (slot : ℕ) (first now : InView) (old new : Option (List ℕ)) (answer : Option Ended) : Type 0 where
-  pub taken : List ℕ
-  pub gave : Gave first taken now
-  pub ends : StepEnds answer slot taken first now old new
-
--- a write of a slot's bytes of a frame
-abbrev pub SlotWritten : Written → (slot : ℕ) → List ℕ → (old new : Option (List ℕ)) → Type 0
-SlotWritten written.Whole slot frame old new = new ≡ after old (slot_bytes slot frame)
-SlotWritten written.Lost slot frame old new = GainsPart old new (slot_bytes slot frame)

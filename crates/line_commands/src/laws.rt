@@ -16,19 +16,26 @@ ghost use Rattle.line_commands.specs.PullDamaged.{WritesAsIfRepeated};
 ghost use Rattle.line_commands.specs.PullReport.{LeavesBytes, StoppedInTurn, bytes_taken, pull_report, tributary};
 ghost use Rattle.line_commands.specs.SlotReport.{HasBytesBehind, StoppedInFrame, most_taken, slot_report};
 
-/// `slot`, by all bytes that line input 0 had to give, where it tells them: they are what is written of (`report`), and Unfinished is the
-/// answer exactly where bytes stand behind the whole frames that are used (`unfinished`); by the place's number of bytes the same holds
-/// of any line (`counted`), and as many bytes are taken as there are, of the most frames and one byte more at most (`took`). After
-/// ReportFault the last frame taken is the one whose slot was being written (`stopped`).
+/// `slot`, by all bytes that line input 0 had to give, where it tells them: they are what is written of (`report`), and
+/// Unfinished is the answer exactly where bytes stand behind the whole frames that are used (`unfinished`); by the
+/// place's number of bytes the same holds of any line (`counted`), and as many bytes are taken as there are, of the
+/// most frames and one byte more at most (`took`). After ReportFault the last frame taken is the one whose slot was
+/// being written (`stopped`).
 pub fn slot_of_given()
     ensures report { (slot : ℕ) (old new : Device) (answer : Status) (given : List ℕ) → SlotRan slot old new answer
-        → HadToGive (line_zero old) (line_zero new) given → Reports answer old.report.got new.report.got (slot_report slot given) }
-    ensures unfinished { (slot : ℕ) (old new : Device) (answer : Status) (given : List ℕ) → SlotRan slot old new answer → answer ≢ Status.ReportFault
-        → HadToGive (line_zero old) (line_zero new) given → (answer ≡ Status.Unfinished) ↔ (((line_zero new).state ≢ Dead) × HasBytesBehind (length given)) }
-    ensures counted { (slot : ℕ) (old new : Device) (answer : Status) → SlotRan slot old new answer → answer ≢ Status.ReportFault
+        → HadToGive (line_zero old) (line_zero new) given
+        → Reports answer old.report.got new.report.got (slot_report slot given) }
+    ensures unfinished { (slot : ℕ) (old new : Device) (answer : Status) (given : List ℕ) → SlotRan slot old new answer
+        → answer ≢ Status.ReportFault
+        → HadToGive (line_zero old) (line_zero new) given
+        → (answer ≡ Status.Unfinished) ↔ (((line_zero new).state ≢ Dead) × HasBytesBehind (length given)) }
+    ensures counted { (slot : ℕ) (old new : Device) (answer : Status) → SlotRan slot old new answer
+        → answer ≢ Status.ReportFault
         → (line_zero new).number < 2 ^ 64 - 1
-        → (answer ≡ Status.Unfinished) ↔ (((line_zero new).state ≢ Dead) × HasBytesBehind ((line_zero new).number - (line_zero old).number)) }
-    ensures took { (slot : ℕ) (old new : Device) (answer : Status) (given : List ℕ) → SlotRan slot old new answer → answer ≢ Status.ReportFault
+        → (answer ≡ Status.Unfinished) ↔ (((line_zero new).state ≢ Dead)
+        × HasBytesBehind ((line_zero new).number - (line_zero old).number)) }
+    ensures took { (slot : ℕ) (old new : Device) (answer : Status) (given : List ℕ) → SlotRan slot old new answer
+        → answer ≢ Status.ReportFault
         → HadToGive (line_zero old) (line_zero new) given → (line_zero new).number < 2 ^ 64 - 1
         → (line_zero new).number - (line_zero old).number ≡ min (length given) most_taken }
     ensures stopped { (slot : ℕ) (old new : Device) (given : List ℕ) → SlotRan slot old new Status.ReportFault
@@ -36,49 +43,61 @@ pub fn slot_of_given()
         → StoppedInFrame slot given ((line_zero new).number - (line_zero old).number) old.report.got new.report.got }
 {}
 
-/// `pull`, likewise: Unfinished is the answer exactly where bytes stand behind the frames that its turns wanted (`unfinished`), or where a
-/// part of a frame was taken (`counted`). After ReportFault the last turn carried out is the one whose bytes were being written (`stopped`).
+/// `pull`, likewise: Unfinished is the answer exactly where bytes stand behind the frames that its turns wanted
+/// (`unfinished`), or where a part of a frame was taken (`counted`). After ReportFault the last turn carried out is the
+/// one whose bytes were being written (`stopped`).
 pub fn pull_of_given()
-    ensures report { (own : Tributary) (old new : Device) (answer : Status) (given : List ℕ) → PullRan own old new answer
-        → HadToGive (line_zero old) (line_zero new) given → Reports answer old.report.got new.report.got (pull_report own given) }
-    ensures unfinished { (own : Tributary) (old new : Device) (answer : Status) (given : List ℕ) → PullRan own old new answer → answer ≢ Status.ReportFault
-        → HadToGive (line_zero old) (line_zero new) given → (answer ≡ Status.Unfinished) ↔ (((line_zero new).state ≢ Dead) × LeavesBytes given) }
-    ensures counted { (own : Tributary) (old new : Device) (answer : Status) → PullRan own old new answer → answer ≢ Status.ReportFault
+    ensures report { (own : Tributary) (old new : Device) (answer : Status) (given : List ℕ)
+        → PullRan own old new answer
+        → HadToGive (line_zero old) (line_zero new) given
+        → Reports answer old.report.got new.report.got (pull_report own given) }
+    ensures unfinished { (own : Tributary) (old new : Device) (answer : Status) (given : List ℕ)
+        → PullRan own old new answer → answer ≢ Status.ReportFault
+        → HadToGive (line_zero old) (line_zero new) given
+        → (answer ≡ Status.Unfinished) ↔ (((line_zero new).state ≢ Dead) × LeavesBytes given) }
+    ensures counted { (own : Tributary) (old new : Device) (answer : Status) → PullRan own old new answer
+        → answer ≢ Status.ReportFault
         → (line_zero new).number < 2 ^ 64 - 1
-        → (answer ≡ Status.Unfinished) ↔ (((line_zero new).state ≢ Dead) × (0 < ((line_zero new).number - (line_zero old).number) % LINE_FRAME_BYTES)) }
-    ensures took { (own : Tributary) (old new : Device) (answer : Status) (given : List ℕ) → PullRan own old new answer → answer ≢ Status.ReportFault
+        → (answer ≡ Status.Unfinished) ↔ (((line_zero new).state ≢ Dead)
+        × (0 < ((line_zero new).number - (line_zero old).number) % LINE_FRAME_BYTES)) }
+    ensures took { (own : Tributary) (old new : Device) (answer : Status) (given : List ℕ) → PullRan own old new answer
+        → answer ≢ Status.ReportFault
         → HadToGive (line_zero old) (line_zero new) given → (line_zero new).number < 2 ^ 64 - 1
         → (line_zero new).number - (line_zero old).number ≡ bytes_taken given }
     ensures stopped { (own : Tributary) (old new : Device) (given : List ℕ) → PullRan own old new Status.ReportFault
         → HadToGive (line_zero old) (line_zero new) given → (line_zero new).number < 2 ^ 64 - 1
-        → (t : ℕ) × StoppedInTurn own given ((line_zero new).number - (line_zero old).number) t old.report.got new.report.got }
+        → (t : ℕ) × StoppedInTurn own given
+        ((line_zero new).number - (line_zero old).number) t old.report.got new.report.got }
 {}
 
 /// Two worlds: lines that have as many whole frames, and the same bytes in a slot's payload columns, give
 /// `slot` the same report, whatever their other bytes are.
 pub fn slot_two_worlds()
-    ensures { (slot : ℕ) (one other : List ℕ) → AgreeOnSlot slot one other → slot_report slot one ≡ slot_report slot other }
+    ensures { (slot : ℕ) (one other : List ℕ) → AgreeOnSlot slot one other
+        → slot_report slot one ≡ slot_report slot other }
 {}
 
-/// Two worlds: lines that have as many whole frames with the same MFAS bytes, and in each multiframe the same bytes at a
-/// tributary's own places, give `pull` the same report, whatever their other bytes are: other slots and what their messages
-/// and MSI bytes say, overhead, lead-in, FEC.
+/// Two worlds: lines that have as many whole frames with the same MFAS bytes, and in each multiframe the same bytes at
+/// a tributary's own places, give `pull` the same report, whatever their other bytes are: other slots and what their
+/// messages and MSI bytes say, overhead, lead-in, FEC.
 pub fn pull_two_worlds()
-    ensures { (port : ℕ) (slots one other : List ℕ) → IsSlotList OTU2_SLOTS slots → AgreeOnTributary (tributary port slots) one other
+    ensures { (port : ℕ) (slots one other : List ℕ) → IsSlotList OTU2_SLOTS slots
+        → AgreeOnTributary (tributary port slots) one other
         → pull_report (tributary port slots) one ≡ pull_report (tributary port slots) other }
 {}
 
-/// Intact carriage, of a line on which a tributary carries a client's bytes in steady numbers: from turn 1 on, `pull` writes exactly these
-/// bytes from the first on, and where the line ends after these turns, all whole groups that came. Whatever came before such
-/// turns, it writes exactly these bytes from the third turn on after one that says its number without a former one.
+/// Intact carriage, of a line on which a tributary carries a client's bytes in steady numbers: from turn 1 on, `pull`
+/// writes exactly these bytes from the first on, and where the line ends after these turns, all whole groups that came.
+/// Whatever came before such turns, it writes exactly these bytes from the third turn on after one that says its number
+/// without a former one.
 pub fn pull_of_carried()
     ensures begins { BeginsWithWhatIsCarried }
     ensures whole { IsTheWholeGroups }
     ensures healed { HasWhatIsCarriedAfterDamage }
 {}
 
-/// One damaged message, while the sink is Up and on a line where no three in a row of a tributary are damaged, is as the pair of the turn before,
-/// said again: `pull` writes the same.
+/// One damaged message, while the sink is Up and on a line where no three in a row of a tributary are damaged, is as
+/// the pair of the turn before, said again: `pull` writes the same.
 pub fn pull_of_one_damaged()
     ensures { WritesAsIfRepeated }
 {}

@@ -24,11 +24,12 @@ enum After {
     ReportFailed,
 }
 
-ghost use Rattle.line_commands.specs.PullRuns.{PullEnded, TurnRun, AnswerRun, fault_of};
+ghost use Rattle.line_commands.specs.PullRuns.{PullEnded};
+ghost use Rattle.line_commands.specs.Steps.PullRuns.{TurnRun, AnswerRun, fault_of};
 
 /// Writes what a sink of these slots and this tributary port, 1 to 8, emits in each turn of the line, up to and with
-/// the turn in which the line ended, of 16,384 turns at most. Where its end was not seen and it is not dead, it is then asked
-/// for one byte more. A write that fails ends it at once.
+/// the turn in which the line ended, of 16,384 turns at most. Where its end was not seen and it is not dead, it is then
+/// asked for one byte more. A write that fails ends it at once.
 pub fn write_pull<I: Source, K: Sink>(
     alloc: Global,
     port: u8,
@@ -40,7 +41,8 @@ pub fn write_pull<I: Source, K: Sink>(
     requires high { port ≤ OTU2_SLOTS }
     requires plain { slots.now.kind ≡ LineKind.Otu2 }
     ensures memory { result ≡ Ended.Memory → (line.new ≡ line.old) × (report.new ≡ report.old) }
-    ensures run { result ≢ Ended.Memory → PullEnded (tributary port slots.now.list) (in_view I.Source line.old) (in_view I.Source line.new) (K.got report.old) (K.got report.new) result }
+    ensures run { result ≢ Ended.Memory → PullEnded (tributary port slots.now.list) (in_view I.Source line.old)
+        (in_view I.Source line.new) (K.got report.old) (K.got report.new) result }
     ensures report { ReportAfter (Some result) (sink_view K.Sink report.old) (sink_view K.Sink report.new) }
 {
     let Ok(mut tap) = Tap::new(alloc, port, slots) else {
@@ -69,7 +71,8 @@ fn write_turns<I: Source, K: Sink>(
     requires between { IsBetweenTurns tap.old }
     requires room { vec_len room.old ≡ length tap.old.sink.slots.list * (GROUPS + 1) }
     ensures run { (own : Tributary) → ((first : InView) → TapStands own first first [] 0 tap.old)
-        → PullEnded own (in_view I.Source line.old) (in_view I.Source line.new) (K.got report.old) (K.got report.new) result }
+        → PullEnded own (in_view I.Source line.old) (in_view I.Source line.new) (K.got report.old)
+        (K.got report.new) result }
     ensures report { ReportAfter (Some result) (sink_view K.Sink report.old) (sink_view K.Sink report.new) }
 {
     for _ in 0..MOST_TURNS {
@@ -91,8 +94,10 @@ fn write_turn<I: Source, K: Sink>(
 ) -> After
     requires between { IsBetweenTurns tap.old }
     requires room { vec_len room.old ≡ length tap.old.sink.slots.list * (GROUPS + 1) }
-    ensures run { (own : Tributary) (first : InView) (taken : List ℕ) (t : ℕ) → TapStands own first (in_view I.Source line.old) taken t tap.old
-        → TurnRun own first (in_view I.Source line.new) taken t tap.old tap.new (K.got report.old) (K.got report.new) result }
+    ensures run { (own : Tributary) (first : InView) (taken : List ℕ) (t : ℕ)
+        → TapStands own first (in_view I.Source line.old) taken t tap.old
+        → TurnRun own first (in_view I.Source line.new) taken t tap.old tap.new (K.got report.old)
+        (K.got report.new) result }
     ensures between { IsBetweenTurns tap.new }
     ensures slots { tap.new.sink.slots ≡ tap.old.sink.slots }
     ensures room_stays { vec_len room.new ≡ vec_len room.old }

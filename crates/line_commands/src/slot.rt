@@ -4,9 +4,11 @@ ghost use Rattle.otn_base.specs.declared.limits.TheConstants.{GROUPS, OTU2_SLOTS
 ghost use Rattle.otn_ports.specs.InPlace.{in_view};
 ghost use Rattle.otn_ports.specs.Views.{Dead};
 ghost use Rattle.otn_ports.specs.PortViews.{sink_view};
-ghost use Rattle.command_base.specs.Ends.{ReportAfter, step_of};
+ghost use Rattle.command_base.specs.Ends.{ReportAfter};
+ghost use Rattle.command_base.specs.Steps.Ends.{step_of};
 ghost use Rattle.line_commands.specs.SlotReport.{slot_bytes};
-ghost use Rattle.line_commands.specs.SlotRuns.{SlotEnded, SlotStep, SlotWritten};
+ghost use Rattle.line_commands.specs.SlotRuns.{SlotEnded};
+ghost use Rattle.line_commands.specs.Steps.SlotRuns.{SlotStep, SlotWritten};
 
 use command_base::ask_for_more;
 use frame_geometry::Frame;
@@ -34,7 +36,8 @@ pub fn write_slot<I: Source, K: Sink>(
     requires low { 1 ≤ slot }
     requires high { slot ≤ OTU2_SLOTS }
     ensures memory { result ≡ Ended.Memory → (line.new ≡ line.old) × (report.new ≡ report.old) }
-    ensures run { result ≢ Ended.Memory → SlotEnded slot (in_view I.Source line.old) (in_view I.Source line.new) (K.got report.old) (K.got report.new) result }
+    ensures run { result ≢ Ended.Memory → SlotEnded slot (in_view I.Source line.old) (in_view I.Source line.new)
+        (K.got report.old) (K.got report.new) result }
     ensures report { ReportAfter (Some result) (sink_view K.Sink report.old) (sink_view K.Sink report.new) }
 {
     let Ok(mut frame) = Frame::new(alloc) else {
@@ -56,7 +59,8 @@ fn write_frames<I: Source, K: Sink>(
     requires low { 1 ≤ slot }
     requires high { slot ≤ OTU2_SLOTS }
     requires alive { (in_view I.Source line.old).state ≢ Dead }
-    ensures run { SlotEnded slot (in_view I.Source line.old) (in_view I.Source line.new) (K.got report.old) (K.got report.new) result }
+    ensures run { SlotEnded slot (in_view I.Source line.old) (in_view I.Source line.new) (K.got report.old)
+        (K.got report.new) result }
     ensures report { ReportAfter (Some result) (sink_view K.Sink report.old) (sink_view K.Sink report.new) }
 {
     for _ in 0..MOST_FRAMES {
@@ -77,7 +81,8 @@ fn write_frame<I: Source, K: Sink>(
     requires low { 1 ≤ slot }
     requires high { slot ≤ OTU2_SLOTS }
     requires alive { (in_view I.Source line.old).state ≢ Dead }
-    ensures step { SlotStep slot (in_view I.Source line.old) (in_view I.Source line.new) (K.got report.old) (K.got report.new) result }
+    ensures step { SlotStep slot (in_view I.Source line.old) (in_view I.Source line.new) (K.got report.old)
+        (K.got report.new) result }
     ensures report { ReportAfter result (sink_view K.Sink report.old) (sink_view K.Sink report.new) }
 {
     match line.read_full(frame.as_bytes_mut()) {

@@ -7,7 +7,8 @@ use Rattle.multiframe.specs.LineTurns.{one_if, looked_ahead, is_start, starts}
 use Rattle.line_side.specs.declared.ending.Ending.{Ending}
 use Rattle.line_side.specs.declared.ending.Ending.TheVariants.{Open, Seen, Died}
 use Rattle.line_side.specs.LineFile.{frame_at, frame_mfas, whole_frames, mfas_of}
-use Rattle.line_side.specs.Reader.{ReaderView, HasRead, LookedAhead, LooksAhead, Began, Begins, count_of}
+use Rattle.line_side.specs.Reader.{ReaderView, HasRead, count_of}
+use Rattle.line_side.specs.Steps.Reader.{LookedAhead, LooksAhead, Began, Begins}
 use Rattle.line_side.proofs.Giving.{step_none}
 use Rattle.line_side.proofs.Mfas.{length_mfas, index_mfas}
 

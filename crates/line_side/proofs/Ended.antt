@@ -1,4 +1,5 @@
--- Between two turns a line knows that it has ended exactly where it has; and the frame in hand, and the MFAS that is expected in it.
+-- Between two turns a line knows that it has ended exactly where it has; and the frame in hand, and the MFAS that is
+-- expected in it.
 use Rattle.std.proofs.Common.{◌≡◌, ◌≤◌, ◌+◌, ◌-◌, ◌/◌, ◌%◌, ℕ, zero, suc, Bool, true, false, cond, ltb, leb, List, Option, Some, None, length, take, drop, arith, refl, sym, ap, ◌∙◌, subst}
 use Rattle.std.specs.Prelude.{IfSome, ◌↔◌, ⊤}
 use Rattle.std.proofs.lemmas.Bool.{ltb-false, le-ltb}

@@ -1,5 +1,5 @@
--- What is known of a line's bytes: what its place gave is among those that it may have, and so many of them were read as
--- the line's turns want.
+-- What is known of a line's bytes: what its place gave is among those that it may have, and so many of them were read
+-- as the line's turns want.
 use Rattle.std.proofs.Common.{◌≡◌, ◌≢◌, ◌*◌, ◌⊎◌, ℕ, Bool, true, false, cond, ltb, List, [], Option, Some, length, arith, refl, sym, ap, ◌∙◌, inl, inr, subst}
 use Rattle.std.specs.Prelude.{IfSome}
 use Rattle.std.proofs.lemmas.Bool.{lt-ltb, le-ltb}

@@ -5,7 +5,8 @@ use Rattle.otn_ports.proofs.GivenLaws.{gave_none, gave_twice}
 use Rattle.line_side.specs.declared.ending.Ending.{Ending}
 use Rattle.line_side.specs.LineForm.{through_mask}
 use Rattle.line_side.specs.MayBe.{MayBe}
-use Rattle.line_side.specs.Reader.{ReaderView, ReadStep, EndedAs}
+use Rattle.line_side.specs.Reader.{ReaderView, EndedAs}
+use Rattle.line_side.specs.Steps.Reader.{ReadStep}
 
 pub dead_not_live : Dead ≢ Live
 dead_not_live e = cc

@@ -6,10 +6,11 @@ use Rattle.otn_base.specs.declared.line_kind.LineKind.{LineKind}
 use Rattle.otn_ports.specs.Views.{InView}
 use Rattle.multiframe.specs.LineTurns.{one_if, looked_ahead, is_start, least_start, least_or}
 use Rattle.line_side.specs.LineFile.{whole_frames, mfas_of}
-use Rattle.line_side.specs.Reader.{ReaderView, HasRead, OnAnyLine, ReadStep}
+use Rattle.line_side.specs.Reader.{ReaderView, HasRead}
+use Rattle.line_side.specs.Steps.Reader.{OnAnyLine, ReadStep}
 use Rattle.otn_base.specs.Counts.{saturated}
 use Rattle.line_side.specs.LineStands.{LineView, taken_count}
-use Rattle.line_side.specs.LineMoves.{Keeps, PassesOver, Tries, Hunts}
+use Rattle.line_side.specs.Steps.LineMoves.{Keeps, PassesOver, Tries, Hunts}
 use Rattle.line_side.specs.declared.tried.Tried.{Tried}
 use Rattle.line_side.specs.declared.tried.Tried.TheVariants.{Locks, Passes, Ends}
 use Rattle.line_side.proofs.Giving.{step_none, step_twice, may_first, may_second}

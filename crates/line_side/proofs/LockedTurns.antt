@@ -9,7 +9,7 @@ use Rattle.multiframe.specs.Alignment.{Alignment, with_frame, taken_of}
 use Rattle.line_side.specs.LineFile.{frame_at, mfas_of}
 use Rattle.line_side.specs.Reader.{HasRead}
 use Rattle.line_side.specs.LineStands.{LineView}
-use Rattle.line_side.specs.LineMoves.{TookFrame, FoundNone}
+use Rattle.line_side.specs.Steps.LineMoves.{TookFrame, FoundNone}
 use Rattle.line_side.proofs.Beginnings.{same_wanted, same_used}
 use Rattle.line_side.proofs.Hunting.{raised_wanted}
 use Rattle.line_side.proofs.Mfas.{length_mfas}

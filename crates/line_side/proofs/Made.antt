@@ -25,7 +25,8 @@ use Rattle.odu_path.specs.Path.{path_byte, IsOduFrame}
 use Rattle.otu_overhead.specs.Section.{otu_byte, IsOtuFrame}
 use Rattle.line_side.specs.LineForm.{LineForm, masked_from, through_mask}
 use Rattle.otn_base.specs.declared.line_kind.LineKind.{LineKind}
-use Rattle.line_side.specs.LineOutput.{FramePut, IsLineFrame, AreLineFrames, line_sapi, line_tti, psi_byte_at, LineOutView, LineMade, Writes, counted_frames}
+use Rattle.line_side.specs.LineOutput.{FramePut, IsLineFrame, AreLineFrames, line_sapi, line_tti, psi_byte_at, LineOutView, LineMade, counted_frames}
+use Rattle.line_side.specs.Steps.LineOutput.{Writes}
 use Rattle.line_side.proofs.Masks.{length_through, through_append}
 
 dead_not_empty : Dead ≢ Empty

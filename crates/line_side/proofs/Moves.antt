@@ -6,10 +6,11 @@ use Rattle.otn_ports.specs.Views.{InView}
 use Rattle.multiframe.specs.LineTurns.{one_if, looked_ahead, is_start}
 use Rattle.multiframe.specs.Alignment.{Alignment, aligned_at, with_frame}
 use Rattle.line_side.specs.LineFile.{frame_at, frame_mfas, mfas_of}
-use Rattle.line_side.specs.Reader.{ReaderView, Advances, Begins}
+use Rattle.line_side.specs.Reader.{ReaderView}
+use Rattle.line_side.specs.Steps.Reader.{Advances, Begins}
 use Rattle.otn_base.specs.Counts.{saturated}
 use Rattle.line_side.specs.LineStands.{LineView, taken_count}
-use Rattle.line_side.specs.LineMoves.{Keeps, TakesMember, TakesNext, Tries, Waits, StepMoves}
+use Rattle.line_side.specs.Steps.LineMoves.{Keeps, TakesMember, TakesNext, Tries, Waits, StepMoves}
 use Rattle.line_side.specs.declared.tried.Tried.TheVariants.{Locks, Passes, Ends}
 use Rattle.line_side.proofs.Giving.{step_twice, may_first, may_second}
 use Rattle.line_side.proofs.Beginnings.{same_wanted}

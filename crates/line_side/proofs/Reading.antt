@@ -12,7 +12,7 @@ use Rattle.otn_ports.specs.InPlace.{in_view}
 use Rattle.otn_ports.specs.declared.source.Source.{Ghosts}
 use Rattle.otn_ports.specs.declared.in_place.InPlaceOf.{InPlaceOf}
 use Rattle.otn_ports.specs.declared.in_place.InPlaceOf.TheVariants as place
-use Rattle.line_side.specs.Reader.{FrameRead}
+use Rattle.line_side.specs.Steps.Reader.{FrameRead}
 use Rattle.line_side.proofs.Giving.{dead_not_live, empty_not_live}
 
 -- what the answer of a read into a frame says, before the place is looked at

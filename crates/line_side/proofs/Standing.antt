@@ -14,9 +14,10 @@ use Rattle.line_side.specs.LineForm.{LineForm, size_of}
 use Rattle.line_side.specs.LineFile.{mfas_of}
 use Rattle.line_side.specs.MayBe.{MayBe}
 use Rattle.line_side.specs.Counted.{HasCounted}
-use Rattle.line_side.specs.Reader.{ReaderView, ReadStep, EndedAs}
+use Rattle.line_side.specs.Reader.{ReaderView, EndedAs}
+use Rattle.line_side.specs.Steps.Reader.{ReadStep}
 use Rattle.line_side.specs.LineStands.{LineView, form_of, IsLine, LineStands, PieceStands}
-use Rattle.line_side.specs.LineMoves.{TakesNext, Hunts, Waits, StepMoves, EndMoves}
+use Rattle.line_side.specs.Steps.LineMoves.{TakesNext, Hunts, Waits, StepMoves, EndMoves}
 use Rattle.line_side.specs.declared.ending.Ending.{Ending}
 use Rattle.line_side.specs.declared.ending.Ending.TheVariants.{Open}
 use Rattle.line_side.proofs.Giving.{step_none, may_before}

@@ -11,7 +11,7 @@ use Rattle.otn_base.specs.Counts.{saturated}
 use Rattle.line_side.specs.declared.ending.Ending.TheVariants.{Open}
 use Rattle.multiframe.specs.TurnPieces.{ended_in, lead_in_by, AlignedIn}
 use Rattle.line_side.specs.LineStands.{LineView}
-use Rattle.line_side.specs.LineMoves.{EndMoves}
+use Rattle.line_side.specs.Steps.LineMoves.{EndMoves}
 use Rattle.line_side.proofs.Beginnings.{same_wanted, same_used}
 use Rattle.line_side.proofs.Turns.{LineIs, HuntIs, as_hunt}
 

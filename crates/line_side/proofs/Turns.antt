@@ -9,7 +9,7 @@ use Rattle.line_side.specs.Reader.{HasRead}
 use Rattle.otn_base.specs.Counts.{saturated}
 use Rattle.multiframe.specs.TurnPieces.{ended_at, ended_in, lead_in_by, aligned_by, AlignedIn}
 use Rattle.line_side.specs.LineStands.{LineView}
-use Rattle.line_side.specs.LineMoves.{TookFrame, FoundNone, HuntLocked, HuntFailed}
+use Rattle.line_side.specs.Steps.LineMoves.{TookFrame, FoundNone, HuntLocked, HuntFailed}
 use Rattle.line_side.proofs.Beginnings.{same_wanted, same_used}
 use Rattle.line_side.proofs.Moves.{start_looked}
 use Rattle.line_side.proofs.Mfas.{length_mfas}

@@ -1,5 +1,5 @@
--- What is counted of the overhead of the frames that a line has used.
-use Rattle.std.specs.Prelude.{ℕ, List, [], ◌∷◌, ◌++◌, Option, IfSome}
+-- API: what is counted of the overhead of the frames that a line has used.
+use Rattle.std.specs.Prelude.{ℕ, List, Option, IfSome}
 use Rattle.otn_base.specs.declared.limits.TheConstants.{LINE_COLUMNS}
 use Rattle.frame_geometry.specs.declared.overhead.TheConstants.{PM_ROW, PM_BIP8_COLUMN}
 use Rattle.frame_overhead.specs.TwoBefore.{Checked, HasChecked}
@@ -22,7 +22,3 @@ Counted = Option Checks
 -- Of these frames was counted, where anything is.
 pub record HasCounted (frames : List (List ℕ)) (seen : Counted) : Type 0 where
   pub checks : IfSome seen (HaveTaken frames)
-
--- one frame more was taken, whatever was before it
-abbrev pub CountsOn : (old : Counted) → (frame : List ℕ) → (new : Counted) → Type 0
-CountsOn old frame new = (frames : List (List ℕ)) → HasCounted frames old → HasCounted (frames ++ frame ∷ []) new

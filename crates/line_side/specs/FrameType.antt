@@ -1,4 +1,4 @@
--- The type of a line's frame, for the clause on what is lent of it.
+-- API: the type of a line's frame, for the clause on what is lent of it.
 use denote.RattleType.{RattleType}
 use denote.Param.{number}
 use Rattle.frame_geometry.specs.contracts.frame.Frame.{the_row}

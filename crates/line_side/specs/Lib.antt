@@ -4,8 +4,8 @@ pub mod MayBe
 pub mod Reader
 pub mod LineStands
 pub mod LineNumbers
-pub mod LineMoves
 pub mod LineOutput
 pub mod Laws
 pub mod FrameType
 pub mod Counted
+pub mod Steps

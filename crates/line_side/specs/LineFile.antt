@@ -1,4 +1,5 @@
--- The frames of a line, in the order in which their bytes come. The bytes are those of the line's file, through its mask.
+-- Believed: the frames of a line, in the order in which their bytes come. The bytes are those of the line's file,
+-- through its mask.
 use Rattle.std.specs.Prelude.{ℕ, zero, suc, ◌*◌, ◌/◌, List, [], ◌∷◌, ◌++◌, length, take, drop, slice_index}
 use Rattle.otn_base.specs.declared.limits.TheConstants.{LINE_COLUMNS, LINE_FRAME_BYTES}
 use Rattle.frame_geometry.specs.Places.{place_of}

@@ -1,4 +1,4 @@
--- The numbers of an input line, by the bytes of the line.
+-- Believed: the numbers of an input line, by the bytes of the line.
 use Rattle.std.specs.Prelude.{ℕ, List}
 use Rattle.otn_base.specs.declared.limits.TheConstants.{LINE_COLUMNS}
 use Rattle.frame_geometry.specs.declared.overhead.TheConstants.{SECTION_ROW, SM_BIP8_COLUMN, PM_ROW, PM_BIP8_COLUMN}
@@ -14,9 +14,9 @@ use Rattle.otn_base.specs.Counts.{saturated}
 use Rattle.line_side.specs.declared.counts.LineCounts.{LineCounts}
 use Rattle.line_side.specs.declared.ending.Ending.{Ending}
 
--- The numbers of the line that these bytes are after so many pieces of turn t + 1: the whole frames used, lead-in among them; the
--- lead-in; the multiframes lost in the turns before; the bytes after the last whole frame, where the end was seen; and the used
--- frames with a wrong FAS, a wrong SM parity and a wrong PM parity.
+-- The numbers of the line that these bytes are after so many pieces of turn t + 1: the whole frames used, lead-in among
+-- them; the lead-in; the multiframes lost in the turns before; the bytes after the last whole frame, where the end was
+-- seen; and the used frames with a wrong FAS, a wrong SM parity and a wrong PM parity.
 abbrev pub numbers_of : (form : LineForm) → (ending : Ending) → (given : List ℕ) → (t pieces : ℕ) → LineCounts
 numbers_of form ending given t pieces = record {
   frames = saturated (used_in (size_of form) (mfas_of given) (line_state (size_of form) (mfas_of given) t) pieces);

@@ -1,9 +1,8 @@
--- The frames of a line that is put out, and its file.
-use Rattle.std.specs.Prelude.{◌≡◌, ◌≢◌, ◌<◌, ℕ, ◌+◌, ◌/◌, ◌%◌, ◌==◌, ◌&&◌, Bool, true, false, if◌then◌else◌, List, [], ◌∷◌, ◌++◌, length, take, slice_index, ⊤}
+-- Believed: the frames of a line that is put out, and its file.
+use Rattle.std.specs.Prelude.{◌≡◌, ℕ, ◌+◌, ◌/◌, ◌%◌, ◌==◌, ◌&&◌, Bool, true, false, if◌then◌else◌, List, ◌∷◌, ◌++◌, length, slice_index, ⊤}
 use Rattle.std.specs.List.{concat}
 use Rattle.otn_base.specs.TrailTrace.{trail_trace}
 use Rattle.otn_base.specs.declared.limits.TheConstants.{LINE_COLUMNS, LINE_FRAME_BYTES}
-use Rattle.otn_ports.specs.Given.{Gained}
 use Rattle.otn_ports.specs.Sent.{IsSent}
 use Rattle.otn_ports.specs.Views.{State, Empty, Live, Dead, OutView}
 use Rattle.frame_geometry.specs.declared.overhead.TheConstants.{PSI_ROW, PSI_COLUMN}
@@ -23,8 +22,8 @@ line_sapi n = 76 ∷ 73 ∷ 78 ∷ 69 ∷ 45 ∷ (48 + n) ∷ []
 abbrev pub line_tti : (n mfas : ℕ) → ℕ
 line_tti n mfas = slice_index (trail_trace (line_sapi n)) (mfas % 64)
 
--- what is put into a frame of a line before its overhead: the frame's MFAS, the tributary port of each of the line's slots, 0
--- for a free one, and the bytes
+-- what is put into a frame of a line before its overhead: the frame's MFAS, the tributary port of each of the line's
+-- slots, 0 for a free one, and the bytes
 pub record FramePut : Type 0 where
   pub mfas : ℕ
   pub ports : List ℕ
@@ -34,27 +33,32 @@ pub record FramePut : Type 0 where
 abbrev pub psi_byte_at : (ports : List ℕ) → (mfas row col byte : ℕ) → ℕ
 psi_byte_at ports mfas row col byte = if (row == PSI_ROW) && (col == PSI_COLUMN) then psi_of ports mfas else byte
 
--- The byte of line n in a row and a column of a frame that carries this BIP-8, where a byte was put: section overhead and the columns
--- of the FEC, path overhead, and the PSI byte by the ports of the slots. Every other byte is as it was put.
+-- The byte of line n in a row and a column of a frame that carries this BIP-8, where a byte was put: section overhead
+-- and the columns of the FEC, path overhead, and the PSI byte by the ports of the slots. Every other byte is as it was
+-- put.
 abbrev pub line_byte : (n bip : ℕ) → FramePut → (row col byte : ℕ) → ℕ
 line_byte n bip put row col byte =
-    otu_byte put.mfas (line_tti n put.mfas) bip row col (path_byte (line_tti n put.mfas) bip row col (psi_byte_at put.ports put.mfas row col byte))
+    otu_byte put.mfas (line_tti n put.mfas) bip row col
+    (path_byte (line_tti n put.mfas) bip row col (psi_byte_at put.ports put.mfas row col byte))
 
 -- the frame of line n that carries this BIP-8, in which this was put
 pub record IsLineFrame (n bip : ℕ) (put : FramePut) (frame : List ℕ) : Type 0 where
   pub size : length frame ≡ LINE_FRAME_BYTES
-  pub byte : (row col : ℕ) → IsPlace LINE_COLUMNS row col → byte_of LINE_COLUMNS row col frame ≡ line_byte n bip put row col (byte_of LINE_COLUMNS row col put.bytes)
+  pub byte : (row col : ℕ) → IsPlace LINE_COLUMNS row col
+      → byte_of LINE_COLUMNS row col frame ≡ line_byte n bip put row col (byte_of LINE_COLUMNS row col put.bytes)
 
--- The frames of line n in which these were put, one after the other, behind others that went before. G.709 clauses 15.7.2.1 and
--- 15.8.2.1: each carries the parity of the frame two before it, 0 where there is none.
-abbrev pub AreLineFrames : (n : ℕ) → (before : List (List ℕ)) → (puts : List FramePut) → (frames : List (List ℕ)) → Type 0
+-- The frames of line n in which these were put, one after the other, behind others that went before. G.709 clauses
+-- 15.7.2.1 and 15.8.2.1: each carries the parity of the frame two before it, 0 where there is none.
+abbrev pub AreLineFrames : (n : ℕ) → (before : List (List ℕ)) → (puts : List FramePut) → (frames : List (List ℕ))
+    → Type 0
 AreLineFrames n before [] [] = ⊤
-AreLineFrames n before (put ∷ puts) (frame ∷ frames) = IsLineFrame n (or_zero (parity_due LINE_COLUMNS before)) put frame × AreLineFrames n (before ++ frame ∷ []) puts frames
+AreLineFrames n before (put ∷ puts) (frame ∷ frames) = IsLineFrame n
+    (or_zero (parity_due LINE_COLUMNS before)) put frame × AreLineFrames n (before ++ frame ∷ []) puts frames
 AreLineFrames n before (put ∷ puts) [] = ⊥
 AreLineFrames n before [] (frame ∷ frames) = ⊥
 
--- what is seen of an output line: what is fixed of it, its identifier, the frame to come, what its writers keep, and how many
--- frames count
+-- what is seen of an output line: what is fixed of it, its identifier, the frame to come, what its writers keep, and
+-- how many frames count
 pub record LineOutView : Type 0 where
   pub form : LineForm
   pub sapi : List ℕ
@@ -69,7 +73,8 @@ counted_frames Empty made went = length made
 counted_frames Live made went = length went / LINE_FRAME_BYTES
 counted_frames Dead made went = length went / LINE_FRAME_BYTES
 
--- whether a frame counts, by how its place stood before and after it was written: it was made on an empty place, or went out whole
+-- whether a frame counts, by how its place stood before and after it was written: it was made on an empty place, or
+-- went out whole
 abbrev pub frame_counts : (was is : State) → Bool
 frame_counts Empty is = true
 frame_counts Live Live = true
@@ -77,9 +82,10 @@ frame_counts Live Empty = false
 frame_counts Live Dead = false
 frame_counts Dead is = false
 
--- Line n of this form has made the frames in which these were put. `first` and `now` are views of its place: between them the
--- line's file was due to it, which is these frames, through the mask where the line is scrambled.
-pub record LineMade (n : ℕ) (form : LineForm) (first now : OutView) (puts : List FramePut) (line : LineOutView) : Type 0 where
+-- Line n of this form has made the frames in which these were put. `first` and `now` are views of its place: between
+-- them the line's file was due to it, which is these frames, through the mask where the line is scrambled.
+pub record LineMade (n : ℕ) (form : LineForm) (first now : OutView) (puts : List FramePut)
+    (line : LineOutView) : Type 0 where
   pub is_form : line.form ≡ form
   pub made : List (List ℕ)
   pub are_frames : AreLineFrames n [] puts made
@@ -89,16 +95,9 @@ pub record LineMade (n : ℕ) (form : LineForm) (first now : OutView) (puts : Li
   pub section : HasSent LINE_COLUMNS made line.section
   pub path : HasSent LINE_COLUMNS made line.path
 
--- However the line has made frames for a place that is seen so now: of whatever form, whatever the place was before the line, and
--- whatever was put into them.
-abbrev pub AsMade : (n : ℕ) → (now : OutView) → LineOutView → ((form : LineForm) → (first : OutView) → (puts : List FramePut) → Type 0) → Type 0
-AsMade n now line Holds = (form : LineForm) (first : OutView) (puts : List FramePut) → LineMade n form first now puts line → Holds form first puts
-
--- a frame was written to a place, and counts or does not
-pub record Writes (counts : Bool) (old : OutView) (frame : List ℕ) (new : OutView) : Type 0 where
-  pub went : List ℕ
-  pub gained : Gained old went new
-  pub whole : old.state ≡ Live → new.state ≡ Live → (counts ≡ true) × (went ≡ frame)
-  pub part : old.state ≡ Live → new.state ≢ Live → (counts ≡ false) × ((n : ℕ) × (n < length frame) × (went ≡ take n frame))
-  pub empty : old.state ≡ Empty → counts ≡ true
-  pub dead : old.state ≡ Dead → counts ≡ false
+-- However the line has made frames for a place that is seen so now: of whatever form, whatever the place was before the
+-- line, and whatever was put into them.
+abbrev pub AsMade : (n : ℕ) → (now : OutView) → LineOutView
+    → ((form : LineForm) → (first : OutView) → (puts : List FramePut) → Type 0) → Type 0
+AsMade n now line Holds = (form : LineForm) (first : OutView) (puts : List FramePut)
+    → LineMade n form first now puts line → Holds form first puts

@@ -1,4 +1,4 @@
--- Where an input line stands in its turns.
+-- Believed: where an input line stands in its turns.
 use Rattle.std.specs.Prelude.{◌≡◌, ◌≢◌, ◌↔◌, ◌+◌, ◌≤◌, ℕ, Bool, true, false, List, ◌++◌, length, Option, Some, None, IfSome, is_some}
 use Rattle.otn_base.specs.declared.line_kind.LineKind.{LineKind}
 use Rattle.otn_ports.specs.Views.{InView, Live}
@@ -14,8 +14,9 @@ use Rattle.otn_base.specs.Counts.{saturated}
 use Rattle.line_side.specs.declared.ending.Ending.TheVariants.{Open, Seen}
 use Rattle.multiframe.specs.TurnPieces.{AlignedIn, in_hand, ended_in, lead_in_so_far}
 
--- what is seen of an input line: its kind, its alignment, its reader, how many pieces of the turn are done, whether the last
--- one came to a frame of a multiframe, whether the line has ended, and how many frames were lead-in and multiframes lost
+-- what is seen of an input line: its kind, its alignment, its reader, how many pieces of the turn are done, whether the
+-- last one came to a frame of a multiframe, whether the line has ended, and how many frames were lead-in and
+-- multiframes lost
 pub record LineView : Type 0 where
   pub kind : LineKind
   pub alignment : Option Alignment
@@ -39,57 +40,72 @@ taken_count (Some a) = length a.taken
 abbrev pub frames_taken : LineView → ℕ
 frames_taken line = taken_count line.alignment
 
--- the frames of the line that these bytes are which are used after so many pieces of turn t + 1: lead-in among them, and a
--- frame that was looked ahead at once its turn takes it or passes over it
+-- the frames of the line that these bytes are which are used after so many pieces of turn t + 1: lead-in among them,
+-- and a frame that was looked ahead at once its turn takes it or passes over it
 abbrev pub used_frames : (size : ℕ) → (given : List ℕ) → (t pieces : ℕ) → List (List ℕ)
-used_frames size given t pieces = first_frames given (used_in size (mfas_of given) (line_state size (mfas_of given) t) pieces)
+used_frames size given t pieces = first_frames given
+    (used_in size (mfas_of given) (line_state size (mfas_of given) t) pieces)
 
--- An input line whose bytes are `given` and whose multiframes have `size` frames is seen so after the turns 1 to t and line.pieces
--- pieces of turn t + 1. Of `given` n bytes were read: so many frames as the turns so far want, or all where they want one that is not whole.
+-- An input line whose bytes are `given` and whose multiframes have `size` frames is seen so after the turns 1 to t and
+-- line.pieces pieces of turn t + 1. Of `given` n bytes were read: so many frames as the turns so far want, or all where
+-- they want one that is not whole.
 pub record IsLine (size : ℕ) (given : List ℕ) (n t : ℕ) (line : LineView) : Type 0 where
-  pub read : HasRead given n (used_in size (mfas_of given) (line_state size (mfas_of given) t) line.pieces) (wanted_so_far size (mfas_of given) t line.pieces) line.reader
+  pub read : HasRead given n (used_in size (mfas_of given) (line_state size (mfas_of given) t) line.pieces)
+      (wanted_so_far size (mfas_of given) t line.pieces) line.reader
   pub alignment : AlignedIn size (mfas_of given) (line_state size (mfas_of given) t) line.pieces line.alignment
-  pub has_frame : line.has_frame ≡ is_some (in_hand size (mfas_of given) (line_state size (mfas_of given) t) line.pieces)
-  pub hand : IfSome (in_hand size (mfas_of given) (line_state size (mfas_of given) t) line.pieces) (λ member. line.reader.hand ≡ frame_at given member.frame)
+  pub has_frame : line.has_frame ≡ is_some
+      (in_hand size (mfas_of given) (line_state size (mfas_of given) t) line.pieces)
+  pub hand : IfSome (in_hand size (mfas_of given) (line_state size (mfas_of given) t) line.pieces)
+      (λ member. line.reader.hand ≡ frame_at given member.frame)
   pub ended : line.ended ≡ ended_in size (mfas_of given) (line_state size (mfas_of given) t) line.pieces
   pub lead_in : line.lead_in ≡ saturated (lead_in_so_far size (mfas_of given) t line.pieces)
   pub lost : line.lost ≡ saturated (lost_count size (mfas_of given) t)
 
--- A line of this form stands in turn t + 1 after line.pieces of its pieces. `first` and `now` are views of its place, between
--- which these bytes were taken: whatever stands behind them, `IsLine` holds of both together, unscrambled.
+-- A line of this form stands in turn t + 1 after line.pieces of its pieces. `first` and `now` are views of its place,
+-- between which these bytes were taken: whatever stands behind them, `IsLine` holds of both together, unscrambled.
 pub record LineStands (form : LineForm) (first now : InView) (taken : List ℕ) (t : ℕ) (line : LineView) : Type 0 where
   pub is_form : form_of line ≡ form
   pub gave : Gave first taken now
   pub ending : EndedAs line.reader.ending now
-  -- once the bytes have ended, a live place's port has answered its end, whether or not it tells its bytes, and has none left where it tells
+  -- once the bytes have ended, a live place's port has answered its end, whether or not it tells its bytes, and has
+  -- none left where it tells
   pub over : line.reader.ending ≢ Open → now.state ≡ Live → HasEnded now.left now.ended
-  -- where the end was not seen, the place has answered none: so nothing is asked of it behind its end, and one that died had not answered it
+  -- where the end was not seen, the place has answered none: so nothing is asked of it behind its end, and one that
+  -- died had not answered it
   pub unended : line.reader.ending ≢ Seen → now.ended ≡ first.ended
   -- of all bytes that the line may turn out to have
-  pub is_line : (given : List ℕ) → MayBe form.scrambled line.reader.ending taken given → IsLine (size_of form) given (length taken) t line
+  pub is_line : (given : List ℕ) → MayBe form.scrambled line.reader.ending taken given
+      → IsLine (size_of form) given (length taken) t line
 
--- However the line stands on a place that is seen so now: of whatever form, whatever the place was before the line, whatever bytes
--- were taken of it, and in whatever turn.
-abbrev pub AsStood : (now : InView) → LineView → ((form : LineForm) → (first : InView) → (taken : List ℕ) → (t : ℕ) → Type 0) → Type 0
-AsStood now line Holds = (form : LineForm) (first : InView) (taken : List ℕ) (t : ℕ) → LineStands form first now taken t line → Holds form first taken t
+-- However the line stands on a place that is seen so now: of whatever form, whatever the place was before the line,
+-- whatever bytes were taken of it, and in whatever turn.
+abbrev pub AsStood : (now : InView) → LineView
+    → ((form : LineForm) → (first : InView) → (taken : List ℕ) → (t : ℕ) → Type 0) → Type 0
+AsStood now line Holds = (form : LineForm) (first : InView) (taken : List ℕ) (t : ℕ)
+    → LineStands form first now taken t line → Holds form first taken t
 
 -- after a piece: more bytes were taken, and what the line may have from then on it might have before
-pub record PieceStands (form : LineForm) (first now : InView) (taken : List ℕ) (t : ℕ) (old new : LineView) : Type 0 where
+pub record PieceStands (form : LineForm) (first now : InView) (taken : List ℕ) (t : ℕ)
+    (old new : LineView) : Type 0 where
   pub came : List ℕ
   pub stands : LineStands form first now (taken ++ came) t new
-  pub earlier : (given : List ℕ) → MayBe form.scrambled new.reader.ending (taken ++ came) given → MayBe form.scrambled old.reader.ending taken given
+  pub earlier : (given : List ℕ) → MayBe form.scrambled new.reader.ending (taken ++ came) given
+      → MayBe form.scrambled old.reader.ending taken given
 
--- What holds of a line in the turn in which it stands, whichever that is, whatever place it is read from and whatever it may turn out to have: `given` are all bytes
--- of the line, and it stands in turn t + 1.
+-- What holds of a line in the turn in which it stands, whichever that is, whatever place it is read from and whatever
+-- it may turn out to have: `given` are all bytes of the line, and it stands in turn t + 1.
 abbrev pub InItsTurn : LineView → ((form : LineForm) → (given : List ℕ) → (t : ℕ) → Type 0) → Type 0
-InItsTurn line Holds = (now : InView) → AsStood now line (λ form first taken t. (given : List ℕ) → MayBe form.scrambled line.reader.ending taken given → Holds form given t)
+InItsTurn line Holds = (now : InView) → AsStood now line (λ form first taken t. (given : List ℕ)
+    → MayBe form.scrambled line.reader.ending taken given → Holds form given t)
 
--- What holds of the frame of a multiframe to which the last piece of the turn came, if it came to one: of all bytes of the line
--- and of the number of the frame with the MFAS expected in it.
+-- What holds of the frame of a multiframe to which the last piece of the turn came, if it came to one: of all bytes of
+-- the line and of the number of the frame with the MFAS expected in it.
 abbrev pub OfMember : LineView → ((given : List ℕ) → (member : Lock) → Type 0) → Type 0
-OfMember line Holds = InItsTurn line (λ form given t. IfSome (in_hand (size_of form) (mfas_of given) (line_state (size_of form) (mfas_of given) t) line.pieces) (Holds given))
+OfMember line Holds = InItsTurn line (λ form given t. IfSome
+    (in_hand (size_of form) (mfas_of given) (line_state (size_of form) (mfas_of given) t) line.pieces) (Holds given))
 
--- The line takes no frame before its next turn: it has ended, or it hunts and has done so in this turn, in its first piece.
+-- The line takes no frame before its next turn: it has ended, or it hunts and has done so in this turn, in its first
+-- piece.
 abbrev pub AwaitsTurn : LineView → Type 0
 AwaitsTurn line = line.ended ≡ false → (1 ≤ line.pieces) × (line.alignment ≡ None)
 

@@ -1,24 +1,17 @@
--- The reader of a line: how far it has read.
-use Rattle.std.specs.Prelude.{◌≡◌, ◌≢◌, ◌<◌, ◌≤◌, ◌+◌, ◌*◌, ◌%◌, max, ℕ, Bool, true, false, List, [], ◌++◌, length, Option, Some, None, IfSome}
+-- Believed: the reader of a line: how far it has read.
+use Rattle.std.specs.Prelude.{◌≡◌, ◌≢◌, ◌<◌, ◌≤◌, ◌+◌, ◌*◌, ◌%◌, ℕ, Bool, List, length, Option, Some, None, IfSome}
 use Rattle.otn_base.specs.Counts.{saturated}
 use Rattle.otn_base.specs.declared.limits.TheConstants.{LINE_FRAME_BYTES}
-use Rattle.otn_ports.specs.Views.{InView, Live, Dead}
-use Rattle.otn_ports.specs.Given.{Gave}
-use Rattle.otn_ports.specs.Reads.{HasEnded}
-use Rattle.otn_ports.specs.declared.in_place.InPlaceOf.{InPlaceOf}
+use Rattle.otn_ports.specs.Views.{InView, Dead}
 use Rattle.otn_ports.specs.declared.in_place.Reading.{Reading}
-use Rattle.otn_ports.specs.declared.in_place.Reading.TheVariants.{Full, End, Lost}
-use Rattle.line_side.specs.LineForm.{through_mask}
-use Rattle.line_side.specs.LineFile.{frame_at, first_frames, whole_frames, mfas_of}
+use Rattle.line_side.specs.LineFile.{frame_at, first_frames, whole_frames}
 use Rattle.line_side.specs.Counted.{Counted, HasCounted}
-use Rattle.multiframe.specs.LineTurns.{one_if, looked_ahead, is_start}
-use Rattle.line_side.specs.MayBe.{MayBe}
 use Rattle.line_side.specs.declared.ending.Ending.{Ending}
 use Rattle.line_side.specs.declared.ending.Ending.TheVariants.{Open, Seen, Died}
 
--- what is seen of a reader: whether its line is scrambled, the frame in hand, the frame looked ahead at, whether and how the
--- bytes ended, how many frames were used, how many bytes came after the last whole one, and what was counted of the overhead
--- of those used
+-- what is seen of a reader: whether its line is scrambled, the frame in hand, the frame looked ahead at, whether and
+-- how the bytes ended, how many frames were used, how many bytes came after the last whole one, and what was counted of
+-- the overhead of those used
 pub record ReaderView : Type 0 where
   pub scrambled : Bool
   pub hand : List ℕ
@@ -46,47 +39,11 @@ pub record HasRead (given : List ℕ) (n u w : ℕ) (r : ReaderView) : Type 0 wh
   pub within : u + count_of r.ahead ≤ whole_frames given
   pub ahead : IfSome r.ahead (λ frame. frame ≡ frame_at given u)
   pub still : r.ending ≡ Open → (n ≡ LINE_FRAME_BYTES * (u + count_of r.ahead)) × (u + count_of r.ahead ≡ w)
-  pub over : r.ending ≢ Open → (u + count_of r.ahead ≡ whole_frames given) × (n ≡ length given) × (whole_frames given < w)
+  pub over : r.ending ≢ Open → (u + count_of r.ahead ≡ whole_frames given) × (n ≡ length given)
+      × (whole_frames given < w)
   pub frames : r.frames ≡ saturated u
   pub rest : r.rest ≡ rest_of r.ending given
   pub seen : HasCounted (first_frames given u) r.seen
-
--- What a move of a reader comes to, whatever line it may be on and however far it has read. `given` are all bytes of the line;
--- of them n are read after the move, in which these came; u frames were used before it, and w were wanted.
-abbrev pub OnAnyLine : (old new : ReaderView) → (came : List ℕ) → ((given : List ℕ) → (n u w : ℕ) → Type 0) → Type 0
-OnAnyLine old new came Comes = (given taken : List ℕ) (u w : ℕ) → MayBe new.scrambled new.ending (taken ++ came) given → HasRead given (length taken) u w old
-    → Comes given (length (taken ++ came)) u w
-
--- what a read of a frame says: a whole frame came, which is read through the mask, or the place gives no more
-pub record FrameRead (scrambled : Bool) (reading : Reading) (was : InView) (frame : List ℕ) (is : InView) : Type 0 where
-  pub came : List ℕ
-  pub gave : Gave was came is
-  pub whole : reading ≡ Full → (frame ≡ through_mask scrambled came) × (length came ≡ LINE_FRAME_BYTES)
-  pub short : reading ≢ Full → (length came < LINE_FRAME_BYTES) × (is.state ≡ Live → HasEnded is.left is.ended)
-  pub end : (k : ℕ) → reading ≡ End k → (k ≡ length came) × (is.state ≢ Dead)
-  pub lost : reading ≡ Lost → is.state ≡ Dead
-  pub unended : ((k : ℕ) → reading ≢ End k) → is.ended ≡ was.ended
-
--- this frame, which was looked ahead at, is in hand, and so much was counted with it; without one nothing changes
-abbrev pub taking : Option (List ℕ) → Counted → ReaderView → ReaderView
-taking None seen r = r
-taking (Some frame) seen r = record { scrambled = r.scrambled; hand = frame; ahead = None; ending = r.ending; frames = saturated (r.frames + 1); rest = r.rest; seen = seen }
-
--- the frame that the reader looked ahead at, if it did, is in hand, and so much was counted with it
-abbrev pub with_ahead : Counted → ReaderView → ReaderView
-with_ahead seen r = taking r.ahead seen r
-
--- the bytes have ended where no whole frame came
-abbrev pub ending_after : Reading → Ending → Ending
-ending_after Full ending = ending
-ending_after (End n) ending = Seen
-ending_after Lost ending = Died
-
--- how many bytes came after the last whole frame: as many as came of one that is not whole
-abbrev pub left_after : Reading → ℕ → ℕ
-left_after Full rest = rest
-left_after (End n) rest = n
-left_after Lost rest = rest
 
 -- the reader after a read of a frame that said this, but for the frame itself
 abbrev pub with_reading : Reading → ReaderView → ReaderView
@@ -96,54 +53,3 @@ with_reading reading r = record r { ending = ending_after reading r.ending; rest
 pub record EndedAs (ending : Ending) (place : InView) : Type 0 where
   pub died : ending ≡ Died → place.state ≡ Dead
   pub seen : ending ≡ Seen → place.state ≢ Dead
-
--- Once the bytes have ended, the place is asked nothing more, and they stay ended.
-abbrev pub AsksNoMore : {P : Type 0} → Ending → InPlaceOf P → Ending → InPlaceOf P → Type 0
-AsksNoMore old was new is = old ≢ Open → (is ≡ was) × (new ≢ Open)
-
--- A step of a reader at the place of its line, in which these bytes came. Once the bytes have ended none come; a live place
--- has ended with them, and how they ended goes on to agree with the place. While the end is not seen, the place answers none.
-pub record ReadStep (old : ReaderView) (was : InView) (came : List ℕ) (new : ReaderView) (is : InView) : Type 0 where
-  pub scrambled : new.scrambled ≡ old.scrambled
-  pub gave : Gave was came is
-  pub quiet : old.ending ≢ Open → (came ≡ []) × (new.ending ≢ Open)
-  pub over : (old.ending ≢ Open → was.state ≡ Live → HasEnded was.left was.ended) → new.ending ≢ Open → is.state ≡ Live → HasEnded is.left is.ended
-  pub ended : EndedAs old.ending was → EndedAs new.ending is
-  pub unended : new.ending ≢ Seen → (old.ending ≢ Seen) × (is.ended ≡ was.ended)
-
--- the frame after those that are used came into the hand, or there is none
-pub record Advanced (given : List ℕ) (n u w : ℕ) (result : Bool) (r : ReaderView) : Type 0 where
-  pub frame : result ≡ true → HasRead given n (u + 1) w r × (u < whole_frames given) × (r.hand ≡ frame_at given u)
-  pub none : result ≡ false → HasRead given n u w r × (u ≡ whole_frames given) × (r.ending ≢ Open)
-
--- the reader went on to the next frame, which it wanted
-pub record Advances (result : Bool) (old : ReaderView) (was : InView) (new : ReaderView) (is : InView) : Type 0 where
-  pub came : List ℕ
-  pub step : ReadStep old was came new is
-  pub alone : new.ahead ≡ None
-  pub line : OnAnyLine old new came (λ given n u w. Advanced given n u (max w (u + 1)) result new)
-
--- the frame after those that are used was looked at, or there is none
-pub record LookedAhead (given : List ℕ) (n u w : ℕ) (result : Bool) (r : ReaderView) : Type 0 where
-  pub read : HasRead given n u w r
-  pub frame : result ≡ true → (u < whole_frames given) × (r.ahead ≡ Some (frame_at given u))
-  pub none : result ≡ false → (u ≡ whole_frames given) × (r.ahead ≡ None)
-
--- the reader looked ahead at the next frame, which it wanted
-pub record LooksAhead (result : Bool) (old : ReaderView) (was : InView) (new : ReaderView) (is : InView) : Type 0 where
-  pub came : List ℕ
-  pub step : ReadStep old was came new is
-  pub hand : new.hand ≡ old.hand
-  pub line : OnAnyLine old new came (λ given n u w. LookedAhead given n u (max w (u + 1)) result new)
-
--- whether a multiframe may begin with the frame in hand, the last one that is used: by it and the next frame
-pub record Began (size : ℕ) (given : List ℕ) (n u w : ℕ) (result : Bool) (r : ReaderView) : Type 0 where
-  pub read : HasRead given n (u + 1) (max w (u + 1 + one_if (looked_ahead size (mfas_of given) u))) r
-  pub start : is_start size (mfas_of given) u ≡ result
-
--- the reader has the last used frame in hand, and tells whether a multiframe may begin with it
-pub record Begins (size : ℕ) (result : Bool) (old : ReaderView) (was : InView) (new : ReaderView) (is : InView) : Type 0 where
-  pub came : List ℕ
-  pub step : ReadStep old was came new is
-  pub hand : new.hand ≡ old.hand
-  pub line : OnAnyLine old new came (λ given n used w. (u : ℕ) → used ≡ u + 1 → old.hand ≡ frame_at given u → Began size given n u w result new)

@@ -13,8 +13,8 @@ use otn_base::limits::LINE_COLUMNS;
 use otu_overhead::OtuCheck;
 use std::marker::Model;
 
-/// Counts the frames with a wrong FAS, SM parity or PM parity, where `COUNTS` is 1, and else nothing. Contracts say which
-/// frames were taken so far.
+/// Counts the frames with a wrong FAS, SM parity or PM parity, where `COUNTS` is 1, and else nothing. Contracts say
+/// which frames were taken so far.
 #[derive(Drop)]
 pub(crate) struct FrameChecks<const COUNTS: usize> {
     section: OtuCheck,
@@ -31,7 +31,8 @@ impl<const COUNTS: usize> Model for FrameChecks<COUNTS> {
 }
 
 impl<const COUNTS: usize> FrameChecks<COUNTS> {
-    ghost use Rattle.line_side.specs.Counted.{HasCounted, CountsOn};
+    ghost use Rattle.line_side.specs.Counted.{HasCounted};
+    ghost use Rattle.line_side.specs.Steps.Counted.{CountsOn};
 
     /// No frame was taken.
     pub(crate) fn new() -> FrameChecks<COUNTS>
@@ -67,14 +68,16 @@ impl FrameChecks<1> {
 
     /// How many frames had a wrong SM parity.
     pub(crate) fn sm(&self) -> u64
-        ensures { (frames : List (List ℕ)) → HasCounted frames self.now → result ≡ saturated (wrong_parities COLUMNS SECTION_ROW SM_BIP8_COLUMN frames) }
+        ensures { (frames : List (List ℕ)) → HasCounted frames self.now
+            → result ≡ saturated (wrong_parities COLUMNS SECTION_ROW SM_BIP8_COLUMN frames) }
     {
         self.section.sm()
     }
 
     /// How many frames had a wrong PM parity.
     pub(crate) fn pm(&self) -> u64
-        ensures { (frames : List (List ℕ)) → HasCounted frames self.now → result ≡ saturated (wrong_parities COLUMNS PM_ROW PM_BIP8_COLUMN frames) }
+        ensures { (frames : List (List ℕ)) → HasCounted frames self.now
+            → result ≡ saturated (wrong_parities COLUMNS PM_ROW PM_BIP8_COLUMN frames) }
     {
         self.path.pm()
     }

@@ -26,7 +26,8 @@ pub fn parity_two_on()
     ensures { ParityTwoOn }
 {}
 
-/// A frame of a scrambled line is the file's frame through the mask of G.709 clause 11.2, and one of a plain line as it stands.
+/// A frame of a scrambled line is the file's frame through the mask of G.709 clause 11.2, and one of a plain line as it
+/// stands.
 pub fn frames_through_mask()
     ensures { FramesThroughMask }
 {}

@@ -1,5 +1,6 @@
-//! The sides of a line of either kind, plain or scrambled. `LineIn` reads one: it finds the multiframes of its frames, one turn
-//! each. `UncountedLineIn` does the same and checks no overhead, so it has no numbers of it. `LineOut` writes a line, frame by frame.
+//! The sides of a line of either kind, plain or scrambled. `LineIn` reads one: it finds the multiframes of its frames,
+//! one turn each. `UncountedLineIn` does the same and checks no overhead, so it has no numbers of it. `LineOut` writes
+//! a line, frame by frame.
 #![tactic(auto)]
 
 mod checks;

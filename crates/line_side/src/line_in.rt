@@ -17,12 +17,12 @@ use otn_ports::{InPlaceOf, Source};
 use std::alloc::Global;
 use std::marker::Model;
 
-/// An input line of a node, of either kind, plain or scrambled: with `COUNTS` 1 it is what the crate calls `LineIn`, and checks the
-/// overhead of the frames that it uses; with 0 it is `UncountedLineIn`. Each of its turns is done in S pieces where the
-/// line has S slots, and has one multiframe of S frames, or none. A turn that hunts looks for one (G.709 clause 15.6) that begins
-/// within S frames: the frames before it are lead-in. Where none begins there these S are lead-in, and the turn has none; with fewer
-/// than S left the line ends. The line stays locked, by a rule of ours, while at most half of the MFAS bytes of each multiframe differ
-/// from the expected ones.
+/// An input line of a node, of either kind, plain or scrambled: with `COUNTS` 1 it is what the crate calls `LineIn`,
+/// and checks the overhead of the frames that it uses; with 0 it is `UncountedLineIn`. Each of its turns is done in S
+/// pieces where the line has S slots, and has one multiframe of S frames, or none. A turn that hunts looks for one
+/// (G.709 clause 15.6) that begins within S frames: the frames before it are lead-in. Where none begins there these S
+/// are lead-in, and the turn has none; with fewer than S left the line ends. The line stays locked, by a rule of ours,
+/// while at most half of the MFAS bytes of each multiframe differ from the expected ones.
 #[derive(Drop)]
 pub struct LineIn<const COUNTS: usize> {
     phase: Phase,
@@ -53,15 +53,17 @@ impl<const COUNTS: usize> Model for LineIn<COUNTS> {
 
 impl<const COUNTS: usize> LineIn<COUNTS> {
     ghost use Rattle.line_side.specs.LineStands.{LineStands, AsStood, PieceStands, InItsTurn, OfMember, AwaitsTurn, TurnEnded, frames_taken};
-    ghost use Rattle.line_side.specs.LineMoves.{TakesNext, Tries, Hunts, StepMoves, EndMoves};
-    ghost use Rattle.line_side.specs.Reader.{AsksNoMore, rest_of};
+    ghost use Rattle.line_side.specs.Steps.LineMoves.{TakesNext, Tries, Hunts, StepMoves, EndMoves};
+    ghost use Rattle.line_side.specs.Reader.{rest_of};
+    ghost use Rattle.line_side.specs.Steps.Reader.{AsksNoMore};
     ghost use Rattle.line_side.specs.LineFile.{frame_at};
     ghost use Rattle.multiframe.specs.LineTurns.{one_if};
     ghost use Rattle.line_side.specs.declared.ending.Ending.TheVariants.{Open, Seen};
 
     /// A line of this kind, scrambled or plain, before its first turn, of which nothing was read.
     pub fn new(alloc: Global, kind: LineKind, scrambled: bool) -> Result<LineIn<COUNTS>, Memory>
-        ensures stands { IfOk result (λ line. (first : InView) → LineStands (record { kind = kind; scrambled = scrambled }) first first [] 0 line) }
+        ensures stands { IfOk result (λ line. (first : InView)
+            → LineStands (record { kind = kind; scrambled = scrambled }) first first [] 0 line) }
         ensures kind { IfOk result (λ line. line.kind ≡ kind) }
         ensures pieces { IfOk result (λ line. line.pieces ≡ 0) }
         ensures frames_taken { IfOk result (λ line. frames_taken line ≡ 0) }
@@ -77,28 +79,31 @@ impl<const COUNTS: usize> LineIn<COUNTS> {
         })
     }
 
-    /// Does the next piece of the turn. The place is that of the last piece, and nothing else has read it since. The answer is whether a
-    /// frame of the multiframe on which the turn is locked is now in hand; whether the turn has that multiframe only `end_turn` says. The
-    /// first piece of a turn that hunts reads up to S + 1 frames, any other one at most. A line that has ended, or that found no multiframe in this
-    /// turn, reads nothing.
+    /// Does the next piece of the turn. The place is that of the last piece, and nothing else has read it since. The
+    /// answer is whether a frame of the multiframe on which the turn is locked is now in hand; whether the turn has
+    /// that multiframe only `end_turn` says. The first piece of a turn that hunts reads up to S + 1 frames, any other
+    /// one at most. A line that has ended, or that found no multiframe in this turn, reads nothing.
     pub fn piece<P: Source>(&mut self, place: &mut InPlaceOf<P>) -> bool
         requires { self.old.pieces < slots_of self.old.kind }
-        ensures stands { AsStood (in_view P.Source place.old) self.old (λ form first taken t. PieceStands form first (in_view P.Source place.new) taken t self.old self.new) }
+        ensures stands { AsStood (in_view P.Source place.old) self.old
+            (λ form first taken t. PieceStands form first (in_view P.Source place.new) taken t self.old self.new) }
         ensures kind { self.new.kind ≡ self.old.kind }
         ensures pieces { self.new.pieces ≡ self.old.pieces + 1 }
         ensures has_frame { result ≡ self.new.has_frame }
         ensures frames_taken { frames_taken self.new ≡ frames_taken self.old + one_if result }
         ensures most { frames_taken self.new ≤ self.new.pieces }
 
-        // bytes are taken of a live place, or none; it dies only where its port's count of faults rose or stands at its end, and else
-        // the count is as it was; any other place is as it was
+        // bytes are taken of a live place, or none; it dies only where its port's count of faults rose or stands at its
+        // end, and else the count is as it was; any other place is as it was
         ensures gave { (came : List ℕ) × Gave (in_view P.Source place.old) came (in_view P.Source place.new) }
 
-        // once the end was seen, the place died or the line has ended, the place is asked nothing more (of a line that has ended `awaits` says it too)
+        // once the end was seen, the place died or the line has ended, the place is asked nothing more (of a line that
+        // has ended `awaits` says it too)
         ensures quiet { self.old.reader.ending ≢ Open → place.new ≡ place.old }
         ensures ended { self.old.ended ≡ true → place.new ≡ place.old }
 
-        // after a piece that came to no frame the turn's others come to none and ask the place nothing; so do all pieces of a line that has ended
+        // after a piece that came to no frame the turn's others come to none and ask the place nothing; so do all
+        // pieces of a line that has ended
         ensures missed { result ≡ false → AwaitsTurn self.new }
         ensures awaits { AwaitsTurn self.old → (result ≡ false) × (place.new ≡ place.old) }
     {
@@ -109,7 +114,8 @@ impl<const COUNTS: usize> LineIn<COUNTS> {
         self.has_frame
     }
 
-    /// The frame in hand, unscrambled: one of the multiframe on which the turn is locked. The last piece has said that there is one.
+    /// The frame in hand, unscrambled: one of the multiframe on which the turn is locked. The last piece has said that
+    /// there is one.
     #[tactic(auto, using(crate::proofs::Ended::hand_in))]
     pub fn frame(&self) -> &Frame<LINE_COLUMNS>
         requires { self.now.has_frame ≡ true }
@@ -131,7 +137,8 @@ impl<const COUNTS: usize> LineIn<COUNTS> {
     /// Ends the turn, all of whose pieces are done, and says whether it has a multiframe.
     pub fn end_turn(&mut self) -> bool
         requires { self.old.pieces ≡ slots_of self.old.kind }
-        ensures stands { (now : InView) → AsStood now self.old (λ form first taken t. LineStands form first now taken (t + 1) self.new) }
+        ensures stands { (now : InView) → AsStood now self.old
+            (λ form first taken t. LineStands form first now taken (t + 1) self.new) }
         ensures turn { InItsTurn self.old (λ form given t. TurnEnded form given t result self.new) }
         ensures kind { self.new.kind ≡ self.old.kind }
         ensures ending { self.new.reader.ending ≡ self.old.reader.ending }
@@ -186,8 +193,10 @@ impl<const COUNTS: usize> LineIn<COUNTS> {
         requires pieces { 1 ≤ self.old.pieces }
         requires most { self.old.pieces ≤ slots_of self.old.kind }
         requires fresh { self.old.has_frame ≡ false }
-        ensures moves { StepMoves (slots_of self.old.kind) first result self.old (in_view P.Source place.old) self.new (in_view P.Source place.new) }
-        ensures waits { (self.old.ended ≡ false → (first ≡ false) × (self.old.alignment ≡ None)) → place.new ≡ place.old }
+        ensures moves { StepMoves (slots_of self.old.kind) first result self.old (in_view P.Source place.old) self.new
+            (in_view P.Source place.new) }
+        ensures waits { (self.old.ended ≡ false → (first ≡ false) × (self.old.alignment ≡ None))
+            → place.new ≡ place.old }
         ensures quiet { AsksNoMore self.old.reader.ending place.old self.new.reader.ending place.new }
     {
         if self.ended {
@@ -219,7 +228,8 @@ impl<const COUNTS: usize> LineIn<COUNTS> {
         requires hunting { self.old.alignment ≡ None }
         requires pieces { 1 ≤ self.old.pieces }
         requires going { self.old.ended ≡ false }
-        ensures hunts { Hunts (slots_of self.old.kind) result self.old (in_view P.Source place.old) self.new (in_view P.Source place.new) }
+        ensures hunts { Hunts (slots_of self.old.kind) result self.old (in_view P.Source place.old) self.new
+            (in_view P.Source place.new) }
         ensures quiet { AsksNoMore self.old.reader.ending place.old self.new.reader.ending place.new }
     {
         for _ in 0..self.phase.kind().slots() {
@@ -236,7 +246,8 @@ impl<const COUNTS: usize> LineIn<COUNTS> {
     fn try_frame<P: Source>(&mut self, place: &mut InPlaceOf<P>) -> Tried
         requires hunting { self.old.alignment ≡ None }
         requires pieces { 1 ≤ self.old.pieces }
-        ensures tries { Tries (slots_of self.old.kind) result self.old (in_view P.Source place.old) self.new (in_view P.Source place.new) }
+        ensures tries { Tries (slots_of self.old.kind) result self.old (in_view P.Source place.old) self.new
+            (in_view P.Source place.new) }
         ensures quiet { AsksNoMore self.old.reader.ending place.old self.new.reader.ending place.new }
     {
         if !self.reader.advance(place) {
@@ -265,7 +276,8 @@ impl LineIn<1> {
         ensures lead_in { result.lead_in ≡ self.now.lead_in }
         ensures lost { result.lost ≡ self.now.lost }
         ensures rest { result.rest ≡ self.now.reader.rest }
-        ensures line { InItsTurn self.now (λ form given t. result ≡ numbers_of form self.now.reader.ending given t self.now.pieces) }
+        ensures line { InItsTurn self.now
+            (λ form given t. result ≡ numbers_of form self.now.reader.ending given t self.now.pieces) }
     {
         let seen = self.reader.seen();
         LineCounts {

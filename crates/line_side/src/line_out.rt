@@ -19,8 +19,8 @@ use otu_overhead::OtuWriter;
 use std::alloc::Global;
 use std::marker::Model;
 
-/// An output line of a node, of either kind, plain or scrambled. Each of its frames is put into the frame that `begin` or
-/// `begin_whole` gives, and written by `finish`.
+/// An output line of a node, of either kind, plain or scrambled. Each of its frames is put into the frame that `begin`
+/// or `begin_whole` gives, and written by `finish`.
 #[derive(Drop)]
 pub struct LineOut {
     kind: LineKind,
@@ -51,7 +51,8 @@ impl LineOut {
     /// Output line n, 0 to 3, of this kind, scrambled or plain, before its first frame.
     pub fn new(alloc: Global, line: u8, kind: LineKind, scrambled: bool) -> Result<LineOut, Memory>
         requires { line < 4 }
-        ensures { IfOk result (λ out. (first : OutView) → LineMade line (record { kind = kind; scrambled = scrambled }) first first [] out) }
+        ensures { IfOk result (λ out. (first : OutView)
+            → LineMade line (record { kind = kind; scrambled = scrambled }) first first [] out) }
     {
         Ok(LineOut {
             kind,
@@ -73,7 +74,8 @@ impl LineOut {
 
     /// The next frame, all 0, to be filled.
     pub fn begin(&mut self) -> &mut Frame<LINE_COLUMNS>
-        ensures* writes_back { sem 𝓛 (Lends the_row line_frame self.entry result (λ w. record self.entry.now { frame = w })) }
+        ensures* writes_back { sem 𝓛 (Lends the_row line_frame self.entry result
+            (λ w. record self.entry.now { frame = w })) }
         ensures zero { (place : ℕ) → slice_index result.now place ≡ 0 }
         ensures size { length result.now ≡ FRAME_BYTES }
     {
@@ -83,7 +85,8 @@ impl LineOut {
 
     /// The next frame, to be written whole: what it holds is of no account.
     pub fn begin_whole(&mut self) -> &mut Frame<LINE_COLUMNS>
-        ensures* writes_back { sem 𝓛 (Lends the_row line_frame self.entry result (λ w. record self.entry.now { frame = w })) }
+        ensures* writes_back { sem 𝓛 (Lends the_row line_frame self.entry result
+            (λ w. record self.entry.now { frame = w })) }
         ensures size { length result.now ≡ FRAME_BYTES }
     {
         prove_eq!(self.frame.as_bytes().len(), LINE_FRAME_BYTES);
@@ -91,7 +94,8 @@ impl LineOut {
     }
 
     /// Adds the overhead to the frame, which has this MFAS on a line whose slots are used so, and writes it through the
-    /// line's mask. The MSI bytes are those of the map's slots; no clause asks that the map be of the line's `kind`: the caller sees to it.
+    /// line's mask. The MSI bytes are those of the map's slots; no clause asks that the map be of the line's `kind`:
+    /// the caller sees to it.
     pub fn finish<K: Sink>(&mut self, mfas: u8, map: &SlotMap, place: &mut OutPlaceOf<K>)
         ensures made { (n : ℕ) → AsMade n (out_view K.Sink place.old) self.old
             (λ form first puts. LineMade n form first (out_view K.Sink place.new) (puts ++ record { mfas = mfas; ports = map.now; bytes = self.old.frame } ∷ []) self.new) }
@@ -100,7 +104,9 @@ impl LineOut {
         // bytes go to a live place, which may die of its own port's fault, and any other place is asked nothing
         ensures gained { (went : List ℕ) × Gained (out_view K.Sink place.old) went (out_view K.Sink place.new) }
         ensures quiet { (out_view K.Sink place.old).state ≢ Live → place.new ≡ place.old }
-        ensures frames { self.new.frames ≡ saturated (self.old.frames + one_of (frame_counts (out_view K.Sink place.old).state (out_view K.Sink place.new).state)) }
+        ensures frames { self.new.frames ≡ saturated
+            (self.old.frames + one_of (frame_counts (out_view K.Sink place.old).state
+            (out_view K.Sink place.new).state)) }
     {
         self.frame.set(PSI_ROW, PSI_COLUMN, psi_byte(mfas, map));
         let parity = parity(&self.frame);
@@ -121,7 +127,8 @@ impl LineOut {
     }
 }
 
-ghost use Rattle.line_side.specs.LineOutput.{line_sapi, Writes};
+ghost use Rattle.line_side.specs.LineOutput.{line_sapi};
+ghost use Rattle.line_side.specs.Steps.LineOutput.{Writes};
 
 // The trace of line n.
 fn trace_of(line: u8) -> Trace

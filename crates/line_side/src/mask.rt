@@ -11,8 +11,8 @@ use otu_overhead::line_mask;
 use std::alloc::{AllocError, Global};
 use std::marker::Model;
 
-/// What the frames of a line go through: the mask of a scrambled line (G.709 clause 11.2), and nothing where the line is
-/// plain. Contracts see it as whether the line is scrambled.
+/// What the frames of a line go through: the mask of a scrambled line (G.709 clause 11.2), and nothing where the line
+/// is plain. Contracts see it as whether the line is scrambled.
 #[derive(Drop)]
 pub(crate) struct LineMask {
     bytes: Option<Vec<u8>>,

@@ -38,7 +38,7 @@ impl<const COUNTS: usize> Model for LineReader<COUNTS> {
     ghost view = { λ r. record { scrambled = r.mask; hand = r.hand; ahead = if r.is_ahead then Some r.next else None; ending = r.ending; frames = r.frames; rest = r.rest; seen = r.seen } };
 }
 
-ghost use Rattle.line_side.specs.Reader.{FrameRead};
+ghost use Rattle.line_side.specs.Steps.Reader.{FrameRead};
 
 // Reads a frame through the mask. `End` says how many bytes came of one that isn't whole, and `Lost` that the place is
 // dead.
@@ -70,12 +70,13 @@ fn read_bytes<P: Source>(place: &mut InPlaceOf<P>, frame: &mut Frame<LINE_COLUMN
     }
 }
 
-ghost use Rattle.line_side.specs.Reader.{Advances, LooksAhead, Begins, AsksNoMore, with_ahead, ending_after, left_after};
+ghost use Rattle.line_side.specs.Steps.Reader.{Advances, LooksAhead, Begins, AsksNoMore, with_ahead, ending_after, left_after};
 ghost use Rattle.line_side.specs.LineFile.{frame_mfas};
 ghost use Rattle.line_side.specs.declared.ending.Ending.TheVariants.{Open, Seen};
 
 impl<const COUNTS: usize> LineReader<COUNTS> {
-    ghost use Rattle.line_side.specs.Counted.{HasCounted, CountsOn};
+    ghost use Rattle.line_side.specs.Counted.{HasCounted};
+    ghost use Rattle.line_side.specs.Steps.Counted.{CountsOn};
 
     /// A reader that has read nothing of a line, scrambled or plain.
     pub(crate) fn new(alloc: Global, scrambled: bool) -> Result<LineReader<COUNTS>, Memory>
@@ -125,11 +126,12 @@ impl<const COUNTS: usize> LineReader<COUNTS> {
         self.is_ahead
     }
 
-    /// Whether a multiframe of a line of this kind may begin with the frame in hand. It looks ahead at the next frame only
-    /// where one might begin by the frame in hand.
+    /// Whether a multiframe of a line of this kind may begin with the frame in hand. It looks ahead at the next frame
+    /// only where one might begin by the frame in hand.
     pub(crate) fn begins<P: Source>(&mut self, place: &mut InPlaceOf<P>, kind: LineKind) -> bool
         requires { self.old.ahead ≡ None }
-        ensures begins { Begins (slots_of kind) result self.old (in_view P.Source place.old) self.new (in_view P.Source place.new) }
+        ensures begins { Begins (slots_of kind) result self.old (in_view P.Source place.old) self.new
+            (in_view P.Source place.new) }
         ensures quiet { AsksNoMore self.old.ending place.old self.new.ending place.new }
         ensures first { result ≡ true → frame_mfas self.new.hand % slots_of kind ≡ 0 }
     {

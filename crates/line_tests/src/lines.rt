@@ -230,8 +230,8 @@ fn at(bytes: &[u8], place: usize) -> u8 {
     }
 }
 
-// Writes so many frames of line 2, each with one byte in its FEC columns, to a sink with this room. Says what the sink got,
-// and how many frames count.
+// Writes so many frames of line 2, each with one byte in its FEC columns, to a sink with this room. Says what the sink
+// got, and how many frames count.
 fn written(
     alloc: Global,
     frames: u8,

@@ -1,4 +1,4 @@
--- What each command answers for, over all that the top call is handed: as it was, and as it is.
+-- Believed: what each command answers for, over all that the top call is handed: as it was, and as it is.
 use Rattle.std.specs.Prelude.{◌≡◌, ◌≢◌, ℕ, List}
 use Rattle.otn_ports.specs.Views.{BaysView}
 use Rattle.otn_ports.specs.declared.ended.Ended.{Ended}
@@ -24,7 +24,8 @@ pub use Rattle.check_command.specs.PlanCheck.{CheckAnswers}
 
 -- ---- a command over some of the places, turn by turn: which of them it may change, and what it is to have done once there was memory
 
-pub record PlacesAnswers (Only : (old new : BaysView) → Type 0) (Ran : (old new : Device) → Ended → Type 0) (old new : Device) (status : Status) : Type 0 where
+pub record PlacesAnswers (Only : (old new : BaysView) → Type 0) (Ran : (old new : Device) → Ended → Type 0)
+    (old new : Device) (status : Status) : Type 0 where
   -- how it ended, which is the answer
   pub ended : Ended
   pub answer : status ≡ line_status ended
@@ -37,7 +38,8 @@ pub record PlacesAnswers (Only : (old new : BaysView) → Type 0) (Ran : (old ne
 -- ---- `protect PORT K,K T N`: the better one of line inputs 0 and 1 goes to line output 0
 
 abbrev pub Protects : (own : Tributary) → (turns wait : ℕ) → (old new : Device) → Ended → Type 0
-Protects own turns wait old new ended = ProtectRan own turns wait (ends_of old.bays old.report) (ends_of new.bays new.report) ended
+Protects own turns wait old new ended = ProtectRan own turns wait (ends_of old.bays old.report)
+    (ends_of new.bays new.report) ended
 
 -- ---- `bundle C,C T`: the packets of these clients go to line output 0, as the channels of its slot 1
 
@@ -53,17 +55,21 @@ Unbundles turns old new ended = UnbundleRan turns old.bays new.bays old.report n
 
 abbrev pub Answers : Command → (old new : Device) → (asked asked_now : ℕ) → Status → Type 0
 Answers (Slot slot) old new asked asked_now status = LineAnswers (SlotRan slot) old new status
-Answers (Pull port slots) old new asked asked_now status = LineAnswers (PullRan (tributary port slots.list)) old new status
+Answers (Pull port slots) old new asked asked_now status = LineAnswers
+    (PullRan (tributary port slots.list)) old new status
 Answers Check old new asked asked_now status = CheckAnswers old new status
 Answers Run old new asked asked_now status = RunAnswers old new asked asked_now status
 Answers (RunOrdered number) old new asked asked_now status = RunAnswers old new asked asked_now status
 Answers RunCaptures old new asked asked_now status = RunAnswers old new asked asked_now status
 Answers (Trial number) old new asked asked_now status = TrialAnswers number old.report new.report asked asked_now status
-Answers (Protect port slots turns wait) old new asked asked_now status = PlacesAnswers OnlyProtected (Protects (tributary port slots.list) turns wait) old new status
-Answers (Bundle clients turns) old new asked asked_now status = PlacesAnswers (OnlyBundled clients) (Bundles clients turns) old new status
+Answers (Protect port slots turns wait) old new asked asked_now status = PlacesAnswers OnlyProtected
+    (Protects (tributary port slots.list) turns wait) old new status
+Answers (Bundle clients turns) old new asked asked_now status = PlacesAnswers (OnlyBundled clients)
+    (Bundles clients turns) old new status
 Answers (Unbundle turns) old new asked asked_now status = PlacesAnswers OnlyUnbundled (Unbundles turns) old new status
 
--- the commands that leave the plan's source alone, those that leave the places alone, and those that leave the chooser alone
+-- the commands that leave the plan's source alone, those that leave the places alone, and those that leave the chooser
+-- alone
 abbrev pub LeavesPlan : Command → Type 0
 LeavesPlan (Slot slot) = Unit {0}
 LeavesPlan (Pull port slots) = Unit {0}

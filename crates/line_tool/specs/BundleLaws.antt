@@ -1,4 +1,5 @@
--- What follows of what the command `bundle` answers for: by the bytes that its clients had to give, and where nothing failed.
+-- API: what follows of what the command `bundle` answers for: by the bytes that its clients had to give, and where
+-- nothing failed.
 use Rattle.std.specs.Prelude.{◌≡◌, ◌≢◌, ◌↔◌, ◌⊎◌, ◌-◌, ◌+◌, ◌^◌, ◌<◌, ℕ, Bool, false, List, [], ◌++◌, length}
 use Rattle.otn_ports.specs.Given.{HadToGive}
 use Rattle.otn_ports.specs.Views.{Dead, BaysView, line_out_at}
@@ -18,10 +19,11 @@ use Rattle.command_base.specs.declared.status.Status.TheVariants as status
 
 -- the clients' inputs where they had these bytes to give
 abbrev pub inputs_of : (clients : List ℕ) (first last : BaysView) (given : ℕ → List ℕ) → (c : ℕ) → ClientInput
-inputs_of clients first last given c = input_given (has_died (place_of clients first c).state (place_of clients last c).state) (given c)
+inputs_of clients first last given c = input_given
+    (has_died (place_of clients first c).state (place_of clients last c).state) (given c)
 
--- These bytes from the front of a client's were taken: no block that was not needed for one packet more than these, and for that one where any came. The place's number
--- tells how many bytes.
+-- These bytes from the front of a client's were taken: no block that was not needed for one packet more than these, and
+-- for that one where any came. The place's number tells how many bytes.
 pub record TookOf (packets : ℕ) (given : List ℕ) (was is : ℕ) : Type 0 where
   pub taken : List ℕ
   pub rest : List ℕ
@@ -34,29 +36,37 @@ pub record TookOf (packets : ℕ) (given : List ℕ) (was is : ℕ) : Type 0 whe
   pub number : is < 2 ^ 64 - 1 → is - was ≡ length taken
 
 -- What is left where the clients had these bytes to give.
-pub record BundledOfGiven (clients : List ℕ) (turns : ℕ) (old new : Device) (ended : Ended) (given : ℕ → List ℕ) (inputs : ℕ → ClientInput) : Type 0 where
-  pub output : OutputDue (channel_turns clients (texts_of (length clients) inputs) turns) turns (line_out_at old.bays 0) (line_out_at new.bays 0)
-  pub report : Tells ended old.report (lines_told clients (texts_of (length clients) inputs) turns (λ c. (place_of clients new.bays c).state) (length clients)) new.report
+pub record BundledOfGiven (clients : List ℕ) (turns : ℕ) (old new : Device) (ended : Ended) (given : ℕ → List ℕ)
+    (inputs : ℕ → ClientInput) : Type 0 where
+  pub output : OutputDue (channel_turns clients (texts_of (length clients) inputs) turns) turns (line_out_at old.bays 0)
+      (line_out_at new.bays 0)
+  pub report : Tells ended old.report (lines_told clients (texts_of (length clients) inputs) turns
+      (λ c. (place_of clients new.bays c).state) (length clients)) new.report
   pub took : (c : ℕ) → c < length clients
-      → TookOf (length (begun_of clients (texts_of (length clients) inputs) turns c)) (given c) (place_of clients old.bays c).number (place_of clients new.bays c).number
+      → TookOf (length (begun_of clients (texts_of (length clients) inputs) turns c)) (given c)
+      (place_of clients old.bays c).number (place_of clients new.bays c).number
   pub cut : ended ≢ ending.ReportFault → (ended ≡ ending.Cut) ↔ IsCut clients new.bays
-  pub unfinished : ended ≢ ending.ReportFault → (ended ≡ ending.Unfinished) ↔ ((IsCut clients new.bays → ⊥) × (IsFinished clients turns inputs → ⊥))
+  pub unfinished : ended ≢ ending.ReportFault
+      → (ended ≡ ending.Unfinished) ↔ ((IsCut clients new.bays → ⊥) × (IsFinished clients turns inputs → ⊥))
 
 -- Where the clients tell their bytes, `bundle` leaves what it does of all that they had to give.
 abbrev pub BundlesWhatWasGiven : Type 0
-BundlesWhatWasGiven = (clients : List ℕ) (turns : ℕ) (old new : Device) (ended : Ended) (given : ℕ → List ℕ) → Bundles clients turns old new ended
+BundlesWhatWasGiven = (clients : List ℕ) (turns : ℕ) (old new : Device) (ended : Ended) (given : ℕ → List ℕ)
+    → Bundles clients turns old new ended
     → ((c : ℕ) → c < length clients → HadToGive (place_of clients old.bays c) (place_of clients new.bays c) (given c))
     → BundledOfGiven clients turns old new ended given (inputs_of clients old.bays new.bays given)
 
 -- No client's place was dead, nor line output 0, and none of their counts of faults rose or stands at its end.
 pub record AreBundledWell (clients : List ℕ) (first last : BaysView) : Type 0 where
   pub live : (c : ℕ) → c < length clients → (place_of clients first c).state ≢ Dead
-  pub clients_well : (c : ℕ) → c < length clients → IsWell (place_of clients first c).faults (place_of clients last c).faults
+  pub clients_well : (c : ℕ) → c < length clients
+      → IsWell (place_of clients first c).faults (place_of clients last c).faults
   pub line_live : (line_out_at first 0).state ≢ Dead
   pub line : IsWell (line_out_at first 0).faults (line_out_at last 0).faults
 
 -- Then, and where no write of the report failed, the answer is Done or Unfinished; or there was no memory.
 abbrev pub BundleIsComplete : Type 0
-BundleIsComplete = (clients : List ℕ) (turns : ℕ) (old new : Device) (answer : Status) → PlacesAnswers (OnlyBundled clients) (Bundles clients turns) old new answer
+BundleIsComplete = (clients : List ℕ) (turns : ℕ) (old new : Device) (answer : Status)
+    → PlacesAnswers (OnlyBundled clients) (Bundles clients turns) old new answer
     → IsWell old.report.faults new.report.faults → AreBundledWell clients old.bays new.bays
     → (answer ≡ status.Done) ⊎ (answer ≡ status.Unfinished) ⊎ (answer ≡ status.Memory)

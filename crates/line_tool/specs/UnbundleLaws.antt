@@ -1,4 +1,5 @@
--- What follows of what the command `unbundle` answers for: by the bytes that the line had to give, and where nothing failed.
+-- API: what follows of what the command `unbundle` answers for: by the bytes that the line had to give, and where
+-- nothing failed.
 use Rattle.std.specs.Prelude.{◌≡◌, ◌≢◌, ◌↔◌, ◌⊎◌, ◌-◌, ◌^◌, ◌<◌, ℕ, List}
 use Rattle.otn_base.specs.declared.limits.TheConstants.{CLIENTS}
 use Rattle.otn_ports.specs.Given.{HadToGive}
@@ -16,13 +17,16 @@ use Rattle.line_tool.specs.ProtectLaws.{taken_of}
 use Rattle.command_base.specs.declared.status.Status.{Status}
 use Rattle.command_base.specs.declared.status.Status.TheVariants as status
 
--- What is left where the line had these bytes to give. By the place's number as many were taken of it as the turns want and one more, or all.
+-- What is left where the line had these bytes to give. By the place's number as many were taken of it as the turns want
+-- and one more, or all.
 pub record UnbundledOfGiven (turns : ℕ) (old new : Device) (ended : Ended) (given : List ℕ) : Type 0 where
   pub outputs : OutputsSent (arrived_before given turns) old.bays new.bays
   pub report : SinkWrites (written_by ended) old.report (report_text (arrived_before given turns)) new.report
   pub cut : ended ≢ ending.ReportFault → (ended ≡ ending.Cut) ↔ IsCut (arrived_before given turns) new.bays
-  pub unfinished : ended ≢ ending.ReportFault → (ended ≡ ending.Unfinished) ↔ ((IsCut (arrived_before given turns) new.bays → ⊥) × HasMore turns given)
-  pub took : (line_in_at new.bays 0).number < 2 ^ 64 - 1 → (line_in_at new.bays 0).number - (line_in_at old.bays 0).number ≡ taken_of turns given
+  pub unfinished : ended ≢ ending.ReportFault
+      → (ended ≡ ending.Unfinished) ↔ ((IsCut (arrived_before given turns) new.bays → ⊥) × HasMore turns given)
+  pub took : (line_in_at new.bays 0).number < 2 ^ 64 - 1
+      → (line_in_at new.bays 0).number - (line_in_at old.bays 0).number ≡ taken_of turns given
 
 -- Where the line tells its bytes, `unbundle` leaves what it does of all that it had to give.
 abbrev pub UnbundlesWhatWasGiven : Type 0
@@ -38,6 +42,7 @@ pub record AreOutputsWell (first last : BaysView) : Type 0 where
 
 -- Then, and where no write of the report failed, the answer is Done or Unfinished; or there was no memory.
 abbrev pub UnbundleIsComplete : Type 0
-UnbundleIsComplete = (turns : ℕ) (old new : Device) (answer : Status) → PlacesAnswers OnlyUnbundled (Unbundles turns) old new answer
+UnbundleIsComplete = (turns : ℕ) (old new : Device) (answer : Status)
+    → PlacesAnswers OnlyUnbundled (Unbundles turns) old new answer
     → IsWell old.report.faults new.report.faults → AreOutputsWell old.bays new.bays
     → (answer ≡ status.Done) ⊎ (answer ≡ status.Unfinished) ⊎ (answer ≡ status.Memory)

@@ -14,43 +14,48 @@ ghost use Rattle.line_tool.specs.UnbundleLaws.{UnbundleIsComplete, UnbundlesWhat
 ghost use Rattle.run_command.specs.RunLaws.{RunEndsByInputs, RunIsComplete};
 ghost use Rattle.trial_command.specs.TrialAnswers.{TrialAnswers};
 
-/// `protect`, by all bytes that line inputs 0 and 1 had to give, where they tell them: what was due to line output 0, what the report got, how the
-/// command ended, and how many bytes of each line were taken.
+/// `protect`, by all bytes that line inputs 0 and 1 had to give, where they tell them: what was due to line output 0,
+/// what the report got, how the command ended, and how many bytes of each line were taken.
 pub fn protect_of_given()
     ensures { ProtectsWhatWasGiven }
 {}
 
-/// `bundle`, by all bytes that its clients had to give, where they tell them: what was due to line output 0, what the report got, how the
-/// command ended, and what was read of each client.
+/// `bundle`, by all bytes that its clients had to give, where they tell them: what was due to line output 0, what the
+/// report got, how the command ended, and what was read of each client.
 pub fn bundle_of_given()
     ensures { BundlesWhatWasGiven }
 {}
 
-/// `unbundle`, by all bytes that line input 0 had to give, where it tells them: what was due to each client output, what the report got, how the
-/// command ended, and how many bytes were taken.
+/// `unbundle`, by all bytes that line input 0 had to give, where it tells them: what was due to each client output,
+/// what the report got, how the command ended, and how many bytes were taken.
 pub fn unbundle_of_given()
     ensures { UnbundlesWhatWasGiven }
 {}
 
-/// Where no count of faults rose or stands at its end, and the line was not dead, a command is Done or Unfinished, `check` Done or
-/// Plan; or there was no memory. So is `run`, of the places that its plan uses, or Plan (`run`): Unfinished exactly where a line has more
-/// than its turns want, or a client is not spent (`ends`); and `protect`, of its three places, `bundle`, of its
-/// clients and its line output, and `unbundle`, of its line and all client outputs. `trial` is Done, or there was no memory.
+/// Where no count of faults rose or stands at its end, and the line was not dead, a command is Done or Unfinished,
+/// `check` Done or Plan; or there was no memory. So is `run`, of the places that its plan uses, or Plan (`run`):
+/// Unfinished exactly where a line has more than its turns want, or a client is not spent (`ends`); and `protect`, of
+/// its three places, `bundle`, of its clients and its line output, and `unbundle`, of its line and all client outputs.
+/// `trial` is Done, or there was no memory.
 pub fn without_faults()
     ensures slot { (slot : ℕ) (old new : Device) (answer : Status) → LineAnswers (SlotRan slot) old new answer
-        → IsWell old.report.faults new.report.faults → IsWell (line_zero old).faults (line_zero new).faults → (line_zero old).state ≢ Dead
+        → IsWell old.report.faults new.report.faults → IsWell (line_zero old).faults (line_zero new).faults
+        → (line_zero old).state ≢ Dead
         → (answer ≡ Status.Done) ⊎ (answer ≡ Status.Unfinished) ⊎ (answer ≡ Status.Memory) }
     ensures pull { (own : Tributary) (old new : Device) (answer : Status) → LineAnswers (PullRan own) old new answer
-        → IsWell old.report.faults new.report.faults → IsWell (line_zero old).faults (line_zero new).faults → (line_zero old).state ≢ Dead
+        → IsWell old.report.faults new.report.faults → IsWell (line_zero old).faults (line_zero new).faults
+        → (line_zero old).state ≢ Dead
         → (answer ≡ Status.Done) ⊎ (answer ≡ Status.Unfinished) ⊎ (answer ≡ Status.Memory) }
     ensures check { (old new : Device) (answer : Status) → CheckAnswers old new answer
         → IsWell old.report.faults new.report.faults → IsWell old.plan.faults new.plan.faults
-        → (answer ≡ Status.Done) ⊎ ((error : PlanError) × (place : ℕ) × (answer ≡ Status.Plan error place)) ⊎ (answer ≡ Status.Memory) }
+        → (answer ≡ Status.Done) ⊎ ((error : PlanError) × (place : ℕ) × (answer ≡ Status.Plan error place))
+        ⊎ (answer ≡ Status.Memory) }
     ensures run { RunIsComplete }
     ensures ends { RunEndsByInputs }
     ensures protect { ProtectIsComplete }
     ensures bundle { BundleIsComplete }
     ensures unbundle { UnbundleIsComplete }
-    ensures trial { (number : ℕ) (old new : SinkView) (asked asked_now : ℕ) (answer : Status) → TrialAnswers number old new asked asked_now answer
+    ensures trial { (number : ℕ) (old new : SinkView) (asked asked_now : ℕ) (answer : Status)
+        → TrialAnswers number old new asked asked_now answer
         → IsWell old.faults new.faults → (answer ≡ Status.Done) ⊎ (answer ≡ Status.Memory) }
 {}

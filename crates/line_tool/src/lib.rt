@@ -3,8 +3,8 @@
 //! - `top`: the one call that does all that the program does.
 //! - `laws`: what no call shows by itself, of all commands, and of those that end turn by turn.
 //!
-//! Each command is a crate of its own, whose laws are passed on here: `line_commands` (`slot`, `pull`), `check_command`, `run_command`,
-//! `trial_command`, `protect_selector`, `bundle_command`, `unbundle_command`.
+//! Each command is a crate of its own, whose laws are passed on here: `line_commands` (`slot`, `pull`),
+//! `check_command`, `run_command`, `trial_command`, `protect_selector`, `bundle_command`, `unbundle_command`.
 #![tactic(auto)]
 
 mod laws;

@@ -14,8 +14,9 @@ use Rattle.device_model.proofs.TurnFrames.{frames_none}
 use Rattle.device_model.specs.LineViews.{views_until}
 use Rattle.device_model.specs.TurnFrames.{frames_in}
 use Rattle.line_view.specs.ViewRuns.{ViewEnded}
-use Rattle.line_view.specs.Viewing.{ViewStands}
-use Rattle.line_view.specs.Watching.{AreNew, IsNew, IsOnLine, asked_of, own_of}
+use Rattle.line_view.specs.Steps.Viewing.{ViewStands}
+use Rattle.line_view.specs.Watching.{IsOnLine, asked_of}
+use Rattle.line_view.specs.Steps.Watching.{AreNew, IsNew, own_of}
 use Rattle.line_view.specs.declared.shown.Shown.{Shown}
 use Rattle.line_view.specs.declared.watched.Watched.{Watched}
 

@@ -14,8 +14,8 @@ use Rattle.tributary_model.specs.Places.{Taken}
 use Rattle.trib_sink.specs.Sink.{StandsAfter}
 use Rattle.device_model.specs.LineViews.{views_until}
 use Rattle.device_model.specs.TurnFrames.{member_of, frames_in}
-use Rattle.line_view.specs.Viewing.{IsInStep, ViewStands, ViewMoves}
-use Rattle.line_view.specs.Watching.{EachWatched, TookFrame, own_of}
+use Rattle.line_view.specs.Steps.Viewing.{IsInStep, ViewStands, ViewMoves}
+use Rattle.line_view.specs.Steps.Watching.{EachWatched, TookFrame, own_of}
 use Rattle.line_view.specs.declared.watched.Watched.{Watched}
 use Rattle.line_view.proofs.Steps.{was_there, same_own, same_owns}
 

@@ -26,10 +26,11 @@ use Rattle.line_side.specs.declared.ending.Ending.{Ending}
 use Rattle.line_side.specs.declared.ending.Ending.TheVariants.{Open, Seen, Died}
 use Rattle.multiframe.specs.LineTurns.{line_state, has_ended}
 use Rattle.tributary_model.specs.Places.{Tributary}
-use Rattle.line_view.specs.ViewRuns.{MayFollow, frames_wanted, bytes_taken, ViewEnded, lines_of, TurnRun, FinishRun}
+use Rattle.line_view.specs.ViewRuns.{MayFollow, frames_wanted, bytes_taken, ViewEnded}
+use Rattle.line_view.specs.Steps.ViewRuns.{lines_of, TurnRun, FinishRun}
 use Rattle.line_view.specs.ViewText.{head_line, end_line, turn_text, turns_of, view_text}
-use Rattle.line_view.specs.Viewing.{ViewStands}
-use Rattle.line_view.specs.Watching.{own_of}
+use Rattle.line_view.specs.Steps.Viewing.{ViewStands}
+use Rattle.line_view.specs.Steps.Watching.{own_of}
 use Rattle.line_view.specs.declared.told.TurnSeen.{TurnSeen}
 use Rattle.line_view.specs.declared.viewing.After.{After}
 use Rattle.line_view.specs.declared.viewing.After.TheVariants as next

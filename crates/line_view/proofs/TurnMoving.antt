@@ -16,8 +16,8 @@ use Rattle.device_model.proofs.TurnFrames.{frames_none, turn_frames}
 use Rattle.device_model.specs.LineViews.{view_at, views_until}
 use Rattle.device_model.specs.TurnFrames.{frames_in}
 use Rattle.line_view.specs.ViewText.{counts_between, seen_at, told_of, told_at}
-use Rattle.line_view.specs.Viewing.{IsInStep, ViewMoves, TurnMoves}
-use Rattle.line_view.specs.Watching.{EachWatched, EndedTurn, own_of}
+use Rattle.line_view.specs.Steps.Viewing.{IsInStep, ViewMoves, TurnMoves}
+use Rattle.line_view.specs.Steps.Watching.{EachWatched, EndedTurn, own_of}
 use Rattle.line_view.specs.declared.told.TurnCounts.{TurnCounts}
 use Rattle.line_view.specs.declared.told.TurnSeen.{TurnSeen}
 use Rattle.line_view.specs.declared.watched.Watched.{Watched}

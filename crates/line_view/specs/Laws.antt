@@ -1,4 +1,4 @@
--- What is proved of views.
+-- API: what is proved of views.
 use Rattle.std.specs.Prelude.{◌≡◌, ◌+◌, ℕ, List, [], ◌∷◌, length}
 use Rattle.std.specs.List.{flat_map}
 use Rattle.tributary_model.specs.Laws.{IsTributary}
@@ -19,4 +19,5 @@ bytes_told own given (t ∷ turns) = (told_at own given t).bytes + bytes_told ow
 
 -- They are as many as the sink emits in them.
 abbrev pub TellsAllBytes : Type 0
-TellsAllBytes = (own : Tributary) (given : List ℕ) (turns : List ℕ) → bytes_told own given turns ≡ length (flat_map (emitted_at own given) turns)
+TellsAllBytes = (own : Tributary) (given : List ℕ) (turns : List ℕ)
+    → bytes_told own given turns ≡ length (flat_map (emitted_at own given) turns)

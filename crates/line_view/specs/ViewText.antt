@@ -1,5 +1,5 @@
--- What a view says of a line, as text: a line for the line itself, then for each turn one of the turn and one of each tributary, and a
--- last one where the turns are over.
+-- API: what a view says of a line, as text: a line for the line itself, then for each turn one of the turn and one of
+-- each tributary, and a last one where the turns are over.
 use Rattle.std.specs.Prelude.{ℕ, ◌+◌, ◌-◌, nat_lt, not, Bool, true, false, List, [], ◌∷◌, ◌++◌, Option, Some, None, codes, length, filter, is_some}
 use Rattle.std.specs.Fmt.{decimal}
 use Rattle.std.specs.List.{flat_map, range_with_len}
@@ -40,8 +40,8 @@ counts_between was is = record {
   pm = is.pm - was.pm;
 }
 
--- Turn t + 1 of a line of these bytes: whether the line has ended with it, whether it has a multiframe, and how much the line's numbers grew
--- in it.
+-- Turn t + 1 of a line of these bytes: whether the line has ended with it, whether it has a multiframe, and how much
+-- the line's numbers grew in it.
 abbrev pub seen_at : LineForm → (given : List ℕ) → (t : ℕ) → TurnSeen
 seen_at form given t = record {
   ended = has_ended (line_state (size_of form) (mfas_of given) (t + 1));
@@ -49,7 +49,8 @@ seen_at form given t = record {
   counts = counts_between (numbers_of form Open given t 0) (numbers_of form Open given (t + 1) 0);
 }
 
--- The turn of this view after these, of a tributary: how its sink stands after it, the pair of its numbers, and how many bytes it emitted in it.
+-- The turn of this view after these, of a tributary: how its sink stands after it, the pair of its numbers, and how
+-- many bytes it emitted in it.
 abbrev pub told_of : Tributary → List (Option View) → Option View → Told
 told_of own past view = record {
   state = state_after own (view ∷ past);
@@ -103,13 +104,15 @@ head_line kind scrambled = codes "line " ++ kind_word kind ++ codes " " ++ mask_
 unfoldable pub turn_line : (number : ℕ) → TurnSeen → List ℕ
 turn_line number seen =
     codes "turn " ++ decimal number ++ codes " " ++ align_word seen.ended seen.whole (nat_lt 0 seen.counts.lost)
-    ++ codes " frames " ++ decimal seen.counts.frames ++ codes " lead-in " ++ decimal seen.counts.lead_in ++ codes " fas " ++ decimal seen.counts.fas
+    ++ codes " frames " ++ decimal seen.counts.frames ++ codes " lead-in " ++ decimal seen.counts.lead_in
+    ++ codes " fas " ++ decimal seen.counts.fas
     ++ codes " sm " ++ decimal seen.counts.sm ++ codes " pm " ++ decimal seen.counts.pm ++ codes "\n"
 
 -- a tributary in a turn
 unfoldable pub tributary_line : (port : ℕ) → (slots : List ℕ) → Told → List ℕ
 tributary_line port slots told =
-    codes "tributary - port " ++ decimal port ++ codes " slots " ++ slots_text slots ++ codes " " ++ state_word told.state ++ pair_text told.pair
+    codes "tributary - port " ++ decimal port ++ codes " slots " ++ slots_text slots ++ codes " "
+    ++ state_word told.state ++ pair_text told.pair
     ++ codes " bytes " ++ decimal told.bytes ++ codes "\n"
 
 -- the end: how many turns were done, and how many bytes came after the last whole frame
@@ -120,15 +123,18 @@ end_line turns rest = codes "end turns " ++ decimal turns ++ codes " rest " ++ d
 
 -- turn t + 1: its line, and one for each tributary
 unfoldable pub turn_text : LineForm → List Tributary → (given : List ℕ) → (t : ℕ) → List ℕ
-turn_text form owns given t = turn_line (t + 1) (seen_at form given t) ++ flat_map (λ own. tributary_line own.port own.slots (told_at own given t)) owns
+turn_text form owns given t = turn_line (t + 1) (seen_at form given t)
+    ++ flat_map (λ own. tributary_line own.port own.slots (told_at own given t)) owns
 
--- The turns that are told, each said by the number of turns before it: 16,384 at most, and none after the one in which the line ended.
--- The list has the MFAS bytes of the line's whole frames.
+-- The turns that are told, each said by the number of turns before it: 16,384 at most, and none after the one in which
+-- the line ended. The list has the MFAS bytes of the line's whole frames.
 unfoldable pub turns_of : (size : ℕ) → (mfas : List ℕ) → List ℕ
 turns_of size ms = filter (λ t. not (has_ended (line_state size ms t))) (range_with_len 0 MOST_TURNS)
 
--- What a view says of a line of these bytes, through its mask, that ended so, and of these tributaries on it, in this order.
+-- What a view says of a line of these bytes, through its mask, that ended so, and of these tributaries on it, in this
+-- order.
 unfoldable pub view_text : LineForm → List Tributary → Ending → (given : List ℕ) → List ℕ
 view_text form owns ending given =
-    head_line form.kind form.scrambled ++ (flat_map (turn_text form owns given) (turns_of (size_of form) (mfas_of given))
+    head_line form.kind form.scrambled ++
+    (flat_map (turn_text form owns given) (turns_of (size_of form) (mfas_of given))
     ++ end_line (length (turns_of (size_of form) (mfas_of given))) (rest_of ending given))

@@ -2,7 +2,7 @@
 ghost use Rattle.std.specs.Prelude.{◌≢◌};
 ghost use Rattle.otn_ports.specs.InPlace.{in_view};
 ghost use Rattle.otn_ports.specs.Views.{Dead};
-ghost use Rattle.line_view.specs.Beyond.{ByteRun};
+ghost use Rattle.line_view.specs.Steps.Beyond.{ByteRun};
 
 use otn_ports::{Ended, InPlaceOf, Source, ask_byte};
 

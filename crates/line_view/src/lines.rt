@@ -5,7 +5,7 @@ ghost use Rattle.arrayvec.specs.ArrayString.{array_string_len};
 ghost use Rattle.otn_base.specs.declared.limits.TheConstants.{MOST_SLOTS};
 ghost use Rattle.otn_ports.specs.PortViews.{SinkWrites, sink_view};
 ghost use Rattle.line_view.specs.ViewText.{head_line, turn_line, tributary_line, end_line, slots_text, pair_text};
-ghost use Rattle.line_view.specs.ViewRuns.{lines_of};
+ghost use Rattle.line_view.specs.Steps.ViewRuns.{lines_of};
 
 use crate::told::{Told, TurnSeen};
 use crate::watched::Watched;
@@ -52,7 +52,8 @@ pub(crate) fn write_lines<K: Sink>(
     seen: TurnSeen,
     watched: &[Watched],
 ) -> Written
-    ensures { SinkWrites result (sink_view K.Sink report.old) (lines_of number seen watched.now) (sink_view K.Sink report.new) }
+    ensures { SinkWrites result (sink_view K.Sink report.old) (lines_of number seen watched.now)
+        (sink_view K.Sink report.new) }
 {
     if write_turn_line(report, number, seen) == Written::Lost {
         return Written::Lost;
@@ -62,7 +63,9 @@ pub(crate) fn write_lines<K: Sink>(
 
 // Writes the line of each tributary; the first write that fails ends that.
 fn write_tributaries<K: Sink>(report: &mut K, watched: &[Watched]) -> Written
-    ensures { SinkWrites result (sink_view K.Sink report.old) (flat_map (λ one. tributary_line one.port one.sink.slots.list one.told) watched.now) (sink_view K.Sink report.new) }
+    ensures { SinkWrites result (sink_view K.Sink report.old)
+        (flat_map (λ one. tributary_line one.port one.sink.slots.list one.told) watched.now)
+        (sink_view K.Sink report.new) }
 {
     for one in watched {
         if write_tributary(report, one) == Written::Lost {
@@ -74,7 +77,8 @@ fn write_tributaries<K: Sink>(report: &mut K, watched: &[Watched]) -> Written
 
 // Writes the line of one tributary.
 fn write_tributary<K: Sink>(report: &mut K, one: &Watched) -> Written
-    ensures { SinkWrites result (sink_view K.Sink report.old) (tributary_line one.now.port one.now.sink.slots.list one.now.told) (sink_view K.Sink report.new) }
+    ensures { SinkWrites result (sink_view K.Sink report.old)
+        (tributary_line one.now.port one.now.sink.slots.list one.now.told) (sink_view K.Sink report.new) }
 {
     let slots = one.sink.slots();
     let _few = slots.count();
@@ -110,7 +114,8 @@ fn put_turn(text: &mut ArrayString<LINE_BYTES>, number: u32, seen: TurnSeen)
 // Writes the line of a tributary.
 fn write_told<K: Sink>(report: &mut K, port: u8, slots: &[u8], told: Told) -> Written
     requires { length slots.now ≤ MOST_SLOTS }
-    ensures { SinkWrites result (sink_view K.Sink report.old) (tributary_line port slots.now told) (sink_view K.Sink report.new) }
+    ensures { SinkWrites result (sink_view K.Sink report.old) (tributary_line port slots.now told)
+        (sink_view K.Sink report.new) }
 {
     let mut line = ArrayString::new();
     put_told(&mut line, port, slots, told);
@@ -173,7 +178,8 @@ fn put_pair(text: &mut ArrayString<LINE_BYTES>, pair: Option<(u16, u16)>)
 
 fn put_both(text: &mut ArrayString<LINE_BYTES>, number: u16, rest: u16)
     requires room { array_string_len text.old + 50 ≤ 1024 }
-    ensures text { text.new.bytes ≡ text.old.bytes ++ (codes " cm " ++ decimal number ++ codes " cnd " ++ decimal rest) }
+    ensures text { text.new.bytes ≡ text.old.bytes
+        ++ (codes " cm " ++ decimal number ++ codes " cnd " ++ decimal rest) }
     ensures most { array_string_len text.new ≤ array_string_len text.old + 50 }
 {
     put_number(text, " cm ", number as u64);

@@ -5,7 +5,7 @@ ghost use Rattle.otn_base.specs.declared.limits.TheConstants.{GROUPS, MOST_SLOTS
 ghost use Rattle.otn_ports.specs.InPlace.{in_view};
 ghost use Rattle.otn_ports.specs.Views.{InView};
 ghost use Rattle.line_side.specs.LineForm.{LineForm};
-ghost use Rattle.line_view.specs.Viewing.{ViewStands, ViewMoves, TurnMoves};
+ghost use Rattle.line_view.specs.Steps.Viewing.{ViewStands, ViewMoves, TurnMoves};
 
 use crate::told::{TurnSeen, counts_between};
 use crate::watched::{Watched, end_each, take_each};
@@ -23,8 +23,10 @@ pub(crate) fn do_turn<I: Source>(
     requires kind { line.old.kind ≡ kind }
     requires between { line.old.pieces ≡ 0 }
     requires room { length room.old ≡ MOST_SLOTS * (GROUPS + 1) }
-    ensures moves { (form : LineForm) (first : InView) (taken : List ℕ) (t : ℕ) → ViewStands form first (in_view I.Source place.old) taken t line.old watched.old.items
-        → TurnMoves form first (in_view I.Source place.new) taken t line.old line.new watched.old.items watched.new.items result }
+    ensures moves { (form : LineForm) (first : InView) (taken : List ℕ) (t : ℕ)
+        → ViewStands form first (in_view I.Source place.old) taken t line.old watched.old.items
+        → TurnMoves form first (in_view I.Source place.new) taken t line.old line.new watched.old.items
+        watched.new.items result }
     ensures kind { line.new.kind ≡ kind }
     ensures between { line.new.pieces ≡ 0 }
     ensures room { length room.new ≡ length room.old }
@@ -49,8 +51,10 @@ fn take_frames<I: Source>(
 )
     requires kind { line.old.kind ≡ kind }
     requires between { line.old.pieces ≡ 0 }
-    ensures moves { (form : LineForm) (first : InView) (taken : List ℕ) (t : ℕ) → ViewStands form first (in_view I.Source place.old) taken t line.old watched.old.items
-        → ViewMoves form first (in_view I.Source place.new) taken t line.old line.new watched.old.items watched.new.items }
+    ensures moves { (form : LineForm) (first : InView) (taken : List ℕ) (t : ℕ)
+        → ViewStands form first (in_view I.Source place.old) taken t line.old watched.old.items
+        → ViewMoves form first (in_view I.Source place.new) taken t line.old line.new watched.old.items
+        watched.new.items }
     ensures kind { line.new.kind ≡ kind }
     ensures pieces { line.new.pieces ≡ slots_of kind }
 {
@@ -66,8 +70,10 @@ fn take_piece<I: Source>(
     place: &mut InPlaceOf<I>,
 )
     requires { line.old.pieces < slots_of line.old.kind }
-    ensures moves { (form : LineForm) (first : InView) (taken : List ℕ) (t : ℕ) → ViewStands form first (in_view I.Source place.old) taken t line.old watched.old.items
-        → ViewMoves form first (in_view I.Source place.new) taken t line.old line.new watched.old.items watched.new.items }
+    ensures moves { (form : LineForm) (first : InView) (taken : List ℕ) (t : ℕ)
+        → ViewStands form first (in_view I.Source place.old) taken t line.old watched.old.items
+        → ViewMoves form first (in_view I.Source place.new) taken t line.old line.new watched.old.items
+        watched.new.items }
     ensures kind { line.new.kind ≡ line.old.kind }
     ensures pieces { line.new.pieces ≡ line.old.pieces + 1 }
 {

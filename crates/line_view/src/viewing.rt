@@ -5,9 +5,11 @@ ghost use Rattle.otn_ports.specs.InPlace.{in_view};
 ghost use Rattle.otn_ports.specs.PortViews.{sink_view};
 ghost use Rattle.otn_ports.specs.Views.{InView};
 ghost use Rattle.line_side.specs.LineForm.{LineForm};
-ghost use Rattle.line_view.specs.ViewRuns.{ViewEnded, TurnRun, FinishRun, AnswerRun};
-ghost use Rattle.line_view.specs.Viewing.{ViewStands};
-ghost use Rattle.line_view.specs.Watching.{IsOnLine, asked_of, own_of};
+ghost use Rattle.line_view.specs.ViewRuns.{ViewEnded};
+ghost use Rattle.line_view.specs.Steps.ViewRuns.{TurnRun, FinishRun, AnswerRun};
+ghost use Rattle.line_view.specs.Steps.Viewing.{ViewStands};
+ghost use Rattle.line_view.specs.Watching.{IsOnLine, asked_of};
+ghost use Rattle.line_view.specs.Steps.Watching.{own_of};
 
 use crate::beyond::ask_for_more;
 use crate::lines::{write_end, write_head, write_lines};
@@ -26,9 +28,9 @@ enum After {
     ReportFailed,
 }
 
-/// Writes the view of a line of this kind, scrambled or not, and of these tributaries on it: 16,384 turns at most, up to
-/// and with the turn in which the line ended. Where its end was not seen and it is not dead, it is then asked for one byte
-/// more. A write that fails ends it at once.
+/// Writes the view of a line of this kind, scrambled or not, and of these tributaries on it: 16,384 turns at most, up
+/// to and with the turn in which the line ended. Where its end was not seen and it is not dead, it is then asked for
+/// one byte more. A write that fails ends it at once.
 pub fn write_view<I: Source, K: Sink>(
     alloc: Global,
     kind: LineKind,
@@ -39,7 +41,8 @@ pub fn write_view<I: Source, K: Sink>(
 ) -> Ended
     requires { (i : ℕ) (asked : Shown) → slice_get shown.now i ≡ Some asked → IsOnLine kind asked }
     ensures memory { result ≡ Ended.Memory → (line.new ≡ line.old) × (report.new ≡ report.old) }
-    ensures run { result ≢ Ended.Memory → ViewEnded (record { kind = kind; scrambled = scrambled }) (map asked_of shown.now) (in_view I.Source line.old) (in_view I.Source line.new)
+    ensures run { result ≢ Ended.Memory → ViewEnded (record { kind = kind; scrambled = scrambled })
+        (map asked_of shown.now) (in_view I.Source line.old) (in_view I.Source line.new)
         (sink_view K.Sink report.old) (sink_view K.Sink report.new) result }
 {
     let Ok(mut input) = line_side::LineIn::new(alloc, kind, scrambled) else {
@@ -82,8 +85,10 @@ fn write_turns<I: Source, K: Sink>(
     requires kind { line.old.kind ≡ kind }
     requires between { line.old.pieces ≡ 0 }
     requires room { length room.old ≡ MOST_SLOTS * (GROUPS + 1) }
-    ensures { ((first : InView) → ViewStands (record { kind = kind; scrambled = scrambled }) first first [] 0 line.old watched.old.items)
-        → ViewEnded (record { kind = kind; scrambled = scrambled }) (map own_of watched.old.items) (in_view I.Source place.old) (in_view I.Source place.new)
+    ensures { ((first : InView) → ViewStands
+        (record { kind = kind; scrambled = scrambled }) first first [] 0 line.old watched.old.items)
+        → ViewEnded (record { kind = kind; scrambled = scrambled }) (map own_of watched.old.items)
+        (in_view I.Source place.old) (in_view I.Source place.new)
         (sink_view K.Sink report.old) (sink_view K.Sink report.new) result }
 {
     if write_head(report, kind, scrambled) == Written::Lost {
@@ -113,8 +118,10 @@ fn write_turn<I: Source, K: Sink>(
     requires kind { line.old.kind ≡ kind }
     requires between { line.old.pieces ≡ 0 }
     requires room { length room.old ≡ MOST_SLOTS * (GROUPS + 1) }
-    ensures run { (form : LineForm) (first : InView) (taken : List ℕ) → ViewStands form first (in_view I.Source place.old) taken t line.old watched.old.items
-        → TurnRun form first (in_view I.Source place.new) taken t line.old line.new watched.old.items watched.new.items (sink_view K.Sink report.old) (sink_view K.Sink report.new) result }
+    ensures run { (form : LineForm) (first : InView) (taken : List ℕ)
+        → ViewStands form first (in_view I.Source place.old) taken t line.old watched.old.items
+        → TurnRun form first (in_view I.Source place.new) taken t line.old line.new watched.old.items watched.new.items
+        (sink_view K.Sink report.old) (sink_view K.Sink report.new) result }
     ensures kind { line.new.kind ≡ kind }
     ensures between { line.new.pieces ≡ 0 }
     ensures room { length room.new ≡ length room.old }
@@ -136,7 +143,8 @@ fn finish<I: Source, K: Sink>(
     place: &mut InPlaceOf<I>,
     report: &mut K,
 ) -> Ended
-    ensures { FinishRun turns line.now (in_view I.Source place.old) (in_view I.Source place.new) (sink_view K.Sink report.old) (sink_view K.Sink report.new) result }
+    ensures { FinishRun turns line.now (in_view I.Source place.old) (in_view I.Source place.new)
+        (sink_view K.Sink report.old) (sink_view K.Sink report.new) result }
 {
     if write_end(report, turns, line.rest()) == Written::Lost {
         return Ended::ReportFault;

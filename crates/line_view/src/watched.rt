@@ -2,7 +2,8 @@
 ghost use Rattle.std.specs.Prelude.{◌≡◌, ◌≤◌, ◌*◌, ◌+◌, IfOk, IsTrue, length, slice_get, Some, ℕ, [], ◌∷◌};
 ghost use Rattle.otn_base.specs.LineSlots.{slots_of};
 ghost use Rattle.otn_base.specs.declared.limits.TheConstants.{GROUPS, MOST_SLOTS};
-ghost use Rattle.line_view.specs.Watching.{AreNew, EachWatched, EndedTurn, IsNew, IsOnLine, TookFrame};
+ghost use Rattle.line_view.specs.Watching.{IsOnLine};
+ghost use Rattle.line_view.specs.Steps.Watching.{AreNew, EachWatched, EndedTurn, IsNew, TookFrame};
 
 use crate::shown::Shown;
 use crate::told::Told;
@@ -94,7 +95,8 @@ pub(crate) fn new_watched(
 
 /// Each takes a frame.
 pub(crate) fn take_each<F: TakeFrame>(watched: &mut Vec<Watched>, frame: &F, expected: u8)
-    ensures { EachWatched (TookFrame (record { frame = F.bytes frame.now; expected = expected })) watched.old.items watched.new.items }
+    ensures { EachWatched (TookFrame (record { frame = F.bytes frame.now; expected = expected })) watched.old.items
+        watched.new.items }
 {
     for one in watched.iter_mut() {
         one.take_frame(frame, expected);

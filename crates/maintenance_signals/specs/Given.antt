@@ -1,4 +1,4 @@
--- How far a signal's stream was given.
+-- API: how far a signal's stream was given.
 use Rattle.std.specs.Prelude.{◌≡◌, ℕ, ◌%◌}
 use Rattle.maintenance_signals.specs.declared.signal.Signal.{Signal}
 use Rattle.maintenance_signals.specs.declared.runs.TheConstants.{PERIOD}

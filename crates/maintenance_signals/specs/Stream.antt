@@ -1,4 +1,4 @@
--- The streams of the maintenance signals.
+-- Believed: the streams of the maintenance signals.
 use Rattle.std.specs.Prelude.{ℕ, ◌+◌, ◌-◌, ◌/◌, ◌%◌, ◌==◌, nat_le, ◌&&◌, List, [], ◌∷◌, map, slice_index, if◌then◌else◌}
 use Rattle.std.specs.List.{range_with_len}
 use Rattle.maintenance_signals.specs.declared.signal.Signal.{Signal}
@@ -25,11 +25,14 @@ pattern Ais row column = if (row == 2) && (column == 14) then 0x00 else filling 
 pattern Oci row column = filling Oci
 pattern Lck row column = filling Lck
 
--- the byte of a signal's frame with this MFAS, in a row and a column: of the alignment in row 1, columns 1 to 14, else of the pattern
+-- the byte of a signal's frame with this MFAS, in a row and a column: of the alignment in row 1, columns 1 to 14, else
+-- of the pattern
 abbrev pub frame_byte : Signal → (mfas row column : ℕ) → ℕ
-frame_byte signal mfas row column = if (row == 1) && nat_le column 14 then alignment mfas column else pattern signal row column
+frame_byte signal mfas row column = if (row == 1) && nat_le column 14 then alignment mfas column
+    else pattern signal row column
 
--- A byte of the stream of signal frames of four rows of 3,824 columns, 15,296 bytes each, with MFAS from 0 on, modulo 256.
+-- A byte of the stream of signal frames of four rows of 3,824 columns, 15,296 bytes each, with MFAS from 0 on, modulo
+-- 256.
 unfoldable pub signal_byte : Signal → (place : ℕ) → ℕ
 signal_byte signal place =
     let p = place % CLIENT_FRAME_BYTES in

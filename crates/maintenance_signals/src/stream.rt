@@ -39,8 +39,10 @@ impl SignalBytes {
 
     /// Writes the next bytes of the stream into all of `into`.
     pub fn next(&mut self, into: &mut [u8])
-        ensures bytes { (signal : Signal) (given : ℕ) → HasGiven signal given self.old → into.new ≡ signal_bytes signal given (length into.old) }
-        ensures given { (signal : Signal) (given : ℕ) → HasGiven signal given self.old → HasGiven signal (given + length into.old) self.new }
+        ensures bytes { (signal : Signal) (given : ℕ) → HasGiven signal given self.old
+            → into.new ≡ signal_bytes signal given (length into.old) }
+        ensures given { (signal : Signal) (given : ℕ) → HasGiven signal given self.old
+            → HasGiven signal (given + length into.old) self.new }
     {
         self.place = fill_from(self.signal, self.place, into);
     }

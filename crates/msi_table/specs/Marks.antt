@@ -1,4 +1,4 @@
--- When the multiplex structure that a slot tells is another than its ODTU's.
+-- Believed: when the multiplex structure that a slot tells is another than its ODTU's.
 use Rattle.std.specs.Prelude.{◌≡◌, ℕ, ◌+◌, ◌-◌, ◌==◌, Bool, false, not, ◌&&◌, List, [], ◌∷◌, reverse}
 
 -- G.709 clause 19.4.1: the MSI byte of a slot that an ODTU2.ts, or an ODTU3.ts, of this tributary port uses

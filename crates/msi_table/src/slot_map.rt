@@ -16,8 +16,8 @@ const PAYLOAD_TYPE: u8 = 0x21;
 const FREE: u8 = 0xC0;
 
 /// The tributary ports that use the slots of a line; slots and ports are numbered from 1 to the number of the line's
-/// slots. Contracts see it as the list of the ports of its slots from slot 1 on, 0 for a slot that is free: its length is
-/// the number of the line's slots.
+/// slots. Contracts see it as the list of the ports of its slots from slot 1 on, 0 for a slot that is free: its length
+/// is the number of the line's slots.
 #[derive(Drop)]
 pub struct SlotMap {
     kind: LineKind,
@@ -117,7 +117,8 @@ fn give(ports: &mut [u8], slots: &Slots, port: u8)
     requires size { length ports.old ≡ most_slots }
     ensures given { IsGiven slots.now.list port ports.old ports.new }
     ensures within { (slot : ℕ) → Contains slots.now.list slot → (1 ≤ slot) × (slot ≤ slots_of slots.now.kind) }
-    ensures bound { (most : ℕ) → port ≤ most → All (λ port. port ≤ most) ports.old → All (λ port. port ≤ most) ports.new }
+    ensures bound { (most : ℕ) → port ≤ most → All (λ port. port ≤ most) ports.old
+        → All (λ port. port ≤ most) ports.new }
 {
     give_each(ports, slots.as_slice(), port);
 }
@@ -126,7 +127,8 @@ fn give(ports: &mut [u8], slots: &Slots, port: u8)
 fn give_each(ports: &mut [u8], slots: &[u8], port: u8)
     requires slots { All (λ slot. (1 ≤ slot) × (slot ≤ length ports.old)) slots.now }
     ensures given { IsGiven slots.now port ports.old ports.new }
-    ensures bound { (most : ℕ) → port ≤ most → All (λ port. port ≤ most) ports.old → All (λ port. port ≤ most) ports.new }
+    ensures bound { (most : ℕ) → port ≤ most → All (λ port. port ≤ most) ports.old
+        → All (λ port. port ≤ most) ports.new }
 {
     for slot in slots {
         ports[*slot as usize - 1] = port;

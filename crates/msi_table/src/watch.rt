@@ -44,7 +44,8 @@ impl MsiWatch {
 
     /// Takes the next MSI byte of the slot.
     pub fn take(&mut self, byte: u8)
-        ensures { (port : ℕ) (came : List ℕ) → HasTaken port came self.old → HasTaken port (came ++ byte ∷ []) self.new }
+        ensures { (port : ℕ) (came : List ℕ) → HasTaken port came self.old
+            → HasTaken port (came ++ byte ∷ []) self.new }
     {
         let wrong = byte != self.right;
         self.marked = wrong && self.last_wrong;

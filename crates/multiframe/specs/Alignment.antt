@@ -1,4 +1,4 @@
--- The multiframe alignment of a line within a turn, by the MFAS bytes that were taken in it.
+-- API: the multiframe alignment of a line within a turn, by the MFAS bytes that were taken in it.
 use Rattle.std.specs.Prelude.{◌≡◌, ◌≤◌, ℕ, ◌+◌, ◌/◌, ◌%◌, ◌==◌, nat_le, if◌then◌else◌, List, [], ◌∷◌, ◌++◌, length, take, drop, Option, Some, None, ⊤, Bool, IsTrue, ◌↔◌}
 use Rattle.otn_base.specs.LineSlots.{slots_of}
 use Rattle.otn_base.specs.declared.line_kind.LineKind.{LineKind}
@@ -27,12 +27,13 @@ abbrev pub HasMultiframe : ℕ → Option Alignment → Type 0
 HasMultiframe size (Some a) = (length a.taken ≡ size) × (wrong_count a.expected a.taken ≤ size / 2)
 HasMultiframe size None = ⊥
 
--- after a whole multiframe the next one is expected, or the line hunts where more than half of the MFAS bytes differ; after
--- a turn that was cut short the same MFAS is expected again, and none is taken
+-- after a whole multiframe the next one is expected, or the line hunts where more than half of the MFAS bytes differ;
+-- after a turn that was cut short the same MFAS is expected again, and none is taken
 abbrev pub after_end : ℕ → Option Alignment → Option Alignment
 after_end size None = None
 after_end size (Some a) =
-    if length a.taken == size then (if nat_le (wrong_count a.expected a.taken) (size / 2) then Some (aligned_at ((a.expected + size) % 256)) else None)
+    if length a.taken == size then (if nat_le (wrong_count a.expected a.taken) (size / 2)
+    then Some (aligned_at ((a.expected + size) % 256)) else None)
     else Some (aligned_at a.expected)
 
 -- a turn of a line has ended: whether it has a multiframe, and how the line is aligned after it

@@ -1,8 +1,8 @@
--- The turns of a line. A turn is one multiframe of the line, found by the multiframe alignment signal (MFAS, the byte
--- in row 1, column 7; G.709 clause 15.6). In all that follows `size` is the number of frames of a multiframe, and `ms`
--- the list of the MFAS bytes of the line's whole frames, which count from 0. Turns count from 1.
--- A name in `_in` is of the first k pieces of a turn, in `_of` of a whole turn by the state before it, in `_so_far` of the turns 1 to t and k
--- pieces more; `_at`, `_from` and `_by` are cases of these.
+-- Believed: the turns of a line. A turn is one multiframe of the line, found by the multiframe alignment signal (MFAS,
+-- the byte in row 1, column 7; G.709 clause 15.6). In all that follows `size` is the number of frames of a multiframe,
+-- and `ms` the list of the MFAS bytes of the line's whole frames, which count from 0. Turns count from 1. A name in
+-- `_in` is of the first k pieces of a turn, in `_of` of a whole turn by the state before it, in `_so_far` of the turns
+-- 1 to t and k pieces more; `_at`, `_from` and `_by` are cases of these.
 use Rattle.std.specs.Prelude.{ℕ, zero, suc, ◌+◌, ◌-◌, ◌*◌, ◌/◌, ◌%◌, min, max, Bool, true, false, ◌&&◌, ◌==◌, nat_lt, nat_le, if◌then◌else◌, List, [], ◌∷◌, length, take, drop, slice_index, Option, Some, None}
 
 -- a multiframe may begin with a frame of this MFAS where the next frame has that one: the first is a multiple of the
@@ -25,8 +25,8 @@ unfoldable pub least_start : ℕ → List ℕ → ℕ → ℕ → Option ℕ
 least_start size ms i zero = None
 least_start size ms i (suc k) = least_or (least_start size ms i k) (is_start size ms (i + k)) k
 
--- multiframe alignment: a frame, and the MFAS that is expected in it. Of a turn, the frame at which its multiframe starts; of a piece
--- (TurnPieces), the frame to which it came
+-- multiframe alignment: a frame, and the MFAS that is expected in it. Of a turn, the frame at which its multiframe
+-- starts; of a piece (TurnPieces), the frame to which it came
 pub record Lock : Type 0 where
   pub frame : ℕ
   pub expected : ℕ
@@ -82,13 +82,15 @@ outcome_of size ms lock =
     if nat_lt (length ms) (lock.frame + size) then CutShort
     else (if nat_lt (size / 2) (wrong_count lock.expected (take size (drop lock.frame ms))) then Lost else Whole)
 
--- the state of a line after a locked turn: ended; hunting from behind the lost multiframe on; or locked at the frame behind its multiframe
+-- the state of a line after a locked turn: ended; hunting from behind the lost multiframe on; or locked at the frame
+-- behind its multiframe
 abbrev pub after_outcome : ℕ → Lock → Outcome → LineState
 after_outcome size lock CutShort = Ended
 after_outcome size lock Lost = Hunting (lock.frame + size)
 after_outcome size lock Whole = Locked (record { frame = lock.frame + size; expected = (lock.expected + size) % 256 })
 
--- the state of a line after a turn that hunted at i: as its lock's outcome says; without a lock it hunts size frames further on, or has ended
+-- the state of a line after a turn that hunted at i: as its lock's outcome says; without a lock it hunts size frames
+-- further on, or has ended
 abbrev pub after_hunt : ℕ → List ℕ → ℕ → Option Lock → LineState
 after_hunt size ms i (Some lock) = after_outcome size lock (outcome_of size ms lock)
 after_hunt size ms i None = if nat_le (i + size) (length ms) then Hunting (i + size) else Ended
@@ -120,7 +122,8 @@ multiframe_at size ms (Some lock) = kept_if (outcome_of size ms lock) lock
 abbrev pub multiframe : ℕ → List ℕ → ℕ → Option Lock
 multiframe size ms t = multiframe_at size ms (lock_of size ms (line_state size ms t))
 
--- the lead-in frames of a turn that hunts at i: n where it locks at frame i + n, else a multiframe's number of frames, or all that are left
+-- the lead-in frames of a turn that hunts at i: n where it locks at frame i + n, else a multiframe's number of frames,
+-- or all that are left
 abbrev pub lead_in_from : ℕ → List ℕ → ℕ → Option ℕ → ℕ
 lead_in_from size ms i (Some n) = n
 lead_in_from size ms i None = min size (length ms - i)
@@ -152,8 +155,8 @@ unfoldable pub lost_count : ℕ → List ℕ → ℕ → ℕ
 lost_count size ms zero = 0
 lost_count size ms (suc t) = lost_count size ms t + lost_at size ms (lock_of size ms (line_state size ms t))
 
--- used_in, below, of a turn that hunts at i, where k is not 0: the frames before its multiframe and the first k of it; without a lock all that it
--- hunted over
+-- used_in, below, of a turn that hunts at i, where k is not 0: the frames before its multiframe and the first k of it;
+-- without a lock all that it hunted over
 abbrev pub used_at : ℕ → List ℕ → Option Lock → (i k : ℕ) → ℕ
 used_at size ms (Some lock) i k = min (length ms) (lock.frame + k)
 used_at size ms None i k = min (length ms) (i + size)
@@ -178,9 +181,9 @@ wanted_from size ms i None k = i + size + one_if (looked_ahead size ms (i + size
 
 -- How many frames, counted from the first of the line, the rule of a turn looks at in its first k pieces; a number
 -- above that of the whole frames says that it looked for a frame that is not whole. A hunt looks at each frame up to
--- the one at which it locks and the one after it, and from piece 3 on at one more a piece, as a locked turn does. Where it
--- doesn't lock, it looks at all frames of a multiframe, and at one beyond them only where a multiframe might begin at the last
--- of them.
+-- the one at which it locks and the one after it, and from piece 3 on at one more a piece, as a locked turn does. Where
+-- it doesn't lock, it looks at all frames of a multiframe, and at one beyond them only where a multiframe might begin
+-- at the last of them.
 abbrev pub wanted_in : ℕ → List ℕ → LineState → ℕ → ℕ
 wanted_in size ms (Hunting i) zero = 0
 wanted_in size ms (Hunting i) (suc k) = wanted_from size ms i (least_start size ms i size) (suc k)

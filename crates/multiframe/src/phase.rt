@@ -16,8 +16,8 @@ struct Locked {
 }
 
 /// The multiframe alignment of a line of either kind (G.709 clause 15.6), of S frames a multiframe: as many as the line
-/// has slots. It hunts, or it is locked: it expects an MFAS in the first frame of the turn and one more in each next one,
-/// modulo 256, and takes those that come.
+/// has slots. It hunts, or it is locked: it expects an MFAS in the first frame of the turn and one more in each next
+/// one, modulo 256, and takes those that come.
 #[derive(Drop)]
 pub struct Phase {
     kind: LineKind,
@@ -99,7 +99,10 @@ impl Phase {
     /// Takes the MFAS of the next frame of the turn.
     pub fn take(&mut self, mfas: u8)
         requires { IsSomeAnd self.old.alignment (λ a. length a.taken < slots_of self.old.kind) }
-        ensures { self.new ≡ record { kind = self.old.kind; alignment = option_map (with_frame mfas) self.old.alignment } }
+        ensures { self.new ≡ record {
+          kind = self.old.kind;
+          alignment = option_map (with_frame mfas) self.old.alignment;
+        } }
     {
         if let Some(locked) = &mut self.locked {
             locked.taken[locked.count] = mfas;
@@ -114,7 +117,8 @@ impl Phase {
         ensures turn { PhaseEnds self.old result self.new }
 
         // where the frames of a locked turn of a line were taken, this ends that turn
-        ensures line { (ms : List ℕ) (lock : Lock) → self.old.alignment ≡ Some (taken_of (slots_of self.old.kind) ms lock)
+        ensures line { (ms : List ℕ) (lock : Lock)
+            → self.old.alignment ≡ Some (taken_of (slots_of self.old.kind) ms lock)
             → EndsTurn (slots_of self.old.kind) ms lock result self.new.alignment }
     {
         self.close()

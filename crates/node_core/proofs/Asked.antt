@@ -15,7 +15,8 @@ use Rattle.otn_ports.specs.declared.source.Source as source
 use Rattle.otn_ports.proofs.BaysLaws.{line_in_seen, line_in_set, only_line_in}
 use Rattle.line_side.specs.LineStands.{LineView}
 use Rattle.otn_ports.specs.Asked.{has_come, ByteAsked, ByteAnswer}
-use Rattle.node_core.specs.Asking.{LinesAnswer, asks_line, is_cut, CutAnswer, OpenAnswer, OpensAnswer, SaysSpent}
+use Rattle.node_core.specs.Asking.{asks_line}
+use Rattle.node_core.specs.Steps.Asking.{LinesAnswer, is_cut, CutAnswer, OpenAnswer, OpensAnswer, SaysSpent}
 use Rattle.turn_pieces.specs.Pieces.{PiecesView}
 use Rattle.turn_pieces.specs.Ports.{index_of, port_at}
 use Rattle.node_links.specs.declared.link.Link.{Link}

@@ -30,7 +30,7 @@ use Rattle.cross_matrix.specs.Parts.{ClientInStands, MayShow, GivesTo, IsToClien
 use Rattle.cross_matrix.specs.Pipes.{PipeStands}
 use Rattle.cross_matrix.specs.declared.giving.GivingPart.{GivingPart}
 use Rattle.cross_matrix.specs.declared.giving.GivingPart.TheVariants as giving
-use Rattle.node_links.specs.LinkMoves.{FirstOf}
+use Rattle.node_links.specs.Steps.LinkMoves.{FirstOf}
 use Rattle.node_links.specs.Links.{IsLinkOf, is_later, was_on}
 use Rattle.node_links.specs.Moves.{is_from_client, is_to_client, has_client_in, has_client_out}
 use Rattle.node_moments.specs.NodeView.{NodeView, HasLineIn, HasLineOut, HasLink, done_at, taken_pieces, given_pieces}

@@ -22,7 +22,8 @@ use Rattle.node_core.proofs.OutputsLeft.{OutputsStand}
 use Rattle.node_core.proofs.Settled.{turns_past, used_line_at}
 use Rattle.device_model.proofs.SettledLines.{rest_settled}
 
--- the bytes after the last whole frame of a line that is used are counted as its place and the turns of the plan have it in the end
+-- the bytes after the last whole frame of a line that is used are counted as its place and the turns of the plan have
+-- it in the end
 pub rest_at_end : (plan : Plan) (first was last : BaysView) (taken : InputBytes) (node : NodeView) (inputs : Inputs) (a : ℕ) (line : LineView) → node.turns ≤ node.past → StandsAt plan first taken node was
     → LinesAsked LINES node.pieces node.lines_in was last → MayGive plan taken node inputs → uses plan (port.LineIn a) ≡ true → HasLineIn node a line
     → rest_of line.reader.ending (inputs.line a) ≡ rest_of (line_ending (place_state last (port.LineIn a)) (form_in plan a) (inputs.line a) plan.turns) (inputs.line a)

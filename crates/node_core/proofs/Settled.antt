@@ -22,10 +22,11 @@ use Rattle.device_model.specs.Through.{Inputs, of_client}
 use Rattle.device_model.specs.SoundPlans.{IsSoundEntry}
 use Rattle.device_model.proofs.SoundPlans.{sound_plan}
 use Rattle.cross_matrix.specs.Parts.{MayShow}
-use Rattle.cross_matrix.specs.Receiving.{is_dead}
+use Rattle.cross_matrix.specs.Steps.Receiving.{is_dead}
 use Rattle.otn_ports.specs.Asked.{has_come, ByteAsked}
 use Rattle.device_model.specs.LineAsked.{is_seen}
-use Rattle.node_core.specs.Asking.{asks_line, LinesAsked, LinesAnswer, is_cut, CutAnswer, SaysSpent, OpenLink, OpensAnswer, outcome_by}
+use Rattle.node_core.specs.Asking.{asks_line, LinesAsked}
+use Rattle.node_core.specs.Steps.Asking.{LinesAnswer, is_cut, CutAnswer, SaysSpent, OpenLink, OpensAnswer, outcome_by}
 use Rattle.node_links.specs.Links.{origin_of}
 use Rattle.node_links.specs.Moves.{is_from_client}
 use Rattle.node_moments.specs.NodeView.{NodeView, HasLineIn, HasLink, IsNode, done_at}

@@ -26,7 +26,7 @@ use Rattle.device_model.proofs.SoundPlans.{sound_plan}
 use Rattle.cross_matrix.specs.Parts.{ClientInStands, MayShow}
 use Rattle.cross_matrix.specs.declared.taking.TakingPart.{TakingPart}
 use Rattle.cross_matrix.specs.declared.taking.TakingPart.TheVariants as taking
-use Rattle.cross_matrix.specs.Receiving.{is_dead}
+use Rattle.cross_matrix.specs.Steps.Receiving.{is_dead}
 use Rattle.node_links.specs.Moves.{is_from_client}
 use Rattle.node_moments.specs.NodeView.{NodeView, HasLink}
 use Rattle.device_model.specs.LineAsked.{MayHave, InputLeft}

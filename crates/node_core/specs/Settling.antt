@@ -1,4 +1,4 @@
--- How a node that is past its last turn is settled.
+-- API: how a node that is past its last turn is settled.
 use Rattle.std.specs.Prelude.{◌≡◌, ℕ, true, false, slice_get, Some, Option}
 use Rattle.std.specs.List.{Contains}
 use Rattle.otn_base.specs.declared.kind.PortName.{PortName}
@@ -29,49 +29,63 @@ use Rattle.node_links.specs.declared.link.Link.{Link}
 
 -- ---- settling
 
--- where the inputs are these: how much was taken of the lines and of the texts, and the outcome; what went to the outputs `RunOf` says
-pub record SettledOf (plan : Plan) (first last : BaysView) (takings : Takings) (taken : InputBytes) (node : NodeView) (outcome : Outcome) (inputs : Inputs) : Type 0 where
+-- where the inputs are these: how much was taken of the lines and of the texts, and the outcome; what went to the
+-- outputs `RunOf` says
+pub record SettledOf (plan : Plan) (first last : BaysView) (takings : Takings) (taken : InputBytes) (node : NodeView)
+    (outcome : Outcome) (inputs : Inputs) : Type 0 where
   pub may : MayGive plan taken node inputs
   pub took : (a : ℕ) → uses plan (port.LineIn a) ≡ true → TookOf plan inputs takings a
-  pub text : (x : Connection) (n : ℕ) → Contains plan.connections x → x.from ≡ from_end.Client n → TookOfText x (inputs.client n) (takings.client n)
+  pub text : (x : Connection) (n : ℕ) → Contains plan.connections x → x.from ≡ from_end.Client n
+      → TookOfText x (inputs.client n) (takings.client n)
   pub outcome_is : IsOutcome plan inputs last outcome
 
--- A node past its last turn, of whose inputs these bytes were taken, was settled: what was taken of its inputs in all, how their places
--- are, and how the run ended. Which places were asked `LinesAsked` says.
-pub record Settled (plan : Plan) (first : BaysView) (taken : InputBytes) (node : NodeView) (last : BaysView) (outcome : Outcome) : Type 0 where
+-- A node past its last turn, of whose inputs these bytes were taken, was settled: what was taken of its inputs in all,
+-- how their places are, and how the run ended. Which places were asked `LinesAsked` says.
+pub record Settled (plan : Plan) (first : BaysView) (taken : InputBytes) (node : NodeView) (last : BaysView)
+    (outcome : Outcome) : Type 0 where
   pub takings : Takings
-  pub line_in : (a : ℕ) → uses plan (port.LineIn a) ≡ true → InputLeft (line_in_at first a) (line_in_at last a) (takings.line a) (takings.line_more a)
+  pub line_in : (a : ℕ) → uses plan (port.LineIn a) ≡ true
+      → InputLeft (line_in_at first a) (line_in_at last a) (takings.line a) (takings.line_more a)
   pub client_in : (x : Connection) (n : ℕ) → Contains plan.connections x → x.from ≡ from_end.Client n
       → ClientInLeft x.retire (client_in_at first n) (client_in_at last n) (takings.client n) (takings.client_more n)
   pub idle : (name : PortName) → uses plan name ≡ false → SamePlace name first last
-  pub of_inputs : (inputs : Inputs) → MayBeInputs plan first last takings inputs → SettledOf plan first last takings taken node outcome inputs
+  pub of_inputs : (inputs : Inputs) → MayBeInputs plan first last takings inputs
+      → SettledOf plan first last takings taken node outcome inputs
 
 -- ---- what a node is asked at the end
 
 -- these are the counts of input line a, at whatever moment the node stands
 abbrev pub IsLineCounts : NodeView → (a : ℕ) → LineCounts → Type 0
-IsLineCounts node a counts = (plan : Plan) (first : BaysView) (taken : InputBytes) (now : BaysView) (inputs : Inputs) (line : LineView) → StandsAt plan first taken node now → MayGive plan taken node inputs
-    → uses plan (port.LineIn a) ≡ true → HasLineIn node a line → counts ≡ numbers_of (form_in plan a) line.reader.ending (inputs.line a) node.past line.pieces
+IsLineCounts node a counts = (plan : Plan) (first : BaysView) (taken : InputBytes) (now : BaysView) (inputs : Inputs)
+    (line : LineView) → StandsAt plan first taken node now → MayGive plan taken node inputs
+    → uses plan (port.LineIn a) ≡ true → HasLineIn node a line
+    → counts ≡ numbers_of (form_in plan a) line.reader.ending (inputs.line a) node.past line.pieces
 
 -- so many frames of output line b count
 abbrev pub IsFrameCount : NodeView → (b : ℕ) → (frames : ℕ) → Type 0
 IsFrameCount node b frames = (line : LineOutView) → HasLineOut node b line → frames ≡ line.frames
 
--- these are the numbers of client input n, at whatever moment the node stands: by what is emitted until then, and before its first turn none
+-- these are the numbers of client input n, at whatever moment the node stands: by what is emitted until then, and
+-- before its first turn none
 abbrev pub IsClientInCount : NodeView → (n : ℕ) → ClientInNumbers → Type 0
-IsClientInCount node n counts = (plan : Plan) (first : BaysView) (taken : InputBytes) (now : BaysView) (inputs : Inputs) (x : Connection) → StandsAt plan first taken node now
+IsClientInCount node n counts = (plan : Plan) (first : BaysView) (taken : InputBytes) (now : BaysView) (inputs : Inputs)
+    (x : Connection) → StandsAt plan first taken node now
     → MayGive plan taken node inputs → Contains plan.connections x → x.from ≡ from_end.Client n
     → counts ≡ client_numbers_by x (inputs.client n) (emitted_by x node.past (done_at node (port.ClientIn n)))
 
 -- these are the numbers of client output n: those of the receiver of the connection that goes to it
 abbrev pub IsClientOutCount : NodeView → (n : ℕ) → ClientOutNumbers → Type 0
-IsClientOutCount node n counts = (plan : Plan) (first : BaysView) (taken : InputBytes) (now : BaysView) (i : ℕ) (x : Connection) (link : Link) → StandsAt plan first taken node now
-    → slice_get plan.connections i ≡ Some x → HasLink node i link → x.to ≡ to_end.Client n → IsReceived link.pipe.giving (counts.frames, counts.packets)
+IsClientOutCount node n counts = (plan : Plan) (first : BaysView) (taken : InputBytes) (now : BaysView) (i : ℕ)
+    (x : Connection) (link : Link) → StandsAt plan first taken node now
+    → slice_get plan.connections i ≡ Some x → HasLink node i link → x.to ≡ to_end.Client n
+    → IsReceived link.pipe.giving (counts.frames, counts.packets)
 
 -- this is what the from end of connection i was after the last turn that is done, at whatever moment the node stands
 abbrev pub IsLastState : NodeView → (i : ℕ) → Option FromState → Type 0
-IsLastState node i state = (plan : Plan) (first : BaysView) (taken : InputBytes) (now : BaysView) (inputs : Inputs) (x : Connection) → StandsAt plan first taken node now
-    → MayGive plan taken node inputs → slice_get plan.connections i ≡ Some x → state ≡ state_after_turn node.past x (own_input inputs x)
+IsLastState node i state = (plan : Plan) (first : BaysView) (taken : InputBytes) (now : BaysView) (inputs : Inputs)
+    (x : Connection) → StandsAt plan first taken node now
+    → MayGive plan taken node inputs → slice_get plan.connections i ≡ Some x
+    → state ≡ state_after_turn node.past x (own_input inputs x)
 
 -- the numbers that a node of a plan tells, at any moment
 pub record ToldBy (plan : Plan) (node : NodeView) (numbers : Numbers) : Type 0 where

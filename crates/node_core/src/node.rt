@@ -10,7 +10,8 @@ ghost use Rattle.otn_ports.specs.Views.{BaysView};
 ghost use Rattle.plan_file.specs.Answer.{fault_in};
 ghost use Rattle.plan_file.specs.declared.plan.Plan.{Plan};
 ghost use Rattle.node_links.specs.Retiring.{RetiredBy};
-ghost use Rattle.node_moments.specs.NodeMoves.{LineInMove, LineOutMove, ClientInMove, ClientOutMove, FenceMove};
+ghost use Rattle.node_moments.specs.NodeMoves.{FenceMove};
+ghost use Rattle.node_moments.specs.Steps.NodeMoves.{LineInMove, LineOutMove, ClientInMove, ClientOutMove};
 ghost use Rattle.device_model.specs.Moments.{over_ports, pieces_of};
 ghost use Rattle.node_moments.specs.NodeView.{NodeView, is_ready, left_of, ready_number};
 ghost use Rattle.turn_pieces.specs.Pieces.{open_count, IsNth, IsCounted};
@@ -55,8 +56,8 @@ impl Model for Node {
 }
 
 impl Node {
-    /// A node before turn 1 of an accepted plan, whose connections of turn 1 have started. Takes all memory of the run; answers
-    /// `Memory` where there is none.
+    /// A node before turn 1 of an accepted plan, whose connections of turn 1 have started. Takes all memory of the run;
+    /// answers `Memory` where there is none.
     pub fn build(alloc: Global, plan: &Plan) -> Result<Node, Memory>
         requires accepted { fault_in plan.now ≡ None }
         ensures stands { IfOk result (λ node. (first : BaysView) → StandsAt plan.now first no_bytes node first) }
@@ -121,12 +122,14 @@ impl Node {
         self.pieces.nth_open(i)
     }
 
-    /// One piece of a port that is ready: a frame of a line (and the lead-in before it, in a hunt), or what a client brings or gets in the turn.
+    /// One piece of a port that is ready: a frame of a line (and the lead-in before it, in a hunt), or what a client
+    /// brings or gets in the turn.
     pub fn step<P: Source, K: Sink>(&mut self, port: PortName, bays: &mut Rack<P, K>)
         requires ready { is_ready self.old port ≡ true }
 
         // from any moment of any accepted plan this leads to the moment with one piece more of this port
-        ensures stands { (plan : Plan) (first : BaysView) (taken : InputBytes) → StandsAt plan first taken self.old (bays_view P.Source K.Sink bays.old)
+        ensures stands { (plan : Plan) (first : BaysView) (taken : InputBytes)
+            → StandsAt plan first taken self.old (bays_view P.Source K.Sink bays.old)
             → Later plan first taken self.old self.new (bays_view P.Source K.Sink bays.new) }
         ensures piece { IsCounted port self.old.pieces self.new.pieces }
         ensures turns { self.new.turns ≡ self.old.turns }
@@ -189,16 +192,19 @@ impl Node {
         give_client(n, self.past, &mut self.links, place);
     }
 
-    /// Ends the turn, no port being ready: client places are retired where their connection stops and says so, connections hand on what came, and those whose first turn is next start.
+    /// Ends the turn, no port being ready: client places are retired where their connection stops and says so,
+    /// connections hand on what came, and those whose first turn is next start.
     pub fn fence<P: Source, K: Sink>(&mut self, bays: &mut Rack<P, K>)
         requires going { self.old.past < self.old.turns }
         requires none { (port : PortName) → is_ready self.old port ≡ false }
 
         // from any moment of any accepted plan this leads to the next turn, of which no piece is done
-        ensures stands { (plan : Plan) (first : BaysView) (taken : InputBytes) → StandsAt plan first taken self.old (bays_view P.Source K.Sink bays.old)
+        ensures stands { (plan : Plan) (first : BaysView) (taken : InputBytes)
+            → StandsAt plan first taken self.old (bays_view P.Source K.Sink bays.old)
             → Later plan first taken self.old self.new (bays_view P.Source K.Sink bays.new) }
         ensures ends { FenceMove self.old self.new }
-        ensures retired { RetiredBy self.old.past self.old.links (bays_view P.Source K.Sink bays.old) (bays_view P.Source K.Sink bays.new) }
+        ensures retired { RetiredBy self.old.past self.old.links (bays_view P.Source K.Sink bays.old)
+            (bays_view P.Source K.Sink bays.new) }
     {
         retire_all(&self.links, self.past, bays);
         self.next_turn();

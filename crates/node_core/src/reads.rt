@@ -1,7 +1,7 @@
 // What a node tells of its ports and its connections.
 ghost use Rattle.std.specs.Prelude.{◌≡◌, ◌<◌, ℕ, Some, None, true, false, length, slice_get, is_some};
 ghost use Rattle.otn_base.specs.declared.limits.TheConstants.{LINES};
-ghost use Rattle.node_links.specs.LinkMoves.{FirstOf};
+ghost use Rattle.node_links.specs.Steps.LinkMoves.{FirstOf};
 ghost use Rattle.node_links.specs.Links.{was_on};
 ghost use Rattle.node_links.specs.Moves.{has_client_in, has_client_out};
 ghost use Rattle.node_moments.specs.NodeView.{HasLink};
@@ -30,8 +30,8 @@ impl Node {
         self.lines_out[n as usize].frames()
     }
 
-    /// Of client input `n`: how many packets were begun so far, whether it is spent, and the number of its bad line, once that is seen.
-    /// An accepted plan has one connection from it, or none.
+    /// Of client input `n`: how many packets were begun so far, whether it is spent, and the number of its bad line,
+    /// once that is seen. An accepted plan has one connection from it, or none.
     pub fn client_in(&self, n: u8) -> (u64, bool, Option<u64>)
         ensures { IsClientInCount self.now n (record { packets = result.0; spent = result.1; bad = result.2 }) }
     {
@@ -41,8 +41,8 @@ impl Node {
         }
     }
 
-    /// Of client output `n`: how many whole frames were handed on, and how many packets delivered and counted. An accepted plan has one
-    /// connection to it, or none.
+    /// Of client output `n`: how many whole frames were handed on, and how many packets delivered and counted. An
+    /// accepted plan has one connection to it, or none.
     pub fn client_out(&self, n: u8) -> (u64, u64)
         ensures { IsClientOutCount self.now n (record { frames = result.0; packets = result.1 }) }
     {
@@ -52,8 +52,8 @@ impl Node {
         }
     }
 
-    /// What connection `i` of the plan, from 0, comes from is after the last turn that is done; nothing where the connection was not
-    /// active in that.
+    /// What connection `i` of the plan, from 0, comes from is after the last turn that is done; nothing where the
+    /// connection was not active in that.
     pub fn connection_state(&self, i: u32) -> Option<FromState>
         requires { i < length self.now.links }
         ensures state { IsLastState self.now i result }

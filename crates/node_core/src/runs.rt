@@ -12,14 +12,15 @@ ghost use Rattle.node_moments.specs.NodeView.{left_of};
 use crate::{Node, RunNumbers};
 use otn_ports::{Chooser, Rack, Sink, Source};
 
-/// Steps the ready port that the chooser says, its answer taken modulo their number, while one is ready; then ends the turn; until
-/// the node is finished.
+/// Steps the ready port that the chooser says, its answer taken modulo their number, while one is ready; then ends the
+/// turn; until the node is finished.
 pub fn carry<P: Source, K: Sink, C: Chooser>(
     node: &mut Node,
     bays: &mut Rack<P, K>,
     chooser: &mut C,
 )
-    ensures stands { (plan : Plan) (first : BaysView) (taken : InputBytes) → StandsAt plan first taken node.old (bays_view P.Source K.Sink bays.old)
+    ensures stands { (plan : Plan) (first : BaysView) (taken : InputBytes)
+        → StandsAt plan first taken node.old (bays_view P.Source K.Sink bays.old)
         → Later plan first taken node.old node.new (bays_view P.Source K.Sink bays.new) }
     ensures finished { node.new.turns ≤ node.new.past }
     ensures turns { node.new.turns ≡ node.old.turns }
@@ -42,8 +43,10 @@ pub fn carry_node<C: Chooser, I: Source, O: Sink>(
     bays: &mut Rack<I, O>,
     chooser: &mut C,
 ) -> RunNumbers
-    ensures left { (plan : Plan) (first : BaysView) → StandsAt plan first no_bytes node.old (bays_view I.Source O.Sink bays.old)
-        → (takings : Takings) × RunLeft plan first (bays_view I.Source O.Sink bays.new) takings (numbers_of_run result) }
+    ensures left { (plan : Plan) (first : BaysView)
+        → StandsAt plan first no_bytes node.old (bays_view I.Source O.Sink bays.old)
+        → (takings : Takings) × RunLeft plan first (bays_view I.Source O.Sink bays.new) takings
+        (numbers_of_run result) }
     ensures asked { C.asked chooser.new ≡ raised (C.asked chooser.old) (left_of node.old) }
 {
     carry(node, bays, chooser);

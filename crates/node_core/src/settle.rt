@@ -7,9 +7,10 @@ ghost use Rattle.otn_ports.specs.Racks.{bays_view};
 ghost use Rattle.otn_ports.specs.Views.{BaysView};
 ghost use Rattle.plan_file.specs.declared.plan.Plan.{Plan};
 ghost use Rattle.device_model.specs.Outcomes.{place_state};
-ghost use Rattle.cross_matrix.specs.Receiving.{is_dead};
+ghost use Rattle.cross_matrix.specs.Steps.Receiving.{is_dead};
 ghost use Rattle.otn_ports.specs.Asked.{ByteAnswer};
-ghost use Rattle.node_core.specs.Asking.{LinesAsked, LinesAnswer, CutAnswer, OpenAnswer, OpensAnswer, asks_line, is_cut, outcome_by};
+ghost use Rattle.node_core.specs.Asking.{LinesAsked, asks_line};
+ghost use Rattle.node_core.specs.Steps.Asking.{LinesAnswer, CutAnswer, OpenAnswer, OpensAnswer, is_cut, outcome_by};
 ghost use Rattle.turn_pieces.specs.Ports.{index_of, port_count};
 ghost use Rattle.node_core.specs.Settling.{Settled};
 ghost use Rattle.node_moments.specs.Stands.{InputBytes, StandsAt};
@@ -24,16 +25,18 @@ use otn_ports::{InPlaceOf, OutPlaceOf, Rack, Sink, Source, ask_byte};
 use turn_pieces::{PORTS, Pieces, port_at};
 
 impl Node {
-    /// Asks each input line that is used, and whose end was not seen, for one byte more, in the order of the lines, and says how
-    /// the run ended: Cut where a place that is used is dead; else Unfinished where such a byte came, or a client that is used
-    /// is not spent; else Done. The node is past its last turn.
+    /// Asks each input line that is used, and whose end was not seen, for one byte more, in the order of the lines, and
+    /// says how the run ended: Cut where a place that is used is dead; else Unfinished where such a byte came, or a
+    /// client that is used is not spent; else Done. The node is past its last turn.
     pub fn settle<P: Source, K: Sink>(&self, bays: &mut Rack<P, K>) -> Outcome
         requires finished { self.now.turns ≤ self.now.past }
 
         // whatever plan it is of, and whatever was taken of the inputs, this settles it
-        ensures settled { (plan : Plan) (first : BaysView) (taken : InputBytes) → StandsAt plan first taken self.now (bays_view P.Source K.Sink bays.old)
+        ensures settled { (plan : Plan) (first : BaysView) (taken : InputBytes)
+            → StandsAt plan first taken self.now (bays_view P.Source K.Sink bays.old)
             → Settled plan first taken self.now (bays_view P.Source K.Sink bays.new) result }
-        ensures asked { LinesAsked LINE_PORTS self.now.pieces self.now.lines_in (bays_view P.Source K.Sink bays.old) (bays_view P.Source K.Sink bays.new) }
+        ensures asked { LinesAsked LINE_PORTS self.now.pieces self.now.lines_in (bays_view P.Source K.Sink bays.old)
+            (bays_view P.Source K.Sink bays.new) }
     {
         let more = ask_lines(&self.lines_in, &self.pieces, bays);
         let dead = has_dead(&self.pieces, bays);
@@ -45,7 +48,8 @@ impl Node {
 // Asks each line for one byte, where it is to be asked, and says whether one came.
 fn ask_lines<P: Source, K: Sink>(lines: &[LineIn], pieces: &Pieces, bays: &mut Rack<P, K>) -> bool
     requires four { length lines.now ≡ LINE_PORTS }
-    ensures { LinesAnswer LINE_PORTS pieces.now lines.now (bays_view P.Source K.Sink bays.old) (bays_view P.Source K.Sink bays.new) result }
+    ensures { LinesAnswer LINE_PORTS pieces.now lines.now (bays_view P.Source K.Sink bays.old)
+        (bays_view P.Source K.Sink bays.new) result }
 {
     let mut more = false;
     for a in 0..LINES as u8 {

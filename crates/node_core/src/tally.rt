@@ -20,9 +20,12 @@ impl Node {
         ensures told { (plan : Plan) → ToldBy plan self.now (numbers_of_run result) }
         ensures outcome { (numbers_of_run result).outcome ≡ outcome }
 
-        // a node past its last turn that was settled with this outcome leaves what a run of its plan leaves, with these numbers
-        ensures left { (plan : Plan) (first was last : BaysView) (taken : InputBytes) → StandsAt plan first taken self.now was → self.now.turns ≤ self.now.past
-            → Settled plan first taken self.now last outcome → LinesAsked LINE_PORTS self.now.pieces self.now.lines_in was last
+        // a node past its last turn that was settled with this outcome leaves what a run of its plan leaves, with these
+        // numbers
+        ensures left { (plan : Plan) (first was last : BaysView) (taken : InputBytes)
+            → StandsAt plan first taken self.now was → self.now.turns ≤ self.now.past
+            → Settled plan first taken self.now last outcome
+            → LinesAsked LINE_PORTS self.now.pieces self.now.lines_in was last
             → (takings : Takings) × RunLeft plan first last takings (numbers_of_run result) }
     {
         prove_eq!(self.lines_in.len(), LINES);
@@ -72,7 +75,8 @@ impl Node {
     }
 
     fn clients_in_told(&self) -> [ClientInCounts; CLIENTS]
-        ensures { (n : ℕ) → n < CLIENT_PORTS → IsClientInCount self.now n (client_in_numbers (get_or result n no_client_in)) }
+        ensures { (n : ℕ) → n < CLIENT_PORTS
+            → IsClientInCount self.now n (client_in_numbers (get_or result n no_client_in)) }
     {
         let none = ClientInCounts {
             packets: 0,
@@ -98,7 +102,8 @@ impl Node {
     }
 
     fn clients_out_told(&self) -> [ClientOutCounts; CLIENTS]
-        ensures { (n : ℕ) → n < CLIENT_PORTS → IsClientOutCount self.now n (client_out_numbers (get_or result n no_client_out)) }
+        ensures { (n : ℕ) → n < CLIENT_PORTS
+            → IsClientOutCount self.now n (client_out_numbers (get_or result n no_client_out)) }
     {
         let none = ClientOutCounts {
             frames: 0,
@@ -119,7 +124,8 @@ impl Node {
     }
 
     fn states_told(&self) -> [Option<FromState>; MOST_CONNECTIONS]
-        ensures { (i : ℕ) → i < length self.now.links → i < CONNECTIONS → IsLastState self.now i (get_or result i None) }
+        ensures { (i : ℕ) → i < length self.now.links → i < CONNECTIONS
+            → IsLastState self.now i (get_or result i None) }
     {
         let mut told = [None; MOST_CONNECTIONS];
         let count = self.links.len().min(MOST_CONNECTIONS);

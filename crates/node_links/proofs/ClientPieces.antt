@@ -6,7 +6,7 @@ use Rattle.std.proofs.lemmas.Option.{same_Some, slice_get_within}
 use Rattle.otn_ports.specs.Views.{InView, OutView}
 use Rattle.device_model.specs.Entries.{own_turn}
 use Rattle.cross_matrix.specs.Parts.{ClientOutStands}
-use Rattle.node_links.specs.LinkMoves.{FirstOf, TookText, GaveText}
+use Rattle.node_links.specs.Steps.LinkMoves.{FirstOf, TookText, GaveText}
 use Rattle.node_links.specs.Links.{is_on}
 use Rattle.node_links.specs.Moves.{EachLink, TakesClient, GivesClient, takes_client, gives_client, is_from_client}
 use Rattle.node_links.specs.declared.link.Link.{Link}

@@ -14,7 +14,8 @@ use Rattle.otn_ports.specs.declared.sink.Sink as sink
 use Rattle.otn_ports.specs.declared.source.Source as source
 use Rattle.otn_ports.proofs.BaysLaws.{client_in_seen, client_in_set, only_client_in, client_out_seen, client_out_set, only_client_out}
 use Rattle.node_links.specs.Moves.{is_from_client, is_to_client}
-use Rattle.node_links.specs.Retiring.{RetiredBy, ends_here, retires_in, retires_out, RetiredAt}
+use Rattle.node_links.specs.Retiring.{RetiredBy, ends_here, retires_in, retires_out}
+use Rattle.node_links.specs.Steps.Retiring.{RetiredAt}
 use Rattle.device_model.specs.RetiredPlaces.{after_retire, out_after_retire}
 use Rattle.node_links.specs.declared.link.Link.{Link}
 use Rattle.node_links.specs.declared.link.Origin.{Origin}

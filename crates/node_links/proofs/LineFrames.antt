@@ -27,7 +27,7 @@ use Rattle.device_model.specs.SoundPlans.{IsSoundPlan, IsSender}
 use Rattle.device_model.specs.Through.{Inputs, own_input, got_by}
 use Rattle.device_model.proofs.SoundPlans.{sound_plan}
 use Rattle.node_links.specs.Links.{IsLinkOf, target_of}
-use Rattle.node_links.specs.LineFrames.{PutsOwn, AllotsOwn, FromBlank}
+use Rattle.node_links.specs.Steps.LineFrames.{PutsOwn, AllotsOwn, FromBlank}
 use Rattle.node_links.specs.Moves.{FillLine, gives_line}
 use Rattle.node_links.specs.declared.link.Link.{Link}
 use Rattle.node_links.proofs.LinkSteps.{after_all}

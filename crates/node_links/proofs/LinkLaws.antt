@@ -17,7 +17,7 @@ use Rattle.cross_matrix.specs.declared.taking.TakingPart.{TakingPart}
 use Rattle.cross_matrix.specs.declared.taking.TakingPart.TheVariants as taking
 use Rattle.cross_matrix.specs.declared.giving.GivingPart.{GivingPart}
 use Rattle.cross_matrix.specs.declared.giving.GivingPart.TheVariants as giving
-use Rattle.node_links.specs.LinkMoves.{TookText, EndsFrames}
+use Rattle.node_links.specs.Steps.LinkMoves.{TookText, EndsFrames}
 use Rattle.node_links.specs.declared.link.Origin.{Origin}
 use Rattle.node_links.specs.declared.link.Origin.TheVariants as origin
 use Rattle.node_links.specs.Links.{IsLinkOf, SameEntry, is_on}

@@ -1,7 +1,7 @@
 -- Connections one by one: what each does to a list, and what becomes of each.
 use Rattle.std.proofs.Common.{◌≡◌, ◌⊎◌, inl, inr, ◌<◌, ◌≤◌, ◌+◌, ℕ, zero, suc, List, [], ◌∷◌, ◌++◌, Some, length, slice_get, get_or, set, take, drop, refl, sym, ap, ◌∙◌, subst, arith, add-one, drop-cons}
 use Rattle.std.proofs.lemmas.Option.{same_Some, slice_get_within, slice_get-get_or}
-use Rattle.node_links.specs.LineFrames.{LinkByLink}
+use Rattle.node_links.specs.Steps.LineFrames.{LinkByLink}
 use Rattle.node_links.specs.Moves.{EachLink}
 use Rattle.node_links.specs.declared.link.Link.{Link}
 

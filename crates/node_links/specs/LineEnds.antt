@@ -1,4 +1,4 @@
--- The input lines of a node at the end of a turn.
+-- API: the input lines of a node at the end of a turn.
 use Rattle.std.specs.Prelude.{◌≡◌, ℕ, Bool, true, false, List, nat_lt, length, slice_get, get_or, Some}
 use Rattle.otn_base.specs.declared.kind.PortName.TheVariants as port
 use Rattle.otn_base.specs.declared.limits.TheConstants.{LINES}
@@ -14,4 +14,5 @@ ends_if false old new whole = (new ≡ old) × (whole ≡ false)
 -- the turn of each line that is used ends, and this says whether it has a multiframe
 pub record LinesEnd (pieces : PiecesView) (olds news : List LineView) (wholes : List Bool) : Type 0 where
   pub size : length wholes ≡ LINES
-  pub each : (a : ℕ) (old new : LineView) → slice_get olds a ≡ Some old → slice_get news a ≡ Some new → ends_if (nat_lt 0 (wanted_of pieces (port.LineIn a))) old new (get_or wholes a false)
+  pub each : (a : ℕ) (old new : LineView) → slice_get olds a ≡ Some old → slice_get news a ≡ Some new
+      → ends_if (nat_lt 0 (wanted_of pieces (port.LineIn a))) old new (get_or wholes a false)

@@ -1,4 +1,4 @@
--- A connection at the end of a turn: it ends the turn, and begins where the next one is its first.
+-- API: a connection at the end of a turn: it ends the turn, and begins where the next one is its first.
 use Rattle.std.specs.Prelude.{◌≡◌, ◌≢◌, ◌+◌, ℕ, Bool, false, List, [], get_or}
 use Rattle.otn_ports.specs.Views.{InView, OutView}
 use Rattle.plan_file.specs.declared.connection.Connection.{Connection}
@@ -17,9 +17,12 @@ use Rattle.node_links.specs.declared.link.Origin.TheVariants as origin
 pub record Starts (past : ℕ) (old new : Link) : Type 0 where
   pub same : SameEntry old new
   pub other : old.start ≢ past + 1 → new ≡ old
-  pub stands : old.start ≡ past + 1 → (x : Connection) (input : OwnInput) → IsLinkOf x old → IsInputOf x.from input → PipeStands x input 0 [] false 0 new.pipe
-  pub client_in : old.start ≡ past + 1 → (x : Connection) (n : ℕ) (first : InView) → IsLinkOf x old → x.from ≡ from_end.Client n → ClientInStands x first first [] 0 new.pipe.taking
-  pub client_out : old.start ≡ past + 1 → (x : Connection) (n : ℕ) (input : OwnInput) (first : OutView) → IsLinkOf x old → x.to ≡ to_end.Client n
+  pub stands : old.start ≡ past + 1 → (x : Connection) (input : OwnInput) → IsLinkOf x old → IsInputOf x.from input
+      → PipeStands x input 0 [] false 0 new.pipe
+  pub client_in : old.start ≡ past + 1 → (x : Connection) (n : ℕ) (first : InView) → IsLinkOf x old
+      → x.from ≡ from_end.Client n → ClientInStands x first first [] 0 new.pipe.taking
+  pub client_out : old.start ≡ past + 1 → (x : Connection) (n : ℕ) (input : OwnInput) (first : OutView) → IsLinkOf x old
+      → x.to ≡ to_end.Client n
       → ClientOutStands x input first first 0 new.pipe.giving
 
 -- whether the line that a connection comes from has a multiframe in the turn

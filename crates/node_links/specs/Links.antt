@@ -1,4 +1,4 @@
--- The connections of a node: for each, which ports it joins and in which turns, and its pipe.
+-- API: the connections of a node: for each, which ports it joins and in which turns, and its pipe.
 use Rattle.std.specs.Prelude.{◌≡◌, ◌+◌, ◌≤◌, ℕ, Bool, ◌&&◌, nat_le, nat_lt}
 use Rattle.plan_file.specs.declared.connection.Connection.{Connection}
 use Rattle.plan_file.specs.declared.connection.FromEnd.{FromEnd}

@@ -1,4 +1,4 @@
--- What a piece of a port, and the end of a turn, do to the parts of a node and to the port's place.
+-- API: what a piece of a port, and the end of a turn, do to the parts of a node and to the port's place.
 use Rattle.std.specs.Prelude.{◌≡◌, ◌<◌, ◌+◌, ◌*◌, ◌%◌, ℕ, suc, Bool, true, false, ◌&&◌, ◌==◌, List, [], ◌∷◌, ◌++◌, Some, length, slice_get, is_some, Option}
 use Rattle.otn_base.specs.LineSlots.{LineSlots, slots_of}
 use Rattle.otn_ports.specs.Views.{InView, OutView}
@@ -78,17 +78,21 @@ pub record TookFrame (takes : Bool) (frame : Taken) (old new : Link) : Type 0 wh
   pub same : SameEntry old new
   pub other : takes ≡ false → new ≡ old
   pub giving : new.pipe.giving ≡ old.pipe.giving
-  pub took : takes ≡ true → (x : Connection) (a number : ℕ) (slots : LineSlots) (input : OwnInput) (j filled : ℕ) (frames : List Taken) → x.from ≡ from_end.Line a number slots
-      → length frames < slots_of slots.kind → PipeStands x input j frames false filled old.pipe → PipeStands x input j (frames ++ frame ∷ []) false filled new.pipe
+  pub took : takes ≡ true → (x : Connection) (a number : ℕ) (slots : LineSlots) (input : OwnInput) (j filled : ℕ)
+      (frames : List Taken) → x.from ≡ from_end.Line a number slots
+      → length frames < slots_of slots.kind → PipeStands x input j frames false filled old.pipe
+      → PipeStands x input j (frames ++ frame ∷ []) false filled new.pipe
 
 -- line a does a piece: where that came to a frame, the frame goes to each connection that takes from the line
-pub record ReadsLine (past a : ℕ) (old : LineView) (was : InView) (links : List Link) (new : LineView) (is : InView) (next : List Link) : Type 0 where
+pub record ReadsLine (past a : ℕ) (old : LineView) (was : InView) (links : List Link) (new : LineView) (is : InView)
+    (next : List Link) : Type 0 where
   pub stands : AsStood was old (λ form first taken t. PieceStands form first is taken t old new)
   pub pieces : new.pieces ≡ old.pieces + 1
   pub kind : new.kind ≡ old.kind
   pub expected : ℕ
   pub expects : new.has_frame ≡ true → OfMember new (λ given member. expected ≡ member.expected)
-  pub took : EachLink (λ link then. TookFrame (new.has_frame && takes_line past a link) (record { frame = new.reader.hand; expected = expected }) link then) links next
+  pub took : EachLink (λ link then. TookFrame (new.has_frame && takes_line past a link)
+      (record { frame = new.reader.hand; expected = expected }) link then) links next
 
 -- ---- a piece of an output line
 
@@ -97,19 +101,25 @@ pub record GaveFrame (gives : Bool) (n : ℕ) (old new : Link) : Type 0 where
   pub same : SameEntry old new
   pub other : gives ≡ false → new ≡ old
   pub taking : new.pipe.taking ≡ old.pipe.taking
-  pub gave : gives ≡ true → (x : Connection) (b number : ℕ) (slots : LineSlots) (input : OwnInput) (j : ℕ) (frames : List Taken) (ended : Bool) → x.to ≡ to_end.Line b number slots
-      → n < slots_of slots.kind → PipeStands x input j frames ended n old.pipe → PipeStands x input j frames ended (n + 1) new.pipe
+  pub gave : gives ≡ true → (x : Connection) (b number : ℕ) (slots : LineSlots) (input : OwnInput) (j : ℕ)
+      (frames : List Taken) (ended : Bool) → x.to ≡ to_end.Line b number slots
+      → n < slots_of slots.kind → PipeStands x input j frames ended n old.pipe
+      → PipeStands x input j frames ended (n + 1) new.pipe
 
 -- the connections of an accepted plan, of which the active ones that go to line b have filled n frames of turn past + 1
 pub record FillLine (plan : Plan) (inputs : Inputs) (b past n : ℕ) (links : List Link) : Type 0 where
   pub count : length links ≡ length plan.connections
-  pub of_plan : (i : ℕ) (x : Connection) (link : Link) → slice_get plan.connections i ≡ Some x → slice_get links i ≡ Some link → IsLinkOf x link
-  pub stand : (i number : ℕ) (slots : LineSlots) (x : Connection) (link : Link) → slice_get plan.connections i ≡ Some x → slice_get links i ≡ Some link
+  pub of_plan : (i : ℕ) (x : Connection) (link : Link) → slice_get plan.connections i ≡ Some x
+      → slice_get links i ≡ Some link → IsLinkOf x link
+  pub stand : (i number : ℕ) (slots : LineSlots) (x : Connection) (link : Link) → slice_get plan.connections i ≡ Some x
+      → slice_get links i ≡ Some link
       → x.to ≡ to_end.Line b number slots → IsActive x past
-      → (frames : List Taken) × ((ended : Bool) × PipeStands x (own_input inputs x) (own_turn x past) frames ended n link.pipe)
+      → (frames : List Taken) × ((ended : Bool)
+      × PipeStands x (own_input inputs x) (own_turn x past) frames ended n link.pipe)
 
 -- line b makes frame n of turn past + 1, into which each connection that gives to the line puts its own
-pub record WritesLine (past b n : ℕ) (old : LineOutView) (was : OutView) (links : List Link) (new : LineOutView) (is : OutView) (next : List Link) : Type 0 where
+pub record WritesLine (past b n : ℕ) (old : LineOutView) (was : OutView) (links : List Link) (new : LineOutView)
+    (is : OutView) (next : List Link) : Type 0 where
   pub put : FramePut
   pub made : AsMade b was old (λ form first puts. LineMade b form first is (puts ++ put ∷ []) new)
   pub form : new.form ≡ old.form
@@ -120,22 +130,31 @@ pub record WritesLine (past b n : ℕ) (old : LineOutView) (was : OutView) (link
 
 -- the connection that takes from client n takes what turn past + 1 brings; or none does
 pub record TakesClient (past n : ℕ) (was : InView) (links : List Link) (is : InView) (next : List Link) : Type 0 where
-  pub took : EachLink (λ link then. SameEntry link then × (then.pipe.giving ≡ link.pipe.giving) × (takes_client past n link ≡ false → then ≡ link)) links next
+  pub took : EachLink (λ link then. SameEntry link then × (then.pipe.giving ≡ link.pipe.giving)
+      × (takes_client past n link ≡ false → then ≡ link)) links next
   pub none : ((i : ℕ) (link : Link) → slice_get links i ≡ Some link → takes_client past n link ≡ false) → is ≡ was
-  pub one : (i : ℕ) (link then : Link) → slice_get links i ≡ Some link → slice_get next i ≡ Some then → takes_client past n link ≡ true
+  pub one : (i : ℕ) (link then : Link) → slice_get links i ≡ Some link → slice_get next i ≡ Some then
+      → takes_client past n link ≡ true
       → ((j : ℕ) (other : Link) → slice_get links j ≡ Some other → takes_client past n other ≡ true → j ≡ i)
-      → (x : Connection) (first : InView) (taken : List ℕ) → IsLinkOf x link → ClientInStands x first was taken (own_turn x past) link.pipe.taking
+      → (x : Connection) (first : InView) (taken : List ℕ) → IsLinkOf x link
+      → ClientInStands x first was taken (own_turn x past) link.pipe.taking
       → ClientTook x first is taken (own_turn x past) link.pipe then.pipe
 
 -- the connection that gives to client n gives what turn past + 1 brings it; or none does
 pub record GivesClient (past n : ℕ) (was : OutView) (links : List Link) (is : OutView) (next : List Link) : Type 0 where
-  pub gave : EachLink (λ link then. SameEntry link then × (then.pipe.taking ≡ link.pipe.taking) × (gives_client past n link ≡ false → then ≡ link)
-      × ((x : Connection) (input : OwnInput) (j filled : ℕ) (frames : List Taken) (ended : Bool) → PipeStands x input j frames ended filled link.pipe → PipeStands x input j frames ended filled then.pipe)) links next
+  pub gave : EachLink (λ link then. SameEntry link then × (then.pipe.taking ≡ link.pipe.taking)
+      × (gives_client past n link ≡ false → then ≡ link)
+      × ((x : Connection) (input : OwnInput) (j filled : ℕ) (frames : List Taken) (ended : Bool)
+      → PipeStands x input j frames ended filled link.pipe → PipeStands x input j frames ended filled then.pipe)) links
+      next
   pub none : ((i : ℕ) (link : Link) → slice_get links i ≡ Some link → gives_client past n link ≡ false) → is ≡ was
-  pub one : (i : ℕ) (link then : Link) → slice_get links i ≡ Some link → slice_get next i ≡ Some then → gives_client past n link ≡ true
+  pub one : (i : ℕ) (link then : Link) → slice_get links i ≡ Some link → slice_get next i ≡ Some then
+      → gives_client past n link ≡ true
       → ((j : ℕ) (other : Link) → slice_get links j ≡ Some other → gives_client past n other ≡ true → j ≡ i)
-      → (x : Connection) (input : OwnInput) (first : OutView) (filled : ℕ) (frames : List Taken) (ended : Bool) → PipeStands x input (own_turn x past) frames ended filled link.pipe
-      → ClientOutStands x input first was (own_turn x past) link.pipe.giving → ClientOutStands x input first is (own_turn x past + 1) then.pipe.giving
+      → (x : Connection) (input : OwnInput) (first : OutView) (filled : ℕ) (frames : List Taken) (ended : Bool)
+      → PipeStands x input (own_turn x past) frames ended filled link.pipe
+      → ClientOutStands x input first was (own_turn x past) link.pipe.giving
+      → ClientOutStands x input first is (own_turn x past + 1) then.pipe.giving
 
 -- ---- the end of a turn
 
@@ -151,12 +170,19 @@ pub record LineEnds (old new : LineView) (whole : Bool) : Type 0 where
 pub record Fences (past : ℕ) (whole : Bool) (old new : Link) : Type 0 where
   pub same : SameEntry old new
   pub other : is_on past old ≡ false → new ≡ old
-  pub line : is_on past old ≡ true → (x : Connection) (a number : ℕ) (slots : LineSlots) (shows : ℕ → Option View) (filled : ℕ) (frames : List Taken) → IsLinkOf x old
-      → x.from ≡ from_end.Line a number slots → (whole ≡ true → length frames ≡ slots_of slots.kind) → ended_view (tributary_of slots number) whole frames ≡ shows past
-      → PipeStands x (of_line shows) (own_turn x past) frames false filled old.pipe → PipeStands x (of_line shows) (suc (own_turn x past)) [] false 0 new.pipe
-  pub client : is_on past old ≡ true → (x : Connection) (n filled : ℕ) (input : OwnInput) → IsLinkOf x old → x.from ≡ from_end.Client n
-      → PipeStands x input (own_turn x past) [] true filled old.pipe → PipeStands x input (suc (own_turn x past)) [] false 0 new.pipe
+  pub line : is_on past old ≡ true → (x : Connection) (a number : ℕ) (slots : LineSlots) (shows : ℕ → Option View)
+      (filled : ℕ) (frames : List Taken) → IsLinkOf x old
+      → x.from ≡ from_end.Line a number slots → (whole ≡ true → length frames ≡ slots_of slots.kind)
+      → ended_view (tributary_of slots number) whole frames ≡ shows past
+      → PipeStands x (of_line shows) (own_turn x past) frames false filled old.pipe
+      → PipeStands x (of_line shows) (suc (own_turn x past)) [] false 0 new.pipe
+  pub client : is_on past old ≡ true → (x : Connection) (n filled : ℕ) (input : OwnInput) → IsLinkOf x old
+      → x.from ≡ from_end.Client n
+      → PipeStands x input (own_turn x past) [] true filled old.pipe
+      → PipeStands x input (suc (own_turn x past)) [] false 0 new.pipe
   pub text : (x : Connection) (n : ℕ) → IsLinkOf x old → x.from ≡ from_end.Client n → new.pipe.taking ≡ old.pipe.taking
-  pub signal : is_on past old ≡ true → (x : Connection) (signal : Signal) (filled : ℕ) (input : OwnInput) → IsLinkOf x old → x.from ≡ from_end.Signal signal
-      → PipeStands x input (own_turn x past) [] false filled old.pipe → PipeStands x input (suc (own_turn x past)) [] false 0 new.pipe
+  pub signal : is_on past old ≡ true → (x : Connection) (signal : Signal) (filled : ℕ) (input : OwnInput)
+      → IsLinkOf x old → x.from ≡ from_end.Signal signal
+      → PipeStands x input (own_turn x past) [] false filled old.pipe
+      → PipeStands x input (suc (own_turn x past)) [] false 0 new.pipe
   pub receiver : (x : Connection) (n : ℕ) → IsLinkOf x old → x.to ≡ to_end.Client n → new.pipe.giving ≡ old.pipe.giving

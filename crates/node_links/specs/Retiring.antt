@@ -1,16 +1,9 @@
--- Client places that are emptied, one connection after the other.
-use Rattle.std.specs.Prelude.{◌≡◌, ◌+◌, ◌==◌, ◌&&◌, ◌||◌, ℕ, Bool, false, List, [], ◌∷◌}
+-- API: client places that are emptied, one connection after the other.
+use Rattle.std.specs.Prelude.{◌≡◌, ◌+◌, ◌==◌, ◌&&◌, ◌||◌, ℕ, Bool, false, List, ◌∷◌}
 use Rattle.otn_ports.specs.Views.{BaysView, client_in_at, client_out_at}
 use Rattle.device_model.specs.RetiredPlaces.{after_retire, out_after_retire}
 use Rattle.node_links.specs.Moves.{is_from_client, is_to_client}
 use Rattle.node_links.specs.declared.link.Link.{Link}
-
--- these client places were emptied, where they were live, and all others are as they were
-pub record RetiredAt (ins outs : ℕ → Bool) (was is : BaysView) : Type 0 where
-  pub line_in : is.line_in ≡ was.line_in
-  pub line_out : is.line_out ≡ was.line_out
-  pub client_in : (n : ℕ) → client_in_at is n ≡ after_retire (ins n) (client_in_at was n)
-  pub client_out : (n : ℕ) → client_out_at is n ≡ out_after_retire (outs n) (client_out_at was n)
 
 -- some connection that stops in turn past + 1, and retires, comes from client n, or goes to client n
 abbrev pub ends_here : (past : ℕ) → Link → Bool

@@ -3,14 +3,16 @@ ghost use Rattle.std.specs.Prelude.{◌≡◌, ◌<◌, ℕ, Some, None, true, f
 ghost use Rattle.otn_ports.specs.InPlace.{in_view};
 ghost use Rattle.otn_ports.specs.OutPlace.{out_view};
 ghost use Rattle.node_links.specs.Moves.{TakesClient, GivesClient, takes_client, gives_client};
-ghost use Rattle.node_links.specs.LinkMoves.{FirstOf};
+ghost use Rattle.node_links.specs.Steps.LinkMoves.{FirstOf};
 
 use crate::link::Link;
 use otn_ports::{InPlaceOf, OutPlaceOf, Sink, Source};
 
-/// One piece of client input `n` in turn past + 1: the active connection from it, where there is one, takes what the turn brings.
+/// One piece of client input `n` in turn past + 1: the active connection from it, where there is one, takes what the
+/// turn brings.
 pub fn take_client<P: Source>(n: u8, past: u32, links: &mut Vec<Link>, place: &mut InPlaceOf<P>)
-    ensures { TakesClient past n (in_view P.Source place.old) links.old.items (in_view P.Source place.new) links.new.items }
+    ensures { TakesClient past n (in_view P.Source place.old) links.old.items
+        (in_view P.Source place.new) links.new.items }
 {
     let i = match taker(n, past, links) {
         Some(i) => i,
@@ -19,9 +21,11 @@ pub fn take_client<P: Source>(n: u8, past: u32, links: &mut Vec<Link>, place: &m
     links[i].take_client(past, place);
 }
 
-/// One piece of client output `n` in turn past + 1: the active connection to it, where there is one, gives what the turn brings.
+/// One piece of client output `n` in turn past + 1: the active connection to it, where there is one, gives what the
+/// turn brings.
 pub fn give_client<K: Sink>(n: u8, past: u32, links: &mut Vec<Link>, place: &mut OutPlaceOf<K>)
-    ensures { GivesClient past n (out_view K.Sink place.old) links.old.items (out_view K.Sink place.new) links.new.items }
+    ensures { GivesClient past n (out_view K.Sink place.old) links.old.items
+        (out_view K.Sink place.new) links.new.items }
 {
     let i = match giver(n, past, links) {
         Some(i) => i,

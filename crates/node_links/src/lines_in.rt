@@ -11,8 +11,8 @@ use odtu_columns::{SlotFrame, SplitFrame, TakeFrame};
 use otn_base::limits::LINE_COLUMNS;
 use otn_ports::{InPlaceOf, Source};
 
-/// One piece of line input `a` in turn past + 1: where it comes to a frame of the turn's multiframe, each active connection from the
-/// line takes it. What `slots` holds is of no account, before and behind the call.
+/// One piece of line input `a` in turn past + 1: where it comes to a frame of the turn's multiframe, each active
+/// connection from the line takes it. What `slots` holds is of no account, before and behind the call.
 pub fn read_line<P: Source>(
     line: &mut LineIn,
     a: u8,
@@ -22,7 +22,8 @@ pub fn read_line<P: Source>(
     place: &mut InPlaceOf<P>,
 )
     requires pieces { line.old.pieces < slots_of line.old.kind }
-    ensures { ReadsLine past a line.old (in_view P.Source place.old) links.old.items line.new (in_view P.Source place.new) links.new.items }
+    ensures { ReadsLine past a line.old (in_view P.Source place.old) links.old.items line.new
+        (in_view P.Source place.new) links.new.items }
 {
     if !line.piece(place) {
         return;
@@ -39,7 +40,8 @@ fn hand_out(
     links: &mut Vec<Link>,
     slots: &mut SlotFrame,
 )
-    ensures { EachLink (λ link then. TookFrame (takes_line past a link) (record { frame = frame.now; expected = expected }) link then) links.old.items links.new.items }
+    ensures { EachLink (λ link then. TookFrame (takes_line past a link)
+        (record { frame = frame.now; expected = expected }) link then) links.old.items links.new.items }
 {
     if is_by_slots(a, past, links) {
         slots.split(frame);
@@ -49,8 +51,8 @@ fn hand_out(
     hand_each(a, past, frame, expected, links);
 }
 
-// Whether a frame of line input `a` is best split by slots before it is taken in turn past + 1: several connections take of it, and each
-// one slot of an OTU2. What they take is the same.
+// Whether a frame of line input `a` is best split by slots before it is taken in turn past + 1: several connections
+// take of it, and each one slot of an OTU2. What they take is the same.
 fn is_by_slots(a: u8, past: u32, links: &[Link]) -> bool {
     let mut count = 0u32;
     for link in links {
@@ -66,7 +68,8 @@ fn is_by_slots(a: u8, past: u32, links: &[Link]) -> bool {
 
 // Each active connection from line input `a` takes of this frame.
 fn hand_each<F: TakeFrame>(a: u8, past: u32, frame: &F, expected: u8, links: &mut Vec<Link>)
-    ensures { EachLink (λ link then. TookFrame (takes_line past a link) (record { frame = F.bytes frame.now; expected = expected }) link then) links.old.items links.new.items }
+    ensures { EachLink (λ link then. TookFrame (takes_line past a link)
+        (record { frame = F.bytes frame.now; expected = expected }) link then) links.old.items links.new.items }
 {
     for link in links.iter_mut() {
         link.take_frame(a, past, frame, expected);

@@ -4,7 +4,8 @@ ghost use Rattle.otn_base.specs.LineSlots.{LineSlots, slots_of};
 ghost use Rattle.otn_base.specs.declared.limits.TheConstants.{LINE_FRAME_BYTES as FRAME_BYTES};
 ghost use Rattle.otn_ports.specs.OutPlace.{out_view};
 ghost use Rattle.node_links.specs.Links.{is_on};
-ghost use Rattle.node_links.specs.LineFrames.{PutsOwn, AllotsOwn, LinkByLink, FromBlank, FrameWritten};
+ghost use Rattle.node_links.specs.LineFrames.{FrameWritten};
+ghost use Rattle.node_links.specs.Steps.LineFrames.{PutsOwn, AllotsOwn, LinkByLink, FromBlank};
 ghost use Rattle.node_links.specs.Moves.{EachLink, GaveFrame, gives_line};
 
 use crate::link::{Link, Target};
@@ -16,8 +17,8 @@ use otn_base::limits::{LINE_COLUMNS, LINE_FRAME_BYTES};
 use otn_base::{LineKind, Slots};
 use otn_ports::{OutPlaceOf, Sink};
 
-/// One piece of line output `b`: frame `n`, from 0, of turn past + 1, into which each active connection to the line puts its own.
-/// What `slots` holds is of no account, before and behind the call.
+/// One piece of line output `b`: frame `n`, from 0, of turn past + 1, into which each active connection to the line
+/// puts its own. What `slots` holds is of no account, before and behind the call.
 pub fn write_line<K: Sink>(
     line: &mut LineOut,
     b: u8,
@@ -28,7 +29,8 @@ pub fn write_line<K: Sink>(
     place: &mut OutPlaceOf<K>,
 )
     requires frame { n < slots_of line.old.form.kind }
-    ensures { FrameWritten past b n line.old (out_view K.Sink place.old) links.old.items line.new (out_view K.Sink place.new) links.new.items }
+    ensures { FrameWritten past b n line.old (out_view K.Sink place.old) links.old.items line.new
+        (out_view K.Sink place.new) links.new.items }
 {
     let kind = line.kind();
     let map = slot_map(kind, b, past, links);
@@ -37,8 +39,8 @@ pub fn write_line<K: Sink>(
     line.finish(mfas_of(kind, past, n), &map, place);
 }
 
-// Whether a frame of line output `b` is best kept by slots while it is filled in turn past + 1: on an OTU2, to which several
-// connections give, and each has one slot. The frame is the same.
+// Whether a frame of line output `b` is best kept by slots while it is filled in turn past + 1: on an OTU2, to which
+// several connections give, and each has one slot. The frame is the same.
 fn is_by_slots(kind: LineKind, b: u8, past: u32, links: &[Link]) -> bool {
     let mut count = 0u32;
     for link in links {
@@ -68,8 +70,10 @@ fn fill_line(
     slots: &mut SlotFrame,
     line: &mut LineOut,
 )
-    ensures gave { (n : ℕ) → EachLink (λ link then. GaveFrame (gives_line past b link) n link then) links.old.items links.new.items }
-    ensures puts { FromBlank (λ link before now. PutsOwn (gives_line past b link) link before now) links.old.items line.new.frame }
+    ensures gave { (n : ℕ) → EachLink (λ link then. GaveFrame (gives_line past b link) n link then) links.old.items
+        links.new.items }
+    ensures puts { FromBlank (λ link before now. PutsOwn (gives_line past b link) link before now) links.old.items
+        line.new.frame }
     ensures size { length line.new.frame ≡ FRAME_BYTES }
     ensures line { line.new ≡ record line.old { frame = line.new.frame } }
 {
@@ -83,8 +87,10 @@ fn fill_line(
 // The same of a frame that is all 0.
 fn fill_blank(b: u8, past: u32, links: &mut Vec<Link>, frame: &mut Frame<LINE_COLUMNS>)
     requires blank { (place : ℕ) → slice_index frame.old place ≡ 0 }
-    ensures gave { (n : ℕ) → EachLink (λ link then. GaveFrame (gives_line past b link) n link then) links.old.items links.new.items }
-    ensures puts { FromBlank (λ link before now. PutsOwn (gives_line past b link) link before now) links.old.items frame.new }
+    ensures gave { (n : ℕ) → EachLink (λ link then. GaveFrame (gives_line past b link) n link then) links.old.items
+        links.new.items }
+    ensures puts { FromBlank (λ link before now. PutsOwn (gives_line past b link) link before now) links.old.items
+        frame.new }
     ensures size { length frame.new ≡ FRAME_BYTES }
 {
     fill_links(b, past, links, frame);
@@ -99,8 +105,10 @@ fn fill_by_slots(
     slots: &mut SlotFrame,
     frame: &mut Frame<LINE_COLUMNS>,
 )
-    ensures gave { (n : ℕ) → EachLink (λ link then. GaveFrame (gives_line past b link) n link then) links.old.items links.new.items }
-    ensures puts { FromBlank (λ link before now. PutsOwn (gives_line past b link) link before now) links.old.items frame.new }
+    ensures gave { (n : ℕ) → EachLink (λ link then. GaveFrame (gives_line past b link) n link then) links.old.items
+        links.new.items }
+    ensures puts { FromBlank (λ link before now. PutsOwn (gives_line past b link) link before now) links.old.items
+        frame.new }
     ensures size { length frame.new ≡ FRAME_BYTES }
 {
     slots.clear();
@@ -111,8 +119,10 @@ fn fill_by_slots(
 
 // Each active connection to line output `b` puts its own into a frame.
 fn fill_links<F: FillFrame>(b: u8, past: u32, links: &mut Vec<Link>, frame: &mut F)
-    ensures gave { (n : ℕ) → EachLink (λ link then. GaveFrame (gives_line past b link) n link then) links.old.items links.new.items }
-    ensures puts { LinkByLink (λ link before now. PutsOwn (gives_line past b link) link before now) links.old.items (F.bytes frame.old) (F.bytes frame.new) }
+    ensures gave { (n : ℕ) → EachLink (λ link then. GaveFrame (gives_line past b link) n link then) links.old.items
+        links.new.items }
+    ensures puts { LinkByLink (λ link before now. PutsOwn (gives_line past b link) link before now) links.old.items
+        (F.bytes frame.old) (F.bytes frame.new) }
 {
     for link in links.iter_mut() {
         link.fill_frame(b, past, frame);
@@ -122,7 +132,8 @@ fn fill_links<F: FillFrame>(b: u8, past: u32, links: &mut Vec<Link>, frame: &mut
 // The tributary ports of the slots of line output `b`, which is of this kind, in turn past + 1.
 fn slot_map(kind: LineKind, b: u8, past: u32, links: &[Link]) -> SlotMap
     ensures size { length result ≡ slots_of kind }
-    ensures allots { FromBlank (λ link before now. AllotsOwn kind (gives_line past b link) link before now) links.now result }
+    ensures allots { FromBlank (λ link before now. AllotsOwn kind (gives_line past b link) link before now) links.now
+        result }
 {
     let mut map = SlotMap::new(kind);
     for link in links {
@@ -149,7 +160,8 @@ ghost use Rattle.node_links.specs.declared.link.Target.TheVariants as target;
 fn allot(kind: LineKind, to: &Target, map: &mut SlotMap)
     requires kind { length map.old ≡ slots_of kind }
     ensures kind { length map.new ≡ slots_of kind }
-    ensures given { (b number : ℕ) (slots : LineSlots) → to.now ≡ target.Line b number slots → slots.kind ≡ kind → 1 ≤ number → number ≤ slots_of kind
+    ensures given { (b number : ℕ) (slots : LineSlots) → to.now ≡ target.Line b number slots → slots.kind ≡ kind
+        → 1 ≤ number → number ≤ slots_of kind
         → IsGiven slots.list number map.old map.new }
 {
     match to {
@@ -162,7 +174,8 @@ fn allot(kind: LineKind, to: &Target, map: &mut SlotMap)
 fn allot_slots(kind: LineKind, number: u8, slots: &Slots, map: &mut SlotMap)
     requires kind { length map.old ≡ slots_of kind }
     ensures kind { length map.new ≡ slots_of kind }
-    ensures given { slots.now.kind ≡ kind → 1 ≤ number → number ≤ slots_of kind → IsGiven slots.now.list number map.old map.new }
+    ensures given { slots.now.kind ≡ kind → 1 ≤ number → number ≤ slots_of kind
+        → IsGiven slots.now.list number map.old map.new }
 {
     if slots.kind() == kind && 1 <= number && number <= kind.slots() {
         map.free(slots);

@@ -11,10 +11,10 @@ ghost use Rattle.tributary_model.specs.Places.{Taken};
 ghost use Rattle.device_model.specs.Through.{OwnInput, of_client, state_in};
 ghost use Rattle.cross_matrix.specs.Parts.{ClientInStands, MayShow, turns_taken};
 ghost use Rattle.cross_matrix.specs.Pipes.{PipeStands};
-ghost use Rattle.node_links.specs.LineFrames.{PutsOwn};
+ghost use Rattle.node_links.specs.Steps.LineFrames.{PutsOwn};
 ghost use Rattle.node_links.specs.Links.{IsLinkOf, is_later, is_on, was_on, origin_of, target_of};
 ghost use Rattle.node_links.specs.Moves.{TookFrame, GaveFrame, Fences, is_from_line, is_from_client, is_to_line, is_to_client, has_client_in, has_client_out, takes_line, takes_client, gives_line, gives_client};
-ghost use Rattle.node_links.specs.LinkMoves.{TookText, GaveText, EndsFrames, EndsPipe};
+ghost use Rattle.node_links.specs.Steps.LinkMoves.{TookText, GaveText, EndsFrames, EndsPipe};
 ghost use Rattle.node_links.specs.LinkEnds.{Starts, whole_for};
 ghost use Rattle.node_links.specs.Retiring.{ends_here};
 
@@ -59,8 +59,8 @@ pub struct Link {
 }
 
 impl Link {
-    /// The link of entry `i`, from 0, of an accepted plan, which is to be started. Takes all memory that it will ever need; answers
-    /// `Memory` where there is none.
+    /// The link of entry `i`, from 0, of an accepted plan, which is to be started. Takes all memory that it will ever
+    /// need; answers `Memory` where there is none.
     pub fn new(alloc: Global, plan: &Plan, i: u32) -> Result<Link, Memory>
         requires accepted { fault_in plan.now ≡ None }
         requires entry { i < length plan.now.connections }
@@ -129,9 +129,11 @@ impl Link {
         self.is_on(past) && goes_to_client(n, &self.to)
     }
 
-    /// Takes a frame of line input `a` with the MFAS that is expected of it, if it takes from the line in turn past + 1.
+    /// Takes a frame of line input `a` with the MFAS that is expected of it, if it takes from the line in turn past +
+    /// 1.
     pub(crate) fn take_frame<F: TakeFrame>(&mut self, a: u8, past: u32, frame: &F, expected: u8)
-        ensures { TookFrame (takes_line past a self.old) (record { frame = F.bytes frame.now; expected = expected }) self.old self.new }
+        ensures { TookFrame (takes_line past a self.old)
+            (record { frame = F.bytes frame.now; expected = expected }) self.old self.new }
     {
         if self.takes_line(a, past) {
             self.pipe.take_next(frame, expected);
@@ -173,12 +175,20 @@ impl Link {
         }
     }
 
-    /// The numbers of its client input so far, in turn past + 1: none before its first turn, nor where it comes from no client.
+    /// The numbers of its client input so far, in turn past + 1: none before its first turn, nor where it comes from no
+    /// client.
     pub fn text_counts(&self, past: u32) -> (u64, bool, Option<u64>)
         ensures later { is_later past self.now ≡ true → result ≡ (0, false, None) }
-        ensures started { is_later past self.now ≡ false → (x : Connection) (first now : InView) (taken : List ℕ) (n : ℕ) (input : ClientInput) → ClientInStands x first now taken n self.now.pipe.taking
+        ensures started { is_later past self.now ≡ false
+            → (x : Connection) (first now : InView) (taken : List ℕ) (n : ℕ) (input : ClientInput)
+            → ClientInStands x first now taken n self.now.pipe.taking
             → MayShow self.now.pipe.taking taken (of_client input)
-            → result ≡ (saturated (packets_begun input.packets x.fcs (emitted_before x.pace n)), is_spent input x.fcs (emitted_before x.pace n), option_map saturated (bad_line input x.fcs (emitted_before x.pace n))) }
+            → result ≡ (
+              saturated (packets_begun input.packets x.fcs (emitted_before x.pace n)),
+              is_spent input x.fcs
+                  (emitted_before x.pace n),
+              option_map saturated (bad_line input x.fcs (emitted_before x.pace n)),
+            ) }
     {
         if self.is_later(past) {
             (0, false, None)
@@ -197,7 +207,9 @@ impl Link {
     /// What it comes from is after the last turn that is done, if it was active in that.
     pub fn last_state(&self, past: u32) -> Option<FromState>
         ensures active { is_some result ≡ was_on past self.now }
-        ensures state { was_on past self.now ≡ true → (x : Connection) (input : OwnInput) (j filled : ℕ) (frames : List Taken) (ended : Bool) → PipeStands x input j frames ended filled self.now.pipe
+        ensures state { was_on past self.now ≡ true
+            → (x : Connection) (input : OwnInput) (j filled : ℕ) (frames : List Taken) (ended : Bool)
+            → PipeStands x input j frames ended filled self.now.pipe
             → result ≡ Some (state_in x input (turns_taken j ended)) }
     {
         if self.was_on(past) {

@@ -18,7 +18,8 @@ use turn_pieces::Pieces;
 /// Ends the turn of each line input that is used, and says of each whether it has a multiframe in it.
 pub fn end_lines(lines: &mut Vec<LineIn>, pieces: &Pieces) -> [bool; LINES]
     requires four { vec_len lines.old ≡ LINE_PORTS }
-    requires done { (a : ℕ) (line : LineView) → slice_get lines.old.items a ≡ Some line → 1 ≤ wanted_of pieces.now (line-in a) → line.pieces ≡ slots_of line.kind }
+    requires done { (a : ℕ) (line : LineView) → slice_get lines.old.items a ≡ Some line
+        → 1 ≤ wanted_of pieces.now (line-in a) → line.pieces ≡ slots_of line.kind }
     ensures four { vec_len lines.new ≡ LINE_PORTS }
     ensures ends { LinesEnd pieces.now lines.old.items lines.new.items result }
 {
@@ -42,7 +43,8 @@ fn end_line(line: &mut LineIn, used: bool) -> bool
 
 /// Ends turn past + 1 of each connection: `wholes` says of each line input whether it has a multiframe in it.
 pub fn fence_all(links: &mut Vec<Link>, past: u32, wholes: &[bool])
-    ensures { EachLink (λ link then. Fences past (whole_for link.from wholes.now) link then) links.old.items links.new.items }
+    ensures { EachLink (λ link then. Fences past (whole_for link.from wholes.now) link then) links.old.items
+        links.new.items }
 {
     for link in links.iter_mut() {
         link.fence(past, wholes);

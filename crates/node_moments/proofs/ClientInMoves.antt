@@ -5,7 +5,7 @@ use Rattle.std.proofs.lemmas.Bool.Decides.{eqb_tells}
 use Rattle.std.proofs.lemmas.Option.{slice_get_within}
 use Rattle.otn_base.specs.declared.kind.PortName.{PortName}
 use Rattle.otn_base.specs.declared.kind.PortName.TheVariants as port
-use Rattle.otn_ports.specs.OnePlace.{OnlyClientIn}
+use Rattle.otn_ports.specs.Steps.OnePlace.{OnlyClientIn}
 use Rattle.otn_ports.specs.Views.{InView, BaysView, client_in_at, no_input, no_output}
 use Rattle.plan_file.specs.declared.connection.Connection.{Connection}
 use Rattle.plan_file.specs.declared.connection.FromEnd.{FromEnd}
@@ -20,7 +20,7 @@ use Rattle.cross_matrix.specs.Pipes.{PipeStands, ClientTook}
 use Rattle.cross_matrix.specs.declared.taking.TakingPart.{TakingPart}
 use Rattle.node_links.specs.Links.{IsLinkOf, SameEntry, is_on, origin_of}
 use Rattle.node_links.specs.Moves.{EachLink, is_from_client, takes_client, TakesClient}
-use Rattle.node_moments.specs.NodeMoves.{ClientInMove}
+use Rattle.node_moments.specs.Steps.NodeMoves.{ClientInMove}
 use Rattle.node_moments.specs.NodeView.{NodeView, HasLink, is_ready, done_at, taken_pieces, given_pieces}
 use Rattle.device_model.specs.RetiredPlaces.{after_retire}
 use Rattle.node_moments.specs.Stands.{InputBytes, MayGive, frames_by, ended_by, PlanStands, PipesStand, ClientInAt, ClientsIn, StandsAt, Later}

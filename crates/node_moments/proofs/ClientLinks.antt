@@ -1,4 +1,5 @@
--- The connections of a client: which is active, how many of its own turns are done, and what a piece of the client leaves as it was.
+-- The connections of a client: which is active, how many of its own turns are done, and what a piece of the client
+-- leaves as it was.
 use Rattle.std.proofs.Common.{◌≡◌, ◌≢◌, ◌⊎◌, ◌≤◌, ◌+◌, ℕ, suc, zero, min, Bool, true, false, ◌&&◌, nat_le, List, [], ◌∷◌, Some, slice_get, arith, refl, ap, ◌∙◌, inl, inr}
 use Rattle.std.proofs.lemmas.Bool.Decides.{nat_tests, eqb_tells}
 use Rattle.otn_base.specs.declared.kind.PortName.{PortName}

@@ -22,7 +22,7 @@ use Rattle.cross_matrix.specs.declared.giving.GivingPart.{GivingPart}
 use Rattle.cross_matrix.specs.declared.giving.GivingPart.TheVariants as giving
 use Rattle.node_links.specs.Links.{IsLinkOf, SameEntry, is_on, target_of}
 use Rattle.node_links.specs.Moves.{EachLink, is_to_client, gives_client, GivesClient}
-use Rattle.node_moments.specs.NodeMoves.{ClientOutMove}
+use Rattle.node_moments.specs.Steps.NodeMoves.{ClientOutMove}
 use Rattle.node_moments.specs.NodeView.{NodeView, HasLink, is_ready, done_at, taken_pieces, given_pieces}
 use Rattle.device_model.specs.RetiredPlaces.{out_after_retire}
 use Rattle.node_moments.specs.Stands.{InputBytes, MayGive, frames_by, ended_by, PlanStands, PipesStand, ClientOutAt, ClientsOut, StandsAt, Later}

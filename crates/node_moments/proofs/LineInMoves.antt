@@ -27,7 +27,7 @@ use Rattle.device_model.proofs.SoundPlans.{sound_plan}
 use Rattle.cross_matrix.specs.Pipes.{PipeStands}
 use Rattle.node_links.specs.Links.{IsLinkOf, SameEntry, is_on, origin_of}
 use Rattle.node_links.specs.Moves.{EachLink, TookFrame, is_from_line, takes_line}
-use Rattle.node_moments.specs.NodeMoves.{LineInMove}
+use Rattle.node_moments.specs.Steps.NodeMoves.{LineInMove}
 use Rattle.node_moments.specs.NodeView.{NodeView, HasLineIn, is_ready, done_at, taken_pieces, given_pieces}
 use Rattle.device_model.specs.TurnFrames.{member_of, frames_in}
 use Rattle.node_moments.specs.Stands.{InputBytes, MayGive, frames_by, ended_by, PlanStands, LinesIn, PipesStand, StandsAt, Later}

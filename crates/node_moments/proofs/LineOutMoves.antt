@@ -24,7 +24,7 @@ use Rattle.device_model.proofs.SoundPlans.{sound_plan}
 use Rattle.cross_matrix.specs.Pipes.{PipeStands}
 use Rattle.node_links.specs.Links.{IsLinkOf, SameEntry, is_on, target_of}
 use Rattle.node_links.specs.Moves.{EachLink, GaveFrame, FillLine, is_to_line, gives_line}
-use Rattle.node_moments.specs.NodeMoves.{LineOutMove}
+use Rattle.node_moments.specs.Steps.NodeMoves.{LineOutMove}
 use Rattle.node_moments.specs.NodeView.{NodeView, HasLineIn, HasLineOut, is_ready, done_at, taken_pieces, given_pieces}
 use Rattle.node_moments.specs.Stands.{InputBytes, MayGive, frames_by, ended_by, PlanStands, PipesStand, LinesOut, StandsAt, Later}
 use Rattle.node_links.specs.declared.link.Link.{Link}

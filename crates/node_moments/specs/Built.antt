@@ -1,4 +1,4 @@
--- What a node is made of, before turn 1 of a plan.
+-- API: what a node is made of, before turn 1 of a plan.
 use Rattle.std.specs.Prelude.{◌≡◌, ℕ, List, [], Some, length, slice_get}
 use Rattle.otn_base.specs.declared.limits.TheConstants.{LINES}
 use Rattle.otn_ports.specs.Views.{InView, OutView}
@@ -14,12 +14,14 @@ use Rattle.node_links.specs.declared.link.Link.{Link}
 -- the input lines are of these forms, from which nothing was read, and the output lines, of which no frame was made
 pub record AreNewLinesIn (plan : Plan) (lines : List LineView) : Type 0 where
   pub count : length lines ≡ LINES
-  pub stands : (a : ℕ) (line : LineView) → slice_get lines a ≡ Some line → (first : InView) → LineStands (form_in plan a) first first [] 0 line
+  pub stands : (a : ℕ) (line : LineView) → slice_get lines a ≡ Some line → (first : InView)
+      → LineStands (form_in plan a) first first [] 0 line
   pub pieces : (a : ℕ) (line : LineView) → slice_get lines a ≡ Some line → line.pieces ≡ 0
 
 pub record AreNewLinesOut (plan : Plan) (lines : List LineOutView) : Type 0 where
   pub count : length lines ≡ LINES
-  pub made : (b : ℕ) (line : LineOutView) → slice_get lines b ≡ Some line → (first : OutView) → LineMade b (form_out plan b) first first [] line
+  pub made : (b : ℕ) (line : LineOutView) → slice_get lines b ≡ Some line → (first : OutView)
+      → LineMade b (form_out plan b) first first [] line
 
 -- the link of an entry, which has started where turn 1 is its first
 pub record IsNewLink (x : Connection) (link : Link) : Type 0 where
@@ -30,4 +32,5 @@ pub record IsNewLink (x : Connection) (link : Link) : Type 0 where
 -- the links of all entries
 pub record AreNewLinks (plan : Plan) (links : List Link) : Type 0 where
   pub count : length links ≡ length plan.connections
-  pub each : (i : ℕ) (x : Connection) (link : Link) → slice_get plan.connections i ≡ Some x → slice_get links i ≡ Some link → IsNewLink x link
+  pub each : (i : ℕ) (x : Connection) (link : Link) → slice_get plan.connections i ≡ Some x
+      → slice_get links i ≡ Some link → IsNewLink x link

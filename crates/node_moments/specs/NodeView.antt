@@ -1,4 +1,4 @@
--- What is seen of a node.
+-- API: what is seen of a node.
 use Rattle.std.specs.Prelude.{◌≡◌, ◌⊎◌, ◌≤◌, ◌+◌, ◌-◌, ◌*◌, ◌&&◌, ℕ, Bool, nat_lt, if◌then◌else◌, List, length, Some, slice_get}
 use Rattle.otn_base.specs.LineSlots.{slots_of}
 use Rattle.otn_base.specs.declared.limits.TheConstants.{LINES, MOST_TURNS}
@@ -13,7 +13,8 @@ use Rattle.node_links.specs.declared.link.Origin.TheVariants as origin
 use Rattle.node_links.specs.declared.link.Target.{Target}
 use Rattle.node_links.specs.declared.link.Target.TheVariants as target
 
--- how many turns there are and how many are past, the pieces of this turn, the input lines, the output lines, and the connections
+-- how many turns there are and how many are past, the pieces of this turn, the input lines, the output lines, and the
+-- connections
 pub record NodeView : Type 0 where
   pub turns : ℕ
   pub past : ℕ
@@ -56,9 +57,11 @@ ready_number node = if nat_lt node.past node.turns then open_count node.pieces e
 
 -- the pieces that are left, in this turn and all later ones
 abbrev pub left_of : NodeView → ℕ
-left_of node = if nat_lt node.past node.turns then left_now node.pieces + (node.turns - node.past - 1) * in_a_turn node.pieces else 0
+left_of node = if nat_lt node.past node.turns
+    then left_now node.pieces + (node.turns - node.past - 1) * in_a_turn node.pieces else 0
 
--- each input line has done as many pieces as are counted at its port, and has none or as many as its multiframe has frames
+-- each input line has done as many pieces as are counted at its port, and has none or as many as its multiframe has
+-- frames
 pub record LineCount (wants done : ℕ) (line : LineView) : Type 0 where
   pub pieces : line.pieces ≡ done
   pub want : (wants ≡ 0) ⊎ (wants ≡ slots_of line.kind)
@@ -69,6 +72,9 @@ pub record IsNode (node : NodeView) : Type 0 where
   pub few : node.past ≤ node.turns
   pub lines_in : length node.lines_in ≡ LINES
   pub lines_out : length node.lines_out ≡ LINES
-  pub counts : (a : ℕ) (line : LineView) → HasLineIn node a line → LineCount (wanted_of node.pieces (port.LineIn a)) (done_at node (port.LineIn a)) line
-  pub frames : (b : ℕ) (line : LineOutView) → HasLineOut node b line → (wanted_of node.pieces (port.LineOut b) ≡ 0) ⊎ (wanted_of node.pieces (port.LineOut b) ≡ slots_of line.form.kind)
+  pub counts : (a : ℕ) (line : LineView) → HasLineIn node a line
+      → LineCount (wanted_of node.pieces (port.LineIn a)) (done_at node (port.LineIn a)) line
+  pub frames : (b : ℕ) (line : LineOutView) → HasLineOut node b line
+      → (wanted_of node.pieces (port.LineOut b) ≡ 0)
+      ⊎ (wanted_of node.pieces (port.LineOut b) ≡ slots_of line.form.kind)
   pub most : (name : PortName) → done_at node name ≤ wanted_of node.pieces name

@@ -1,4 +1,5 @@
--- Where a node and its bays stand: in turn past + 1 of a plan, after so many pieces of each port. No definition of a part names two ports.
+-- API: where a node and its bays stand: in turn past + 1 of a plan, after so many pieces of each port. No definition of
+-- a part names two ports.
 use Rattle.std.specs.Prelude.{◌≡◌, ◌<◌, ◌≤◌, ◌+◌, ◌*◌, ℕ, Bool, true, false, ◌==◌, Option, None, Some, List, [], length, slice_get}
 use Rattle.otn_base.specs.declared.kind.PortName.{PortName}
 use Rattle.otn_base.specs.declared.kind.PortName.TheVariants as port
@@ -32,11 +33,13 @@ pub record InputBytes : Type 0 where
   pub line : (a : ℕ) → List ℕ
   pub client : (n : ℕ) → List ℕ
 
--- What the inputs of a node, of which these bytes were taken, may turn out to be, each for itself. A client whose connection has not started
--- may turn out to be anything.
+-- What the inputs of a node, of which these bytes were taken, may turn out to be, each for itself. A client whose
+-- connection has not started may turn out to be anything.
 pub record MayGive (plan : Plan) (taken : InputBytes) (node : NodeView) (inputs : Inputs) : Type 0 where
-  pub lines : (a : ℕ) (line : LineView) → HasLineIn node a line → uses plan (port.LineIn a) ≡ true → MayBe (form_in plan a).scrambled line.reader.ending (taken.line a) (inputs.line a)
-  pub clients : (i n : ℕ) (x : Connection) (link : Link) → slice_get plan.connections i ≡ Some x → HasLink node i link → x.from ≡ from_end.Client n → x.start ≤ node.past + 1
+  pub lines : (a : ℕ) (line : LineView) → HasLineIn node a line → uses plan (port.LineIn a) ≡ true
+      → MayBe (form_in plan a).scrambled line.reader.ending (taken.line a) (inputs.line a)
+  pub clients : (i n : ℕ) (x : Connection) (link : Link) → slice_get plan.connections i ≡ Some x → HasLink node i link
+      → x.from ≡ from_end.Client n → x.start ≤ node.past + 1
       → MayShow link.pipe.taking (taken.client n) (of_client (inputs.client n))
 
 -- ---- the pieces of a line
@@ -63,60 +66,83 @@ pub record PlanStands (plan : Plan) (node : NodeView) : Type 0 where
   pub most : (name : PortName) → done_at node name ≤ wanted_of node.pieces name
   pub over : node.turns ≤ node.past → (name : PortName) → done_at node name ≡ 0
   pub count : length node.links ≡ length plan.connections
-  pub links : (i : ℕ) (x : Connection) (link : Link) → slice_get plan.connections i ≡ Some x → HasLink node i link → IsLinkOf x link
+  pub links : (i : ℕ) (x : Connection) (link : Link) → slice_get plan.connections i ≡ Some x → HasLink node i link
+      → IsLinkOf x link
 
 -- each input line that is used has given what its pieces want, and was asked nothing more
-pub record LinesIn (plan : Plan) (first : BaysView) (taken : InputBytes) (node : NodeView) (now : BaysView) : Type 0 where
+pub record LinesIn (plan : Plan) (first : BaysView) (taken : InputBytes) (node : NodeView)
+    (now : BaysView) : Type 0 where
   pub used : (a : ℕ) (line : LineView) → HasLineIn node a line → uses plan (port.LineIn a) ≡ true
-      → LineStands (form_in plan a) (line_in_at first a) (line_in_at now a) (taken.line a) node.past line × (line.pieces ≡ done_at node (port.LineIn a))
+      → LineStands (form_in plan a) (line_in_at first a) (line_in_at now a) (taken.line a) node.past line
+      × (line.pieces ≡ done_at node (port.LineIn a))
   pub idle : (a : ℕ) → uses plan (port.LineIn a) ≡ false → line_in_at now a ≡ line_in_at first a
 
--- Each active connection stands where its own entry and its own input have it. So does each whose last turn is the last that is done: all of its
--- turns are done.
+-- Each active connection stands where its own entry and its own input have it. So does each whose last turn is the last
+-- that is done: all of its turns are done.
 pub record PipesStand (plan : Plan) (taken : InputBytes) (node : NodeView) : Type 0 where
-  pub each : (inputs : Inputs) → MayGive plan taken node inputs → (i : ℕ) (x : Connection) (link : Link) → slice_get plan.connections i ≡ Some x → HasLink node i link → IsActive x node.past
-      → PipeStands x (own_input inputs x) (own_turn x node.past) (frames_by plan inputs x.from node.past (taken_pieces node link.from)) (ended_by x.from (taken_pieces node link.from))
+  pub each : (inputs : Inputs) → MayGive plan taken node inputs → (i : ℕ) (x : Connection) (link : Link)
+      → slice_get plan.connections i ≡ Some x → HasLink node i link → IsActive x node.past
+      → PipeStands x (own_input inputs x) (own_turn x node.past)
+      (frames_by plan inputs x.from node.past (taken_pieces node link.from))
+      (ended_by x.from (taken_pieces node link.from))
       (given_pieces node link.to) link.pipe
-  pub last : (inputs : Inputs) → MayGive plan taken node inputs → (i : ℕ) (x : Connection) (link : Link) → slice_get plan.connections i ≡ Some x → HasLink node i link
+  pub last : (inputs : Inputs) → MayGive plan taken node inputs → (i : ℕ) (x : Connection) (link : Link)
+      → slice_get plan.connections i ≡ Some x → HasLink node i link
       → x.stop ≡ node.past → PipeStands x (own_input inputs x) (own_turn x node.past) [] false 0 link.pipe
 
 -- of each output line that is used the first so many frames were made, and were due to its place
-pub record LinesOut (plan : Plan) (first : BaysView) (taken : InputBytes) (node : NodeView) (now : BaysView) : Type 0 where
-  pub used : (inputs : Inputs) → MayGive plan taken node inputs → (b : ℕ) (line : LineOutView) → HasLineOut node b line → uses plan (port.LineOut b) ≡ true
-      → (puts : List FramePut) × AreFramesOf plan inputs b (size_of (form_out plan b) * node.past + done_at node (port.LineOut b)) puts
+pub record LinesOut (plan : Plan) (first : BaysView) (taken : InputBytes) (node : NodeView)
+    (now : BaysView) : Type 0 where
+  pub used : (inputs : Inputs) → MayGive plan taken node inputs → (b : ℕ) (line : LineOutView) → HasLineOut node b line
+      → uses plan (port.LineOut b) ≡ true
+      → (puts : List FramePut) × AreFramesOf plan inputs b
+      (size_of (form_out plan b) * node.past + done_at node (port.LineOut b)) puts
       × LineMade b (form_out plan b) (line_out_at first b) (line_out_at now b) puts line
   pub idle : (b : ℕ) → uses plan (port.LineOut b) ≡ false → line_out_at now b ≡ line_out_at first b
 
--- each client input has given what its turns want, from the start of its connection on; it was retired where its connection says so
-pub record ClientInAt (first now : InView) (taken : List ℕ) (x : Connection) (past pieces : ℕ) (link : Link) : Type 0 where
+-- each client input has given what its turns want, from the start of its connection on; it was retired where its
+-- connection says so
+pub record ClientInAt (first now : InView) (taken : List ℕ) (x : Connection) (past pieces : ℕ)
+    (link : Link) : Type 0 where
   pub was : InView
   pub stands : ClientInStands x first was taken (turns_done x past pieces) link.pipe.taking
   pub place : now ≡ after_retire (is_retired x past) was
 
 -- of all client inputs: as above once the connection has started, untouched before
-pub record ClientsIn (plan : Plan) (first : BaysView) (taken : InputBytes) (node : NodeView) (now : BaysView) : Type 0 where
-  pub started : (i n : ℕ) (x : Connection) (link : Link) → slice_get plan.connections i ≡ Some x → HasLink node i link → x.from ≡ from_end.Client n → x.start ≤ node.past + 1
-      → ClientInAt (client_in_at first n) (client_in_at now n) (taken.client n) x node.past (done_at node (port.ClientIn n)) link
-  pub waits : (i n : ℕ) (x : Connection) → slice_get plan.connections i ≡ Some x → x.from ≡ from_end.Client n → node.past + 1 < x.start
+pub record ClientsIn (plan : Plan) (first : BaysView) (taken : InputBytes) (node : NodeView)
+    (now : BaysView) : Type 0 where
+  pub started : (i n : ℕ) (x : Connection) (link : Link) → slice_get plan.connections i ≡ Some x → HasLink node i link
+      → x.from ≡ from_end.Client n → x.start ≤ node.past + 1
+      → ClientInAt (client_in_at first n) (client_in_at now n) (taken.client n) x node.past
+      (done_at node (port.ClientIn n)) link
+  pub waits : (i n : ℕ) (x : Connection) → slice_get plan.connections i ≡ Some x → x.from ≡ from_end.Client n
+      → node.past + 1 < x.start
       → (client_in_at now n ≡ client_in_at first n) × (taken.client n ≡ [])
   pub idle : (n : ℕ) → uses plan (port.ClientIn n) ≡ false → client_in_at now n ≡ client_in_at first n
 
 -- what arrived at each client output was due to its place as text
-pub record ClientOutAt (inputs : Inputs) (first now : OutView) (x : Connection) (past pieces : ℕ) (link : Link) : Type 0 where
+pub record ClientOutAt (inputs : Inputs) (first now : OutView) (x : Connection) (past pieces : ℕ)
+    (link : Link) : Type 0 where
   pub was : OutView
   pub stands : ClientOutStands x (own_input inputs x) first was (turns_done x past pieces) link.pipe.giving
   pub place : now ≡ out_after_retire (is_retired x past) was
 
 -- of all client outputs: likewise
-pub record ClientsOut (plan : Plan) (first : BaysView) (taken : InputBytes) (node : NodeView) (now : BaysView) : Type 0 where
-  pub started : (inputs : Inputs) → MayGive plan taken node inputs → (i n : ℕ) (x : Connection) (link : Link) → slice_get plan.connections i ≡ Some x → HasLink node i link
-      → x.to ≡ to_end.Client n → x.start ≤ node.past + 1 → ClientOutAt inputs (client_out_at first n) (client_out_at now n) x node.past (done_at node (port.ClientOut n)) link
-  pub waits : (i n : ℕ) (x : Connection) → slice_get plan.connections i ≡ Some x → x.to ≡ to_end.Client n → node.past + 1 < x.start → client_out_at now n ≡ client_out_at first n
+pub record ClientsOut (plan : Plan) (first : BaysView) (taken : InputBytes) (node : NodeView)
+    (now : BaysView) : Type 0 where
+  pub started : (inputs : Inputs) → MayGive plan taken node inputs → (i n : ℕ) (x : Connection) (link : Link)
+      → slice_get plan.connections i ≡ Some x → HasLink node i link
+      → x.to ≡ to_end.Client n → x.start ≤ node.past + 1
+      → ClientOutAt inputs (client_out_at first n) (client_out_at now n) x node.past
+      (done_at node (port.ClientOut n)) link
+  pub waits : (i n : ℕ) (x : Connection) → slice_get plan.connections i ≡ Some x → x.to ≡ to_end.Client n
+      → node.past + 1 < x.start → client_out_at now n ≡ client_out_at first n
   pub idle : (n : ℕ) → uses plan (port.ClientOut n) ≡ false → client_out_at now n ≡ client_out_at first n
 
--- The node and its bays stand at a moment of the plan: in turn node.past + 1, after so many pieces of each port. The bays were first so, and
--- these bytes were taken of the inputs since.
-pub record StandsAt (plan : Plan) (first : BaysView) (taken : InputBytes) (node : NodeView) (now : BaysView) : Type 0 where
+-- The node and its bays stand at a moment of the plan: in turn node.past + 1, after so many pieces of each port. The
+-- bays were first so, and these bytes were taken of the inputs since.
+pub record StandsAt (plan : Plan) (first : BaysView) (taken : InputBytes) (node : NodeView)
+    (now : BaysView) : Type 0 where
   pub plan_stands : PlanStands plan node
   pub lines_in : LinesIn plan first taken node now
   pub pipes : PipesStand plan taken node
@@ -124,8 +150,10 @@ pub record StandsAt (plan : Plan) (first : BaysView) (taken : InputBytes) (node 
   pub clients_in : ClientsIn plan first taken node now
   pub clients_out : ClientsOut plan first taken node now
 
--- From a moment on to one of the same plan, of whose inputs `more` are all bytes taken by then; which moment, the other clauses say: what the inputs may turn out to be from then on they might be before.
-pub record Later (plan : Plan) (first : BaysView) (taken : InputBytes) (old new : NodeView) (now : BaysView) : Type 0 where
+-- From a moment on to one of the same plan, of whose inputs `more` are all bytes taken by then; which moment, the other
+-- clauses say: what the inputs may turn out to be from then on they might be before.
+pub record Later (plan : Plan) (first : BaysView) (taken : InputBytes) (old new : NodeView)
+    (now : BaysView) : Type 0 where
   pub more : InputBytes
   pub stands : StandsAt plan first more new now
   pub earlier : (inputs : Inputs) → MayGive plan more new inputs → MayGive plan taken old inputs

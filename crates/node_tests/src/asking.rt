@@ -45,7 +45,8 @@ fn line(alloc: Global, n: usize, name: u8, last: &Rc<Cell<u8>>) -> Result<NamedS
     })
 }
 
-// A run of the plan over line inputs 0 and 1, of so many bytes each: how it ended, and which of the two was called last.
+// A run of the plan over line inputs 0 and 1, of so many bytes each: how it ended, and which of the two was called
+// last.
 fn last_called(alloc: Global, text: &[u8], n: usize) -> Result<(Option<Outcome>, u8), Memory> {
     let last = Rc::new(alloc, Cell::new(9_u8))?;
     let mut bays: Rack<NamedSource, MemSink> = Rack::new(alloc)?;

@@ -30,8 +30,8 @@ impl Chooser for Counting {
     }
 }
 
-// What a run shows: how often the chooser was asked, the sum of the numbers that it was asked with, the file of line 0, its frames, the client's numbers, and what the first
-// connection comes from.
+// What a run shows: how often the chooser was asked, the sum of the numbers that it was asked with, the file of line 0,
+// its frames, the client's numbers, and what the first connection comes from.
 #[derive(Drop)]
 struct Shown {
     asked: u64,
@@ -114,7 +114,8 @@ fn two_orders_write_one_file(rt: HostRuntime) -> Result<(), Fail> {
     // In each of 8 turns 8 frames of the line and one piece of the client.
     assert_eq!(rt; one.asked, 72);
     assert_eq!(rt; other.asked, 72);
-    // The line first: in a turn it is asked eight times among two, and once among one. The client first: once and eight times.
+    // The line first: in a turn it is asked eight times among two, and once among one. The client first: once and eight
+    // times.
     assert_eq!(rt; one.numbers, 8 * (8 * 2 + 1));
     assert_eq!(rt; other.numbers, 8 * (2 + 8));
     assert_eq!(rt; one.file.len(), 64 * 16_320);

@@ -1,4 +1,4 @@
--- The choices that a number settles.
+-- Believed: the choices that a number settles.
 use Rattle.std.specs.Prelude.{◌≡◌, ℕ, zero, suc}
 use Rattle.rand_core.specs.Pcg32Seed.{pcg32_seed}
 use Rattle.rand_pcg.specs.Lcg.{Lcg}

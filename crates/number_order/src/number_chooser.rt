@@ -38,7 +38,8 @@ impl Chooser for NumberChooser {
     fn pick(&mut self, _n: u32) -> u32
         ensures asked { number_chooser_asked self.new ≡ raised (number_chooser_asked self.old) 1 }
         ensures word { (number given : ℕ) → HasGivenWords number given self.old → result ≡ order_word number given }
-        ensures words { (number given : ℕ) → HasGivenWords number given self.old → HasGivenWords number (given + 1) self.new }
+        ensures words { (number given : ℕ) → HasGivenWords number given self.old
+            → HasGivenWords number (given + 1) self.new }
     {
         self.asked = self.asked.saturating_add(1);
         self.generator.next_word()

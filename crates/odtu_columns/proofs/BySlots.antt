@@ -8,7 +8,8 @@ use Rattle.std.proofs.lemmas.List.FromFn.{length-map-range_with_len, get_or-map-
 use Rattle.frame_geometry.specs.Places.{place_of}
 use Rattle.otn_base.specs.LineSlots.{IsSlotNumber}
 use Rattle.otn_base.specs.SlotList.{IsSlotList}
-use Rattle.odtu_columns.specs.BySlots.{is_payload, joined_byte, byte_by_slots, frame_by_slots, IsOutside}
+use Rattle.odtu_columns.specs.BySlots.{is_payload, joined_byte, byte_by_slots, frame_by_slots}
+use Rattle.odtu_columns.specs.Steps.BySlots.{IsOutside}
 use Rattle.odtu_columns.specs.Message.{message_of}
 use Rattle.odtu_columns.specs.Put.{slot_place, RowWasPut}
 use Rattle.odtu_columns.proofs.LineCycles.{whole_cycles, some_slots, column_inside, cycle_inside}

@@ -3,7 +3,8 @@ use Rattle.std.proofs.Common.{◌≡◌, ◌⊎◌, inl, inr, ℕ, ◌+◌, ◌-
 use Rattle.std.proofs.Math.ListN.{get_or-eq_default}
 use Rattle.frame_geometry.specs.Places.{place_of, with_payload_row}
 use Rattle.frame_geometry.specs.Loans.{length-with_payload_row}
-use Rattle.odtu_columns.specs.BySlots.{joined_byte, frame_by_slots, IsOutside, RowJoined}
+use Rattle.odtu_columns.specs.BySlots.{joined_byte, frame_by_slots}
+use Rattle.odtu_columns.specs.Steps.BySlots.{IsOutside, RowJoined}
 use Rattle.odtu_columns.proofs.BySlots.{is_frame}
 use Rattle.odtu_columns.proofs.PutRows.{written_byte, kept_byte, where_is}
 
@@ -68,7 +69,8 @@ rows_kept own r1 r2 r3 r4 s1 s2 s3 s4 one two three four = cc
 order : (place n : ℕ) → (place < n) ⊎ (n ≤ place)
 order place n = grind arith
 
--- five runs of bytes were cleared: before the payload of the first row, between that of two rows, and behind that of the last
+-- five runs of bytes were cleared: before the payload of the first row, between that of two rows, and behind that of
+-- the last
 pub all_beside : (b0 b1 b2 b3 b4 b5 : List ℕ) → length b5 ≡ 16320
     → ((place : ℕ) → 0 ≤ place → place < 16 → get_or b1 place 0 ≡ 0) → ((place : ℕ) → (place < 0) ⊎ (16 ≤ place) → get_or b1 place 0 ≡ get_or b0 place 0)
     → ((place : ℕ) → 3824 ≤ place → place < 4096 → get_or b2 place 0 ≡ 0) → ((place : ℕ) → (place < 3824) ⊎ (4096 ≤ place) → get_or b2 place 0 ≡ get_or b1 place 0)

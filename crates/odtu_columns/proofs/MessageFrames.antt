@@ -6,7 +6,8 @@ use Rattle.std.proofs.lemmas.Bool.{cond-false}
 use Rattle.std.proofs.lemmas.Bool.Decides.{nat_tests}
 use Rattle.std.proofs.lemmas.List.FromFn.{length-map-range_with_len, get_or-map-range_with_len}
 use Rattle.frame_geometry.specs.Places.{place_of}
-use Rattle.odtu_columns.specs.BySlots.{message_byte, message_frame, IsOutside}
+use Rattle.odtu_columns.specs.BySlots.{message_byte, message_frame}
+use Rattle.odtu_columns.specs.Steps.BySlots.{IsOutside}
 use Rattle.odtu_columns.specs.Message.{message_of}
 use Rattle.odtu_columns.proofs.PutMessage.{six}
 

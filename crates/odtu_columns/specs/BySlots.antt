@@ -1,5 +1,5 @@
--- A line's frame whose payload is kept by the tributary slots of an OTU2, each row for itself.
-use Rattle.std.specs.Prelude.{◌≡◌, ℕ, ◌+◌, ◌-◌, ◌/◌, ◌%◌, ◌<◌, ◌≤◌, Bool, false, ◌&&◌, nat_le, nat_lt, if◌then◌else◌, ◌==◌, List, [], get_or, length, map, slice_index}
+-- API: a line's frame whose payload is kept by the tributary slots of an OTU2, each row for itself.
+use Rattle.std.specs.Prelude.{◌≡◌, ℕ, ◌+◌, ◌-◌, ◌/◌, ◌%◌, ◌<◌, ◌≤◌, Bool, false, ◌&&◌, nat_le, nat_lt, if◌then◌else◌, ◌==◌, List, get_or, map, slice_index}
 use Rattle.std.specs.List.{range_with_len}
 use Rattle.frame_geometry.specs.Places.{place_of}
 use Rattle.lane_kernels.specs.SlotPlaces.{slot_bytes}
@@ -7,7 +7,8 @@ use Rattle.otn_base.specs.declared.limits.TheConstants.{LINE_COLUMNS, LINE_FRAME
 
 -- G.709 clause 12.1: the payload of a row stands in columns 17 to 3824
 abbrev pub is_payload : (place : ℕ) → Bool
-is_payload place = nat_le OVERHEAD_COLUMNS (place % LINE_COLUMNS) && nat_lt (place % LINE_COLUMNS) (OVERHEAD_COLUMNS + PAYLOAD_COLUMNS)
+is_payload place = nat_le OVERHEAD_COLUMNS (place % LINE_COLUMNS)
+    && nat_lt (place % LINE_COLUMNS) (OVERHEAD_COLUMNS + PAYLOAD_COLUMNS)
 
 -- G.709 clause 19.1: byte x, from 0, of the payload of a row, out of the bytes of its slots
 abbrev pub joined_byte : (rows : List ℕ) → (x : ℕ) → ℕ
@@ -23,7 +24,8 @@ filled_row filled rows = map (filled_byte filled rows) (range_with_len 0 PAYLOAD
 -- The byte at a place: in a payload column that of its slot, and else that of the frame.
 unfoldable pub byte_by_slots : (frame : List ℕ) → (rows : List (List ℕ)) → (place : ℕ) → ℕ
 byte_by_slots frame rows place =
-    if is_payload place then joined_byte (get_or rows (place / LINE_COLUMNS) []) (place % LINE_COLUMNS - OVERHEAD_COLUMNS) else slice_index frame place
+    if is_payload place then joined_byte (get_or rows (place / LINE_COLUMNS) [])
+    (place % LINE_COLUMNS - OVERHEAD_COLUMNS) else slice_index frame place
 
 -- G.709 clause 19.4: the byte at a place of a frame that has this message, where all else is 0
 abbrev pub message_byte : (message : List ℕ) → (place : ℕ) → ℕ
@@ -39,16 +41,7 @@ message_frame message = map (message_byte message) (range_with_len 0 LINE_FRAME_
 unfoldable pub frame_by_slots : (frame : List ℕ) → (rows : List (List ℕ)) → List ℕ
 frame_by_slots frame rows = map (byte_by_slots frame rows) (range_with_len 0 LINE_FRAME_BYTES)
 
--- a place that is of no payload column
-abbrev pub IsOutside : (place : ℕ) → Type 0
-IsOutside place = (row x : ℕ) → 1 ≤ row → row ≤ 4 → x < PAYLOAD_COLUMNS → place ≡ place_of LINE_COLUMNS row (17 + x) → ⊥
-
--- The payload of a row was written out of its slots, and every other byte is as before.
-pub record RowJoined (rows : List ℕ) (row : ℕ) (before now : List ℕ) : Type 0 where
-  pub size : length now ≡ LINE_FRAME_BYTES
-  pub here : (x : ℕ) → x < PAYLOAD_COLUMNS → slice_index now (place_of LINE_COLUMNS row (17 + x)) ≡ joined_byte rows x
-  pub kept : (place : ℕ) → ((x : ℕ) → x < PAYLOAD_COLUMNS → place ≡ place_of LINE_COLUMNS row (17 + x) → ⊥) → slice_index now place ≡ slice_index before place
-
 -- G.709 clause 12.1: a frame has the payload of another one.
 pub record HasPayloadOf (frame now : List ℕ) : Type 0 where
-  pub bytes : (row x : ℕ) → 1 ≤ row → row ≤ 4 → x < PAYLOAD_COLUMNS → slice_index now (place_of LINE_COLUMNS row (17 + x)) ≡ slice_index frame (place_of LINE_COLUMNS row (17 + x))
+  pub bytes : (row x : ℕ) → 1 ≤ row → row ≤ 4 → x < PAYLOAD_COLUMNS
+      → slice_index now (place_of LINE_COLUMNS row (17 + x)) ≡ slice_index frame (place_of LINE_COLUMNS row (17 + x))

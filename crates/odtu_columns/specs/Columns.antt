@@ -1,4 +1,4 @@
--- Which columns of a frame belong to a tributary slot.
+-- Believed: which columns of a frame belong to a tributary slot.
 use Rattle.std.specs.Prelude.{ℕ, ◌+◌, ◌-◌, ◌%◌, ◌==◌, List, filter, map, slice_index}
 use Rattle.std.specs.List.{range_with_len}
 use Rattle.frame_geometry.specs.Places.{place_of}
@@ -14,4 +14,5 @@ columns_of slots slot = filter (λ column. slot_of slots column == slot) (range_
 
 -- The bytes of a slot in a row of a line's frame, on a line of so many slots.
 abbrev pub slot_row_of : (slots slot row : ℕ) → List ℕ → List ℕ
-slot_row_of slots slot row frame = map (λ column. slice_index frame (place_of LINE_COLUMNS row column)) (columns_of slots slot)
+slot_row_of slots slot row frame = map (λ column. slice_index frame (place_of LINE_COLUMNS row column))
+    (columns_of slots slot)

@@ -4,3 +4,4 @@ pub mod Groups
 pub mod Message
 pub mod Payload
 pub mod Put
+pub mod Steps

@@ -1,4 +1,4 @@
--- The groups of a row out of its payload columns alone.
+-- API: the groups of a row out of its payload columns alone.
 use Rattle.std.specs.Prelude.{ℕ, ◌+◌, ◌-◌, ◌*◌, List, map, slice_index}
 use Rattle.std.specs.List.{range_with_len, flat_map}
 
@@ -12,4 +12,5 @@ payload_groups line_slots payload slots n = flat_map (payload_group line_slots p
 
 -- G.709 clause 19.1: those of so many cycles from one on, one after the other
 unfoldable pub run_groups : (line_slots : ℕ) → List ℕ → List ℕ → (first count : ℕ) → List ℕ
-run_groups line_slots payload slots first count = flat_map (payload_group line_slots payload slots) (range_with_len first count)
+run_groups line_slots payload slots first count = flat_map (payload_group line_slots payload slots)
+    (range_with_len first count)

@@ -13,8 +13,8 @@ use frame_geometry::Frame;
 use otn_base::Slots;
 use otn_base::limits::LINE_COLUMNS;
 
-/// A frame of an OTU2 or an OTU3 that is being filled: sources put their groups and their messages into it, one after the
-/// other.
+/// A frame of an OTU2 or an OTU3 that is being filled: sources put their groups and their messages into it, one after
+/// the other.
 pub trait FillFrame: Drop {
     /// Its bytes, row by row.
     ghost bytes: { Self → List ℕ };
@@ -25,13 +25,16 @@ pub trait FillFrame: Drop {
         requires row_low { 1 ≤ row }
         requires row_high { row ≤ 4 }
         requires size { length groups.now ≡ length slots.now.list * (PAYLOAD_COLUMNS / slots_of slots.now.kind) }
-        ensures put { RowWasPut (slots_of slots.now.kind) slots.now.list row groups.now (bytes self.old) (bytes self.new) }
+        ensures put { RowWasPut (slots_of slots.now.kind) slots.now.list row groups.now (bytes self.old)
+            (bytes self.new) }
         ensures groups { row_groups_of (slots_of slots.now.kind) slots.now.list row (bytes self.new) ≡ groups.now };
 
     /// Writes JC1 to JC6, in this order; every other byte stays.
     fn fill_message(&mut self, message: [u8; 6])
         ensures message { message_of (bytes self.new) ≡ message }
-        ensures kept { (place : ℕ) → ((row column : ℕ) → 1 ≤ row → row ≤ 3 → 15 ≤ column → column ≤ 16 → place ≡ place_of LINE_COLUMNS row column → ⊥) → slice_index (bytes self.new) place ≡ slice_index (bytes self.old) place };
+        ensures kept { (place : ℕ) → ((row column : ℕ) → 1 ≤ row → row ≤ 3 → 15 ≤ column → column ≤ 16
+            → place ≡ place_of LINE_COLUMNS row column → ⊥)
+            → slice_index (bytes self.new) place ≡ slice_index (bytes self.old) place };
 }
 
 impl FillFrame for Frame<LINE_COLUMNS> {

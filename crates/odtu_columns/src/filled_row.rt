@@ -13,8 +13,9 @@ use std::marker::Model;
 // What is seen of a slot that is not filled.
 static UNFILLED: [u8; PAYLOAD_COLUMNS / OTU2_SLOTS] = [0; PAYLOAD_COLUMNS / OTU2_SLOTS];
 
-/// The payload of a row, slot by slot. A slot that is not filled has bytes 0, whatever is kept of it, so a row that all its
-/// slots fill anew is not cleared byte by byte before. It is seen as the bytes of slot 1, then those of slot 2, and so on.
+/// The payload of a row, slot by slot. A slot that is not filled has bytes 0, whatever is kept of it, so a row that all
+/// its slots fill anew is not cleared byte by byte before. It is seen as the bytes of slot 1, then those of slot 2, and
+/// so on.
 #[derive(Drop)]
 pub(crate) struct FilledRow {
     rows: SlotRows<OTU2_SLOTS>,
@@ -67,8 +68,10 @@ impl FilledRow {
         requires low { 1 ≤ k }
         requires high { k ≤ OTU2_SLOTS }
         requires size { length bytes.now ≡ PAYLOAD_COLUMNS / OTU2_SLOTS }
-        ensures here { (x : ℕ) → x < PAYLOAD_COLUMNS → x % OTU2_SLOTS + 1 ≡ k → joined_byte self.new x ≡ slice_index bytes.now (x / OTU2_SLOTS) }
-        ensures others { (x : ℕ) → x < PAYLOAD_COLUMNS → x % OTU2_SLOTS + 1 ≢ k → joined_byte self.new x ≡ joined_byte self.old x }
+        ensures here { (x : ℕ) → x < PAYLOAD_COLUMNS → x % OTU2_SLOTS + 1 ≡ k
+            → joined_byte self.new x ≡ slice_index bytes.now (x / OTU2_SLOTS) }
+        ensures others { (x : ℕ) → x < PAYLOAD_COLUMNS → x % OTU2_SLOTS + 1 ≢ k
+            → joined_byte self.new x ≡ joined_byte self.old x }
     {
         self.filled[k as usize - 1] = true;
         self.rows.slot_mut(k).copy_from_slice(bytes);
@@ -83,8 +86,8 @@ impl FilledRow {
         self.filled = [true; OTU2_SLOTS];
     }
 
-    /// Writes the payload of the row, 3,808 bytes in the order of their columns. All slots are filled then, with bytes 0 where
-    /// they were not.
+    /// Writes the payload of the row, 3,808 bytes in the order of their columns. All slots are filled then, with bytes
+    /// 0 where they were not.
     pub fn join(&mut self, into: &mut [u8])
         requires { length into.old ≡ PAYLOAD_COLUMNS }
         ensures joined { (x : ℕ) → x < PAYLOAD_COLUMNS → slice_index into.new x ≡ joined_byte self.old x }
@@ -98,7 +101,8 @@ impl FilledRow {
 
 // Writes 0 into the slots that are not filled.
 fn clear_unfilled(rows: &mut SlotRows<OTU2_SLOTS>, filled: &[bool; OTU2_SLOTS])
-    ensures { (x : ℕ) → x < PAYLOAD_COLUMNS → joined_byte rows.new x ≡ (if get_or filled.now (x % OTU2_SLOTS) false then joined_byte rows.old x else 0) }
+    ensures { (x : ℕ) → x < PAYLOAD_COLUMNS
+        → joined_byte rows.new x ≡ (if get_or filled.now (x % OTU2_SLOTS) false then joined_byte rows.old x else 0) }
 {
     for k in 0..OTU2_SLOTS as u8 {
         clear_slot(rows, k + 1, filled[k as usize]);
@@ -109,8 +113,10 @@ fn clear_unfilled(rows: &mut SlotRows<OTU2_SLOTS>, filled: &[bool; OTU2_SLOTS])
 fn clear_slot(rows: &mut SlotRows<OTU2_SLOTS>, k: u8, filled: bool)
     requires low { 1 ≤ k }
     requires high { k ≤ OTU2_SLOTS }
-    ensures here { (x : ℕ) → x < PAYLOAD_COLUMNS → x % OTU2_SLOTS + 1 ≡ k → joined_byte rows.new x ≡ (if filled then joined_byte rows.old x else 0) }
-    ensures others { (x : ℕ) → x < PAYLOAD_COLUMNS → x % OTU2_SLOTS + 1 ≢ k → joined_byte rows.new x ≡ joined_byte rows.old x }
+    ensures here { (x : ℕ) → x < PAYLOAD_COLUMNS → x % OTU2_SLOTS + 1 ≡ k
+        → joined_byte rows.new x ≡ (if filled then joined_byte rows.old x else 0) }
+    ensures others { (x : ℕ) → x < PAYLOAD_COLUMNS → x % OTU2_SLOTS + 1 ≢ k
+        → joined_byte rows.new x ≡ joined_byte rows.old x }
 {
     if filled {
         return;

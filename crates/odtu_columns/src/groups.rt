@@ -79,7 +79,9 @@ fn gather(kind: LineKind, cycles: &[u8], count: usize, slots: &[u8], into: &mut 
     requires slots { IsSlotList (slots_of kind) slots.now }
     requires cycles { length cycles.now ≡ slots_of kind * count }
     requires size { length into.old ≡ length slots.now * count }
-    ensures { (j p : ℕ) → j < count → p < length slots.now → slice_index into.new (length slots.now * j + p) ≡ slice_index cycles.now (slots_of kind * j + (slice_index slots.now p - 1)) }
+    ensures { (j p : ℕ) → j < count → p < length slots.now
+        → slice_index into.new (length slots.now * j + p)
+        ≡ slice_index cycles.now (slots_of kind * j + (slice_index slots.now p - 1)) }
 {
     if slots.len() == kind.slots() as usize {
         into.copy_from_slice(cycles);

@@ -26,7 +26,8 @@ pub fn message(frame: &Frame<LINE_COLUMNS>) -> [u8; 6]
 pub fn put_message(frame: &mut Frame<LINE_COLUMNS>, bytes: [u8; 6])
     ensures size { length frame.new ≡ LINE_FRAME_BYTES }
     ensures message { message_of frame.new ≡ bytes }
-    ensures kept { (place : ℕ) → ((row column : ℕ) → 1 ≤ row → row ≤ 3 → 15 ≤ column → column ≤ 16 → place ≡ place_of LINE_COLUMNS row column → ⊥) → slice_index frame.new place ≡ slice_index frame.old place }
+    ensures kept { (place : ℕ) → ((row column : ℕ) → 1 ≤ row → row ≤ 3 → 15 ≤ column → column ≤ 16
+        → place ≡ place_of LINE_COLUMNS row column → ⊥) → slice_index frame.new place ≡ slice_index frame.old place }
 {
     frame.set(1, NUMBER_COLUMN, bytes[0]);
     frame.set(2, NUMBER_COLUMN, bytes[1]);

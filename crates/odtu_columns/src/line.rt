@@ -24,7 +24,8 @@ pub(crate) fn take_one(kind: LineKind, cycles: &[u8], slot: u8, into: &mut [u8])
     requires low { 1 ≤ slot }
     requires high { slot ≤ slots_of kind }
     requires size { length cycles.now ≡ slots_of kind * length into.old }
-    ensures { (j : ℕ) → j < length into.old → slice_index into.new j ≡ slice_index cycles.now (slots_of kind * j + slot - 1) }
+    ensures { (j : ℕ) → j < length into.old
+        → slice_index into.new j ≡ slice_index cycles.now (slots_of kind * j + slot - 1) }
 {
     match kind {
         LineKind::Otu2 => take_slot::<OTU2_SLOTS>(cycles, slot, into),
@@ -43,7 +44,9 @@ pub(crate) fn take_several(
     requires slots { IsSlotList (slots_of kind) slots.now }
     requires cycles { length cycles.now ≡ slots_of kind * count }
     requires size { length into.old ≡ length slots.now * count }
-    ensures { (j p : ℕ) → j < count → p < length slots.now → slice_index into.new (length slots.now * j + p) ≡ slice_index cycles.now (slots_of kind * j + (slice_index slots.now p - 1)) }
+    ensures { (j p : ℕ) → j < count → p < length slots.now
+        → slice_index into.new (length slots.now * j + p)
+        ≡ slice_index cycles.now (slots_of kind * j + (slice_index slots.now p - 1)) }
 {
     match kind {
         LineKind::Otu2 => take_slots::<OTU2_SLOTS>(cycles, count, slots, into),
@@ -56,7 +59,8 @@ pub(crate) fn put_one(kind: LineKind, bytes: &[u8], slot: u8, cycles: &mut [u8])
     requires low { 1 ≤ slot }
     requires high { slot ≤ slots_of kind }
     requires size { length cycles.old ≡ slots_of kind * length bytes.now }
-    ensures here { (j : ℕ) → j < length bytes.now → slice_index cycles.new (slots_of kind * j + slot - 1) ≡ slice_index bytes.now j }
+    ensures here { (j : ℕ) → j < length bytes.now
+        → slice_index cycles.new (slots_of kind * j + slot - 1) ≡ slice_index bytes.now j }
     ensures others { (x : ℕ) → x % slots_of kind + 1 ≢ slot → slice_index cycles.new x ≡ slice_index cycles.old x }
 {
     match kind {
@@ -77,8 +81,11 @@ pub(crate) fn put_several(
     requires slots { IsSlotList (slots_of kind) slots.now }
     requires size { length bytes.now ≡ length slots.now * count }
     requires cycles { length cycles.old ≡ slots_of kind * count }
-    ensures here { (j p : ℕ) → j < count → p < length slots.now → slice_index cycles.new (slots_of kind * j + (slice_index slots.now p - 1)) ≡ slice_index bytes.now (length slots.now * j + p) }
-    ensures others { (x : ℕ) → ((p : ℕ) → p < length slots.now → x % slots_of kind + 1 ≢ slice_index slots.now p) → slice_index cycles.new x ≡ slice_index cycles.old x }
+    ensures here { (j p : ℕ) → j < count → p < length slots.now
+        → slice_index cycles.new (slots_of kind * j + (slice_index slots.now p - 1))
+        ≡ slice_index bytes.now (length slots.now * j + p) }
+    ensures others { (x : ℕ) → ((p : ℕ) → p < length slots.now → x % slots_of kind + 1 ≢ slice_index slots.now p)
+        → slice_index cycles.new x ≡ slice_index cycles.old x }
 {
     match kind {
         LineKind::Otu2 => put_slots::<OTU2_SLOTS>(bytes, count, slots, cycles),

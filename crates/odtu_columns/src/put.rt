@@ -53,7 +53,11 @@ pub fn put_group(frame: &mut Frame<LINE_COLUMNS>, g: u32, slots: &Slots, bytes: 
     requires high { g ≤ GROUPS / slots_of slots.now.kind }
     requires size { length bytes.now ≡ length slots.now.list }
     ensures group { frame_group (slots_of slots.now.kind) slots.now.list g frame.new ≡ bytes.now }
-    ensures kept { (place : ℕ) → ((i : ℕ) → i < length slots.now.list → place ≡ slot_place (slots_of slots.now.kind) slots.now.list ((g - 1) / (PAYLOAD_COLUMNS / slots_of slots.now.kind) + 1) ((g - 1) % (PAYLOAD_COLUMNS / slots_of slots.now.kind)) i → ⊥) → slice_index frame.new place ≡ slice_index frame.old place }
+    ensures kept { (place : ℕ) → ((i : ℕ) → i < length slots.now.list
+        → place ≡ slot_place (slots_of slots.now.kind) slots.now.list
+        ((g - 1) / (PAYLOAD_COLUMNS / slots_of slots.now.kind) + 1)
+        ((g - 1) % (PAYLOAD_COLUMNS / slots_of slots.now.kind)) i → ⊥)
+        → slice_index frame.new place ≡ slice_index frame.old place }
 {
     let kind = slots.kind();
     let cycles = cycles_in_row(kind) as u32;
@@ -70,8 +74,12 @@ fn set_group(frame: &mut Frame<LINE_COLUMNS>, row: u32, first: u32, slots: &[u8]
     requires slots { All (λ slot. (1 ≤ slot) × (first + slot ≤ LINE_COLUMNS)) slots.now }
     requires rising { (i j : ℕ) → i < j → j < length slots.now → slice_index slots.now i < slice_index slots.now j }
     requires size { length bytes.now ≡ length slots.now }
-    ensures put { (i : ℕ) → i < length slots.now → slice_index frame.new (place_of LINE_COLUMNS row (first + slice_index slots.now i)) ≡ slice_index bytes.now i }
-    ensures kept { (place : ℕ) → ((i : ℕ) → i < length slots.now → place ≡ place_of LINE_COLUMNS row (first + slice_index slots.now i) → ⊥) → slice_index frame.new place ≡ slice_index frame.old place }
+    ensures put { (i : ℕ) → i < length slots.now
+        → slice_index frame.new (place_of LINE_COLUMNS row (first + slice_index slots.now i))
+        ≡ slice_index bytes.now i }
+    ensures kept { (place : ℕ) → ((i : ℕ) → i < length slots.now
+        → place ≡ place_of LINE_COLUMNS row (first + slice_index slots.now i) → ⊥)
+        → slice_index frame.new place ≡ slice_index frame.old place }
 {
     for (i, slot) in slots.iter().enumerate() {
         frame.set(row, first + *slot as u32, bytes[i]);
@@ -83,8 +91,11 @@ pub(crate) fn put_groups(kind: LineKind, slots: &[u8], bytes: &[u8], payload: &m
     requires list { IsSlotList (slots_of kind) slots.now }
     requires size { length bytes.now ≡ length slots.now * (PAYLOAD_COLUMNS / slots_of kind) }
     requires payload { length payload.old ≡ PAYLOAD_COLUMNS }
-    ensures put { (cycle i : ℕ) → cycle < PAYLOAD_COLUMNS / slots_of kind → i < length slots.now → slice_index payload.new (slots_of kind * cycle + (slice_index slots.now i - 1)) ≡ slice_index bytes.now (length slots.now * cycle + i) }
-    ensures kept { (n : ℕ) → ((i : ℕ) → i < length slots.now → n % slots_of kind + 1 ≢ slice_index slots.now i) → slice_index payload.new n ≡ slice_index payload.old n }
+    ensures put { (cycle i : ℕ) → cycle < PAYLOAD_COLUMNS / slots_of kind → i < length slots.now
+        → slice_index payload.new (slots_of kind * cycle + (slice_index slots.now i - 1))
+        ≡ slice_index bytes.now (length slots.now * cycle + i) }
+    ensures kept { (n : ℕ) → ((i : ℕ) → i < length slots.now → n % slots_of kind + 1 ≢ slice_index slots.now i)
+        → slice_index payload.new n ≡ slice_index payload.old n }
 {
     if slots.len() == kind.slots() as usize {
         payload.copy_from_slice(bytes);

@@ -4,7 +4,8 @@ ghost use Rattle.frame_geometry.specs.Places.{place_of};
 ghost use Rattle.otn_base.specs.LineSlots.{slots_of};
 ghost use Rattle.otn_base.specs.SlotList.{IsSlotList};
 ghost use Rattle.otn_base.specs.declared.limits.TheConstants.{LINE_COLUMNS, LINE_FRAME_BYTES, OTU2_SLOTS, PAYLOAD_COLUMNS};
-ghost use Rattle.odtu_columns.specs.BySlots.{joined_byte, HasPayloadOf, IsOutside, RowJoined};
+ghost use Rattle.odtu_columns.specs.BySlots.{joined_byte, HasPayloadOf};
+ghost use Rattle.odtu_columns.specs.Steps.BySlots.{IsOutside, RowJoined};
 
 use crate::fill::FillFrame;
 use crate::filled_row::FilledRow;
@@ -20,8 +21,8 @@ use std::alloc::Global;
 use std::marker::Model;
 
 /// A frame of an OTU2 that is best filled by sources of one slot each: the payload of a row is kept slot by slot, and a
-/// source's bytes stand together. Of the columns that are no payload it has a message's alone; all else there is 0. It is
-/// seen as the bytes of the frame that it stands for, row by row.
+/// source's bytes stand together. Of the columns that are no payload it has a message's alone; all else there is 0. It
+/// is seen as the bytes of the frame that it stands for, row by row.
 #[derive(Drop)]
 pub struct SlotFrame {
     message: [u8; 6],
@@ -88,7 +89,9 @@ impl SlotFrame {
         requires slot_low { 1 ≤ k }
         requires slot_high { k ≤ OTU2_SLOTS }
         ensures size { length result.now ≡ PAYLOAD_COLUMNS / OTU2_SLOTS }
-        ensures bytes { (j : ℕ) → j < PAYLOAD_COLUMNS / OTU2_SLOTS → slice_index result.now j ≡ slice_index self.now (place_of LINE_COLUMNS row (17 + (OTU2_SLOTS * j + (k - 1)))) }
+        ensures bytes { (j : ℕ) → j < PAYLOAD_COLUMNS / OTU2_SLOTS
+            → slice_index result.now j ≡ slice_index self.now
+            (place_of LINE_COLUMNS row (17 + (OTU2_SLOTS * j + (k - 1)))) }
     {
         match row {
             1 => self.row1.slot(k),
@@ -133,7 +136,8 @@ impl FillFrame for SlotFrame {
 fn split_row(frame: &Frame<LINE_COLUMNS>, row: u32, rows: &mut FilledRow)
     requires low { 1 ≤ row }
     requires high { row ≤ 4 }
-    ensures { (x : ℕ) → x < PAYLOAD_COLUMNS → joined_byte rows.new x ≡ slice_index frame.now (place_of LINE_COLUMNS row (17 + x)) }
+    ensures { (x : ℕ) → x < PAYLOAD_COLUMNS
+        → joined_byte rows.new x ≡ slice_index frame.now (place_of LINE_COLUMNS row (17 + x)) }
 {
     rows.split(frame.payload_row(row));
 }
@@ -145,8 +149,8 @@ fn clear_beside_payload(frame: &mut Frame<LINE_COLUMNS>)
     clear_between_rows(frame.as_bytes_mut());
 }
 
-// The same, in the bytes of a frame: between the payload of two rows stand the FEC columns of the one and the overhead columns of
-// the other.
+// The same, in the bytes of a frame: between the payload of two rows stand the FEC columns of the one and the overhead
+// columns of the other.
 fn clear_between_rows(bytes: &mut [u8])
     requires { length bytes.old ≡ LINE_FRAME_BYTES }
     ensures { (place : ℕ) → IsOutside place → slice_index bytes.new place ≡ 0 }
@@ -175,7 +179,8 @@ fn clear_run(bytes: &mut [u8], from: usize, to: usize)
     requires order { from ≤ to }
     requires room { to ≤ length bytes.old }
     ensures zero { (place : ℕ) → from ≤ place → place < to → slice_index bytes.new place ≡ 0 }
-    ensures kept { (place : ℕ) → (place < from) ⊎ (to ≤ place) → slice_index bytes.new place ≡ slice_index bytes.old place }
+    ensures kept { (place : ℕ) → (place < from) ⊎ (to ≤ place)
+        → slice_index bytes.new place ≡ slice_index bytes.old place }
 {
     bytes[from..to].fill(0);
 }
@@ -194,8 +199,12 @@ fn join_row(rows: &mut FilledRow, row: u32, frame: &mut Frame<LINE_COLUMNS>)
 fn put_in_row(rows: &mut FilledRow, slots: &Slots, bytes: &[u8])
     requires size { length bytes.now ≡ length slots.now.list * (PAYLOAD_COLUMNS / slots_of slots.now.kind) }
     ensures list { IsSlotList (slots_of slots.now.kind) slots.now.list }
-    ensures put { (cycle i : ℕ) → cycle < PAYLOAD_COLUMNS / slots_of slots.now.kind → i < length slots.now.list → joined_byte rows.new (slots_of slots.now.kind * cycle + (slice_index slots.now.list i - 1)) ≡ slice_index bytes.now (length slots.now.list * cycle + i) }
-    ensures kept { (x : ℕ) → x < PAYLOAD_COLUMNS → ((i : ℕ) → i < length slots.now.list → x % slots_of slots.now.kind + 1 ≢ slice_index slots.now.list i) → joined_byte rows.new x ≡ joined_byte rows.old x }
+    ensures put { (cycle i : ℕ) → cycle < PAYLOAD_COLUMNS / slots_of slots.now.kind → i < length slots.now.list
+        → joined_byte rows.new (slots_of slots.now.kind * cycle + (slice_index slots.now.list i - 1))
+        ≡ slice_index bytes.now (length slots.now.list * cycle + i) }
+    ensures kept { (x : ℕ) → x < PAYLOAD_COLUMNS
+        → ((i : ℕ) → i < length slots.now.list → x % slots_of slots.now.kind + 1 ≢ slice_index slots.now.list i)
+        → joined_byte rows.new x ≡ joined_byte rows.old x }
 {
     let kind = slots.kind();
     let list = slots.as_slice();
@@ -210,8 +219,12 @@ fn put_in_row(rows: &mut FilledRow, slots: &Slots, bytes: &[u8])
 fn put_joined(kind: LineKind, rows: &mut FilledRow, slots: &[u8], bytes: &[u8])
     requires list { IsSlotList (slots_of kind) slots.now }
     requires size { length bytes.now ≡ length slots.now * (PAYLOAD_COLUMNS / slots_of kind) }
-    ensures put { (cycle i : ℕ) → cycle < PAYLOAD_COLUMNS / slots_of kind → i < length slots.now → joined_byte rows.new (slots_of kind * cycle + (slice_index slots.now i - 1)) ≡ slice_index bytes.now (length slots.now * cycle + i) }
-    ensures kept { (x : ℕ) → x < PAYLOAD_COLUMNS → ((i : ℕ) → i < length slots.now → x % slots_of kind + 1 ≢ slice_index slots.now i) → joined_byte rows.new x ≡ joined_byte rows.old x }
+    ensures put { (cycle i : ℕ) → cycle < PAYLOAD_COLUMNS / slots_of kind → i < length slots.now
+        → joined_byte rows.new (slots_of kind * cycle + (slice_index slots.now i - 1))
+        ≡ slice_index bytes.now (length slots.now * cycle + i) }
+    ensures kept { (x : ℕ) → x < PAYLOAD_COLUMNS
+        → ((i : ℕ) → i < length slots.now → x % slots_of kind + 1 ≢ slice_index slots.now i)
+        → joined_byte rows.new x ≡ joined_byte rows.old x }
 {
     let mut payload = [0u8; PAYLOAD_COLUMNS];
     rows.join(&mut payload);

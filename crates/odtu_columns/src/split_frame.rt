@@ -15,8 +15,8 @@ use otn_base::Slots;
 use otn_base::limits::{LINE_COLUMNS, OTU2_SLOTS};
 use std::marker::Model;
 
-/// A frame of an OTU2 of which sinks of one slot each take best: beside it stands its payload by slots, where a sink's bytes
-/// stand together. It is seen as the bytes of the frame, row by row.
+/// A frame of an OTU2 of which sinks of one slot each take best: beside it stands its payload by slots, where a sink's
+/// bytes stand together. It is seen as the bytes of the frame, row by row.
 #[derive(Drop)]
 pub struct SplitFrame<'a> {
     frame: &'a Frame<LINE_COLUMNS>,

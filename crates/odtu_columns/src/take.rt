@@ -13,7 +13,8 @@ use frame_geometry::overhead::{PSI_COLUMN, PSI_ROW};
 use otn_base::Slots;
 use otn_base::limits::LINE_COLUMNS;
 
-/// A frame of an OTU2 or an OTU3 of which sinks take their groups, their messages and their MSI bytes, one after the other.
+/// A frame of an OTU2 or an OTU3 of which sinks take their groups, their messages and their MSI bytes, one after the
+/// other.
 pub trait TakeFrame: Drop {
     /// Its bytes, row by row.
     ghost bytes: { Self → List ℕ };
@@ -24,15 +25,18 @@ pub trait TakeFrame: Drop {
         requires row_high { row ≤ 4 }
         requires cycle { cycle < PAYLOAD_COLUMNS / slots_of slots.now.kind }
         requires size { length into.old ≡ length slots.now.list }
-        ensures { into.new ≡ payload_group (slots_of slots.now.kind) (payload_row_of LINE_COLUMNS row (bytes self.now)) slots.now.list cycle };
+        ensures { into.new ≡ payload_group (slots_of slots.now.kind)
+            (payload_row_of LINE_COLUMNS row (bytes self.now)) slots.now.list cycle };
 
-    /// Writes the groups of these slots in `count` cycles of a row (1 to 4), from cycle `first` (from 0) on, one after the other.
+    /// Writes the groups of these slots in `count` cycles of a row (1 to 4), from cycle `first` (from 0) on, one after
+    /// the other.
     fn take_groups(&self, row: u32, first: usize, count: usize, slots: &Slots, into: &mut [u8])
         requires row_low { 1 ≤ row }
         requires row_high { row ≤ 4 }
         requires cycles { first + count ≤ PAYLOAD_COLUMNS / slots_of slots.now.kind }
         requires size { length into.old ≡ length slots.now.list * count }
-        ensures { into.new ≡ run_groups (slots_of slots.now.kind) (payload_row_of LINE_COLUMNS row (bytes self.now)) slots.now.list first count };
+        ensures { into.new ≡ run_groups (slots_of slots.now.kind)
+            (payload_row_of LINE_COLUMNS row (bytes self.now)) slots.now.list first count };
 
     /// JC1 to JC6, in this order.
     fn take_message(&self) -> [u8; 6]

@@ -12,7 +12,7 @@ use Rattle.frame_overhead.specs.Runs.{IsPlace, byte_of, IsPut}
 use Rattle.odu_path.specs.Path.{path_row, path_byte, HasPath}
 use Rattle.odu_client.specs.ClientFrames.{alignment_row, client_psi, opu_byte, odu_byte, client_byte, client_frame}
 use Rattle.odu_client.specs.AlignedRuns.{payload_of}
-use Rattle.odu_client.specs.FramePuts.{FrameWasPut}
+use Rattle.odu_client.specs.Steps.FramePuts.{FrameWasPut}
 use Rattle.odu_client.proofs.PayloadRows.{small_row, payload_byte}
 
 yes_le : (a b : ℕ) → a ≤ b → nat_le a b ≡ true

@@ -10,9 +10,11 @@ use Rattle.packet_text.specs.LinesStand.{LinesView, LinesStand, fresh_lines}
 use Rattle.packet_text.specs.declared.line.Line.TheVariants as line
 use Rattle.odu_client.specs.ClientFrames.{client_frame, client_frames}
 use Rattle.odu_client.specs.ClientInput.{gfp_length}
-use Rattle.odu_client.specs.Framing.{StreamState, FramerState, StreamMade, TextStands, StreamGoes, Framed, ClientStands}
+use Rattle.odu_client.specs.Framing.{StreamState, FramerState, StreamMade, TextStands, Framed, ClientStands}
+use Rattle.odu_client.specs.Steps.Framing.{StreamGoes}
 use Rattle.odu_client.specs.PacketStream.{fresh_stream}
-use Rattle.odu_client.specs.FramerSteps.{fresh_framer, FramedSome, Makes, Gives}
+use Rattle.odu_client.specs.FramerSteps.{fresh_framer}
+use Rattle.odu_client.specs.Steps.FramerSteps.{FramedSome, Makes, Gives}
 use Rattle.odu_client.proofs.GfpTexts.{longer}
 use Rattle.odu_client.proofs.Streaming.{fresh_stands}
 use Rattle.odu_client.proofs.FrameLists.{frames_next, joined_next}

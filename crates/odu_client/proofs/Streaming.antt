@@ -14,8 +14,10 @@ use Rattle.otn_base.specs.Counts.{saturated}
 use Rattle.packet_text.specs.declared.line.Line.{Line}
 use Rattle.packet_text.specs.declared.line.Line.TheVariants as line
 use Rattle.odu_client.specs.ClientInput.{gfp_length}
-use Rattle.odu_client.specs.Framing.{StreamState, StreamMade, StreamReady, TextStands, TextGoes, GetsReady, StreamGoes}
-use Rattle.odu_client.specs.PacketStream.{fresh_stream, Asked}
+use Rattle.odu_client.specs.Framing.{StreamState, StreamMade, TextStands}
+use Rattle.odu_client.specs.Steps.Framing.{StreamReady, TextGoes, GetsReady, StreamGoes}
+use Rattle.odu_client.specs.PacketStream.{fresh_stream}
+use Rattle.odu_client.specs.Steps.PacketStream.{Asked}
 use Rattle.odu_client.proofs.GfpTexts.{clients, clients-append, first_frames, no_idles}
 
 snoc_same : {X : Type 0} (xs ys : List X) (x y : X) → xs ++ x ∷ [] ≡ ys ++ y ∷ [] → xs ≡ ys

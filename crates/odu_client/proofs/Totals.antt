@@ -15,7 +15,7 @@ use Rattle.packet_text.specs.declared.line.Line.TheVariants as line
 use Rattle.odu_client.specs.ClientFrames.{client_frames, frames_begun, payload_begun, client_stream, stream_part}
 use Rattle.odu_client.specs.ClientInput.{input_of, input_ending, gfp_length, begun_within, packets_begun, packets_asked, ending_seen, is_end, is_spent, bad_at, bad_line}
 use Rattle.odu_client.specs.Framing.{StreamState, FramerState, StreamMade, TextStands, Framed, ClientStands, Fills, MayDie}
-use Rattle.odu_client.specs.FramerSteps.{FramedSome, Makes}
+use Rattle.odu_client.specs.Steps.FramerSteps.{FramedSome, Makes}
 use Rattle.odu_client.proofs.GfpTexts.{first_frames, no_idles, all_begun, all_begun_of, longer, text_of_more}
 use Rattle.odu_client.proofs.FrameLists.{joined_size}
 use Rattle.odu_client.proofs.Framing.{within_packets, makes_none}

@@ -1,11 +1,11 @@
--- An aligner of client frames, as contracts see it.
-use Rattle.std.specs.Prelude.{◌≡◌, ℕ, Bool, true, if◌then◌else◌, List, [], ◌∷◌, ◌++◌}
+-- API: an aligner of client frames, as contracts see it.
+use Rattle.std.specs.Prelude.{◌≡◌, ℕ, Bool, true, if◌then◌else◌, List, ◌∷◌, ◌++◌}
 use Rattle.odu_client.specs.AlignedRuns.{Arrival, Handed, Broken, from_search, from_frame, arrivals}
 use Rattle.odu_client.specs.declared.aligned.Aligned.{Aligned}
 use Rattle.odu_client.specs.declared.aligned.Aligned.TheVariants.{Nothing, Whole, Break}
 
--- whether it searches, how many frames in a row did not begin with the FAS, and the bytes that it holds: of the FAS in a search, else of the
--- frame that has begun
+-- whether it searches, how many frames in a row did not begin with the FAS, and the bytes that it holds: of the FAS in
+-- a search, else of the frame that has begun
 pub record AlignerState : Type 0 where
   pub searches : Bool
   pub misses : ℕ
@@ -13,9 +13,11 @@ pub record AlignerState : Type 0 where
 
 -- what is yet to arrive, if these bytes come
 abbrev pub to_come : AlignerState → List ℕ → List Arrival
-to_come aligner more = if aligner.searches then from_search (aligner.held ++ more) else from_frame aligner.misses (aligner.held ++ more)
+to_come aligner more = if aligner.searches then from_search (aligner.held ++ more)
+    else from_frame aligner.misses (aligner.held ++ more)
 
--- The aligner took these bytes since its start: whatever comes, in the whole list arrives what arrived in these and what is yet to arrive.
+-- The aligner took these bytes since its start: whatever comes, in the whole list arrives what arrived in these and
+-- what is yet to arrive.
 pub record HasAligned (taken : List ℕ) (aligner : AlignerState) : Type 0 where
   pub whole : (more : List ℕ) → arrivals (taken ++ more) ≡ arrivals taken ++ to_come aligner more
 
@@ -25,18 +27,14 @@ news Nothing frame = []
 news Whole frame = Handed frame ∷ []
 news Break frame = Broken ∷ []
 
--- a step: what was to arrive with this byte arrived, or is to arrive still; and nothing arrives of itself
-pub record Goes (old : AlignerState) (byte : ℕ) (result : Aligned) (frame : List ℕ) (new : AlignerState) : Type 0 where
-  pub each : (more : List ℕ) → to_come old (byte ∷ more) ≡ news result frame ++ to_come new more
-  pub none : to_come new [] ≡ []
-
 -- with one byte more
 pub record Aligns (taken : List ℕ) (byte : ℕ) (result : Aligned) (frame : List ℕ) (new : AlignerState) : Type 0 where
   pub arrived : arrivals (taken ++ byte ∷ []) ≡ arrivals taken ++ news result frame
   pub aligned : HasAligned (taken ++ byte ∷ []) new
 
 -- so many bytes were taken at once
-pub record GoesBy (old : AlignerState) (came : List ℕ) (result : Aligned) (frame : List ℕ) (new : AlignerState) : Type 0 where
+pub record GoesBy (old : AlignerState) (came : List ℕ) (result : Aligned) (frame : List ℕ)
+    (new : AlignerState) : Type 0 where
   pub each : (more : List ℕ) → to_come old (came ++ more) ≡ news result frame ++ to_come new more
   pub none : to_come new [] ≡ []
 

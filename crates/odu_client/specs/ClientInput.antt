@@ -1,4 +1,4 @@
--- What a client's input is, and what it puts out.
+-- Believed: what a client's input is, and what it puts out.
 use Rattle.std.specs.Prelude.{ℕ, zero, suc, ◌+◌, ◌-◌, ◌*◌, ◌/◌, ◌%◌, nat_lt, nat_le, ◌&&◌, if◌then◌else◌, Bool, true, false, List, [], ◌∷◌, length, get_or, Option, Some, None}
 use Rattle.otn_base.specs.declared.limits.TheConstants.{CLIENT_FRAME_BYTES, CLIENT_PAYLOAD_BYTES}
 use Rattle.packet_text.specs.TextLines.{text_of_dead}
@@ -7,7 +7,8 @@ use Rattle.gfp_frames.specs.GfpText.{Frame, stream_frames, text_of}
 use Rattle.gfp_frames.specs.Within.{frame_size, packets_of as packet_in}
 use Rattle.odu_client.specs.ClientFrames.{payload_begun, stream_part}
 
--- how a client's input ends: at the end of its text, with the first bad line, which has this number, or where its place died
+-- how a client's input ends: at the end of its text, with the first bad line, which has this number, or where its place
+-- died
 pub data InputEnding : Type 0 where
   AtEnd : InputEnding
   AtBad : ℕ → InputEnding
@@ -41,7 +42,8 @@ gfp_length packets fcs = length (text_of (stream_frames packets fcs 0))
 -- of GFP frames one after another, how many that carry a packet have their first byte within the first n bytes
 unfoldable pub begun_within : (n : ℕ) → List Frame → ℕ
 begun_within n [] = 0
-begun_within n (frame ∷ frames) = if nat_lt 0 n then length (packet_in frame) + begun_within (n - frame_size frame) frames else 0
+begun_within n (frame ∷ frames) = if nat_lt 0 n
+    then length (packet_in frame) + begun_within (n - frame_size frame) frames else 0
 
 -- how many packets are begun: their frame's first byte stands in the payload of a frame that was begun
 abbrev pub packets_begun : (packets : List (List ℕ)) → (fcs : Bool) → (emitted : ℕ) → ℕ
@@ -53,7 +55,8 @@ ending_seen packets fcs emitted = nat_lt (gfp_length packets fcs) (payload_begun
 
 -- how many packets are asked for: those that are begun, and one more where the ending is seen
 abbrev pub packets_asked : (packets : List (List ℕ)) → (fcs : Bool) → (emitted : ℕ) → ℕ
-packets_asked packets fcs emitted = packets_begun packets fcs emitted + (if ending_seen packets fcs emitted then 1 else 0)
+packets_asked packets fcs emitted = packets_begun packets fcs emitted +
+    (if ending_seen packets fcs emitted then 1 else 0)
 
 -- whether an input ends at the end of its text
 abbrev pub is_end : InputEnding → Bool
@@ -63,7 +66,8 @@ is_end AtDeath = false
 
 -- whether a client is spent: its text has ended, and the frame in which that was seen was emitted whole
 abbrev pub is_spent : ClientInput → (fcs : Bool) → (emitted : ℕ) → Bool
-is_spent input fcs emitted = is_end input.ending && nat_le (CLIENT_FRAME_BYTES * (gfp_length input.packets fcs / CLIENT_PAYLOAD_BYTES + 1)) emitted
+is_spent input fcs emitted = is_end input.ending
+    && nat_le (CLIENT_FRAME_BYTES * (gfp_length input.packets fcs / CLIENT_PAYLOAD_BYTES + 1)) emitted
 
 -- the number of the bad line with which an input ends
 abbrev pub bad_at : InputEnding → Option ℕ
@@ -88,4 +92,5 @@ emitted_before paces (suc turn) = emitted_before paces turn + pace_of paces turn
 
 -- what a client's input emits in a turn: the next bytes of its stream, as many as the turn's pace
 unfoldable pub input_emits : (sapi : List ℕ) → (fcs : Bool) → (paces : List ℕ) → ClientInput → (turn : ℕ) → List ℕ
-input_emits sapi fcs paces input turn = stream_part sapi input.packets fcs (emitted_before paces turn) (pace_of paces turn)
+input_emits sapi fcs paces input turn = stream_part sapi input.packets fcs (emitted_before paces turn)
+    (pace_of paces turn)

@@ -1,10 +1,11 @@
--- What a client's output makes of the bytes that arrive.
+-- Believed: what a client's output makes of the bytes that arrive.
 use Rattle.std.specs.Prelude.{ℕ, ◌+◌, List, [], ◌∷◌, flat_map}
 use Rattle.gfp_frames.specs.Delivered.{delivered}
 use Rattle.packet_text.specs.PacketText.{hex_text}
 use Rattle.odu_client.specs.AlignedRuns.{Arrival, Handed, Broken, arrivals, runs_of}
 
--- the packets that are delivered by these bytes: each run of payload bytes between breaks is a stream of GFP frames of its own
+-- the packets that are delivered by these bytes: each run of payload bytes between breaks is a stream of GFP frames of
+-- its own
 unfoldable pub arriving_packets : List ℕ → List (List ℕ)
 arriving_packets bytes = flat_map delivered (runs_of (arrivals bytes))
 

@@ -1,4 +1,4 @@
--- What a maker of a client's frames keeps.
+-- API: what a maker of a client's frames keeps.
 use Rattle.std.specs.Prelude.{◌≡◌, ℕ, ◌+◌, ◌*◌, ◌%◌, List, [], ◌∷◌, ◌++◌, length}
 use Rattle.otn_base.specs.declared.limits.TheConstants.{CLIENT_COLUMNS, CLIENT_PAYLOAD_BYTES}
 use Rattle.frame_overhead.specs.TwoBefore.{Kept, HasSent}

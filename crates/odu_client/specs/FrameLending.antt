@@ -1,4 +1,4 @@
--- What a maker is once the frame that borrows it is gone.
+-- API: what a maker is once the frame that borrows it is gone.
 use Rattle.std.specs.Prelude.{ℕ, ◌+◌, ⊤, List, ◌++◌}
 use Rattle.std.specs.Borrow.{MutBor, Fml, follows_so}
 use mathlib.Core.Option.{none}
@@ -9,4 +9,5 @@ use Rattle.odu_client.specs.contracts.frame_maker.FrameMaker.{the_row}
 abbrev pub EndsHavingMade : MutBor MakerState → (sapi payload : List ℕ) → Fml
 EndsHavingMade maker sapi payload =
     follows_so the_row the_row maker.ghost_name none (λ _ _. ⊤)
-    (λ last. (count : ℕ) (given : List ℕ) → HasMadeFrames sapi count given maker.now.overhead → HasMadeFrames sapi (count + 1) (given ++ payload) last.overhead)
+    (λ last. (count : ℕ) (given : List ℕ) → HasMadeFrames sapi count given maker.now.overhead
+    → HasMadeFrames sapi (count + 1) (given ++ payload) last.overhead)

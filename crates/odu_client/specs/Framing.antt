@@ -1,5 +1,5 @@
--- How a client's frames are made of its text.
-use Rattle.std.specs.Prelude.{◌≡◌, ◌≢◌, ◌<◌, ◌≤◌, ℕ, ◌+◌, ◌*◌, ◌%◌, Bool, true, false, List, [], ◌∷◌, ◌++◌, length}
+-- API: how a client's frames are made of its text.
+use Rattle.std.specs.Prelude.{◌≡◌, ◌≢◌, ◌<◌, ◌≤◌, ℕ, ◌+◌, ◌*◌, ◌%◌, Bool, true, false, List, ◌∷◌, ◌++◌, length}
 use Rattle.std.specs.List.{concat}
 use Rattle.otn_ports.specs.Views.{InView}
 use Rattle.frame_overhead.specs.TwoBefore.{Kept, HasSent}
@@ -14,16 +14,16 @@ use Rattle.odu_client.specs.ClientFrames.{client_frames, frames_begun, stream_pa
 use Rattle.odu_client.specs.ClientInput.{gfp_length}
 use Rattle.otn_base.specs.declared.limits.TheConstants.{CLIENT_COLUMNS, CLIENT_PAYLOAD_BYTES}
 
--- what is seen of a stream of GFP frames: its maker, whether its packets have FCS, the last answer of the text's lines, and how
--- many packets were begun
+-- what is seen of a stream of GFP frames: its maker, whether its packets have FCS, the last answer of the text's lines,
+-- and how many packets were begun
 pub record StreamState : Type 0 where
   pub maker : MakerState
   pub fcs : Bool
   pub answer : Line
   pub packets : ℕ
 
--- what is seen of a framer: the identifier of its trace, its stream, the parities that its path writer keeps, the MFAS of the next
--- frame, what is left of the frame in hand, and whether the stream had not ended before that frame
+-- what is seen of a framer: the identifier of its trace, its stream, the parities that its path writer keeps, the MFAS
+-- of the next frame, what is left of the frame in hand, and whether the stream had not ended before that frame
 pub record FramerState : Type 0 where
   pub sapi : List ℕ
   pub stream : StreamState
@@ -32,74 +32,54 @@ pub record FramerState : Type 0 where
   pub left : List ℕ
   pub fresh : Bool
 
--- These packets were taken, and their frames made, or begun, by these bytes; then idle frames, once no packet is left. The last
--- packet's frame was begun, and once the last answer came the packets' frames were given and more.
+-- These packets were taken, and their frames made, or begun, by these bytes; then idle frames, once no packet is left.
+-- The last packet's frame was begun, and once the last answer came the packets' frames were given and more.
 pub record StreamMade (packets : List (List ℕ)) (given : List ℕ) (stream : StreamState) : Type 0 where
   pub idles : ℕ
   pub made : HasMade (stream_frames packets stream.fcs idles) given stream.maker
   pub going : stream.answer ≡ Packet → idles ≡ 0
-  pub begun : (before : List (List ℕ)) (last : List ℕ) → packets ≡ before ++ last ∷ [] → gfp_length before stream.fcs < length given
+  pub begun : (before : List (List ℕ)) (last : List ℕ) → packets ≡ before ++ last ∷ []
+      → gfp_length before stream.fcs < length given
   pub seen : stream.answer ≢ Packet → gfp_length packets stream.fcs < length given
   pub count : stream.packets ≡ saturated (length packets)
 
--- the same where the next byte may be that of a packet's frame that is not begun, or of the first idle frame behind the packets
-pub record StreamReady (packets : List (List ℕ)) (given : List ℕ) (stream : StreamState) : Type 0 where
-  pub idles : ℕ
-  pub made : HasMade (stream_frames packets stream.fcs idles) given stream.maker
-  pub going : stream.answer ≡ Packet → (idles ≡ 0) × (stream.maker.hand ≢ [])
-  pub begun : (before : List (List ℕ)) (last : List ℕ) → packets ≡ before ++ last ∷ [] → gfp_length before stream.fcs ≤ length given
-  pub seen : stream.answer ≢ Packet → gfp_length packets stream.fcs ≤ length given
-  pub count : stream.packets ≡ saturated (length packets)
-
 -- `first` and `now` are views of the text's place, between which these bytes were taken, and these packets given
-pub record TextStands (first now : InView) (taken : List ℕ) (packets : List (List ℕ)) (lines : LinesView) (stream : StreamState) : Type 0 where
+pub record TextStands (first now : InView) (taken : List ℕ) (packets : List (List ℕ)) (lines : LinesView)
+    (stream : StreamState) : Type 0 where
   pub stands : LinesStand first now taken packets lines
   pub answer : stream.answer ≡ lines.answer
 
--- what came of the text in a call: it may have gone on, if its lines had not ended
-pub record TextGoes (first now : InView) (taken : List ℕ) (packets : List (List ℕ)) (old new : LinesView) (fcs : Bool) (stream : StreamState) : Type 0 where
-  pub came : List ℕ
-  pub more : List (List ℕ)
-  pub text : TextStands first now (taken ++ came) (packets ++ more) new stream
-  pub earlier : (text : List ℕ) → MayBe new (taken ++ came) text → MayBe old taken text
-  pub still : old.answer ≢ Packet → (more ≡ []) × (new ≡ old)
-  pub same : stream.fcs ≡ fcs
-
--- so the text goes on, and the stream is ready for its next byte
-pub record GetsReady (first now : InView) (taken given : List ℕ) (packets : List (List ℕ)) (old new : LinesView) (fcs : Bool) (stream : StreamState) : Type 0 where
-  pub goes : TextGoes first now taken packets old new fcs stream
-  pub ready : StreamReady (packets ++ goes.more) given stream
-
--- so the text goes on, and the stream has given these bytes
-pub record StreamGoes (first now : InView) (taken given : List ℕ) (packets : List (List ℕ)) (old new : LinesView) (fcs : Bool) (stream : StreamState) : Type 0 where
-  pub goes : TextGoes first now taken packets old new fcs stream
-  pub made : StreamMade (packets ++ goes.more) given stream
-
 -- a framer that has made so many frames, which carry these payload bytes, and of which these bytes are gone
-pub record Framed (packets : List (List ℕ)) (given : List ℕ) (count : ℕ) (gone : List ℕ) (framer : FramerState) : Type 0 where
+pub record Framed (packets : List (List ℕ)) (given : List ℕ) (count : ℕ) (gone : List ℕ)
+    (framer : FramerState) : Type 0 where
   pub stream : StreamMade packets given framer.stream
   pub size : length given ≡ CLIENT_PAYLOAD_BYTES * count
   pub path : HasSent CLIENT_COLUMNS (client_frames framer.sapi count given) framer.path
   pub mfas : framer.mfas ≡ count % 256
   pub frames : gone ++ framer.left ≡ concat (client_frames framer.sapi count given)
-  pub fresh : framer.stream.answer ≢ Packet → framer.fresh ≡ true → CLIENT_PAYLOAD_BYTES * count ≤ gfp_length packets framer.stream.fcs + CLIENT_PAYLOAD_BYTES
-  pub late : framer.stream.answer ≢ Packet → framer.fresh ≡ false → gfp_length packets framer.stream.fcs + CLIENT_PAYLOAD_BYTES < CLIENT_PAYLOAD_BYTES * count
+  pub fresh : framer.stream.answer ≢ Packet → framer.fresh ≡ true
+      → CLIENT_PAYLOAD_BYTES * count ≤ gfp_length packets framer.stream.fcs + CLIENT_PAYLOAD_BYTES
+  pub late : framer.stream.answer ≢ Packet → framer.fresh ≡ false
+      → gfp_length packets framer.stream.fcs + CLIENT_PAYLOAD_BYTES < CLIENT_PAYLOAD_BYTES * count
 
--- `first` and `now` are views of the place of a client's text, between which these bytes were taken; and these bytes of its stream are
--- gone since its start
-pub record ClientStands (first now : InView) (taken gone : List ℕ) (lines : LinesView) (framer : FramerState) : Type 0 where
+-- `first` and `now` are views of the place of a client's text, between which these bytes were taken; and these bytes of
+-- its stream are gone since its start
+pub record ClientStands (first now : InView) (taken gone : List ℕ) (lines : LinesView)
+    (framer : FramerState) : Type 0 where
   pub packets : List (List ℕ)
   pub given : List ℕ
   pub text : TextStands first now taken packets lines framer.stream
   pub framed : Framed packets given (frames_begun (length gone)) gone framer
 
--- after a call that gave these bytes: more bytes of the text were taken, and a text that the place may have from then on it might
--- have before. They are the next bytes of the client's stream, whatever text it is.
-pub record Fills (first now : InView) (taken gone bytes : List ℕ) (old new : LinesView) (was is : FramerState) : Type 0 where
+-- after a call that gave these bytes: more bytes of the text were taken, and a text that the place may have from then
+-- on it might have before. They are the next bytes of the client's stream, whatever text it is.
+pub record Fills (first now : InView) (taken gone bytes : List ℕ) (old new : LinesView)
+    (was is : FramerState) : Type 0 where
   pub came : List ℕ
   pub stands : ClientStands first now (taken ++ came) (gone ++ bytes) new is
   pub earlier : (text : List ℕ) → MayBe new (taken ++ came) text → MayBe old taken text
-  pub emitted : (text : List ℕ) → MayBe new (taken ++ came) text → bytes ≡ stream_part was.sapi (packets_of text).packets was.stream.fcs (length gone) (length bytes)
+  pub emitted : (text : List ℕ) → MayBe new (taken ++ came) text
+      → bytes ≡ stream_part was.sapi (packets_of text).packets was.stream.fcs (length gone) (length bytes)
   pub sapi : is.sapi ≡ was.sapi
   pub fcs : is.stream.fcs ≡ was.stream.fcs
 

@@ -8,7 +8,7 @@ pub mod ClientInput
 pub mod ClientOutput
 pub mod Framing
 pub mod PacketStream
-pub mod FramePuts
 pub mod FramerSteps
 pub mod OutputSteps
 pub mod Laws
+pub mod Steps

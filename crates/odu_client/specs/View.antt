@@ -1,4 +1,4 @@
--- What is seen of an aligner.
+-- API: what is seen of an aligner.
 use Rattle.std.specs.Prelude.{ℕ, ◌+◌, List}
 use Rattle.otn_base.specs.Counts.{saturated}
 use Rattle.odu_client.specs.Aligner.{AlignerState}

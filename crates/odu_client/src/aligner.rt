@@ -11,8 +11,8 @@ use otn_base::limits::{CLIENT_COLUMNS, CLIENT_FRAME_BYTES};
 use otn_base::{Memory, append};
 use std::alloc::Global;
 
-/// Finds client frames in the bytes that arrive. In a search it looks for the first FAS; then frames follow one another, until five
-/// in a row begin otherwise.
+/// Finds client frames in the bytes that arrive. In a search it looks for the first FAS; then frames follow one
+/// another, until five in a row begin otherwise.
 #[derive(Drop)]
 pub struct ClientAligner {
     searching: bool,
@@ -29,7 +29,8 @@ pub struct ClientAligner {
 
 impl ClientAligner {
     ghost use Rattle.odu_client.specs.AlignedRuns.{arrivals};
-    ghost use Rattle.odu_client.specs.Aligner.{AlignerState, HasAligned, Aligns, AlignsBy, Goes, GoesBy, searches_anew};
+    ghost use Rattle.odu_client.specs.Aligner.{AlignerState, HasAligned, Aligns, AlignsBy, GoesBy, searches_anew};
+    ghost use Rattle.odu_client.specs.Steps.Aligner.{Goes};
     ghost use Rattle.odu_client.specs.View.{aligner_state, handed, frames_after};
 
     /// An aligner that searches. All memory is taken here.
@@ -61,10 +62,11 @@ impl ClientAligner {
         self.frames = 0;
     }
 
-    /// The next byte. Whole: a frame to be used ended with it. Break: a frame with AIS, OCI or LCK ended with it, or a search begins
-    /// behind it.
+    /// The next byte. Whole: a frame to be used ended with it. Break: a frame with AIS, OCI or LCK ended with it, or a
+    /// search begins behind it.
     pub fn take(&mut self, byte: u8) -> Aligned
-        ensures aligned { (taken : List ℕ) → HasAligned taken (aligner_state self.old) → Aligns taken byte result (handed self.new) (aligner_state self.new) }
+        ensures aligned { (taken : List ℕ) → HasAligned taken (aligner_state self.old)
+            → Aligns taken byte result (handed self.new) (aligner_state self.new) }
         ensures kept { result ≢ Aligned.Whole → handed self.new ≡ handed self.old }
         ensures frames { self.new.frames ≡ frames_after self.old.frames result }
     {
@@ -74,14 +76,16 @@ impl ClientAligner {
         self.go_on(byte)
     }
 
-    /// Takes bytes up to and with the first that ends in Whole or Break, and says how many; where none does, all, and the answer is
-    /// Nothing.
+    /// Takes bytes up to and with the first that ends in Whole or Break, and says how many; where none does, all, and
+    /// the answer is Nothing.
     pub fn take_some(&mut self, bytes: &[u8]) -> (Aligned, usize)
         ensures within { result.1 ≤ length bytes.now }
         ensures all { result.0 ≡ Aligned.Nothing → result.1 ≡ length bytes.now }
         ensures some { 1 ≤ length bytes.now → 1 ≤ result.1 }
-        ensures aligned { (taken : List ℕ) → HasAligned taken (aligner_state self.old) → AlignsBy taken (take result.1 bytes.now) result.0 (handed self.new) (aligner_state self.new) }
-        ensures none_before { (taken : List ℕ) (k : ℕ) → HasAligned taken (aligner_state self.old) → k < result.1 → arrivals (taken ++ take k bytes.now) ≡ arrivals taken }
+        ensures aligned { (taken : List ℕ) → HasAligned taken (aligner_state self.old)
+            → AlignsBy taken (take result.1 bytes.now) result.0 (handed self.new) (aligner_state self.new) }
+        ensures none_before { (taken : List ℕ) (k : ℕ) → HasAligned taken (aligner_state self.old) → k < result.1
+            → arrivals (taken ++ take k bytes.now) ≡ arrivals taken }
         ensures kept { result.0 ≢ Aligned.Whole → handed self.new ≡ handed self.old }
         ensures frames { self.new.frames ≡ frames_after self.old.frames result.0 }
     {
@@ -103,7 +107,8 @@ impl ClientAligner {
     // Goes on with the frame by as many bytes as make no news, and says how many.
     fn pass(&mut self, bytes: &[u8]) -> usize
         ensures within { result ≤ length bytes.now }
-        ensures goes { (taken : List ℕ) → HasAligned taken (aligner_state self.old) → AlignsBy taken (take result bytes.now) Aligned.Nothing (handed self.new) (aligner_state self.new) }
+        ensures goes { (taken : List ℕ) → HasAligned taken (aligner_state self.old)
+            → AlignsBy taken (take result bytes.now) Aligned.Nothing (handed self.new) (aligner_state self.new) }
         ensures kept { handed self.new ≡ handed self.old }
         ensures frames { self.new.frames ≡ self.old.frames }
     {

@@ -13,9 +13,9 @@ use otn_base::Trace;
 use otn_base::limits::CLIENT_COLUMNS;
 use std::marker::Model;
 
-/// Writes what stands beside the payload of a client's frames (G.709 clause 17.4), one after another: the alignment, the
-/// overhead of the OPU and of the path. The payload is the caller's, in a frame of the caller's. Contracts see the parities that
-/// are kept and the MFAS of the next frame.
+/// Writes what stands beside the payload of a client's frames (G.709 clause 17.4), one after another: the alignment,
+/// the overhead of the OPU and of the path. The payload is the caller's, in a frame of the caller's. Contracts see the
+/// parities that are kept and the MFAS of the next frame.
 #[derive(Drop)]
 pub struct ClientOverhead {
     pub(crate) path: PathWriter,
@@ -45,11 +45,14 @@ impl ClientOverhead {
 
     /// Makes the next frame of the payload that stands in it: writes every other byte.
     pub fn write(&mut self, frame: &mut Frame<CLIENT_COLUMNS>, trace: &Trace)
-        ensures made { (count : ℕ) (given : List ℕ) → HasMadeFrames trace.now count given self.old → length (payload_of frame.old) ≡ CLIENT_PAYLOAD_BYTES
+        ensures made { (count : ℕ) (given : List ℕ) → HasMadeFrames trace.now count given self.old
+            → length (payload_of frame.old) ≡ CLIENT_PAYLOAD_BYTES
             → MakesFrame trace.now count given (payload_of frame.old) frame.new self.new }
         ensures frame { (frames : List (List ℕ)) → HasSent CLIENT_COLUMNS frames self.old.path
-            → frame.new ≡ client_frame trace.now self.old.mfas (or_zero (parity_due CLIENT_COLUMNS frames)) (payload_of frame.old) }
-        ensures sent { (frames : List (List ℕ)) → HasSent CLIENT_COLUMNS frames self.old.path → HasSent CLIENT_COLUMNS (frames ++ frame.new ∷ []) self.new.path }
+            → frame.new ≡ client_frame trace.now self.old.mfas (or_zero (parity_due CLIENT_COLUMNS frames))
+            (payload_of frame.old) }
+        ensures sent { (frames : List (List ℕ)) → HasSent CLIENT_COLUMNS frames self.old.path
+            → HasSent CLIENT_COLUMNS (frames ++ frame.new ∷ []) self.new.path }
         ensures mfas { self.new.mfas ≡ (self.old.mfas + 1) % 256 }
         ensures size { length frame.new ≡ CLIENT_FRAME_BYTES }
     {

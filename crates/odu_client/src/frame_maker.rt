@@ -13,8 +13,8 @@ use otn_base::{Memory, Trace};
 use std::alloc::Global;
 use std::marker::Model;
 
-/// Makes the frames of a client (G.709 clause 17.4), one after another, each of the payload that is handed in. Contracts see the
-/// frame that was made last, and what is kept for the next.
+/// Makes the frames of a client (G.709 clause 17.4), one after another, each of the payload that is handed in.
+/// Contracts see the frame that was made last, and what is kept for the next.
 #[derive(Drop)]
 pub struct FrameMaker {
     overhead: ClientOverhead,
@@ -56,7 +56,8 @@ impl FrameMaker {
         // The frames since the start are the client's frames of all these payloads.
         ensures* made { sem 𝓛 (EndsHavingMade self.entry trace.now payload.now) }
         ensures frame { (count : ℕ) (given : List ℕ) → HasMadeFrames trace.now count given self.old.overhead
-            → client_frames trace.now (count + 1) (given ++ payload.now) ≡ client_frames trace.now count given ++ result.now ∷ [] }
+            → client_frames trace.now (count + 1) (given ++ payload.now) ≡ client_frames trace.now count given
+            ++ result.now ∷ [] }
     {
         self.put_frame(payload, trace);
         &self.frame
@@ -89,7 +90,8 @@ fn put_row(frame: &mut Frame<CLIENT_COLUMNS>, row: u32, bytes: &[u8])
     requires row_high { row ≤ 4 }
     requires bytes { length bytes.now ≡ PAYLOAD_COLUMNS }
     ensures row { payload_row_of CLIENT_COLUMNS row frame.new ≡ bytes.now }
-    ensures others { (r : ℕ) → 1 ≤ r → r ≤ 4 → r ≢ row → payload_row_of CLIENT_COLUMNS r frame.new ≡ payload_row_of CLIENT_COLUMNS r frame.old }
+    ensures others { (r : ℕ) → 1 ≤ r → r ≤ 4 → r ≢ row
+        → payload_row_of CLIENT_COLUMNS r frame.new ≡ payload_row_of CLIENT_COLUMNS r frame.old }
 {
     frame.payload_row_mut(row).copy_from_slice(bytes);
 }

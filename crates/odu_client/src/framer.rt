@@ -7,7 +7,8 @@ ghost use Rattle.otn_base.specs.Counts.{saturated};
 ghost use Rattle.packet_text.specs.PacketText.{packets_of};
 ghost use Rattle.odu_client.specs.ClientInput.{input_of, is_spent, bad_line, packets_begun};
 ghost use Rattle.odu_client.specs.Framing.{FramerState, ClientStands, Fills, MayDie, TextStands};
-ghost use Rattle.odu_client.specs.FramerSteps.{fresh_framer, FramedSome, Makes, Gives};
+ghost use Rattle.odu_client.specs.FramerSteps.{fresh_framer};
+ghost use Rattle.odu_client.specs.Steps.FramerSteps.{FramedSome, Makes, Gives};
 ghost use Rattle.otn_base.specs.declared.limits.TheConstants.{CLIENT_FRAME_BYTES};
 
 use crate::client_overhead::ClientOverhead;
@@ -20,9 +21,9 @@ use packet_text::{Line, PacketLines};
 use std::alloc::Global;
 use std::marker::Model;
 
-/// Makes the frames of a client out of the packets of its text (G.709 clause 17.4). A frame is made when its first byte is
-/// needed, and the payload that it carries then; a packet is read only when the GFP frame before it is used up. Contracts see
-/// what a framer keeps, and which bytes of its stream are gone.
+/// Makes the frames of a client out of the packets of its text (G.709 clause 17.4). A frame is made when its first byte
+/// is needed, and the payload that it carries then; a packet is read only when the GFP frame before it is used up.
+/// Contracts see what a framer keeps, and which bytes of its stream are gone.
 #[derive(Drop)]
 pub struct ClientFramer {
     trace: Trace,
@@ -75,8 +76,8 @@ impl ClientFramer {
         self.fresh = true;
     }
 
-    /// The next bytes of the client's stream. The lines were new or restarted when the framer was, and both were used since then
-    /// with each other and with this place alone.
+    /// The next bytes of the client's stream. The lines were new or restarted when the framer was, and both were used
+    /// since then with each other and with this place alone.
     pub fn fill<P: Source>(
         &mut self,
         lines: &mut PacketLines,
@@ -84,8 +85,10 @@ impl ClientFramer {
         into: &mut [u8],
     )
         ensures size { length into.new ≡ length into.old }
-        ensures fills { (first : InView) (taken gone : List ℕ) → ClientStands first (in_view P.Source place.old) taken gone (lines_view lines.old) self.old
-            → Fills first (in_view P.Source place.new) taken gone into.new (lines_view lines.old) (lines_view lines.new) self.old self.new }
+        ensures fills { (first : InView) (taken gone : List ℕ)
+            → ClientStands first (in_view P.Source place.old) taken gone (lines_view lines.old) self.old
+            → Fills first (in_view P.Source place.new) taken gone into.new (lines_view lines.old)
+            (lines_view lines.new) self.old self.new }
 
         // once no packet is left nothing is read
         ensures over { self.old.stream.answer ≢ Line.Packet → (place.new ≡ place.old) × (lines.new ≡ lines.old) }
@@ -102,8 +105,10 @@ impl ClientFramer {
 
     /// Whether the text has ended, and the frame in which that was seen is gone whole.
     pub fn spent(&self) -> bool
-        ensures { (first now : InView) (taken gone : List ℕ) (lines : LinesView) (died : Bool) (text : List ℕ) → ClientStands first now taken gone lines self.now
-            → MayBe lines taken text → MayDie lines.answer died → result ≡ is_spent (input_of died text) self.now.stream.fcs (length gone) }
+        ensures { (first now : InView) (taken gone : List ℕ) (lines : LinesView) (died : Bool) (text : List ℕ)
+            → ClientStands first now taken gone lines self.now
+            → MayBe lines taken text → MayDie lines.answer died
+            → result ≡ is_spent (input_of died text) self.now.stream.fcs (length gone) }
     {
         match self.stream.answer() {
             Line::End => self.is_gone(),
@@ -111,18 +116,23 @@ impl ClientFramer {
         }
     }
 
-    /// How many packets are begun: the first byte of their GFP frame stands in a frame that was made. The count stops at 2^64-1.
+    /// How many packets are begun: the first byte of their GFP frame stands in a frame that was made. The count stops
+    /// at 2^64-1.
     pub fn packets(&self) -> u64
-        ensures { (first now : InView) (taken gone : List ℕ) (lines : LinesView) (text : List ℕ) → ClientStands first now taken gone lines self.now
-            → MayBe lines taken text → result ≡ saturated (packets_begun (packets_of text).packets self.now.stream.fcs (length gone)) }
+        ensures { (first now : InView) (taken gone : List ℕ) (lines : LinesView) (text : List ℕ)
+            → ClientStands first now taken gone lines self.now
+            → MayBe lines taken text → result
+            ≡ saturated (packets_begun (packets_of text).packets self.now.stream.fcs (length gone)) }
     {
         self.stream.packets()
     }
 
     /// The number of the bad line, from 1, once it is seen.
     pub fn bad(&self) -> Option<u64>
-        ensures { (first now : InView) (taken gone : List ℕ) (lines : LinesView) (died : Bool) (text : List ℕ) → ClientStands first now taken gone lines self.now
-            → MayBe lines taken text → MayDie lines.answer died → result ≡ option_map saturated (bad_line (input_of died text) self.now.stream.fcs (length gone)) }
+        ensures { (first now : InView) (taken gone : List ℕ) (lines : LinesView) (died : Bool) (text : List ℕ)
+            → ClientStands first now taken gone lines self.now
+            → MayBe lines taken text → MayDie lines.answer died
+            → result ≡ option_map saturated (bad_line (input_of died text) self.now.stream.fcs (length gone)) }
     {
         match self.stream.answer() {
             Line::Bad(number) => Some(number),
@@ -144,9 +154,12 @@ impl ClientFramer {
     // Makes the next frame where the one in hand is gone.
     fn have_frame<P: Source>(&mut self, lines: &mut PacketLines, place: &mut InPlaceOf<P>)
         ensures some { self.new.left ≢ [] }
-        ensures makes { (first : InView) (taken gone : List ℕ) → FramedSome first (in_view P.Source place.old) taken gone (lines_view lines.old) self.old
-            → Makes first (in_view P.Source place.new) taken gone (lines_view lines.old) (lines_view lines.new) self.old self.new }
-        ensures over { self.old.stream.answer ≢ Line.Packet → (place.new ≡ place.old) × (lines.new ≡ lines.old) × (self.new.stream.answer ≡ self.old.stream.answer) }
+        ensures makes { (first : InView) (taken gone : List ℕ)
+            → FramedSome first (in_view P.Source place.old) taken gone (lines_view lines.old) self.old
+            → Makes first (in_view P.Source place.new) taken gone (lines_view lines.old)
+            (lines_view lines.new) self.old self.new }
+        ensures over { self.old.stream.answer ≢ Line.Packet → (place.new ≡ place.old) × (lines.new ≡ lines.old)
+            × (self.new.stream.answer ≡ self.old.stream.answer) }
         ensures hand { self.old.left ≢ [] → (place.new ≡ place.old) × (lines.new ≡ lines.old) × (self.new ≡ self.old) }
     {
         if self.at < CLIENT_FRAME_BYTES {
@@ -159,9 +172,12 @@ impl ClientFramer {
     fn make_frame<P: Source>(&mut self, lines: &mut PacketLines, place: &mut InPlaceOf<P>)
         requires { self.old.left ≡ [] }
         ensures some { self.new.left ≢ [] }
-        ensures makes { (first : InView) (taken gone : List ℕ) → FramedSome first (in_view P.Source place.old) taken gone (lines_view lines.old) self.old
-            → Makes first (in_view P.Source place.new) taken gone (lines_view lines.old) (lines_view lines.new) self.old self.new }
-        ensures over { self.old.stream.answer ≢ Line.Packet → (place.new ≡ place.old) × (lines.new ≡ lines.old) × (self.new.stream.answer ≡ self.old.stream.answer) }
+        ensures makes { (first : InView) (taken gone : List ℕ)
+            → FramedSome first (in_view P.Source place.old) taken gone (lines_view lines.old) self.old
+            → Makes first (in_view P.Source place.new) taken gone (lines_view lines.old)
+            (lines_view lines.new) self.old self.new }
+        ensures over { self.old.stream.answer ≢ Line.Packet → (place.new ≡ place.old) × (lines.new ≡ lines.old)
+            × (self.new.stream.answer ≡ self.old.stream.answer) }
     {
         self.fresh = self.stream.goes_on();
         self.stream.fill_payload(lines, place, &mut self.frame);

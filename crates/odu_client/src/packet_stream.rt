@@ -6,8 +6,10 @@ ghost use Rattle.otn_ports.specs.InPlace.{in_view};
 ghost use Rattle.otn_ports.specs.Views.{InView};
 ghost use Rattle.packet_text.specs.LinesStand.{LinesView, lines_view};
 ghost use Rattle.odu_client.specs.AlignedRuns.{payload_of};
-ghost use Rattle.odu_client.specs.Framing.{StreamState, StreamMade, StreamReady, TextStands, GetsReady, StreamGoes};
-ghost use Rattle.odu_client.specs.PacketStream.{fresh_stream, Asked};
+ghost use Rattle.odu_client.specs.Framing.{StreamState, StreamMade, TextStands};
+ghost use Rattle.odu_client.specs.Steps.Framing.{StreamReady, GetsReady, StreamGoes};
+ghost use Rattle.odu_client.specs.PacketStream.{fresh_stream};
+ghost use Rattle.odu_client.specs.Steps.PacketStream.{Asked};
 
 use frame_geometry::Frame;
 use gfp_frames::GfpMaker;
@@ -18,8 +20,8 @@ use packet_text::{Line, PacketLines};
 use std::alloc::Global;
 use std::marker::Model;
 
-/// Makes one idle frame, then the frames of a text's packets without a gap, then idle frames for ever. A packet is read only
-/// when the frame before it is used up.
+/// Makes one idle frame, then the frames of a text's packets without a gap, then idle frames for ever. A packet is read
+/// only when the frame before it is used up.
 #[derive(Drop)]
 pub(crate) struct PacketStream {
     maker: GfpMaker,
@@ -90,10 +92,13 @@ impl PacketStream {
         frame: &mut Frame<CLIENT_COLUMNS>,
     )
         ensures size { length (payload_of frame.new) ≡ CLIENT_PAYLOAD_BYTES }
-        ensures goes { (first : InView) (taken given : List ℕ) (packets : List (List ℕ)) → TextStands first (in_view P.Source place.old) taken packets (lines_view lines.old) self.old
+        ensures goes { (first : InView) (taken given : List ℕ) (packets : List (List ℕ))
+            → TextStands first (in_view P.Source place.old) taken packets (lines_view lines.old) self.old
             → StreamMade packets given self.old
-            → StreamGoes first (in_view P.Source place.new) taken (given ++ payload_of frame.new) packets (lines_view lines.old) (lines_view lines.new) self.old.fcs self.new }
-        ensures over { self.old.answer ≢ Line.Packet → (place.new ≡ place.old) × (lines.new ≡ lines.old) × (self.new.answer ≡ self.old.answer) }
+            → StreamGoes first (in_view P.Source place.new) taken (given ++ payload_of frame.new) packets
+            (lines_view lines.old) (lines_view lines.new) self.old.fcs self.new }
+        ensures over { self.old.answer ≢ Line.Packet → (place.new ≡ place.old) × (lines.new ≡ lines.old)
+            × (self.new.answer ≡ self.old.answer) }
     {
         self.fill_row(lines, place, frame, 1);
         self.fill_row(lines, place, frame, 2);
@@ -112,11 +117,16 @@ impl PacketStream {
         requires row_low { 1 ≤ row }
         requires row_high { row ≤ 4 }
         ensures size { length (payload_row_of CLIENT_COLUMNS row frame.new) ≡ PAYLOAD_COLUMNS }
-        ensures others { (r : ℕ) → 1 ≤ r → r ≤ 4 → r ≢ row → payload_row_of CLIENT_COLUMNS r frame.new ≡ payload_row_of CLIENT_COLUMNS r frame.old }
-        ensures goes { (first : InView) (taken given : List ℕ) (packets : List (List ℕ)) → TextStands first (in_view P.Source place.old) taken packets (lines_view lines.old) self.old
+        ensures others { (r : ℕ) → 1 ≤ r → r ≤ 4 → r ≢ row
+            → payload_row_of CLIENT_COLUMNS r frame.new ≡ payload_row_of CLIENT_COLUMNS r frame.old }
+        ensures goes { (first : InView) (taken given : List ℕ) (packets : List (List ℕ))
+            → TextStands first (in_view P.Source place.old) taken packets (lines_view lines.old) self.old
             → StreamMade packets given self.old
-            → StreamGoes first (in_view P.Source place.new) taken (given ++ payload_row_of CLIENT_COLUMNS row frame.new) packets (lines_view lines.old) (lines_view lines.new) self.old.fcs self.new }
-        ensures over { self.old.answer ≢ Line.Packet → (place.new ≡ place.old) × (lines.new ≡ lines.old) × (self.new.answer ≡ self.old.answer) }
+            → StreamGoes first (in_view P.Source place.new) taken
+            (given ++ payload_row_of CLIENT_COLUMNS row frame.new) packets (lines_view lines.old)
+            (lines_view lines.new) self.old.fcs self.new }
+        ensures over { self.old.answer ≢ Line.Packet → (place.new ≡ place.old) × (lines.new ≡ lines.old)
+            × (self.new.answer ≡ self.old.answer) }
     {
         self.fill(lines, place, frame.payload_row_mut(row));
     }
@@ -129,10 +139,13 @@ impl PacketStream {
         into: &mut [u8],
     )
         ensures size { length into.new ≡ length into.old }
-        ensures goes { (first : InView) (taken given : List ℕ) (packets : List (List ℕ)) → TextStands first (in_view P.Source place.old) taken packets (lines_view lines.old) self.old
+        ensures goes { (first : InView) (taken given : List ℕ) (packets : List (List ℕ))
+            → TextStands first (in_view P.Source place.old) taken packets (lines_view lines.old) self.old
             → StreamMade packets given self.old
-            → StreamGoes first (in_view P.Source place.new) taken (given ++ into.new) packets (lines_view lines.old) (lines_view lines.new) self.old.fcs self.new }
-        ensures over { self.old.answer ≢ Line.Packet → (place.new ≡ place.old) × (lines.new ≡ lines.old) × (self.new.answer ≡ self.old.answer) }
+            → StreamGoes first (in_view P.Source place.new) taken (given ++ into.new) packets (lines_view lines.old)
+            (lines_view lines.new) self.old.fcs self.new }
+        ensures over { self.old.answer ≢ Line.Packet → (place.new ≡ place.old) × (lines.new ≡ lines.old)
+            × (self.new.answer ≡ self.old.answer) }
     {
         let mut done = 0;
         while done < into.len() {
@@ -151,10 +164,13 @@ impl PacketStream {
         ensures some { 1 ≤ result }
         ensures within { result ≤ length into.old }
         ensures size { length into.new ≡ length into.old }
-        ensures goes { (first : InView) (taken given : List ℕ) (packets : List (List ℕ)) → TextStands first (in_view P.Source place.old) taken packets (lines_view lines.old) self.old
+        ensures goes { (first : InView) (taken given : List ℕ) (packets : List (List ℕ))
+            → TextStands first (in_view P.Source place.old) taken packets (lines_view lines.old) self.old
             → StreamMade packets given self.old
-            → StreamGoes first (in_view P.Source place.new) taken (given ++ take result into.new) packets (lines_view lines.old) (lines_view lines.new) self.old.fcs self.new }
-        ensures over { self.old.answer ≢ Line.Packet → (place.new ≡ place.old) × (lines.new ≡ lines.old) × (self.new.answer ≡ self.old.answer) }
+            → StreamGoes first (in_view P.Source place.new) taken (given ++ take result into.new) packets
+            (lines_view lines.old) (lines_view lines.new) self.old.fcs self.new }
+        ensures over { self.old.answer ≢ Line.Packet → (place.new ≡ place.old) × (lines.new ≡ lines.old)
+            × (self.new.answer ≡ self.old.answer) }
     {
         self.get_ready(lines, place);
         self.give(into)
@@ -163,10 +179,13 @@ impl PacketStream {
     // Takes the next packet in hand where no frame is, as long as there is one.
     fn get_ready<P: Source>(&mut self, lines: &mut PacketLines, place: &mut InPlaceOf<P>)
         ensures some { self.new.answer ≡ Line.Packet → self.new.maker.hand ≢ [] }
-        ensures ready { (first : InView) (taken given : List ℕ) (packets : List (List ℕ)) → TextStands first (in_view P.Source place.old) taken packets (lines_view lines.old) self.old
+        ensures ready { (first : InView) (taken given : List ℕ) (packets : List (List ℕ))
+            → TextStands first (in_view P.Source place.old) taken packets (lines_view lines.old) self.old
             → StreamMade packets given self.old
-            → GetsReady first (in_view P.Source place.new) taken given packets (lines_view lines.old) (lines_view lines.new) self.old.fcs self.new }
-        ensures over { self.old.answer ≢ Line.Packet → (place.new ≡ place.old) × (lines.new ≡ lines.old) × (self.new.answer ≡ self.old.answer) }
+            → GetsReady first (in_view P.Source place.new) taken given packets (lines_view lines.old)
+            (lines_view lines.new) self.old.fcs self.new }
+        ensures over { self.old.answer ≢ Line.Packet → (place.new ≡ place.old) × (lines.new ≡ lines.old)
+            × (self.new.answer ≡ self.old.answer) }
     {
         if !self.maker.idle() {
             return;
@@ -182,8 +201,10 @@ impl PacketStream {
         requires idle { self.old.maker.hand ≡ [] }
         requires going { self.old.answer ≡ Line.Packet }
         ensures some { self.new.answer ≡ Line.Packet → self.new.maker.hand ≢ [] }
-        ensures asked { (first : InView) (taken : List ℕ) (packets : List (List ℕ)) → TextStands first (in_view P.Source place.old) taken packets (lines_view lines.old) self.old
-            → Asked first (in_view P.Source place.new) taken packets (lines_view lines.old) (lines_view lines.new) self.old self.new }
+        ensures asked { (first : InView) (taken : List ℕ) (packets : List (List ℕ))
+            → TextStands first (in_view P.Source place.old) taken packets (lines_view lines.old) self.old
+            → Asked first (in_view P.Source place.new) taken packets (lines_view lines.old)
+            (lines_view lines.new) self.old self.new }
     {
         self.answer = lines.take(place);
         if self.answer == Line::Packet {
@@ -199,7 +220,8 @@ impl PacketStream {
         ensures some { 1 ≤ result }
         ensures within { result ≤ length into.old }
         ensures size { length into.new ≡ length into.old }
-        ensures made { (packets : List (List ℕ)) (given : List ℕ) → StreamReady packets given self.old → StreamMade packets (given ++ take result into.new) self.new }
+        ensures made { (packets : List (List ℕ)) (given : List ℕ) → StreamReady packets given self.old
+            → StreamMade packets (given ++ take result into.new) self.new }
         ensures same { (self.new.fcs ≡ self.old.fcs) × (self.new.answer ≡ self.old.answer) }
     {
         if self.answer == Line::Packet {

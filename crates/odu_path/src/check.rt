@@ -8,8 +8,8 @@ use frame_geometry::overhead::{PM_BIP8_COLUMN, PM_ROW, STAT_COLUMN};
 use frame_overhead::{ParityCheck, parity};
 use std::marker::Model;
 
-/// Counts the frames of a line or a client with a wrong PM parity, of which the first two are not checked. Contracts say
-/// which frames were taken so far.
+/// Counts the frames of a line or a client with a wrong PM parity, of which the first two are not checked. Contracts
+/// say which frames were taken so far.
 #[derive(Clone, Copy, Drop)]
 pub struct PathCheck {
     pm: ParityCheck,
@@ -40,7 +40,8 @@ impl PathCheck {
 
     /// Takes the next frame.
     pub fn take<const COLS: usize>(&mut self, frame: &Frame<COLS>)
-        ensures { (frames : List (List ℕ)) → HasChecked COLS PM_ROW PM_BIP8_COLUMN frames self.old → HasChecked COLS PM_ROW PM_BIP8_COLUMN (frames ++ frame.now ∷ []) self.new }
+        ensures { (frames : List (List ℕ)) → HasChecked COLS PM_ROW PM_BIP8_COLUMN frames self.old
+            → HasChecked COLS PM_ROW PM_BIP8_COLUMN (frames ++ frame.now ∷ []) self.new }
     {
         self.take_with(frame, parity(frame));
     }
@@ -48,14 +49,16 @@ impl PathCheck {
     /// As `take`, for a frame whose parity is known.
     pub fn take_with<const COLS: usize>(&mut self, frame: &Frame<COLS>, parity: u8)
         requires { parity ≡ parity_of COLS frame.now }
-        ensures { (frames : List (List ℕ)) → HasChecked COLS PM_ROW PM_BIP8_COLUMN frames self.old → HasChecked COLS PM_ROW PM_BIP8_COLUMN (frames ++ frame.now ∷ []) self.new }
+        ensures { (frames : List (List ℕ)) → HasChecked COLS PM_ROW PM_BIP8_COLUMN frames self.old
+            → HasChecked COLS PM_ROW PM_BIP8_COLUMN (frames ++ frame.now ∷ []) self.new }
     {
         self.pm.take(frame.overhead(PM_ROW, PM_BIP8_COLUMN), parity);
     }
 
     /// How many frames had a wrong PM parity. The count stops at 2^64-1.
     pub fn pm(&self) -> u64
-        ensures { (cols : ℕ) (frames : List (List ℕ)) → HasChecked cols PM_ROW PM_BIP8_COLUMN frames self.now → result ≡ saturated (wrong_parities cols PM_ROW PM_BIP8_COLUMN frames) }
+        ensures { (cols : ℕ) (frames : List (List ℕ)) → HasChecked cols PM_ROW PM_BIP8_COLUMN frames self.now
+            → result ≡ saturated (wrong_parities cols PM_ROW PM_BIP8_COLUMN frames) }
     {
         self.pm.wrong()
     }

@@ -44,12 +44,13 @@ impl PathWriter {
         }
     }
 
-    /// Writes columns 1 to 14 of rows 2 to 4 of the next frame, which has this MFAS; every other byte stays. The PM parity
-    /// is that of the frame two before, 0 in the first two frames, and STAT is 001.
+    /// Writes columns 1 to 14 of rows 2 to 4 of the next frame, which has this MFAS; every other byte stays. The PM
+    /// parity is that of the frame two before, 0 in the first two frames, and STAT is 001.
     pub fn write<const COLS: usize>(&mut self, frame: &mut Frame<COLS>, mfas: u8, trace: &Trace)
         ensures frame { (frames : List (List ℕ)) → HasSent COLS frames self.old
             → IsOduFrame COLS trace.now mfas (or_zero (parity_due COLS frames)) frame.old frame.new }
-        ensures sent { (frames : List (List ℕ)) → HasSent COLS frames self.old → HasSent COLS (frames ++ frame.new ∷ []) self.new }
+        ensures sent { (frames : List (List ℕ)) → HasSent COLS frames self.old
+            → HasSent COLS (frames ++ frame.new ∷ []) self.new }
         ensures size { length frame.new ≡ 4 * COLS }
     {
         let parity = parity(frame);
@@ -67,7 +68,8 @@ impl PathWriter {
         requires { parity ≡ parity_of COLS frame.old }
         ensures frame { (frames : List (List ℕ)) → HasSent COLS frames self.old
             → IsOduFrame COLS trace.now mfas (or_zero (parity_due COLS frames)) frame.old frame.new }
-        ensures sent { (frames : List (List ℕ)) → HasSent COLS frames self.old → HasSent COLS (frames ++ frame.new ∷ []) self.new }
+        ensures sent { (frames : List (List ℕ)) → HasSent COLS frames self.old
+            → HasSent COLS (frames ++ frame.new ∷ []) self.new }
         ensures parity { parity_of COLS frame.new ≡ parity }
         ensures size { length frame.new ≡ 4 * COLS }
     {

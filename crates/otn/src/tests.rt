@@ -98,8 +98,8 @@ fn a_capture_there_and_back(rt: HostRuntime) -> Result<(), Fail> {
     Ok(())
 }
 
-// The slot's own bytes in the file of the line where client 1 is a capture, whose reads of these numbers fail, and the answer
-// and the report.
+// The slot's own bytes in the file of the line where client 1 is a capture, whose reads of these numbers fail, and the
+// answer and the report.
 fn beside_a_capture(
     rt: &HostRuntime,
     failing: &[u32],

@@ -1,4 +1,4 @@
--- Counts of 64 bits.
+-- Believed: counts of 64 bits.
 use Rattle.std.specs.Prelude.{ℕ, ◌-◌, ◌^◌, min}
 
 -- what a count says of n things: n, or its largest number where there are more

@@ -1,4 +1,4 @@
--- The tributary slots of a line.
+-- Believed: the tributary slots of a line.
 use Rattle.std.specs.Prelude.{◌≡◌, ◌⊎◌, ℕ, List}
 use Rattle.otn_base.specs.declared.limits.TheConstants.{OTU2_SLOTS, OTU3_SLOTS}
 use Rattle.otn_base.specs.declared.line_kind.LineKind.{LineKind}

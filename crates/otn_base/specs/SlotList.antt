@@ -1,4 +1,4 @@
--- Lists of tributary slots.
+-- Believed: lists of tributary slots.
 use Rattle.std.specs.Prelude.{ℕ, ◌<◌, ◌≤◌, List, length, EachIndex, slice_index}
 use Rattle.std.specs.List.Sorted.{IsStrictlyIncreasing}
 

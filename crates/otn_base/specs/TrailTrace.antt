@@ -1,4 +1,4 @@
--- Trail trace identifiers.
+-- Believed: trail trace identifiers.
 use Rattle.std.specs.Prelude.{ℕ, ◌-◌, ◌≤◌, List, [], ◌∷◌, ◌++◌, length, replicate, EachIndex, slice_index}
 
 -- a source access point identifier: at most 15 printable ASCII bytes

@@ -1,5 +1,5 @@
-//! What every layer of the device shares: kinds of lines and of tributaries, lists of tributary slots, trail
-//! traces, the names of ports, the answer for want of memory, bytes at the end of a buffer, and the numbers of the formats.
+//! What every layer of the device shares: kinds of lines and of tributaries, lists of tributary slots, trail traces,
+//! the names of ports, the answer for want of memory, bytes at the end of a buffer, and the numbers of the formats.
 #![tactic(auto)]
 
 mod buffer;

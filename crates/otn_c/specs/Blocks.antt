@@ -1,4 +1,4 @@
--- Blocks of bytes: parts that lie one behind the other in one slice, by where each of them ends.
+-- Believed: blocks of bytes: parts that lie one behind the other in one slice, by where each of them ends.
 use Rattle.std.specs.Prelude.{◌<◌, ◌-◌, ◌⊎◌, ℕ, zero, suc, List, get_or, take, drop, length}
 use Rattle.std.specs.List.{slice_split}
 use Rattle.std.specs.Prelude.{nat_eq}

@@ -1,4 +1,4 @@
--- What a call of the library answers for: the command of its words, over the bytes that it was handed.
+-- Believed: what a call of the library answers for: the command of its words, over the bytes that it was handed.
 use Rattle.std.specs.Prelude.{◌≡◌, ◌≢◌, ◌<◌, ◌≤◌, ◌-◌, ◌⊎◌, ◌↔◌, ℕ, false, true, List, [], Some, get_or, length, take}
 use Rattle.std.specs.Str.{IsUtf8}
 use Rattle.otn_ports.specs.PortViews.{SourceView, SinkView}
@@ -25,13 +25,16 @@ source_of bytes = record { boxed = false; left = Some bytes; ended = false; faul
 abbrev pub fresh_sink : SinkView
 fresh_sink = record { boxed = false; got = Some []; keeps = true; faults = 0 }
 
--- The words were answered over a plan and places, with their output to a report, by a chooser that was never asked before.
-pub record IsAnswered (words : List (List ℕ)) (plan : List ℕ) (first last : BaysView) (report report_now : SinkView) (answer : Status) : Type 0 where
+-- The words were answered over a plan and places, with their output to a report, by a chooser that was never asked
+-- before.
+pub record IsAnswered (words : List (List ℕ)) (plan : List ℕ) (first last : BaysView) (report report_now : SinkView)
+    (answer : Status) : Type 0 where
   -- Words is the answer exactly where they are the form of no command
   pub form : (answer ≡ status.Words) ↔ IsNoForm words
   -- their command is answered for, over all that it was handed
   pub answers : (command : Command) → IsForm words command → (left : SourceView) × (asked : ℕ)
-      × Answers command (record { plan = source_of plan; bays = first; report = report }) (record { plan = left; bays = last; report = report_now }) 0 asked answer
+      × Answers command (record { plan = source_of plan; bays = first; report = report })
+      (record { plan = left; bays = last; report = report_now }) 0 asked answer
   -- after Words, PlanFault, Plan and Memory all is as it was
   pub refused : IsRefusal answer → (last ≡ first) × (report_now ≡ report)
 
@@ -44,21 +47,24 @@ abbrev pub place_told : Status → ℕ
 place_told (status.Plan error place) = place
 place_told other = 0
 
--- what is handed out beside the bytes: the status by its number, the broken rule and its place, and how many bytes there are
+-- what is handed out beside the bytes: the status by its number, the broken rule and its place, and how many bytes
+-- there are
 pub record Tells (answer : Status) (told : Answer) : Type 0 where
   pub status : told.status ≡ code_of answer
   pub rule : told.rule ≡ rule_told answer
   pub place : told.place ≡ place_told answer
 
 -- What was handed out: each output and the report stand, whole, in the room that there was.
-pub record Gives (last : BaysView) (report_now : SinkView) (told : Answer) (outputs output_ends report : List ℕ) : Type 0 where
+pub record Gives (last : BaysView) (report_now : SinkView) (told : Answer)
+    (outputs output_ends report : List ℕ) : Type 0 where
   pub outputs_got : (n : ℕ) → n < 20 → IsKept (output_at last n) (part_of outputs output_ends n)
   pub outputs_fit : (n : ℕ) → n < 20 → end_of output_ends n ≤ length outputs
   pub report_got : report_now.got ≡ Some (take told.report report)
   pub report_fits : told.report ≤ length report
 
 -- There was too little room for the outputs or for the report: how much is wanted.
-pub record Needs (last : BaysView) (report_now : SinkView) (told : Answer) (outputs output_ends report : List ℕ) : Type 0 where
+pub record Needs (last : BaysView) (report_now : SinkView) (told : Answer)
+    (outputs output_ends report : List ℕ) : Type 0 where
   pub little : (length outputs < told.outputs) ⊎ (length report < told.report)
   pub outputs_all : end_of output_ends 19 ≡ told.outputs
   pub outputs_size : (n : ℕ) → n < 20 → HasSize (output_at last n) (end_of output_ends n - start_of output_ends n)
@@ -71,14 +77,16 @@ abbrev pub no_room : ℕ
 no_room = 8
 
 -- What outputs and a report got was handed out: the status is the answer where there was room.
-pub record IsHandedOut (code : ℕ) (answer : Status) (last : BaysView) (report_now : SinkView) (told : Answer) (outputs output_ends report : List ℕ) : Type 0 where
+pub record IsHandedOut (code : ℕ) (answer : Status) (last : BaysView) (report_now : SinkView) (told : Answer)
+    (outputs output_ends report : List ℕ) : Type 0 where
   pub tells : Tells answer told
   pub gives : code ≢ no_room → (code ≡ told.status) × Gives last report_now told outputs output_ends report
   pub needs : code ≡ no_room → Needs last report_now told outputs output_ends report
   pub codes : code ≤ no_room
 
 -- A call that was carried out, and what it answered and handed out.
-pub record Called (line plan block ends present : List ℕ) (code : ℕ) (told : Answer) (outputs output_ends report : List ℕ) : Type 0 where
+pub record Called (line plan block ends present : List ℕ) (code : ℕ) (told : Answer)
+    (outputs output_ends report : List ℕ) : Type 0 where
   -- there are places that opened with its inputs, and were left so; and this is what the report got
   pub answer : Status
   pub first : BaysView
@@ -101,14 +109,16 @@ abbrev pub no_memory : ℕ
 no_memory = 7
 
 -- How a call ends, by its answer; but for want of memory.
-pub record CallEnds (line plan block ends present : List ℕ) (code : ℕ) (told : Answer) (outputs output_ends report : List ℕ) : Type 0 where
+pub record CallEnds (line plan block ends present : List ℕ) (code : ℕ) (told : Answer)
+    (outputs output_ends report : List ℕ) : Type 0 where
   pub called : code ≢ no_call → Called line plan block ends present code told outputs output_ends report
   pub none : code ≡ no_call → (IsUtf8 line → ⊥) ⊎ HasNoPart block ends
 
 -- ---- `slot K` over the bytes of a call
 
--- Where line 0 is there and the answer is Done or Unfinished, the report is the payload bytes of the slot in each whole frame of the very bytes of
--- input 0, as many frames as the command reads.
+-- Where line 0 is there and the answer is Done or Unfinished, the report is the payload bytes of the slot in each whole
+-- frame of the very bytes of input 0, as many frames as the command reads.
 abbrev pub SlotOverBytes : (line block ends present : List ℕ) (code : ℕ) (told : Answer) (report : List ℕ) → Type 0
-SlotOverBytes line block ends present code told report = (slot : ℕ) → IsForm (words_said line) (Slot slot) → get_or present 0 0 ≢ 0
+SlotOverBytes line block ends present code told report = (slot : ℕ) → IsForm (words_said line) (Slot slot)
+    → get_or present 0 0 ≢ 0
     → (code ≡ 0) ⊎ (code ≡ 1) → take told.report report ≡ slot_report slot (part_of block ends 0)

@@ -1,4 +1,4 @@
--- What is seen of a sink in memory that grows.
+-- API: what is seen of a sink in memory that grows.
 use Rattle.std.specs.Prelude.{ℕ, List}
 use Rattle.otn_c.specs.declared.growing_sink.GrowingSink.{GrowingSink}
 

@@ -1,4 +1,4 @@
--- What is seen of a source over bytes that are lent.
+-- API: what is seen of a source over bytes that are lent.
 use Rattle.std.specs.Prelude.{ℕ, Bool, List, drop}
 use Rattle.otn_c.specs.declared.slice_source.SliceSource.{SliceSource}
 

@@ -1,4 +1,4 @@
--- The places of a call: what its inputs hold before it, and what is seen of its outputs after it.
+-- Believed: the places of a call: what its inputs hold before it, and what is seen of its outputs after it.
 use Rattle.std.specs.Prelude.{◌≡◌, ◌≢◌, ◌<◌, ◌+◌, ◌-◌, ◌≤◌, ◌++◌, ℕ, zero, suc, if◌then◌else◌, nat_lt, List, get_or, length, take, Some}
 use Rattle.otn_ports.specs.Views.{Empty, InView, OutView, BaysView, no_input, line_in_at, line_out_at, client_in_at, client_out_at}
 use Rattle.line_tool.specs.TrialRuns.{holding, waiting}
@@ -15,7 +15,8 @@ input_as (suc n) bytes = holding bytes
 abbrev pub input_at : (present block ends : List ℕ) → ℕ → InView
 input_at present block ends n = input_as (get_or present n 0) (part_of block ends n)
 
--- The places before a call: lines 0 to 3 are inputs 0 to 3, clients 0 to 15 are inputs 4 to 19, and each output is there and has got nothing.
+-- The places before a call: lines 0 to 3 are inputs 0 to 3, clients 0 to 15 are inputs 4 to 19, and each output is
+-- there and has got nothing.
 pub record OpensWith (present block ends : List ℕ) (bays : BaysView) : Type 0 where
   pub line_in : (a : ℕ) → a < 4 → line_in_at bays a ≡ input_at present block ends a
   pub line_out : (b : ℕ) → b < 4 → line_out_at bays b ≡ waiting
@@ -56,7 +57,8 @@ pub record HasSize (place : OutView) (size : ℕ) : Type 0 where
   pub kept : IsKept place bytes
   pub is : length bytes ≡ size
 
--- These bytes are to stand behind the first `at` ones of a block, which stay, and end here: they do where there is room.
+-- These bytes are to stand behind the first `at` ones of a block, which stay, and end here: they do where there is
+-- room.
 pub record IsPut (bytes : List ℕ) (at : ℕ) (block now : List ℕ) (end : ℕ) : Type 0 where
   pub is : end ≡ at + length bytes
   pub stands : end ≤ length block → take end now ≡ take at block ++ bytes

@@ -1,4 +1,4 @@
--- The version of the library.
+-- API: the version of the library.
 use Rattle.std.specs.Prelude.{ℕ}
 
 -- the version of how it is called and what it answers

@@ -8,7 +8,8 @@ pub struct Answer {
     pub status: u32,
     /// The rule of the plan that was broken first, 1 to 15, where the status is 3; else 0.
     pub rule: u32,
-    /// Where it was broken: 0 for the top of the plan, else the number of the connection, from 1. 0 where the status is not 3.
+    /// Where it was broken: 0 for the top of the plan, else the number of the connection, from 1. 0 where the status is
+    /// not 3.
     pub place: u64,
     /// How many bytes the report has.
     pub report: usize,

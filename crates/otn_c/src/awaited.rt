@@ -10,15 +10,16 @@ use std::alloc::Global;
 use std::cell::RefCell;
 use std::rc::Rc;
 
-/// What is known of an output: how much room is made for it at once, and where its bytes are kept beside it, because its place is emptied before
-/// the end.
+/// What is known of an output: how much room is made for it at once, and where its bytes are kept beside it, because
+/// its place is emptied before the end.
 #[derive(Drop)]
 pub(crate) struct Awaited {
     pub(crate) room: usize,
     pub(crate) beside: Option<Beside>,
 }
 
-/// Of each output, lines and then clients, what is known of it: of a run by its plan and by where its inputs end, and nothing of other commands.
+/// Of each output, lines and then clients, what is known of it: of a run by its plan and by where its inputs end, and
+/// nothing of other commands.
 pub(crate) fn known_outputs(
     alloc: Global,
     words: &[String],
@@ -84,7 +85,8 @@ fn beside_of(alloc: Global, connection: &Connection) -> Result<Option<Beside>, M
     }
 }
 
-// How many bytes the output of a connection gets at most: so much is asked for at once, and each page is made when it is first written.
+// How many bytes the output of a connection gets at most: so much is asked for at once, and each page is made when it
+// is first written.
 fn room_of(plan: &Plan, connection: &Connection, ends: &[usize]) -> usize {
     match &connection.to {
         ToEnd::Line(b, _, _) => frames_of(plan.turns, &plan.otu3_out, *b).saturating_mul(
@@ -110,8 +112,8 @@ fn slots_of(otu3: &LineList, line: u8) -> usize
     }
 }
 
-// Bytes of a client's text at most: two digits for each byte of its slots, in each frame that its line has. A packet stands with eight bytes and more
-// about it, so its line feed is counted too.
+// Bytes of a client's text at most: two digits for each byte of its slots, in each frame that its line has. A packet
+// stands with eight bytes and more about it, so its line feed is counted too.
 fn text_of(plan: &Plan, connection: &Connection, ends: &[usize]) -> usize {
     match &connection.from {
         FromEnd::Line(a, _, slots) => {

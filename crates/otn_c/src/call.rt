@@ -26,8 +26,8 @@ const NO_ROOM: u32 = 8;
 // The answer to what is no call.
 const NO_CALL: u32 = 9;
 
-/// Answers the words over the inputs, with the plan, and hands out what outputs and report got; or says that this is no call, or that there
-/// was no memory.
+/// Answers the words over the inputs, with the plan, and hands out what outputs and report got; or says that this is no
+/// call, or that there was no memory.
 pub(crate) fn answer_call(
     alloc: Global,
     words: &[u8],
@@ -40,7 +40,9 @@ pub(crate) fn answer_call(
     report: &mut [u8],
     told: &mut Answer,
 ) -> u32
-    ensures called { result ≢ no_memory → result ≢ no_call → Called words.now plan.now inputs.now ends.now present.now result told.new outputs.new output_ends.new report.new }
+    ensures called { result ≢ no_memory → result ≢ no_call
+        → Called words.now plan.now inputs.now ends.now present.now result told.new outputs.new output_ends.new
+        report.new }
     ensures none { result ≡ no_call → IsNoCall words.now inputs.now ends.now present.now output_ends.old }
     ensures codes { result ≤ no_call }
 {
@@ -80,7 +82,8 @@ fn call(
     requires ends { length ends.now ≡ 20 }
     requires present { length present.now ≡ 20 }
     requires output_ends { length output_ends.old ≡ 20 }
-    ensures { IfOk result (λ code. CallEnds words.now plan.now inputs.now ends.now present.now code told.new outputs.new output_ends.new report.new) }
+    ensures { IfOk result (λ code. CallEnds words.now plan.now inputs.now ends.now present.now code told.new outputs.new
+        output_ends.new report.new) }
 {
     let Some(list) = words_of(alloc, words)? else {
         return Ok(NO_CALL);

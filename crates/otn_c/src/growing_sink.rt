@@ -34,8 +34,8 @@ impl GrowingSink {
         }
     }
 
-    /// One that got nothing yet. So much room is made for it at once, where there is memory for that, and else as bytes come. What it gets is kept
-    /// beside it too, where a place for that is given.
+    /// One that got nothing yet. So much room is made for it at once, where there is memory for that, and else as bytes
+    /// come. What it gets is kept beside it too, where a place for that is given.
     pub(crate) fn with(alloc: Global, room: usize, beside: Option<Beside>) -> GrowingSink
         ensures got { growing_got result ≡ [] }
         ensures faults { growing_faults result ≡ 0 }
@@ -67,7 +67,8 @@ impl GrowingSink {
         }
     }
 
-    // Puts the bytes that came behind the first ones beside the sink too; where there is no memory for that it lets go of them.
+    // Puts the bytes that came behind the first ones beside the sink too; where there is no memory for that it lets go
+    // of them.
     fn put_beside(&mut self, before: usize, bytes: &[u8]) -> Result<usize, Failed>
         requires { before ≤ length (growing_got self.old) }
         ensures all { IfOk result (λ n. n ≡ length bytes.now) }

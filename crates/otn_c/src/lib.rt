@@ -37,15 +37,16 @@ pub use version::otn_version;
 
 /// Does all that the program does, over the bytes that it is handed.
 ///
-/// `words` are the words of a command with a blank between each two, as `run --order 7`. The 20 inputs, lines 0 to 3 and clients 0
-/// to 15, stand one behind the other in `inputs`: input n ends before place `ends[n]` of it, and is there where `present[n]` is not 0.
-/// What the 20 outputs got, in the same order, is put into `outputs`, and `output_ends` says where each ends; what the
-/// report got is put to the front of `report`, and `told` says how long it is. Nothing is kept from one call to the next.
+/// `words` are the words of a command with a blank between each two, as `run --order 7`. The 20 inputs, lines 0 to 3
+/// and clients 0 to 15, stand one behind the other in `inputs`: input n ends before place `ends[n]` of it, and is there
+/// where `present[n]` is not 0. What the 20 outputs got, in the same order, is put into `outputs`, and `output_ends`
+/// says where each ends; what the report got is put to the front of `report`, and `told` says how long it is. Nothing
+/// is kept from one call to the next.
 ///
-/// The answer is the status of the command, 0 to 7 (`Status`). It is 8 where `outputs` or `report` has too little room: `told` and `output_ends`
-/// say how much is wanted, and what the two hold is open. It is 9 where `ends`, `present` or `output_ends` has not 20 members, `words`
-/// are no UTF-8, or an input ends before it begins or behind the block. At 7 there may have been no memory for the call itself, and
-/// what was handed out is open.
+/// The answer is the status of the command, 0 to 7 (`Status`). It is 8 where `outputs` or `report` has too little room:
+/// `told` and `output_ends` say how much is wanted, and what the two hold is open. It is 9 where `ends`, `present` or
+/// `output_ends` has not 20 members, `words` are no UTF-8, or an input ends before it begins or behind the block. At 7
+/// there may have been no memory for the call itself, and what was handed out is open.
 #[unsafe(no_mangle)]
 pub extern "C" fn otn_run(
     alloc: Global,
@@ -60,7 +61,9 @@ pub extern "C" fn otn_run(
     told: &mut Answer,
 ) -> u32
     // The command is answered for over these bytes, and what its outputs and report got is handed out.
-    ensures called { result ≢ no_memory → result ≢ no_call → Called words.now plan.now inputs.now ends.now present.now result told.new outputs.new output_ends.new report.new }
+    ensures called { result ≢ no_memory → result ≢ no_call
+        → Called words.now plan.now inputs.now ends.now present.now result told.new outputs.new output_ends.new
+        report.new }
     // Only what is no call is refused.
     ensures none { result ≡ no_call → IsNoCall words.now inputs.now ends.now present.now output_ends.old }
     ensures codes { result ≤ no_call }

@@ -15,9 +15,9 @@ use otn_ports::{OutPlaceOf, Sink, Source};
 /// Inputs, and outputs, of a call.
 pub(crate) const PORTS: usize = LINES + CLIENTS;
 
-/// Puts what each output got into the block, one behind the other, as far as there is room, and where each of them ends, or
-/// would end, among the ends. Of a client output that was retired that is what was kept beside it. The answer is the last of the ends;
-/// none where it is no number of this machine.
+/// Puts what each output got into the block, one behind the other, as far as there is room, and where each of them
+/// ends, or would end, among the ends. Of a client output that was retired that is what was kept beside it. The answer
+/// is the last of the ends; none where it is no number of this machine.
 pub(crate) fn put_outputs(
     bays: &Places<'_>,
     awaited: &[Awaited],
@@ -27,7 +27,8 @@ pub(crate) fn put_outputs(
     requires { length ends.old ≡ 20 }
     ensures block { length block.new ≡ length block.old }
     ensures ends { length ends.new ≡ length ends.old }
-    ensures out { IfSome result (OutUpTo 20 (bays_view ⟦<SliceSource<'static> as Source>⟧ ⟦<GrowingSink as Sink>⟧ bays.now) block.new ends.new) }
+    ensures out { IfSome result (OutUpTo 20
+        (bays_view ⟦<SliceSource<'static> as Source>⟧ ⟦<GrowingSink as Sink>⟧ bays.now) block.new ends.new) }
 {
     let mut total = 0;
     for n in 0..PORTS {
@@ -48,7 +49,8 @@ fn put_output(
 ) -> Option<usize>
     requires { n < 20 }
     ensures length { length block.new ≡ length block.old }
-    ensures put { IfSome result (IsPutOf (output_at (bays_view ⟦<SliceSource<'static> as Source>⟧ ⟦<GrowingSink as Sink>⟧ bays.now) n) at block.old block.new) }
+    ensures put { IfSome result (IsPutOf (output_at
+        (bays_view ⟦<SliceSource<'static> as Source>⟧ ⟦<GrowingSink as Sink>⟧ bays.now) n) at block.old block.new) }
 {
     if n < LINES {
         return put_place(bays.line_out(n as u8), None, block, at);

@@ -19,8 +19,8 @@ use std::alloc::Global;
 /// Places in memory, whose outputs grow.
 pub(crate) type Places<'a> = Rack<SliceSource<'a>, GrowingSink>;
 
-/// The places of a call with these inputs, whose flags say which are there, and with what is known of its outputs. None where an input is no
-/// part of the block.
+/// The places of a call with these inputs, whose flags say which are there, and with what is known of its outputs. None
+/// where an input is no part of the block.
 pub(crate) fn places_of<'a>(
     alloc: Global,
     block: &'a [u8],

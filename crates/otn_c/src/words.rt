@@ -10,7 +10,8 @@ use std::str;
 
 /// The words of a line, with a blank between each two. None where it is no text.
 pub(crate) fn words_of(alloc: Global, line: &[u8]) -> Result<Option<Vec<String>>, Memory>
-    ensures { IfOk result (λ said. MatchOption said (IsUtf8 line.now → ⊥) (λ words. texts words.items ≡ words_said line.now)) }
+    ensures { IfOk result (λ said. MatchOption said (IsUtf8 line.now → ⊥)
+        (λ words. texts words.items ≡ words_said line.now)) }
 {
     match str::from_utf8(line) {
         Ok(text) => Ok(Some(split_words(alloc, text)?)),

@@ -5,7 +5,8 @@ use Rattle.std.proofs.lemmas.Option.{get_or_from_slice_get, slice_get_within}
 use Rattle.std.specs.Prelude.{slice_get}
 use Rattle.otn_ports.specs.InPlace.{in_view}
 use Rattle.otn_ports.specs.OutPlace.{out_view}
-use Rattle.otn_ports.specs.OnePlace.{OnlyLineIn, OnlyClientIn}
+use Rattle.otn_ports.specs.OnePlace.{OnlyLineIn}
+use Rattle.otn_ports.specs.Steps.OnePlace.{OnlyClientIn}
 use Rattle.otn_ports.proofs.OneOutPlace.{OnlyLineOut, OnlyClientOut}
 use Rattle.otn_ports.specs.Racks.{bays_view, line_ins, line_outs, client_ins, client_outs, with_line_in, with_line_out, with_client_in, with_client_out}
 use Rattle.otn_ports.specs.Views.{line_in_at, line_out_at, client_in_at, client_out_at, no_input, no_output}

@@ -2,7 +2,8 @@
 use Rattle.std.proofs.Common.{◌≡◌, ◌≢◌, ℕ, refl, ap, ◌∙◌, get_or}
 use Rattle.otn_base.specs.declared.kind.PortName.{PortName}
 use Rattle.otn_base.specs.declared.kind.PortName.TheVariants.{LineIn, LineOut, ClientIn, ClientOut}
-use Rattle.otn_ports.specs.OnePlace.{OnlyLineIn, OnlyClientIn}
+use Rattle.otn_ports.specs.OnePlace.{OnlyLineIn}
+use Rattle.otn_ports.specs.Steps.OnePlace.{OnlyClientIn}
 use Rattle.otn_ports.proofs.OneOutPlace.{OnlyLineOut, OnlyClientOut}
 use Rattle.otn_ports.specs.Places.{Input, Output, place_at, input_of, output_of, OnlyPort}
 use Rattle.otn_ports.specs.Views.{BaysView, no_input, no_output, line_in_at, line_out_at, client_in_at, client_out_at}

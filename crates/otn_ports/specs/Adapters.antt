@@ -1,4 +1,4 @@
--- What is seen of the ports over readers and writers of the system: they tell no bytes.
+-- API: what is seen of the ports over readers and writers of the system: they tell no bytes.
 use Rattle.std.specs.Prelude.{◌≢◌, ℕ, Bool, List, Option, Some, None, is_some}
 use Rattle.std.specs.declared.io.ErrorKind.{ErrorKind}
 use Rattle.std.specs.declared.io.ErrorKind.TheVariants.{Interrupted}

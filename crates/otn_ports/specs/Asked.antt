@@ -1,4 +1,4 @@
--- An input place that was asked for one byte more.
+-- API: an input place that was asked for one byte more.
 use Rattle.std.specs.Prelude.{◌≡◌, ◌≤◌, ℕ, Bool, true, false, List, [], ◌∷◌, length}
 use Rattle.otn_ports.specs.Given.{Gave, DiedUnended}
 use Rattle.otn_ports.specs.Reads.{HasEnded}

@@ -1,4 +1,4 @@
--- What ports tell of their bytes and of their faults.
+-- Believed: what ports tell of their bytes and of their faults.
 use Rattle.std.specs.Prelude.{◌≡◌, ◌<◌, ◌+◌, ◌-◌, ◌^◌, ◌⊎◌, min, max, ℕ, List, [], ◌++◌, take, Option, Some, None, Result, Ok, Err}
 use Rattle.otn_ports.specs.declared.source.Failed.{Failed}
 

@@ -1,4 +1,4 @@
--- What is seen of the chooser that always answers 0.
+-- API: what is seen of the chooser that always answers 0.
 use Rattle.std.specs.Prelude.{ℕ}
 use Rattle.otn_ports.specs.declared.chooser.FirstReady.{FirstReady}
 

@@ -1,4 +1,4 @@
--- What a place gave, and what went to it, between two moments.
+-- Believed: what a place gave, and what went to it, between two moments.
 use Rattle.std.specs.Prelude.{◌≡◌, ◌≢◌, ◌⊎◌, ℕ, List, [], ◌++◌, Option, Some}
 use Rattle.otn_ports.specs.Bytes.{HasFailed}
 use Rattle.otn_ports.specs.Reads.{Takes}
@@ -20,8 +20,9 @@ given_between Live state first now bytes = first ≡ Some bytes
 -- where it was not live, nothing
 given_between other state first now bytes = bytes ≡ []
 
--- Given: these are the bytes that a live place had to give at its opening view, taken or not; where it died, those taken. That is said
--- of a source that tells its bytes. Where it was not live there are none. `Gave`, below, is of bytes taken.
+-- Given: these are the bytes that a live place had to give at its opening view, taken or not; where it died, those
+-- taken. That is said of a source that tells its bytes. Where it was not live there are none. `Gave`, below, is of
+-- bytes taken.
 abbrev pub HadToGive : InView → InView → List ℕ → Type 0
 HadToGive first now bytes = given_between first.state now.state first.left now.left bytes
 
@@ -45,9 +46,11 @@ gone_between other state first now bytes = bytes ≡ []
 abbrev pub IsGone : OutView → OutView → List ℕ → Type 0
 IsGone first now bytes = gone_between first.state now.state first.got now.got bytes
 
--- a place is as live as it was, and its port's count of faults is as it was; or it was live and died by its own port's fault
+-- a place is as live as it was, and its port's count of faults is as it was; or it was live and died by its own port's
+-- fault
 abbrev pub Lives : State → State → ℕ → ℕ → Type 0
-Lives first now old_faults new_faults = ((now ≡ first) × (new_faults ≡ old_faults)) ⊎ ((first ≡ Live) × (now ≡ Dead) × HasFailed old_faults new_faults)
+Lives first now old_faults new_faults = ((now ≡ first) × (new_faults ≡ old_faults))
+    ⊎ ((first ≡ Live) × (now ≡ Dead) × HasFailed old_faults new_faults)
 
 -- an input place from one moment to a later one, in which these bytes were taken of its port
 pub record Gave (first : InView) (bytes : List ℕ) (now : InView) : Type 0 where
@@ -61,7 +64,7 @@ pub record Gained (first : OutView) (bytes : List ℕ) (now : OutView) : Type 0 
   pub state : Lives first.state now.state first.faults now.faults
   pub idle : first.state ≢ Live → (now ≡ first) × (bytes ≡ [])
 
--- A place that is dead in the end has answered no end between two moments: its port, where it failed, had not answered it before. So nothing was
--- asked of a port behind its end that it could fail at.
+-- A place that is dead in the end has answered no end between two moments: its port, where it failed, had not answered
+-- it before. So nothing was asked of a port behind its end that it could fail at.
 abbrev pub DiedUnended : InView → InView → Type 0
 DiedUnended first now = now.state ≡ Dead → now.ended ≡ first.ended

@@ -1,4 +1,4 @@
--- What is seen of a place for an input.
+-- Believed: what is seen of a place for an input.
 use Rattle.std.specs.Prelude.{ℕ}
 use Rattle.otn_ports.specs.Views.{InView, no_input, Live, Dead}
 use Rattle.otn_ports.specs.declared.source.Source.{Ghosts}
@@ -7,7 +7,14 @@ use Rattle.otn_ports.specs.declared.in_place.InPlaceOf.TheVariants as place
 
 -- a live place with this port and this number
 abbrev pub live_in : {P : Type 0} → Ghosts P → P → ℕ → InView
-live_in source port n = record { state = Live; boxed = source.boxed port; left = source.left port; ended = source.ended port; faults = source.faults port; number = n }
+live_in source port n = record {
+  state = Live;
+  boxed = source.boxed port;
+  left = source.left port;
+  ended = source.ended port;
+  faults = source.faults port;
+  number = n;
+}
 
 -- a dead place with this port and this number
 abbrev pub dead_in : {P : Type 0} → Ghosts P → P → ℕ → InView

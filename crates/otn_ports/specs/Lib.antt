@@ -4,7 +4,6 @@ pub mod Bytes
 pub mod Choosing
 pub mod Given
 pub mod InPlace
-pub mod Lines
 pub mod Listed
 pub mod Memory
 pub mod OnePlace
@@ -20,3 +19,4 @@ pub mod SpoiledPorts
 pub mod Spoiling
 pub mod Views
 pub mod Writes
+pub mod Steps

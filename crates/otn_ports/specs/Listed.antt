@@ -1,4 +1,4 @@
--- Ports in memory that fail at listed calls.
+-- API: ports in memory that fail at listed calls.
 use Rattle.std.specs.Prelude.{◌≡◌, ℕ, Bool, true, false, ◌||◌, nat_eq, min, List, [], ◌∷◌, length, Result, Ok, IsErr}
 use Rattle.otn_ports.specs.Memory.{memory_left, memory_ended, memory_got, memory_room, TakesWhatFits}
 use Rattle.otn_ports.specs.declared.listed_calls.ListedCalls.{ListedCalls}
@@ -43,7 +43,8 @@ read_most source = source.most
 abbrev pub read_faults : ListedSource → ℕ
 read_faults source = source.failed
 
--- the answer of a read: it fails where the call is listed, else it gives as many as there are, as there is room for, and as one read may give
+-- the answer of a read: it fails where the call is listed, else it gives as many as there are, as there is room for,
+-- and as one read may give
 abbrev pub ListedGives : (listed : Bool) (most : ℕ) (left : List ℕ) (room : ℕ) → Result ℕ Failed → Type 0
 ListedGives true most left room result = IsErr result
 ListedGives false most left room result = result ≡ Ok (min (length left) (min room most))
@@ -68,7 +69,8 @@ write_failing sink = calls_failing sink.calls
 abbrev pub write_faults : ListedSink → ℕ
 write_faults sink = sink.failed
 
--- the answer of a write: it fails and takes nothing where the call is listed, else it takes what fits, and fails where there is a byte and no room
+-- the answer of a write: it fails and takes nothing where the call is listed, else it takes what fits, and fails where
+-- there is a byte and no room
 abbrev pub ListedTakes : (listed : Bool) (room : ℕ) (bytes : List ℕ) → Result ℕ Failed → (room_after : ℕ) → Type 0
 ListedTakes true room bytes result after = IsErr result × (after ≡ room)
 ListedTakes false room bytes result after = TakesWhatFits room bytes result after

@@ -1,4 +1,4 @@
--- What is seen of the ports in memory.
+-- API: what is seen of the ports in memory.
 use Rattle.std.specs.Prelude.{◌≡◌, ◌<◌, ◌↔◌, ◌-◌, min, ℕ, Bool, List, length, drop, take, Result, IfOk, IsErr, vec_len}
 use Rattle.otn_ports.specs.Bytes.{sent}
 use Rattle.otn_ports.specs.declared.source.Failed.{Failed}

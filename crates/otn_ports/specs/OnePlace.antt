@@ -1,17 +1,10 @@
--- One place changed, and all others are as at entry.
+-- Believed: one place changed, and all others are as at entry.
 use Rattle.std.specs.Prelude.{◌≡◌, ◌≢◌, ℕ}
-use Rattle.otn_ports.specs.Views.{BaysView, line_in_at, client_in_at}
+use Rattle.otn_ports.specs.Views.{BaysView, line_in_at}
 
 -- all places but line input n are as at first
 pub record OnlyLineIn (n : ℕ) (first now : BaysView) : Type 0 where
   pub line_in : (m : ℕ) → m ≢ n → line_in_at now m ≡ line_in_at first m
   pub line_out : now.line_out ≡ first.line_out
   pub client_in : now.client_in ≡ first.client_in
-  pub client_out : now.client_out ≡ first.client_out
-
--- all places but client input n are as at first
-pub record OnlyClientIn (n : ℕ) (first now : BaysView) : Type 0 where
-  pub line_in : now.line_in ≡ first.line_in
-  pub line_out : now.line_out ≡ first.line_out
-  pub client_in : (m : ℕ) → m ≢ n → client_in_at now m ≡ client_in_at first m
   pub client_out : now.client_out ≡ first.client_out

@@ -1,4 +1,4 @@
--- What is seen of a place for an output.
+-- Believed: what is seen of a place for an output.
 use Rattle.std.specs.Prelude.{ℕ}
 use Rattle.otn_ports.specs.Views.{OutView, no_output, Live, Dead}
 use Rattle.otn_ports.specs.declared.sink.Sink.{Ghosts}
@@ -7,7 +7,14 @@ use Rattle.otn_ports.specs.declared.out_place.OutPlaceOf.TheVariants as place
 
 -- a live place with this port and this number
 abbrev pub live_out : {K : Type 0} → Ghosts K → K → ℕ → OutView
-live_out sink port n = record { state = Live; boxed = sink.boxed port; got = sink.got port; keeps = sink.keeps port; faults = sink.faults port; number = n }
+live_out sink port n = record {
+  state = Live;
+  boxed = sink.boxed port;
+  got = sink.got port;
+  keeps = sink.keeps port;
+  faults = sink.faults port;
+  number = n;
+}
 
 -- a dead place with this port and this number
 abbrev pub dead_out : {K : Type 0} → Ghosts K → K → ℕ → OutView

@@ -1,4 +1,4 @@
--- The places of a device by the names of their ports.
+-- API: the places of a device by the names of their ports.
 use Rattle.std.specs.Prelude.{◌≡◌, ◌≢◌}
 use Rattle.otn_base.specs.declared.kind.PortName.{PortName}
 use Rattle.otn_base.specs.declared.kind.PortName.TheVariants.{LineIn, LineOut, ClientIn, ClientOut}

@@ -1,4 +1,4 @@
--- The meanings of a port are those of what it holds.
+-- API: the meanings of a port are those of what it holds.
 use Rattle.std.specs.Prelude.{ℕ, List, [], Option, Some, Bool, true, false}
 use Rattle.std.specs.declared.alloc.Global.{Global}
 use Rattle.std.specs.declared.dyn_box.DynBox.{DynBox}
@@ -9,7 +9,8 @@ use Rattle.otn_ports.specs.declared.out_port.OutPort.{OutPort}
 use Rattle.otn_ports.specs.declared.out_port.OutPort.TheVariants as output
 
 -- the bytes still to come of what an input port holds, where that tells them
-abbrev pub in_left : {X : Type 0} {F : X → Type 0} → (DynBox X Global F → Option (List ℕ)) → InPort X F → Option (List ℕ)
+abbrev pub in_left : {X : Type 0} {F : X → Type 0} → (DynBox X Global F → Option (List ℕ)) → InPort X F
+    → Option (List ℕ)
 in_left left (input.Boxed b) = left b
 in_left left (input.Held m) = Some (memory_left m)
 
@@ -34,7 +35,8 @@ is_in_boxed (input.Boxed b) = true
 is_in_boxed (input.Held m) = false
 
 -- the bytes that what an output port holds got, where that tells them
-abbrev pub out_got : {X : Type 0} {F : X → Type 0} → (DynBox X Global F → Option (List ℕ)) → OutPort X F → Option (List ℕ)
+abbrev pub out_got : {X : Type 0} {F : X → Type 0} → (DynBox X Global F → Option (List ℕ)) → OutPort X F
+    → Option (List ℕ)
 out_got got (output.Boxed b) = got b
 out_got got (output.Held m) = Some (memory_got m)
 

@@ -1,4 +1,4 @@
--- Racks of places, and what is seen of them.
+-- Believed: racks of places, and what is seen of them.
 use Rattle.std.specs.Prelude.{◌≡◌, ℕ, List, map, replicate}
 use Rattle.std.specs.Vec.{with_item}
 use Rattle.otn_ports.specs.Views.{BaysView}

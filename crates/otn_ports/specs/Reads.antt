@@ -1,4 +1,4 @@
--- What the answer of a place for an input says.
+-- Believed: what the answer of a place for an input says.
 use Rattle.std.specs.Prelude.{◌≡◌, ◌<◌, ◌≤◌, ◌||◌, ◌&&◌, ℕ, zero, suc, nat_eq, nat_lt, Bool, true, false, List, [], length, take, Option, IfSome, Result, Ok, Err}
 use Rattle.otn_ports.specs.Bytes.{before, HasFailed, raised}
 use Rattle.otn_ports.specs.Views.{State, Live, Dead, InView}
@@ -27,13 +27,15 @@ pub record HasEnded (left : Option (List ℕ)) (ended : Bool) : Type 0 where
   pub answered : ended ≡ true
   pub nothing : IfSome left (λ bytes. bytes ≡ [])
 
--- what the answer of a live place says, with the slice as it was left: its port's count of faults rose or stands at its end where the read
--- is lost, and else it is as it was. Whether it has answered its end is as it was too, but where the read came to that end: a call that
--- failed came before it.
+-- what the answer of a live place says, with the slice as it was left: its port's count of faults rose or stands at its
+-- end where the read is lost, and else it is as it was. Whether it has answered its end is as it was too, but where the
+-- read came to that end: a call that failed came before it.
 abbrev pub Reads : Reading → InView → List ℕ → InView → Type 0
 Reads Full old into new = Takes old into new × (new.faults ≡ old.faults) × (new.ended ≡ old.ended)
-Reads (End n) old into new = (n < length into) × Takes old (take n into) new × HasEnded new.left new.ended × (new.faults ≡ old.faults)
-Reads Lost old into new = (n : ℕ) × (n < length into) × Takes old (take n into) new × HasFailed old.faults new.faults × (new.ended ≡ old.ended)
+Reads (End n) old into new = (n < length into) × Takes old (take n into) new × HasEnded new.left new.ended
+    × (new.faults ≡ old.faults)
+Reads Lost old into new = (n : ℕ) × (n < length into) × Takes old (take n into) new × HasFailed old.faults new.faults
+    × (new.ended ≡ old.ended)
 
 -- whether a source has answered its end after a whole read: where the read came to it, or where it had before
 abbrev pub ended_by : Reading → Bool → Bool

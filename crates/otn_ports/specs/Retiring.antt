@@ -1,4 +1,4 @@
--- Places at the stop of their connection.
+-- Believed: places at the stop of their connection.
 use Rattle.otn_ports.specs.Views.{State, Empty, Live, Dead, InView, OutView, no_input, no_output}
 
 -- an input place that stood so is seen so after it was retired

@@ -1,10 +1,10 @@
--- What was due to a place, and what of it is gone.
+-- Believed: what was due to a place, and what of it is gone.
 use Rattle.std.specs.Prelude.{◌≡◌, ℕ, List, [], ◌++◌}
 use Rattle.otn_ports.specs.Given.{Gained}
 use Rattle.otn_ports.specs.Views.{Live, OutView}
 
--- Of these bytes, which were due to a place, a part went out, from the front, and all of them where the place is live: so
--- says one whole write, and so say many, one after the other.
+-- Of these bytes, which were due to a place, a part went out, from the front, and all of them where the place is live:
+-- so says one whole write, and so say many, one after the other.
 pub record IsSent (first : OutView) (due : List ℕ) (now : OutView) : Type 0 where
   pub went : List ℕ
   pub rest : List ℕ

@@ -1,4 +1,4 @@
--- What is seen of a source that spoils bytes of another.
+-- API: what is seen of a source that spoils bytes of another.
 use Rattle.std.specs.Prelude.{ℕ, Bool, List, drop, Option}
 use Rattle.std.specs.Option.{option_map}
 use Rattle.otn_ports.specs.Spoiling.{spoiled}

@@ -1,4 +1,4 @@
--- What is seen of a place, and of all places.
+-- Believed: what is seen of a place, and of all places.
 use Rattle.std.specs.Prelude.{ℕ, Bool, true, false, List, [], Option, Some, get_or}
 
 -- how a place stands

@@ -1,4 +1,4 @@
--- What the answer of a place for an output, or of a whole write, says.
+-- Believed: what the answer of a place for an output, or of a whole write, says.
 use Rattle.std.specs.Prelude.{◌≡◌, ◌<◌, ◌≤◌, ℕ, List, length, take, Option}
 use Rattle.otn_ports.specs.Bytes.{after, HasFailed, raised}
 use Rattle.otn_ports.specs.Views.{State, Live, Dead, OutView}
@@ -13,11 +13,12 @@ pub record Sends (old : OutView) (bytes : List ℕ) (new : OutView) : Type 0 whe
   pub faults : old.faults ≤ new.faults
   pub number : new.number ≡ raised old.number (length bytes)
 
--- what the answer of a live place says of the bytes that it was given: its port's count of faults rose or stands at its end where the
--- write is lost, and else it is as it was
+-- what the answer of a live place says of the bytes that it was given: its port's count of faults rose or stands at its
+-- end where the write is lost, and else it is as it was
 abbrev pub Writes : Written → OutView → List ℕ → OutView → Type 0
 Writes Whole old bytes new = Sends old bytes new × (new.faults ≡ old.faults)
-Writes Lost old bytes new = (n : ℕ) × (n < length bytes) × Sends old (take n bytes) new × HasFailed old.faults new.faults
+Writes Lost old bytes new = (n : ℕ) × (n < length bytes) × Sends old (take n bytes) new
+    × HasFailed old.faults new.faults
 
 -- a live place dies exactly where a write is lost
 abbrev pub state_after_write : State → Written → State

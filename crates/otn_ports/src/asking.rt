@@ -10,7 +10,8 @@ use crate::{InPlaceOf, Reading, Source};
 /// Asks a place for one byte more, and says whether it came. Where none came, a place that is not dead has ended.
 pub fn ask_byte<P: Source>(place: &mut InPlaceOf<P>) -> bool
     ensures answer { ByteAnswer true (in_view P.Source place.old) (in_view P.Source place.new) result }
-    ensures stays { (in_view P.Source place.new).state ≢ Dead → (in_view P.Source place.new).state ≡ (in_view P.Source place.old).state }
+    ensures stays { (in_view P.Source place.new).state ≢ Dead
+        → (in_view P.Source place.new).state ≡ (in_view P.Source place.old).state }
     ensures ended { result ≡ false → (in_view P.Source place.new).state ≢ Dead
         → HasEnded (in_view P.Source place.new).left (in_view P.Source place.new).ended }
 {

@@ -58,7 +58,8 @@ impl<P: Drop, K: Drop> Rack<P, K> {
     /// Lends line input n, from 0. All other places stay.
     pub fn line_in_mut(&mut self, n: u8) -> &mut InPlaceOf<P>
         requires { n < 4 }
-        ensures* writes_back { sem 𝓛 (Lends (the_row P.row K.row) (in-row P.row) self.entry result (with_line_in self.entry.now n)) }
+        ensures* writes_back { sem 𝓛 (Lends (the_row P.row K.row) (in-row P.row) self.entry result
+            (with_line_in self.entry.now n)) }
         ensures value { slice_get (line_ins self.old) n ≡ Some result.now }
     {
         &mut self.line_in[n as usize]
@@ -83,7 +84,8 @@ impl<P: Drop, K: Drop> Rack<P, K> {
     /// Lends line output n, from 0. All other places stay.
     pub fn line_out_mut(&mut self, n: u8) -> &mut OutPlaceOf<K>
         requires { n < 4 }
-        ensures* writes_back { sem 𝓛 (Lends (the_row P.row K.row) (out-row K.row) self.entry result (with_line_out self.entry.now n)) }
+        ensures* writes_back { sem 𝓛 (Lends (the_row P.row K.row) (out-row K.row) self.entry result
+            (with_line_out self.entry.now n)) }
         ensures value { slice_get (line_outs self.old) n ≡ Some result.now }
     {
         &mut self.line_out[n as usize]
@@ -108,7 +110,8 @@ impl<P: Drop, K: Drop> Rack<P, K> {
     /// Lends client input n, from 0. All other places stay.
     pub fn client_in_mut(&mut self, n: u8) -> &mut InPlaceOf<P>
         requires { n < 16 }
-        ensures* writes_back { sem 𝓛 (Lends (the_row P.row K.row) (in-row P.row) self.entry result (with_client_in self.entry.now n)) }
+        ensures* writes_back { sem 𝓛 (Lends (the_row P.row K.row) (in-row P.row) self.entry result
+            (with_client_in self.entry.now n)) }
         ensures value { slice_get (client_ins self.old) n ≡ Some result.now }
     {
         &mut self.client_in[n as usize]
@@ -133,7 +136,8 @@ impl<P: Drop, K: Drop> Rack<P, K> {
     /// Lends client output n, from 0. All other places stay.
     pub fn client_out_mut(&mut self, n: u8) -> &mut OutPlaceOf<K>
         requires { n < 16 }
-        ensures* writes_back { sem 𝓛 (Lends (the_row P.row K.row) (out-row K.row) self.entry result (with_client_out self.entry.now n)) }
+        ensures* writes_back { sem 𝓛 (Lends (the_row P.row K.row) (out-row K.row) self.entry result
+            (with_client_out self.entry.now n)) }
         ensures value { slice_get (client_outs self.old) n ≡ Some result.now }
     {
         &mut self.client_out[n as usize]

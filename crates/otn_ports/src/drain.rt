@@ -56,7 +56,8 @@ fn drain<K: Sink>(sink: &mut K, bytes: &[u8]) -> (Written, usize)
 
 /// Writes to the port of a live place until all bytes are out or a call fails, and counts them.
 pub(crate) fn drain_counted<K: Sink>(port: &mut K, number: &mut u64, bytes: &[u8]) -> Written
-    ensures writes { Writes result (live_out K.Sink port.old number.old) bytes.now (live_out K.Sink port.new number.new) }
+    ensures writes { Writes result (live_out K.Sink port.old number.old) bytes.now
+        (live_out K.Sink port.new number.new) }
     ensures well { result ≢ Written.Lost → K.faults port.new ≡ K.faults port.old }
 {
     let (written, went) = drain(port, bytes);
@@ -64,13 +65,15 @@ pub(crate) fn drain_counted<K: Sink>(port: &mut K, number: &mut u64, bytes: &[u8
     written
 }
 
-/// Writes lines to the port of a live place until all are out or a call fails, counts their bytes, and says how many went.
+/// Writes lines to the port of a live place until all are out or a call fails, counts their bytes, and says how many
+/// went.
 pub(crate) fn lines_counted<K: Sink>(
     port: &mut K,
     number: &mut u64,
     lines: &[u8],
 ) -> (Written, usize)
-    ensures sends { Sends (live_out K.Sink port.old number.old) (take result.1 lines.now) (live_out K.Sink port.new number.new) }
+    ensures sends { Sends (live_out K.Sink port.old number.old) (take result.1 lines.now)
+        (live_out K.Sink port.new number.new) }
     ensures writing { IsWriting result.0 result.1 (length lines.now) }
     ensures cause { result.0 ≡ Written.Lost → HasFailed (K.faults port.old) (K.faults port.new) }
     ensures well { result.0 ≢ Written.Lost → K.faults port.new ≡ K.faults port.old }

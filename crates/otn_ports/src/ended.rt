@@ -1,7 +1,7 @@
 // How a command over places ended.
 
-/// How a command ended that takes bytes of line inputs turn by turn or frame by frame. Where several of these would do, `ReportFault` goes
-/// before `Cut`, and `Cut` before `Unfinished`.
+/// How a command ended that takes bytes of line inputs turn by turn or frame by frame. Where several of these would do,
+/// `ReportFault` goes before `Cut`, and `Cut` before `Unfinished`.
 #[derive(Clone, Copy, Debug, PartialEq, Eq)]
 pub enum Ended {
     /// All was done, and nothing is left over.

@@ -11,7 +11,8 @@ use crate::{Failed, Reading, Source};
 /// many bytes came: they stand at the slice's front. After Lost the source's count of faults rose or stands at its end;
 /// else it is as it was. It is asked nothing more behind its end.
 pub fn read_whole<S: Source>(source: &mut S, into: &mut [u8]) -> (Reading, usize)
-    ensures port { SourceReads result.0 (source_view S.Source source.old) (take result.1 into.new) (source_view S.Source source.new) }
+    ensures port { SourceReads result.0 (source_view S.Source source.old) (take result.1 into.new)
+        (source_view S.Source source.new) }
     ensures within { result.1 ≤ length into.old }
     ensures bytes { S.left source.old ≡ before (take result.1 into.new) (S.left source.new) }
     ensures reading { IsReading result.0 result.1 (length into.old) (S.left source.new) (S.ended source.new) }
@@ -34,7 +35,8 @@ pub fn read_whole<S: Source>(source: &mut S, into: &mut [u8]) -> (Reading, usize
 
 /// Reads from the port of a live place until the slice is full, and counts the bytes.
 pub(crate) fn fill_counted<P: Source>(port: &mut P, number: &mut u64, into: &mut [u8]) -> Reading
-    ensures reads { Reads result (live_in P.Source port.old number.old) into.new (live_in P.Source port.new number.new) }
+    ensures reads { Reads result (live_in P.Source port.old number.old) into.new
+        (live_in P.Source port.new number.new) }
     ensures well { result ≢ Reading.Lost → P.faults port.new ≡ P.faults port.old }
 {
     let (reading, came) = read_whole(port, into);

@@ -31,7 +31,8 @@ impl Source for InPort {
         ensures cause { OnErr result (HasFailed (in_faults faults self.old) (in_faults faults self.new)) }
         ensures well { OnOk result (in_faults faults self.new ≡ in_faults faults self.old) }
         ensures same { is_in_boxed self.new ≡ is_in_boxed self.old }
-        ensures held { is_in_boxed self.old ≡ false → result ≡ Ok (min (length (held_left self.old)) (length into.old)) }
+        ensures held { is_in_boxed self.old ≡ false
+            → result ≡ Ok (min (length (held_left self.old)) (length into.old)) }
     {
         match self {
             InPort::Boxed(source) => source.read(into),

@@ -6,7 +6,8 @@
 //! - `spoiled_source`: a source that spoils bytes of another by `masks` of their places.
 //! - `reader_source`, `writer_sink`: ports over the system's files and output.
 //! - `in_port`, `out_port`: a port behind a box, or one in memory.
-//! - `in_place`, `out_place`: a place with its port, which reads and writes whole slices; `sealed`: the port of a dead one.
+//! - `in_place`, `out_place`: a place with its port, which reads and writes whole slices; `sealed`: the port of a dead
+//!   one.
 //! - `asking`: a place is asked for one byte more.
 //! - `fill`, `drain`: a whole read of a source, and a whole write to a sink, that stand in no place.
 //! - `bays`: all places of a device.

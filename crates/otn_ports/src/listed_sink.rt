@@ -40,7 +40,8 @@ impl ListedSink {
 
     // Counts the call, and fails where it is listed; else takes what fits. It counts no failure.
     fn take(&mut self, bytes: &[u8]) -> Result<usize, Failed>
-        ensures answer { ListedTakes (is_listed (write_failing self.old) (write_calls self.new)) (listed_room self.old) bytes.now result (listed_room self.new) }
+        ensures answer { ListedTakes (is_listed (write_failing self.old) (write_calls self.new))
+            (listed_room self.old) bytes.now result (listed_room self.new) }
         ensures got { listed_got self.new ≡ listed_got self.old ++ sent result bytes.now }
         ensures calls { write_calls self.new ≡ raised (write_calls self.old) 1 }
         ensures failing { write_failing self.new ≡ write_failing self.old }
@@ -65,7 +66,8 @@ impl Sink for ListedSink {
     /// Counts the call. Where it is listed it fails; else it takes as many as there are and as it
     /// has room for.
     fn write(&mut self, bytes: &[u8]) -> Result<usize, Failed>
-        ensures answer { ListedTakes (is_listed (write_failing self.old) (write_calls self.new)) (listed_room self.old) bytes.now result (listed_room self.new) }
+        ensures answer { ListedTakes (is_listed (write_failing self.old) (write_calls self.new))
+            (listed_room self.old) bytes.now result (listed_room self.new) }
         ensures bound { IfOk result (λ n. n ≤ length bytes.now) }
         ensures progress { IfOk result (λ n. 0 < length bytes.now → 0 < n) }
         ensures got { listed_got self.new ≡ listed_got self.old ++ sent result bytes.now }

@@ -51,9 +51,11 @@ impl Source for ListedSource {
     /// Counts the call. Where it is listed it fails; else it gives as many as there are, as the
     /// slice has room for, and as one call may give.
     fn read(&mut self, into: &mut [u8]) -> Result<usize, Failed>
-        ensures answer { ListedGives (is_listed (read_failing self.old) (read_calls self.new)) (read_most self.old) (listed_left self.old) (length into.old) result }
+        ensures answer { ListedGives (is_listed (read_failing self.old) (read_calls self.new)) (read_most self.old)
+            (listed_left self.old) (length into.old) result }
         ensures bytes { Some (listed_left self.old) ≡ before (taken result into.new) (Some (listed_left self.new)) }
-        ensures end { result ≡ Ok 0 → 0 < length into.old → HasEnded (Some (listed_left self.new)) (listed_ended self.new) }
+        ensures end { result ≡ Ok 0 → 0 < length into.old
+            → HasEnded (Some (listed_left self.new)) (listed_ended self.new) }
         ensures answered { listed_ended self.new ≡ ended_after (length into.old) result (listed_ended self.old) }
         ensures calls { read_calls self.new ≡ raised (read_calls self.old) 1 }
         ensures failing { read_failing self.new ≡ read_failing self.old }

@@ -9,7 +9,8 @@ pub(crate) fn spoil(bytes: &mut [u8], from: u64, pairs: &[(u64, u8)]) -> usize
     ensures within { result ≤ length pairs.now }
     ensures bytes { bytes.new ≡ spoiled pairs.now from bytes.old }
     ensures rises { rises_from (raised from (length bytes.old)) (drop result pairs.now) ≡ true }
-    ensures rest { (k : ℕ) → mask_at (drop result pairs.now) (raised from (length bytes.old) + k) ≡ mask_at pairs.now (from + length bytes.old + k) }
+    ensures rest { (k : ℕ) → mask_at (drop result pairs.now) (raised from (length bytes.old) + k)
+        ≡ mask_at pairs.now (from + length bytes.old + k) }
 {
     let mut used = 0;
     for i in 0..bytes.len() {
@@ -26,7 +27,8 @@ fn next_mask(pairs: &[(u64, u8)], used: &mut usize, place: u64) -> u8
     ensures within { used.new ≤ length pairs.now }
     ensures mask { result ≡ mask_at (drop used.old pairs.now) place }
     ensures rises { rises_from (raised place 1) (drop used.new pairs.now) ≡ true }
-    ensures rest { (q : ℕ) → raised place 1 ≤ q → mask_at (drop used.new pairs.now) q ≡ mask_at (drop used.old pairs.now) q }
+    ensures rest { (q : ℕ) → raised place 1 ≤ q
+        → mask_at (drop used.new pairs.now) q ≡ mask_at (drop used.old pairs.now) q }
 {
     if *used == pairs.len() {
         return 0;

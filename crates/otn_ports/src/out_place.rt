@@ -59,8 +59,8 @@ impl<K: Sink> OutPlaceOf<K> {
         written
     }
 
-    /// Writes lines, each with its LF at its end, and says how many bytes went: all lines at once to a file of the system, and to
-    /// any other port each line for itself. What is said of `write_all` holds.
+    /// Writes lines, each with its LF at its end, and says how many bytes went: all lines at once to a file of the
+    /// system, and to any other port each line for itself. What is said of `write_all` holds.
     pub fn write_lines(&mut self, lines: &[u8]) -> (Written, usize)
         ensures state { (out_view K.Sink self.new).state ≡ state_after_write (out_view K.Sink self.old).state result.0 }
         ensures live { (out_view K.Sink self.old).state ≡ Live

@@ -31,7 +31,8 @@ impl Sink for OutPort {
         ensures well { OnOk result (out_faults faults self.new ≡ out_faults faults self.old) }
         ensures keeps { out_keeps keeps self.new ≡ out_keeps keeps self.old }
         ensures same { is_out_boxed self.new ≡ is_out_boxed self.old }
-        ensures held { is_out_boxed self.old ≡ false → TakesWhatFits (held_room self.old) bytes.now result (held_room self.new) }
+        ensures held { is_out_boxed self.old ≡ false
+            → TakesWhatFits (held_room self.old) bytes.now result (held_room self.new) }
     {
         match self {
             OutPort::Boxed(sink) => sink.write(bytes),

@@ -8,8 +8,9 @@ use crate::{Failed, Source};
 use std::fs::File;
 use std::io::{ErrorKind, Read};
 
-/// Reads a reader of the system, and doesn't tell its bytes. It counts each call that fails, and keeps why the last one did,
-/// and whether its reader has answered that it ended. One with no reader fails at each read into a slice with room.
+/// Reads a reader of the system, and doesn't tell its bytes. It counts each call that fails, and keeps why the last one
+/// did, and whether its reader has answered that it ended. One with no reader fails at each read into a slice with
+/// room.
 #[derive(Drop)]
 pub struct ReaderSource<R> {
     reader: Option<R>,
@@ -72,7 +73,8 @@ impl<R: Read + Drop> Source for ReaderSource<R> {
     /// interrupts: that is made again.
     fn read(&mut self, into: &mut [u8]) -> Result<usize, Failed>
         ensures bound { IfOk result (λ n. n ≤ length into.old) }
-        ensures system { ReadConsumes (reader_bytes R.remaining self.old) (reader_bytes R.remaining self.new) result into.new }
+        ensures system { ReadConsumes (reader_bytes R.remaining self.old)
+            (reader_bytes R.remaining self.new) result into.new }
         ensures counts { reader_faults self.new ≡ faults_after (reader_faults self.old) result }
         ensures answered { reader_ended self.new ≡ ended_after (length into.old) result (reader_ended self.old) }
         ensures later { reader_faults self.old ≤ reader_faults self.new }

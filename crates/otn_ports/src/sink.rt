@@ -1,7 +1,7 @@
 // A port that takes bytes, and may fail at any call.
 ghost use Rattle.std.specs.Prelude.{◌≡◌, ◌≢◌, ◌<◌, ◌≤◌, ℕ, Bool, true, false, List, Option, Some, length, take, IfOk, IsSome, OnOk, OnErr, MatchOption};
 ghost use Rattle.otn_ports.specs.Bytes.{after, sent, HasFailed};
-ghost use Rattle.otn_ports.specs.Lines.{IsFirstLine};
+ghost use Rattle.otn_ports.specs.Steps.Lines.{IsFirstLine};
 ghost use Rattle.otn_ports.specs.Writes.{IsWriting};
 
 use crate::{Failed, Written};
@@ -37,12 +37,13 @@ pub trait Sink: Drop {
 
     /// What the sink got, where it keeps it. A sink that keeps its bytes tells them.
     fn kept(&self) -> Option<&[u8]>
-        ensures kept { MatchOption result (keeps self.now ≡ false) (λ bytes. (keeps self.now ≡ true) × (got self.now ≡ Some bytes.now)) }
+        ensures kept { MatchOption result (keeps self.now ≡ false)
+            (λ bytes. (keeps self.now ≡ true) × (got self.now ≡ Some bytes.now)) }
         ensures tells { keeps self.now ≡ true → IsSome (got self.now) };
 
-    /// Writes lines, each with its LF at its end, until all are out or a call fails, and says how many bytes went. Each line is
-    /// written for itself, by as many calls as it takes, so that a call never has bytes of two lines; a port that has no need of
-    /// that writes all lines at once.
+    /// Writes lines, each with its LF at its end, until all are out or a call fails, and says how many bytes went. Each
+    /// line is written for itself, by as many calls as it takes, so that a call never has bytes of two lines; a port
+    /// that has no need of that writes all lines at once.
     fn write_lines(&mut self, lines: &[u8]) -> (Written, usize)
         ensures within { result.1 ≤ length lines.now }
         ensures bytes { got self.new ≡ after (got self.old) (take result.1 lines.now) }

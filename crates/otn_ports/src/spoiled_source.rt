@@ -52,8 +52,10 @@ impl<S: Source> Source for SpoiledSource<S> {
     fn read(&mut self, into: &mut [u8]) -> Result<usize, Failed>
         ensures bound { IfOk result (λ n. n ≤ length into.old) }
         ensures bytes { spoiled_left S.left self.old ≡ before (taken result into.new) (spoiled_left S.left self.new) }
-        ensures end { result ≡ Ok 0 → 0 < length into.old → HasEnded (spoiled_left S.left self.new) (spoiled_ended S.ended self.new) }
-        ensures answered { spoiled_ended S.ended self.new ≡ ended_after (length into.old) result (spoiled_ended S.ended self.old) }
+        ensures end { result ≡ Ok 0 → 0 < length into.old
+            → HasEnded (spoiled_left S.left self.new) (spoiled_ended S.ended self.new) }
+        ensures answered { spoiled_ended S.ended self.new
+            ≡ ended_after (length into.old) result (spoiled_ended S.ended self.old) }
         ensures later { spoiled_faults S.faults self.old ≤ spoiled_faults S.faults self.new }
         ensures cause { OnErr result (HasFailed (spoiled_faults S.faults self.old) (spoiled_faults S.faults self.new)) }
         ensures well { OnOk result (spoiled_faults S.faults self.new ≡ spoiled_faults S.faults self.old) }

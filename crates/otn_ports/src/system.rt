@@ -7,8 +7,8 @@ ghost use Rattle.otn_ports.specs.Bytes.{faults_after, HasFailed};
 use crate::Failed;
 use std::io::{ErrorKind, Read, Write};
 
-/// Whether a call that the system refused so is made again: one that a signal interrupted is. Any other refusal is a fault,
-/// also that of a call that would have to wait, so that nothing is asked for ever.
+/// Whether a call that the system refused so is made again: one that a signal interrupted is. Any other refusal is a
+/// fault, also that of a call that would have to wait, so that nothing is asked for ever.
 pub(crate) fn is_made_again(kind: ErrorKind) -> bool
     ensures again { kind ≡ ErrorKind.Interrupted → result ≡ true }
     ensures fault { kind ≢ ErrorKind.Interrupted → result ≡ false }

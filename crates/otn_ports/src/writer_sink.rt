@@ -8,9 +8,8 @@ use crate::{Failed, Sink, Written};
 use std::fs::File;
 use std::io::{ErrorKind, Stdout, Write};
 
-/// Writes a writer of the system, and doesn't tell its bytes. It counts each call that fails, and
-/// each that takes nothing of a byte or more, and keeps why the last one did. One with no writer fails at each write of a
-/// byte or more.
+/// Writes a writer of the system, and doesn't tell its bytes. It counts each call that fails, and each that takes
+/// nothing of a byte or more, and keeps why the last one did. One with no writer fails at each write of a byte or more.
 #[derive(Drop)]
 pub struct WriterSink<W> {
     writer: Option<W>,
@@ -84,7 +83,8 @@ impl<W: Write + Drop> Sink for WriterSink<W> {
     fn write(&mut self, bytes: &[u8]) -> Result<usize, Failed>
         ensures bound { IfOk result (λ n. n ≤ length bytes.now) }
         ensures progress { IfOk result (λ n. 0 < length bytes.now → 0 < n) }
-        ensures system { WriteAppends (writer_bytes W.contents self.old) (writer_bytes W.contents self.new) result bytes.now }
+        ensures system { WriteAppends (writer_bytes W.contents self.old)
+            (writer_bytes W.contents self.new) result bytes.now }
         ensures counts { writer_faults self.new ≡ faults_after (writer_faults self.old) result }
         ensures later { writer_faults self.old ≤ writer_faults self.new }
         ensures cause { OnErr result (HasFailed (writer_faults self.old) (writer_faults self.new)) }
@@ -107,7 +107,8 @@ impl<W: Write + Drop> Sink for WriterSink<W> {
     /// Many lines in one call of the writer, as far as it takes them.
     fn write_lines(&mut self, lines: &[u8]) -> (Written, usize)
         ensures within { result.1 ≤ length lines.now }
-        ensures system { Appends (writer_bytes W.contents self.old) (writer_bytes W.contents self.new) (take result.1 lines.now) }
+        ensures system { Appends (writer_bytes W.contents self.old) (writer_bytes W.contents self.new)
+            (take result.1 lines.now) }
         ensures writing { IsWriting result.0 result.1 (length lines.now) }
         ensures later { writer_faults self.old ≤ writer_faults self.new }
         ensures cause { result.0 ≡ Written.Lost → HasFailed (writer_faults self.old) (writer_faults self.new) }

@@ -1,4 +1,4 @@
--- The words of the program.
+-- API: the words of the program.
 use Rattle.std.specs.Prelude.{◌≡◌, ℕ, List, [], ◌∷◌, ◌++◌, Bool, true, false, if◌then◌else◌, Some, map, codes, slice_get, string_bytes, String}
 use Rattle.std.specs.Fmt.{decimal}
 use Rattle.std.specs.declared.alloc.Global.{Global}
@@ -31,4 +31,5 @@ pub record IsForm (words : List (List ℕ)) (asked : Asked) : Type 0 where
   pub file : List ℕ
   pub otu3 : Bool
   pub kind : asked.kind ≡ kind_by otu3
-  pub words_are : words ≡ file ∷ ((if otu3 then codes "otu3" ∷ [] else []) ++ ((if asked.scrambled then codes "scrambled" ∷ [] else []) ++ map word_of asked.shown.items))
+  pub words_are : words ≡ file ∷ ((if otu3 then codes "otu3" ∷ [] else [])
+      ++ ((if asked.scrambled then codes "scrambled" ∷ [] else []) ++ map word_of asked.shown.items))

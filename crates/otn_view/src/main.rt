@@ -1,8 +1,8 @@
-//! `otn_view`, what a line carries, turn by turn: hands the file of the line and standard output to the one call that does all the
-//! work, and ends with the code of its answer.
+//! `otn_view`, what a line carries, turn by turn: hands the file of the line and standard output to the one call that
+//! does all the work, and ends with the code of its answer.
 //!
-//! `otn_view FILE [otu3] [scrambled] PORT:K,K ..` shows the line of the file, an OTU2 that is not scrambled where the words
-//! do not say otherwise, and the tributaries of these ports and slots.
+//! `otn_view FILE [otu3] [scrambled] PORT:K,K ..` shows the line of the file, an OTU2 that is not scrambled where the
+//! words do not say otherwise, and the tributaries of these ports and slots.
 #![tactic(auto)]
 
 ghost use Rattle.std.specs.Prelude.{◌≡◌};

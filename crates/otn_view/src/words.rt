@@ -20,7 +20,8 @@ pub(crate) struct Asked {
 /// What these words ask for: `FILE [otu3] [scrambled] PORT:K,K ..`. None where they have another form.
 pub(crate) fn asked_of(alloc: Global, words: &[String]) -> Result<Option<Asked>, Memory>
     ensures form { IfOk result (λ asked. IfSome asked (IsForm (texts words.now))) }
-    ensures on_line { IfOk result (λ asked. IfSome asked (λ a. (i : ℕ) (x : Shown) → slice_get a.shown.items i ≡ Some x → IsOnLine a.kind x)) }
+    ensures on_line { IfOk result (λ asked. IfSome asked (λ a. (i : ℕ) (x : Shown) → slice_get a.shown.items i ≡ Some x
+        → IsOnLine a.kind x)) }
 {
     let [_file, rest @ ..] = words else {
         return Ok(None);

@@ -8,8 +8,8 @@ use frame_overhead::{ParityCheck, parity};
 use otn_base::limits::LINE_COLUMNS;
 use std::marker::Model;
 
-/// Counts the frames of a line with a wrong FAS, and those with a wrong SM parity, of which the first two are not checked.
-/// Contracts say which frames were taken so far.
+/// Counts the frames of a line with a wrong FAS, and those with a wrong SM parity, of which the first two are not
+/// checked. Contracts say which frames were taken so far.
 #[derive(Clone, Copy, Drop)]
 pub struct OtuCheck {
     fas: u64,
@@ -66,7 +66,8 @@ impl OtuCheck {
 
     /// How many frames had a wrong SM parity. The count stops at 2^64-1.
     pub fn sm(&self) -> u64
-        ensures { (frames : List (List ℕ)) → HasTaken frames self.now → result ≡ saturated (wrong_parities LINE_COLUMNS SECTION_ROW SM_BIP8_COLUMN frames) }
+        ensures { (frames : List (List ℕ)) → HasTaken frames self.now
+            → result ≡ saturated (wrong_parities LINE_COLUMNS SECTION_ROW SM_BIP8_COLUMN frames) }
     {
         self.sm.wrong()
     }

@@ -6,8 +6,8 @@ ghost use Rattle.otn_base.specs.declared.limits.TheConstants.{LINE_FRAME_BYTES};
 use frame_geometry::overhead::FAS;
 use otn_base::limits::LINE_FRAME_BYTES;
 
-/// The mask of the frames of a scrambled line, 16,320 bytes: 0 over the FAS, then the sequence of the scrambler
-/// (G.709 clause 11.2), which begins anew in each frame. A frame is sent as its exclusive or with the mask, byte by byte.
+/// The mask of the frames of a scrambled line, 16,320 bytes: 0 over the FAS, then the sequence of the scrambler (G.709
+/// clause 11.2), which begins anew in each frame. A frame is sent as its exclusive or with the mask, byte by byte.
 pub fn line_mask(into: &mut [u8])
     requires { length into.old ≡ LINE_FRAME_BYTES }
     ensures { into.new ≡ mask true }

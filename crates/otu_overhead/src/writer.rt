@@ -41,12 +41,13 @@ impl OtuWriter {
         }
     }
 
-    /// Writes row 1, columns 1 to 14, and the FEC columns of the next frame, which has this MFAS; every other byte stays.
-    /// The SM parity is that of the frame two before, 0 in the first two frames.
+    /// Writes row 1, columns 1 to 14, and the FEC columns of the next frame, which has this MFAS; every other byte
+    /// stays. The SM parity is that of the frame two before, 0 in the first two frames.
     pub fn write(&mut self, frame: &mut Frame<LINE_COLUMNS>, mfas: u8, trace: &Trace)
         ensures frame { (frames : List (List ℕ)) → HasSent LINE_COLUMNS frames self.old
             → IsOtuFrame trace.now mfas (or_zero (parity_due LINE_COLUMNS frames)) frame.old frame.new }
-        ensures sent { (frames : List (List ℕ)) → HasSent LINE_COLUMNS frames self.old → HasSent LINE_COLUMNS (frames ++ frame.new ∷ []) self.new }
+        ensures sent { (frames : List (List ℕ)) → HasSent LINE_COLUMNS frames self.old
+            → HasSent LINE_COLUMNS (frames ++ frame.new ∷ []) self.new }
     {
         let parity = parity(frame);
         self.write_with(frame, mfas, trace, parity);
@@ -63,7 +64,8 @@ impl OtuWriter {
         requires { parity ≡ parity_of LINE_COLUMNS frame.old }
         ensures frame { (frames : List (List ℕ)) → HasSent LINE_COLUMNS frames self.old
             → IsOtuFrame trace.now mfas (or_zero (parity_due LINE_COLUMNS frames)) frame.old frame.new }
-        ensures sent { (frames : List (List ℕ)) → HasSent LINE_COLUMNS frames self.old → HasSent LINE_COLUMNS (frames ++ frame.new ∷ []) self.new }
+        ensures sent { (frames : List (List ℕ)) → HasSent LINE_COLUMNS frames self.old
+            → HasSent LINE_COLUMNS (frames ++ frame.new ∷ []) self.new }
         ensures parity { parity_of LINE_COLUMNS frame.new ≡ parity }
     {
         let bip = self.parities.due_byte();

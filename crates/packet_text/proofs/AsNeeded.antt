@@ -7,8 +7,9 @@ use Rattle.packet_text.specs.TextLines.{has_lf, lines_of, full_lines, begun_line
 use Rattle.packet_text.specs.PacketText.{line_gives, TextEnding, Ended, BadAt, Packets, packets_of, is_bad, shows_bad}
 use Rattle.packet_text.specs.LinesStand.{LinesView, came_short, GoesOn, ReadAsNeeded, HasBad}
 use Rattle.otn_base.specs.Counts.{saturated}
-use Rattle.packet_text.specs.Finding.{answer_of, Rests}
-use Rattle.packet_text.specs.Cutting.{CutView, NoneRead, LastRead, Cuts}
+use Rattle.packet_text.specs.Steps.Finding.{answer_of, Rests}
+use Rattle.packet_text.specs.Cutting.{CutView}
+use Rattle.packet_text.specs.Steps.Cutting.{NoneRead, LastRead, Cuts}
 use Rattle.packet_text.specs.declared.cutter.Cut.{Cut}
 use Rattle.packet_text.specs.declared.cutter.Cut.TheVariants as cut
 use Rattle.packet_text.specs.declared.found.Found.{Found}

@@ -4,7 +4,8 @@ use Rattle.std.specs.Result.{result_unwrap_or}
 use Rattle.std.proofs.lemmas.Bool.{agree_below_at, eqb-true}
 use Rattle.hex.specs.Hex.{hex_digit_value, digit_or_error, decode_sized, decode_pairs, ◌>>=◌}
 use Rattle.hex.specs.declared.error.FromHexError.{FromHexError}
-use Rattle.packet_text.specs.DigitMarks.{marked, mark, byte_of, IsPair, IsRefused}
+use Rattle.packet_text.specs.DigitMarks.{marked, mark}
+use Rattle.packet_text.specs.Steps.DigitMarks.{byte_of, IsPair, IsRefused}
 
 -- the pair whose digits have these values
 abbrev of_values : ℕ → ℕ → ℕ → Option ℕ → Option ℕ → Result ℕ FromHexError

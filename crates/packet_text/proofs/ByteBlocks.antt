@@ -5,7 +5,7 @@ use Rattle.std.proofs.lemmas.Nat.{and_mask}
 use Rattle.std.proofs.lemmas.Simd.{Each1-weaker, Each1-zip2, Each2-splat, swz_l, SwzOk, SwzOk-from_below, length-zip2, length-swz_l, get_or-swz_l_below, zip2_splat, below_from_Fits, take_more_put_chunk, length-put_chunk, chunk-drop}
 use lib.Lanes.{zip2, Each1, put_chunk}
 use Rattle.hex.specs.Hex.{encode_lower, encode_with, lower_digits}
-use Rattle.packet_text.specs.DigitMarks.{sixteen, in_turn, bytes_from}
+use Rattle.packet_text.specs.Steps.DigitMarks.{sixteen, in_turn, bytes_from}
 use Rattle.packet_text.proofs.DigitLanes.{sixteen_loaded}
 
 pub each_digit : (digits : List ℕ) → digits ≡ encode_lower (0x01 ∷ 0x23 ∷ 0x45 ∷ 0x67 ∷ 0x89 ∷ 0xab ∷ 0xcd ∷ 0xef ∷ []) → digits ≡ lower_digits

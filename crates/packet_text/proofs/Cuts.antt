@@ -6,9 +6,10 @@ use Rattle.otn_ports.specs.Views.{InView}
 use Rattle.otn_ports.proofs.GivenLaws.{gave_none}
 use Rattle.otn_ports.specs.declared.in_place.Reading.{Reading}
 use Rattle.otn_ports.specs.declared.in_place.Reading.TheVariants as reading
-use Rattle.packet_text.specs.Blocks.{BlockRead}
-use Rattle.packet_text.specs.Carrying.{Carried, NoneCarried}
-use Rattle.packet_text.specs.Cutting.{CutView, all_of, GoesOnBy, LastRead, CutsSome}
+use Rattle.packet_text.specs.Steps.Blocks.{BlockRead}
+use Rattle.packet_text.specs.Steps.Carrying.{Carried, NoneCarried}
+use Rattle.packet_text.specs.Cutting.{CutView}
+use Rattle.packet_text.specs.Steps.Cutting.{all_of, GoesOnBy, LastRead, CutsSome}
 use Rattle.packet_text.specs.declared.cutter.Cut.{Cut}
 use Rattle.packet_text.specs.declared.cutter.Cut.TheVariants.{More, Line, Last, Long, End, Lost}
 use Rattle.packet_text.proofs.Lists.{clean_both}

@@ -2,7 +2,8 @@
 use Rattle.std.proofs.Common.{◌≡◌, ◌%◌, ◌⊎◌, inl, inr, ℕ, Bool, true, false, List, [], ◌++◌, length, arith, refl, sym, ap, ◌∙◌, append_assoc, append-nil, length-append}
 use Rattle.otn_ports.specs.Views.{InView}
 use Rattle.otn_ports.proofs.GivenLaws.{gave_none, gave_twice, dead_not_live}
-use Rattle.packet_text.specs.Cutting.{CutView, all_of, LostIn, NoneRead, LastRead, Cuts, CutsSome}
+use Rattle.packet_text.specs.Cutting.{CutView}
+use Rattle.packet_text.specs.Steps.Cutting.{all_of, LostIn, NoneRead, LastRead, Cuts, CutsSome}
 use Rattle.packet_text.specs.declared.cutter.Cut.{Cut}
 use Rattle.packet_text.specs.declared.cutter.Cut.TheVariants.{More, Lost}
 

@@ -6,7 +6,7 @@ use Rattle.hex.specs.declared.error.FromHexError.{FromHexError}
 use Rattle.hex.proofs.Pairs.{cons_byte, decode_pairs-ok_pair, decode_pairs-err_pair}
 use Rattle.hex.proofs.HexLemmas.{decode_of-even}
 use Rattle.packet_text.specs.PacketText.{decoded}
-use Rattle.packet_text.specs.DigitMarks.{IsPair, IsRefused, HasRefused}
+use Rattle.packet_text.specs.Steps.DigitMarks.{IsPair, IsRefused, HasRefused}
 
 -- the first pairs say these bytes
 pub record Read (digits bytes : List ℕ) (pairs : ℕ) : Type 0 where

@@ -5,7 +5,8 @@ use Rattle.std.proofs.lemmas.List.{ext_get_or, get_or-map, length-map}
 use Rattle.std.proofs.lemmas.Nat.{and_le_l, and_le_r}
 use Rattle.std.proofs.lemmas.Simd.{get_or-put_chunk_at, Each1-all, Each1-zip2, Each2-splat, swz_l, SwzOk, SwzOk-from_below, length-zip2, length-swz_l, get_or-swz_l_below, length-chunk, get_or-chunk, zip2_splat, tops_compared, map-map, zip2_of_maps, bitmask_splat}
 use lib.Lanes.{zip2, sel_l, mask_l, top, Each1, chunk, put_chunk}
-use Rattle.packet_text.specs.DigitMarks.{mark, MarksAll, marks_from, sixteen, bytes_from, byte_of, IsPair, HasLow, HasRefused}
+use Rattle.packet_text.specs.DigitMarks.{mark, MarksAll}
+use Rattle.packet_text.specs.Steps.DigitMarks.{marks_from, sixteen, bytes_from, byte_of, IsPair, HasLow, HasRefused}
 use Rattle.packet_text.proofs.Asking.{kept_digit, pair_read, pair_refused}
 
 pub get_sixteen : (f : ℕ → ℕ) (i : ℕ) → i < 16 → get_or (sixteen f) i 0 ≡ f i

@@ -5,8 +5,9 @@ use Rattle.otn_ports.proofs.GivenLaws.{dead_not_live, gave_none, gave_twice}
 use Rattle.packet_text.specs.TextLines.{has_lf, lines_of, full_lines, whole_blocks, text_of_dead}
 use Rattle.packet_text.specs.LinesStand.{LinesView, GoesOn, came_short, ReadAsNeeded}
 use Rattle.otn_base.specs.Counts.{saturated}
-use Rattle.packet_text.specs.Finding.{answer_of, Counts, Judges, Rests, Finds}
-use Rattle.packet_text.specs.Cutting.{CutView, CutsSome}
+use Rattle.packet_text.specs.Steps.Finding.{answer_of, Counts, Judges, Rests, Finds}
+use Rattle.packet_text.specs.Cutting.{CutView}
+use Rattle.packet_text.specs.Steps.Cutting.{CutsSome}
 use Rattle.packet_text.specs.declared.cutter.Cut.TheVariants as cut
 use Rattle.packet_text.specs.declared.found.Found.{Found}
 use Rattle.packet_text.specs.declared.found.Found.TheVariants as found

@@ -5,8 +5,9 @@ use Rattle.packet_text.specs.TextLines.{has_lf, lines_of, full_lines}
 use Rattle.packet_text.specs.PacketText.{line_gives, Packets, Ended, BadAt, behind, with_line, packets_behind, packets_of}
 use Rattle.packet_text.specs.LinesStand.{LinesView, Begins, HasBad, GoesOn}
 use Rattle.otn_base.specs.Counts.{saturated}
-use Rattle.packet_text.specs.Finding.{Counts}
-use Rattle.packet_text.specs.Cutting.{CutView, Cuts}
+use Rattle.packet_text.specs.Steps.Finding.{Counts}
+use Rattle.packet_text.specs.Cutting.{CutView}
+use Rattle.packet_text.specs.Steps.Cutting.{Cuts}
 use Rattle.packet_text.specs.declared.cutter.Cut.{Cut}
 use Rattle.packet_text.specs.declared.cutter.Cut.TheVariants as cut
 use Rattle.packet_text.proofs.Texts.{lines_of-line, lines_of-last, full_lines-line}

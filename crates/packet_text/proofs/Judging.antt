@@ -11,7 +11,7 @@ use Rattle.packet_text.specs.PacketText.{without_cr, decoded, bytes_of_line, is_
 use Rattle.packet_text.proofs.LineEnds.{cr_length}
 use Rattle.packet_text.specs.LinesStand.{LinesView}
 use Rattle.otn_base.specs.Counts.{saturated}
-use Rattle.packet_text.specs.Finding.{Counts, Judges}
+use Rattle.packet_text.specs.Steps.Finding.{Counts, Judges}
 use Rattle.packet_text.specs.declared.found.Found.{Found}
 use Rattle.packet_text.specs.declared.found.Found.TheVariants as found
 

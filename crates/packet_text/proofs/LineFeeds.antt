@@ -5,7 +5,7 @@ use Rattle.std.proofs.lemmas.List.{take_all, take-take, get_or-take}
 use Rattle.std.proofs.lemmas.Simd.{first_set_mask_l}
 use lib.Count.{count_trailing_zeros}
 use Rattle.packet_text.specs.TextLines.{has_lf}
-use Rattle.packet_text.specs.Carrying.{IsFirstLf, lf_bits}
+use Rattle.packet_text.specs.Steps.Carrying.{IsFirstLf, lf_bits}
 use Rattle.packet_text.proofs.Lists.{first_behind, clean_piece}
 
 abbrev pub is_clean : ℕ → Bool

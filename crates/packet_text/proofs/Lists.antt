@@ -5,7 +5,7 @@ use Rattle.std.proofs.lemmas.List.{take-append-drop, get_or-drop}
 use Rattle.std.proofs.Math.Seq.{take-add}
 use Rattle.std.specs.List.{list_any}
 use Rattle.packet_text.specs.TextLines.{has_lf}
-use Rattle.packet_text.specs.Carrying.{IsFirstLf, Carried}
+use Rattle.packet_text.specs.Steps.Carrying.{IsFirstLf, Carried}
 
 pub or_false : (a b : Bool) → (a || b) ≡ false → (a ≡ false) × (b ≡ false)
 or_false true b h = absurd (cc)

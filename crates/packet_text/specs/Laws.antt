@@ -1,4 +1,4 @@
--- What is proved of the texts of packets.
+-- API: what is proved of the texts of packets.
 use Rattle.std.specs.Prelude.{◌≡◌, ◌≢◌, ◌≤◌, ℕ, List, length}
 use Rattle.std.specs.List.{All}
 use Rattle.hex.specs.Hex.{IsBytes}
@@ -17,9 +17,12 @@ pub record IsPacket (packet : List ℕ) : Type 0 where
 
 -- What is written of packets reads back as these packets.
 abbrev pub ReadsBack : Type 0
-ReadsBack = (packets : List (List ℕ)) → All IsPacket packets → packets_of (hex_text packets) ≡ record { packets = packets; ending = Ended }
+ReadsBack = (packets : List (List ℕ)) → All IsPacket packets
+    → packets_of (hex_text packets) ≡ record { packets = packets; ending = Ended }
 
--- What a place that tells its bytes gave in the whole run is among the texts that it may have; of a place that died, what is left of it.
+-- What a place that tells its bytes gave in the whole run is among the texts that it may have; of a place that died,
+-- what is left of it.
 abbrev pub GivenIsAmong : Type 0
-GivenIsAmong = (first now : InView) (taken given : List ℕ) (packets : List (List ℕ)) (view : LinesView) → LinesStand first now taken packets view → HadToGive first now given
+GivenIsAmong = (first now : InView) (taken given : List ℕ) (packets : List (List ℕ)) (view : LinesView)
+    → LinesStand first now taken packets view → HadToGive first now given
     → (view.answer ≢ Lost → MayBe view taken given) × (view.answer ≡ Lost → MayBe view taken (text_of_dead given))

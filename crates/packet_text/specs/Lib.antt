@@ -1,9 +1,8 @@
 pub mod TextLines
 pub mod PacketText
 pub mod DigitMarks
-pub mod Carrying
-pub mod Blocks
 pub mod Cutting
 pub mod LinesStand
 pub mod Finding
 pub mod Laws
+pub mod Steps

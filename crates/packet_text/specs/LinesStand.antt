@@ -1,4 +1,4 @@
--- Where the lines of a place stand.
+-- Believed: where the lines of a place stand.
 use Rattle.std.specs.Prelude.{◌≡◌, ◌≢◌, ◌<◌, ◌≤◌, ◌%◌, ◌+◌, ◌⊎◌, if◌then◌else◌, ℕ, Bool, true, false, List, [], ◌∷◌, ◌++◌, length, take}
 use Rattle.otn_base.specs.Counts.{saturated}
 use Rattle.otn_ports.specs.Views.{InView, Live, Dead}
@@ -11,8 +11,8 @@ use Rattle.packet_text.specs.declared.line.Line.{Line}
 use Rattle.packet_text.specs.declared.line.Line.TheVariants.{Packet, End, Bad, Lost}
 use Rattle.packet_text.specs.declared.packet_lines.PacketLines.{PacketLines}
 
--- what is seen of the lines of a place: the bytes that were read and not used, whether the end was seen, the last answer and its
--- packet, how many lines there were, and how many empty ones in a row at the end of them
+-- what is seen of the lines of a place: the bytes that were read and not used, whether the end was seen, the last
+-- answer and its packet, how many lines there were, and how many empty ones in a row at the end of them
 pub record LinesView : Type 0 where
   pub hand : List ℕ
   pub ended : Bool
@@ -23,15 +23,23 @@ pub record LinesView : Type 0 where
 
 -- the lines of a place as they are seen
 abbrev pub lines_view : PacketLines → LinesView
-lines_view p = record { hand = (cut_view p.cutter).hand; ended = p.cutter.ended; answer = p.answer; packet = take p.len p.packet.items; number = p.number; empty = p.empty }
+lines_view p = record {
+  hand = (cut_view p.cutter).hand;
+  ended = p.cutter.ended;
+  answer = p.answer;
+  packet = take p.len p.packet.items;
+  number = p.number;
+  empty = p.empty;
+}
 
 -- a text that begins with these bytes
 pub record Begins (bytes text : List ℕ) : Type 0 where
   pub rest : List ℕ
   pub parts : text ≡ bytes ++ rest
 
--- The texts that a place may turn out to have, of which these bytes were taken: once the end was seen, these bytes; while nothing is
--- decided, any text that begins with their whole lines; behind a bad line anything; and of a place that died, what is left of it.
+-- The texts that a place may turn out to have, of which these bytes were taken: once the end was seen, these bytes;
+-- while nothing is decided, any text that begins with their whole lines; behind a bad line anything; and of a place
+-- that died, what is left of it.
 abbrev pub may_be : Bool → Line → List ℕ → List ℕ → Type 0
 may_be true answer taken text = text ≡ taken
 may_be false Packet taken text = Begins (full_lines taken) text
@@ -88,8 +96,9 @@ asked_for End given = given + 1
 asked_for (Bad n) given = given + 1
 asked_for Lost given = given + 1
 
--- How these bytes were read, when so many packets were asked for: by blocks of 4,096 bytes, but for a last read that came short. The last read
--- was needed: what was taken before it shows no bad line, and its whole lines have fewer packets.
+-- How these bytes were read, when so many packets were asked for: by blocks of 4,096 bytes, but for a last read that
+-- came short. The last read was needed: what was taken before it shows no bad line, and its whole lines have fewer
+-- packets.
 pub record ReadAsNeeded (short : Bool) (asked : ℕ) (taken : List ℕ) : Type 0 where
   pub before : List ℕ
   pub last : List ℕ
@@ -101,10 +110,10 @@ pub record ReadAsNeeded (short : Bool) (asked : ℕ) (taken : List ℕ) : Type 0
   pub needed : shows_bad before ≡ false
   pub fewer : (taken ≡ []) ⊎ (length (packets_of (full_lines before)).packets < asked)
 
--- `first` and `now` are views of a place, between which these bytes were taken, and these packets given: whatever text it may turn
--- out to have, they are its first packets, and the last answer is right. Before the end is seen no line is found bad but where the bytes
--- that were taken show it, and then nothing more is read. While packets come less than a block is in hand. Where the end was not seen, the
--- place has answered none: so nothing is asked of it behind its end.
+-- `first` and `now` are views of a place, between which these bytes were taken, and these packets given: whatever text
+-- it may turn out to have, they are its first packets, and the last answer is right. Before the end is seen no line is
+-- found bad but where the bytes that were taken show it, and then nothing more is read. While packets come less than a
+-- block is in hand. Where the end was not seen, the place has answered none: so nothing is asked of it behind its end.
 pub record LinesStand (first now : InView) (taken : List ℕ) (packets : List (List ℕ)) (view : LinesView) : Type 0 where
   pub gave : Gave first taken now
   pub over : view.ended ≡ true → now.state ≡ Live → HasEnded now.left now.ended
@@ -136,9 +145,11 @@ is_packet End = false
 is_packet (Bad n) = false
 is_packet Lost = false
 
--- after an answer: more bytes were taken, there is a packet more where it is Packet, and a text that the place may have from then on it
--- might have before
-pub record TakeStands (first : InView) (taken : List ℕ) (packets : List (List ℕ)) (old new : LinesView) (now : InView) : Type 0 where
+-- after an answer: more bytes were taken, there is a packet more where it is Packet, and a text that the place may have
+-- from then on it might have before
+pub record TakeStands (first : InView) (taken : List ℕ) (packets : List (List ℕ)) (old new : LinesView)
+    (now : InView) : Type 0 where
   pub came : List ℕ
-  pub stands : LinesStand first now (taken ++ came) (packets ++ (if is_packet old.answer then given_by new.answer new.packet else [])) new
+  pub stands : LinesStand first now (taken ++ came)
+      (packets ++ (if is_packet old.answer then given_by new.answer new.packet else [])) new
   pub earlier : (text : List ℕ) → MayBe new (taken ++ came) text → MayBe old taken text

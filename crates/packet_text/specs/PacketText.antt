@@ -1,4 +1,4 @@
--- The packets of a text of hex lines.
+-- Believed: the packets of a text of hex lines.
 use Rattle.std.specs.Prelude.{ℕ, ◌+◌, ◌-◌, ◌==◌, nat_le, nat_lt, slice_index, take, ◌&&◌, ◌||◌, Bool, true, false, if◌then◌else◌, List, [], ◌∷◌, ◌++◌, length, reverse, Option, Some, None, Result, Ok, Err}
 use Rattle.std.specs.List.{take_while}
 use Rattle.hex.specs.Hex.{decode_of, encode_lower}
@@ -8,7 +8,8 @@ use Rattle.packet_text.specs.TextLines.{lines_of, full_lines, begun_line}
 
 -- one CR at the end of a line is no part of it
 unfoldable pub without_cr : List ℕ → List ℕ
-without_cr line = if nat_lt 0 (length line) && (slice_index line (length line - 1) == 13) then take (length line - 1) line else line
+without_cr line = if nat_lt 0 (length line) && (slice_index line (length line - 1) == 13)
+    then take (length line - 1) line else line
 
 -- the bytes of hex digits, where they are such
 abbrev pub decoded : Result (List ℕ) FromHexError → Option (List ℕ)
@@ -32,10 +33,11 @@ is_empty_line line = is_nothing (without_cr line)
 unfoldable pub empty_lines : List (List ℕ) → ℕ
 empty_lines lines = length (take_while is_empty_line (reverse lines))
 
--- what a line behind these gives: its packet, or nothing if it is empty. It is bad if it has other bytes than hex digits of even
--- count, or too many, or is the 65,537th empty line in a row.
+-- what a line behind these gives: its packet, or nothing if it is empty. It is bad if it has other bytes than hex
+-- digits of even count, or too many, or is the 65,537th empty line in a row.
 abbrev pub line_gives : List (List ℕ) → List ℕ → Option (List ℕ)
-line_gives before line = if nat_le MOST_EMPTY_LINES (empty_lines before) && is_empty_line line then None else bytes_of_line line
+line_gives before line = if nat_le MOST_EMPTY_LINES (empty_lines before) && is_empty_line line then None
+    else bytes_of_line line
 
 -- how a text ends: at its end, or with the first bad line, which has this number
 pub data TextEnding : Type 0 where
@@ -60,7 +62,8 @@ with_line n (Some (x ∷ xs)) later = behind ((x ∷ xs) ∷ []) later
 -- the packets of lines that stand behind these: lines count from 1
 unfoldable pub packets_behind : List (List ℕ) → List (List ℕ) → Packets
 packets_behind before [] = record { packets = []; ending = Ended }
-packets_behind before (line ∷ lines) = with_line (length before + 1) (line_gives before line) (packets_behind (before ++ line ∷ []) lines)
+packets_behind before (line ∷ lines) = with_line (length before + 1) (line_gives before line)
+    (packets_behind (before ++ line ∷ []) lines)
 
 -- the packets of a text
 unfoldable pub packets_of : List ℕ → Packets
@@ -71,8 +74,9 @@ abbrev pub is_bad : TextEnding → Bool
 is_bad Ended = false
 is_bad (BadAt n) = true
 
--- Whether a text that begins with these bytes has shown a bad line before its end is seen: one of their whole lines is bad, or the line
--- that has begun behind them has more bytes than the most digits and CR. No other line is judged before its LF.
+-- Whether a text that begins with these bytes has shown a bad line before its end is seen: one of their whole lines is
+-- bad, or the line that has begun behind them has more bytes than the most digits and CR. No other line is judged
+-- before its LF.
 abbrev pub shows_bad : List ℕ → Bool
 shows_bad bytes = is_bad (packets_of (full_lines bytes)).ending || nat_lt 131055 (length (begun_line bytes))
 

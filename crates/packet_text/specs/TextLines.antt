@@ -1,4 +1,4 @@
--- The lines of a text, each ended by LF; the last may have none.
+-- Believed: the lines of a text, each ended by LF; the last may have none.
 use Rattle.std.specs.Prelude.{ℕ, ◌*◌, ◌/◌, ◌==◌, ◌||◌, Bool, false, if◌then◌else◌, List, [], ◌∷◌, length, take, drop}
 
 -- whether there is an LF among these bytes

@@ -27,7 +27,8 @@ impl ByteDigits {
         ByteDigits { digits }
     }
 
-    /// Puts a packet's line at the front of the slice: its hex digits, in lower case, and LF. Says how many bytes the line has.
+    /// Puts a packet's line at the front of the slice: its hex digits, in lower case, and LF. Says how many bytes the
+    /// line has.
     pub fn put_line(&self, packet: &[u8], text: &mut [u8]) -> usize
         requires fits { length packet.now ≤ 65531 }
         requires room { 2 * length packet.now + 1 ≤ length text.old }

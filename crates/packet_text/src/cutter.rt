@@ -2,8 +2,8 @@
 ghost use Rattle.std.specs.Prelude.{◌≡◌, ◌≢◌, ◌<◌, ◌≤◌, ◌+◌, ◌*◌, ℕ, List, [], ◌∷◌, ◌++◌, true, false, length, take, drop, vec_len, IfOk, MatchOption};
 ghost use Rattle.std.specs.Vec.{vec_capacity};
 ghost use Rattle.otn_ports.specs.InPlace.{in_view};
-ghost use Rattle.packet_text.specs.Blocks.{BlockRead};
-ghost use Rattle.packet_text.specs.Carrying.{NoneCarried, Carried};
+ghost use Rattle.packet_text.specs.Steps.Blocks.{BlockRead};
+ghost use Rattle.packet_text.specs.Steps.Carrying.{NoneCarried, Carried};
 
 use crate::line_feed::first_lf;
 use otn_base::{Memory, append};
@@ -42,10 +42,12 @@ pub(crate) struct Cutter {
     ghost room: { 135151 ≤ vec_capacity line },
 }
 
-// The bytes up to the first LF go to the end of the line, or all where there is none. Says how many there are before it.
+// The bytes up to the first LF go to the end of the line, or all where there is none. Says how many there are before
+// it.
 fn carry(line: &mut Vec<u8>, bytes: &[u8]) -> Option<usize>
     requires { vec_len line.old + length bytes.now ≤ vec_capacity line.old }
-    ensures line { MatchOption result (NoneCarried line.old.items bytes.now line.new.items) (λ n. Carried line.old.items bytes.now n line.new.items) }
+    ensures line { MatchOption result (NoneCarried line.old.items bytes.now line.new.items)
+        (λ n. Carried line.old.items bytes.now n line.new.items) }
     ensures capacity { vec_capacity line.old ≤ vec_capacity line.new }
 {
     match first_lf(bytes) {
@@ -69,7 +71,8 @@ fn read_block<P: Source>(place: &mut InPlaceOf<P>, block: &mut [u8]) -> Reading
 }
 
 impl Cutter {
-    ghost use Rattle.packet_text.specs.Cutting.{cut_view, fresh_cut, at_line, GoesOnBy, CutsSome, blocks_left};
+    ghost use Rattle.packet_text.specs.Cutting.{cut_view};
+    ghost use Rattle.packet_text.specs.Steps.Cutting.{fresh_cut, at_line, GoesOnBy, CutsSome, blocks_left};
 
     /// A cutter that has read nothing.
     pub(crate) fn new(alloc: Global) -> Result<Cutter, Memory>
@@ -103,7 +106,8 @@ impl Cutter {
 
     /// Goes to the end of the next line. A block is read only where all bytes in hand are used.
     pub(crate) fn next<P: Source>(&mut self, place: &mut InPlaceOf<P>) -> Cut
-        ensures cuts { CutsSome result (at_line (cut_view self.old)) (in_view P.Source place.old) (cut_view self.new) (in_view P.Source place.new) }
+        ensures cuts { CutsSome result (at_line (cut_view self.old)) (in_view P.Source place.old) (cut_view self.new)
+            (in_view P.Source place.new) }
         ensures whole { result ≢ Cut.More }
         ensures near { self.new.end < self.new.at + 4096 }
         ensures quiet { self.old.ended ≡ true → place.new ≡ place.old }
@@ -119,7 +123,8 @@ impl Cutter {
 
     fn step<P: Source>(&mut self, place: &mut InPlaceOf<P>) -> Cut
         requires { length self.old.line.items ≤ 131055 }
-        ensures cuts { CutsSome result (cut_view self.old) (in_view P.Source place.old) (cut_view self.new) (in_view P.Source place.new) }
+        ensures cuts { CutsSome result (cut_view self.old) (in_view P.Source place.old) (cut_view self.new)
+            (in_view P.Source place.new) }
         ensures short { result ≡ Cut.More → length self.new.line.items ≤ 131055 }
         ensures nearer { result ≡ Cut.More → blocks_left (cut_view self.new) < blocks_left (cut_view self.old) }
         ensures near { result ≢ Cut.More → self.new.end < self.new.at + 4096 }
@@ -171,7 +176,8 @@ impl Cutter {
         requires short { length self.old.line.items ≤ 131055 }
         requires hand { (cut_view self.old).hand ≡ [] }
         requires open { self.old.ended ≡ false }
-        ensures cuts { CutsSome result (cut_view self.old) (in_view P.Source place.old) (cut_view self.new) (in_view P.Source place.new) }
+        ensures cuts { CutsSome result (cut_view self.old) (in_view P.Source place.old) (cut_view self.new)
+            (in_view P.Source place.new) }
         ensures line { self.new.line.items ≡ self.old.line.items }
         ensures near { result ≢ Cut.More → self.new.end < self.new.at + 4096 }
         ensures nearer { result ≡ Cut.More → blocks_left (cut_view self.new) < blocks_left (cut_view self.old) }

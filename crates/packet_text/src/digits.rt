@@ -14,7 +14,8 @@ const CR: u8 = b'\r';
 #[tactic(auto, using(crate::proofs::LineBytes::read_long, crate::proofs::LineBytes::read_odd, crate::proofs::LineBytes::read_none))]
 pub(crate) fn read_line(pairs: &DigitPairs, line: &[u8], packet: &mut [u8]) -> Option<usize>
     requires { length packet.old ≡ 65527 }
-    ensures { MatchOption result (bytes_of_line line.now ≡ None) (λ n. (n ≤ 65527) × (bytes_of_line line.now ≡ Some (take n packet.new))) }
+    ensures { MatchOption result (bytes_of_line line.now ≡ None)
+        (λ n. (n ≤ 65527) × (bytes_of_line line.now ≡ Some (take n packet.new))) }
 {
     let digits = trimmed(line);
     if digits.len() > MOST_DIGITS || digits.len() % 2 != 0 {

@@ -1,6 +1,6 @@
 // What the next line of a text is.
 ghost use Rattle.std.specs.Prelude.{◌≡◌, ◌<◌, ◌≤◌, ◌+◌};
-ghost use Rattle.packet_text.specs.Finding.{answer_of};
+ghost use Rattle.packet_text.specs.Steps.Finding.{answer_of};
 ghost use Rattle.otn_base.specs.declared.limits.TheConstants.{MOST_EMPTY_LINES};
 
 use crate::Line;

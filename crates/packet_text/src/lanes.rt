@@ -1,7 +1,8 @@
 // Hex digits and bytes, sixteen at a time.
 ghost use Rattle.std.specs.Prelude.{◌≡◌, ◌+◌, ◌*◌, ◌/◌, ◌<◌, ◌≤◌, ◌==◌, ◌++◌, ℕ, true, false, map, bit_and, if◌then◌else◌, length, take, drop, slice_index};
 ghost use Rattle.hex.specs.Hex.{encode_lower, lower_digits};
-ghost use Rattle.packet_text.specs.DigitMarks.{mark, marks_from, sixteen, in_turn, bytes_from, byte_of, IsPair, HasRefused, HasLow};
+ghost use Rattle.packet_text.specs.DigitMarks.{mark};
+ghost use Rattle.packet_text.specs.Steps.DigitMarks.{marks_from, sixteen, in_turn, bytes_from, byte_of, IsPair, HasRefused, HasLow};
 
 use std::simd::prelude::*;
 
@@ -23,7 +24,8 @@ pub(crate) fn decode_block(rows: Rows, digits: &[u8], bytes: &mut [u8], at: usiz
     requires digits { 2 * at + 32 ≤ length digits.now }
     requires bytes { at + 16 ≤ length bytes.old }
     ensures size { length bytes.new ≡ length bytes.old }
-    ensures here { result ≡ true → (i : ℕ) → at ≤ i → i < at + 16 → IsPair (slice_index digits.now (2 * i)) (slice_index digits.now (2 * i + 1)) (slice_index bytes.new i) }
+    ensures here { result ≡ true → (i : ℕ) → at ≤ i → i < at + 16
+        → IsPair (slice_index digits.now (2 * i)) (slice_index digits.now (2 * i + 1)) (slice_index bytes.new i) }
     ensures none { result ≡ false → HasRefused digits.now (at + 16) }
     ensures before { (i : ℕ) → i < at → slice_index bytes.new i ≡ slice_index bytes.old i }
 {
@@ -42,7 +44,8 @@ pub(crate) fn load(bytes: &[u8], at: usize) -> u8x16
     u8x16::from_slice(&bytes[at..])
 }
 
-// What is kept for each of sixteen bytes: a row by its high bits, and in that by its low ones. Letters of both cases have one row.
+// What is kept for each of sixteen bytes: a row by its high bits, and in that by its low ones. Letters of both cases
+// have one row.
 #[inline(always)]
 fn marks(rows: Rows, digits: u8x16) -> u8x16
     requires numerals { rows.numerals ≡ marks_from 48 }
@@ -75,7 +78,8 @@ fn where_high(digits: u8x16, mask: u8, high: u8, kept: u8x16) -> u8x16
 // The bytes of the pairs.
 #[inline(always)]
 fn joined(first: u8x16, second: u8x16) -> u8x16
-    ensures { (f : ℕ → ℕ) → first ≡ sixteen f → second ≡ sixteen (λ i. f (16 + i)) → result ≡ sixteen (λ i. byte_of (f (2 * i)) (f (2 * i + 1))) }
+    ensures { (f : ℕ → ℕ) → first ≡ sixteen f → second ≡ sixteen (λ i. f (16 + i))
+        → result ≡ sixteen (λ i. byte_of (f (2 * i)) (f (2 * i + 1))) }
 {
     let high = first.shuffle(
         second,
@@ -91,8 +95,10 @@ fn joined(first: u8x16, second: u8x16) -> u8x16
 // Whether all are digits.
 #[inline(always)]
 fn all_marked(first: u8x16, second: u8x16) -> bool
-    ensures all { (g : ℕ → ℕ) → first ≡ sixteen (λ i. mark (g i)) → second ≡ sixteen (λ i. mark (g (16 + i))) → result ≡ true → (i : ℕ) → i < 32 → 128 ≤ mark (g i) }
-    ensures none { (g : ℕ → ℕ) → first ≡ sixteen (λ i. mark (g i)) → second ≡ sixteen (λ i. mark (g (16 + i))) → result ≡ false → HasLow (λ i. mark (g i)) }
+    ensures all { (g : ℕ → ℕ) → first ≡ sixteen (λ i. mark (g i)) → second ≡ sixteen (λ i. mark (g (16 + i)))
+        → result ≡ true → (i : ℕ) → i < 32 → 128 ≤ mark (g i) }
+    ensures none { (g : ℕ → ℕ) → first ≡ sixteen (λ i. mark (g i)) → second ≡ sixteen (λ i. mark (g (16 + i)))
+        → result ≡ false → HasLow (λ i. mark (g i)) }
 {
     (first & second).simd_lt(u8x16::splat(128)).to_bitmask() == 0
 }
@@ -104,7 +110,8 @@ pub(crate) fn encode_block(table: u8x16, bytes: &[u8], digits: &mut [u8], at: us
     requires bytes { at + 16 ≤ length bytes.now }
     requires digits { 2 * at + 32 ≤ length digits.old }
     ensures size { length digits.new ≡ length digits.old }
-    ensures here { take (2 * at + 32) digits.new ≡ take (2 * at) digits.old ++ encode_lower (take 16 (drop at bytes.now)) }
+    ensures here { take (2 * at + 32) digits.new ≡ take (2 * at) digits.old
+        ++ encode_lower (take 16 (drop at bytes.now)) }
 {
     let these = load(bytes, at);
     let high = by_high(table, these);

@@ -1,7 +1,7 @@
 // The end of a line.
 ghost use Rattle.std.specs.Prelude.{◌≡◌, ◌<◌, ◌≤◌, true, false, length, take, slice_index, MatchOption};
 ghost use Rattle.packet_text.specs.TextLines.{has_lf};
-ghost use Rattle.packet_text.specs.Carrying.{IsFirstLf, lf_bits};
+ghost use Rattle.packet_text.specs.Steps.Carrying.{IsFirstLf, lf_bits};
 
 use std::simd::prelude::*;
 

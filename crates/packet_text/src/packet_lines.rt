@@ -18,7 +18,8 @@ use std::mem;
 // Bytes of a packet at most: half as many as a line has digits.
 const MOST_PACKET: usize = MOST_DIGITS / 2;
 
-/// Reads the packets of a text from a place, line by line. It reads blocks of 4,096 bytes, one only when the last is used up.
+/// Reads the packets of a text from a place, line by line. It reads blocks of 4,096 bytes, one only when the last is
+/// used up.
 #[derive(Drop)]
 pub struct PacketLines {
     cutter: Cutter,
@@ -40,7 +41,7 @@ impl PacketLines {
     ghost use Rattle.packet_text.specs.LinesStand.{LinesView, lines_view, fresh_lines, LinesStand, MayBe, Told, TakeStands, GoesOn};
     ghost use Rattle.otn_base.specs.Counts.{saturated};
     ghost use Rattle.packet_text.specs.Cutting.{cut_view};
-    ghost use Rattle.packet_text.specs.Finding.{Finds, Judges, Counts};
+    ghost use Rattle.packet_text.specs.Steps.Finding.{Finds, Judges, Counts};
     ghost use Rattle.packet_text.specs.PacketText.{packets_of};
 
     /// Lines of which nothing was read. All memory is taken here.
@@ -72,18 +73,22 @@ impl PacketLines {
         self.answer = Line::Packet;
     }
 
-    /// The next line that counts. Bad has its number, from 1: a line is found bad at its LF or at the text's end, or once more than
-    /// 131,055 bytes of it came. After Bad, End or Lost the same answer is given again, and nothing is read.
+    /// The next line that counts. Bad has its number, from 1: a line is found bad at its LF or at the text's end, or
+    /// once more than 131,055 bytes of it came. After Bad, End or Lost the same answer is given again, and nothing is
+    /// read.
     pub fn take<P: Source>(&mut self, place: &mut InPlaceOf<P>) -> Line
         ensures answer { (lines_view self.new).answer ≡ result }
-        ensures stands { (first : InView) (taken : List ℕ) (packets : List (List ℕ)) → LinesStand first (in_view P.Source place.old) taken packets (lines_view self.old)
+        ensures stands { (first : InView) (taken : List ℕ) (packets : List (List ℕ))
+            → LinesStand first (in_view P.Source place.old) taken packets (lines_view self.old)
             → TakeStands first taken packets (lines_view self.old) (lines_view self.new) (in_view P.Source place.new) }
 
         // Lost comes only where the place died in this call
-        ensures lost { result ≡ Line.Lost → (lines_view self.old).answer ≡ Line.Packet → ((in_view P.Source place.old).state ≡ Live) × ((in_view P.Source place.new).state ≡ Dead) }
+        ensures lost { result ≡ Line.Lost → (lines_view self.old).answer ≡ Line.Packet
+            → ((in_view P.Source place.old).state ≡ Live) × ((in_view P.Source place.new).state ≡ Dead) }
 
         // a packet has 1 to 65,527 bytes
-        ensures packet { result ≡ Line.Packet → (1 ≤ length (lines_view self.new).packet) × (length (lines_view self.new).packet ≤ 65527) }
+        ensures packet { result ≡ Line.Packet
+            → (1 ≤ length (lines_view self.new).packet) × (length (lines_view self.new).packet ≤ 65527) }
 
         // which stays until the next comes
         ensures kept { result ≢ Line.Packet → (lines_view self.new).packet ≡ (lines_view self.old).packet }
@@ -101,7 +106,8 @@ impl PacketLines {
         }
     }
 
-    /// The packet of the last answer `Packet`, which stands also behind `Bad`, `End` or `Lost`. Before the first it has no byte.
+    /// The packet of the last answer `Packet`, which stands also behind `Bad`, `End` or `Lost`. Before the first it has
+    /// no byte.
     pub fn packet(&self) -> &[u8]
         ensures { result.now ≡ (lines_view self.now).packet }
     {
@@ -111,9 +117,11 @@ impl PacketLines {
     fn go_on<P: Source>(&mut self, place: &mut InPlaceOf<P>) -> Line
         requires { (lines_view self.old).answer ≡ Line.Packet }
         ensures answer { (lines_view self.new).answer ≡ result }
-        ensures stands { (first : InView) (taken : List ℕ) (packets : List (List ℕ)) → LinesStand first (in_view P.Source place.old) taken packets (lines_view self.old)
+        ensures stands { (first : InView) (taken : List ℕ) (packets : List (List ℕ))
+            → LinesStand first (in_view P.Source place.old) taken packets (lines_view self.old)
             → TakeStands first taken packets (lines_view self.old) (lines_view self.new) (in_view P.Source place.new) }
-        ensures lost { result ≡ Line.Lost → ((in_view P.Source place.old).state ≡ Live) × ((in_view P.Source place.new).state ≡ Dead) }
+        ensures lost { result ≡ Line.Lost
+            → ((in_view P.Source place.old).state ≡ Live) × ((in_view P.Source place.new).state ≡ Dead) }
         ensures some { result ≡ Line.Packet → 1 ≤ self.new.len }
         ensures kept { result ≢ Line.Packet → (lines_view self.new).packet ≡ (lines_view self.old).packet }
         ensures near { self.new.cutter.end < self.new.cutter.at + 4096 }
@@ -127,12 +135,14 @@ impl PacketLines {
     // Passes over empty lines.
     fn search<P: Source>(&mut self, place: &mut InPlaceOf<P>) -> Found
         ensures finds { (taken : List ℕ) (packets : List (List ℕ)) → GoesOn taken packets (lines_view self.old)
-            → Finds result taken packets (lines_view self.old) (in_view P.Source place.old) (lines_view self.new) (in_view P.Source place.new) }
+            → Finds result taken packets (lines_view self.old) (in_view P.Source place.old) (lines_view self.new)
+            (in_view P.Source place.new) }
         ensures counts { result ≢ Found.Empty }
         ensures some { result ≡ Found.Packet → 1 ≤ self.new.len }
         ensures kept { result ≢ Found.Packet → (lines_view self.new).packet ≡ (lines_view self.old).packet }
         ensures alive { result ≢ Found.Lost → (in_view P.Source place.new).state ≡ (in_view P.Source place.old).state }
-        ensures lost { result ≡ Found.Lost → ((in_view P.Source place.old).state ≡ Live) × ((in_view P.Source place.new).state ≡ Dead) }
+        ensures lost { result ≡ Found.Lost
+            → ((in_view P.Source place.old).state ≡ Live) × ((in_view P.Source place.new).state ≡ Dead) }
         ensures near { self.new.cutter.end < self.new.cutter.at + 4096 }
         ensures quiet { (lines_view self.old).ended ≡ true → place.new ≡ place.old }
     {
@@ -147,14 +157,17 @@ impl PacketLines {
     // The next line.
     fn find<P: Source>(&mut self, place: &mut InPlaceOf<P>) -> Found
         ensures finds { (taken : List ℕ) (packets : List (List ℕ)) → GoesOn taken packets (lines_view self.old)
-            → Finds result taken packets (lines_view self.old) (in_view P.Source place.old) (lines_view self.new) (in_view P.Source place.new) }
+            → Finds result taken packets (lines_view self.old) (in_view P.Source place.old) (lines_view self.new)
+            (in_view P.Source place.new) }
         ensures rises { result ≡ Found.Empty → self.new.empty ≡ self.old.empty + 1 }
         ensures some { result ≡ Found.Packet → 1 ≤ self.new.len }
         ensures kept { result ≢ Found.Packet → (lines_view self.new).packet ≡ (lines_view self.old).packet }
         ensures alive { result ≢ Found.Lost → (in_view P.Source place.new).state ≡ (in_view P.Source place.old).state }
-        ensures lost { result ≡ Found.Lost → ((in_view P.Source place.old).state ≡ Live) × ((in_view P.Source place.new).state ≡ Dead) }
+        ensures lost { result ≡ Found.Lost
+            → ((in_view P.Source place.old).state ≡ Live) × ((in_view P.Source place.new).state ≡ Dead) }
         ensures near { self.new.cutter.end < self.new.cutter.at + 4096 }
-        ensures quiet { (lines_view self.old).ended ≡ true → (place.new ≡ place.old) × ((lines_view self.new).ended ≡ true) }
+        ensures quiet { (lines_view self.old).ended ≡ true
+            → (place.new ≡ place.old) × ((lines_view self.new).ended ≡ true) }
     {
         match self.cutter.next(place) {
             Cut::Line => self.judge(),
@@ -168,7 +181,8 @@ impl PacketLines {
 
     // What the line that was cut is.
     fn judge(&mut self) -> Found
-        ensures judges { (lines : List (List ℕ)) → Counts lines (lines_view self.old) → Judges result lines (cut_view self.old.cutter).line (lines_view self.new) }
+        ensures judges { (lines : List (List ℕ)) → Counts lines (lines_view self.old)
+            → Judges result lines (cut_view self.old.cutter).line (lines_view self.new) }
         ensures rises { result ≡ Found.Empty → self.new.empty ≡ self.old.empty + 1 }
         ensures some { result ≡ Found.Packet → 1 ≤ self.new.len }
         ensures cutter { self.new.cutter ≡ self.old.cutter }

@@ -2,7 +2,8 @@
 ghost use Rattle.std.specs.Prelude.{◌≡◌, ◌≤◌, ◌<◌, ◌+◌, ◌*◌, ℕ, true, false, length, vec_len, slice_index, if◌then◌else◌, Some, None};
 ghost use Rattle.hex.specs.Hex.{decode_of};
 ghost use Rattle.packet_text.specs.PacketText.{decoded};
-ghost use Rattle.packet_text.specs.DigitMarks.{mark, MarksAll, marks_from, IsPair, HasRefused};
+ghost use Rattle.packet_text.specs.DigitMarks.{mark, MarksAll};
+ghost use Rattle.packet_text.specs.Steps.DigitMarks.{marks_from, IsPair, HasRefused};
 
 use crate::lanes::{BLOCK, Rows, decode_block, load};
 use hex::{FromHex, decode_to_slice};
@@ -34,8 +35,8 @@ impl DigitPairs {
         Ok(DigitPairs { marks })
     }
 
-    /// Writes the bytes that hex digits say, two of them a byte, to the slice, and says whether they are digits; if not, the
-    /// slice's content is open.
+    /// Writes the bytes that hex digits say, two of them a byte, to the slice, and says whether they are digits; if
+    /// not, the slice's content is open.
     pub fn decode(&self, digits: &[u8], bytes: &mut [u8]) -> bool
         requires { length digits.now ≡ 2 * length bytes.old }
         ensures { decoded (decode_of digits.now) ≡ (if result then Some bytes.new else None) }

@@ -11,9 +11,9 @@ use otn_ports::{OutPlaceOf, Sink, Written};
 
 const LF: u8 = b'\n';
 
-/// Writes a packet of 1 to 65,531 bytes as one line: its hex digits, in lower case, and LF. The line is made in the scratch slice
-/// and leaves in one whole write. Lost comes where the place died in it; a place that is not live takes nothing, and the answer is
-/// Whole.
+/// Writes a packet of 1 to 65,531 bytes as one line: its hex digits, in lower case, and LF. The line is made in the
+/// scratch slice and leaves in one whole write. Lost comes where the place died in it; a place that is not live takes
+/// nothing, and the answer is Whole.
 pub fn write_packet<K: Sink>(place: &mut OutPlaceOf<K>, packet: &[u8], text: &mut [u8]) -> Written
     requires some { 1 ≤ length packet.now }
     requires fits { length packet.now ≤ 65531 }

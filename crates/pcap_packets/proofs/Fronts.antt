@@ -7,7 +7,8 @@ use Rattle.otn_ports.proofs.TakenTwice.{front}
 use Rattle.packet_text.specs.PacketText.{packet_line}
 use Rattle.pcap_packets.proofs.Windows.{no_bytes}
 use Rattle.pcap_packets.specs.CaptureText.{header_order, captured, is_whole_record, bad_line, records, text_behind}
-use Rattle.pcap_packets.specs.Captures.{is_begun, is_waiting, text_from}
+use Rattle.pcap_packets.specs.Captures.{text_from}
+use Rattle.pcap_packets.specs.Steps.Captures.{is_begun, is_waiting}
 use Rattle.pcap_packets.specs.declared.order.ByteOrder.{ByteOrder}
 use Rattle.pcap_packets.specs.declared.lines.Stage.{Stage}
 use Rattle.pcap_packets.specs.declared.lines.Stage.TheVariants.{Start, Records, Over}

@@ -6,7 +6,7 @@ use Rattle.std.proofs.lemmas.List.{take_all, take_at, drop_at, drop-drop, take-a
 use Rattle.std.proofs.Math.Seq.{take-add, take-append-add}
 use Rattle.packet_text.specs.PacketText.{is_nothing}
 use Rattle.pcap_packets.specs.Written.{is_lower_digit, all_lower, digits_in_front, is_line, packet_of, record_of}
-use Rattle.pcap_packets.specs.Gathering.{is_whole_line, are_lines, lines_text, lines_records, Gathered, OneMore, IsCut, StopsAt, PartWent}
+use Rattle.pcap_packets.specs.Steps.Gathering.{is_whole_line, are_lines, lines_text, lines_records, Gathered, OneMore, IsCut, StopsAt, PartWent}
 use Rattle.pcap_packets.proofs.Digits.{all_lower-append, length-packet_of}
 use Rattle.pcap_packets.proofs.Writings.{length-record_of}
 

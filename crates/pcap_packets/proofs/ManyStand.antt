@@ -8,8 +8,8 @@ use Rattle.otn_ports.proofs.GivenLaws.{after-none}
 use Rattle.otn_ports.proofs.TakenTwice.{after-after}
 use Rattle.packet_text.specs.PacketText.{hex_text}
 use Rattle.pcap_packets.specs.Written.{record_of, packets_written, packet_of}
-use Rattle.pcap_packets.specs.Writing.{Went}
-use Rattle.pcap_packets.specs.Gathering.{is_whole_line, are_lines, lines_text, lines_records, PartWent, WentLines}
+use Rattle.pcap_packets.specs.Steps.Writing.{Went}
+use Rattle.pcap_packets.specs.Steps.Gathering.{is_whole_line, are_lines, lines_text, lines_records, PartWent, WentLines}
 use Rattle.pcap_packets.proofs.Digits.{packet_back, length-packet_of}
 use Rattle.pcap_packets.proofs.Writings.{length-record_of}
 use Rattle.pcap_packets.proofs.Standing.{AllStand, text_got, made_stands, stand_part, got_part, stand_whole, got_whole}

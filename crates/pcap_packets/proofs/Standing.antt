@@ -8,7 +8,8 @@ use Rattle.otn_ports.specs.Bytes.{after, HasFailed}
 use Rattle.packet_text.specs.PacketText.{packet_line, hex_text}
 use Rattle.pcap_packets.specs.HeldBytes.{held}
 use Rattle.pcap_packets.specs.Written.{header_written, record_of, records_of, is_none, capture_of, is_record, record_packets, packets_written, packet_of}
-use Rattle.pcap_packets.specs.Writing.{in_hand, one_more, wanted, all_fit, part_written, Stands, Went}
+use Rattle.pcap_packets.specs.Writing.{in_hand, one_more, wanted, all_fit, part_written, Stands}
+use Rattle.pcap_packets.specs.Steps.Writing.{Went}
 use Rattle.pcap_packets.specs.declared.record.LineRecord.{LineRecord}
 use Rattle.pcap_packets.proofs.Windows.{some_behind}
 use Rattle.pcap_packets.proofs.Digits.{packet_back, length-packet_of}

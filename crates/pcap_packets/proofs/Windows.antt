@@ -3,7 +3,7 @@ use Rattle.std.proofs.Common.{◌≡◌, ◌≢◌, ◌≤◌, ◌+◌, ◌-◌,
 use Rattle.otn_ports.specs.Bytes.{before, after}
 use Rattle.otn_ports.proofs.GivenLaws.{after-none}
 use Rattle.otn_ports.proofs.TakenTwice.{after-after}
-use Rattle.pcap_packets.specs.Writing.{Went}
+use Rattle.pcap_packets.specs.Steps.Writing.{Went}
 use Rattle.std.proofs.lemmas.List.{take-append-drop, length-take-le, drop-take, drop-drop, take-take, take_at, drop_at}
 use Rattle.std.proofs.Math.Seq.{take-add}
 use Rattle.std.proofs.lemmas.List.Edits.{take-paste}

@@ -1,4 +1,4 @@
--- The text of a capture, a classic pcap file of Ethernet packets: the hex line of each.
+-- API: the text of a capture, a classic pcap file of Ethernet packets: the hex line of each.
 use Rattle.std.specs.Prelude.{ℕ, zero, suc, ◌+◌, ◌*◌, ◌%◌, ◌==◌, ◌&&◌, ◌||◌, nat_le, Bool, if◌then◌else◌, List, [], ◌∷◌, ◌++◌, length, take, drop, slice_index, Option, Some, None}
 use Rattle.packet_text.specs.PacketText.{is_nothing, packet_line}
 use Rattle.pcap_packets.specs.declared.order.ByteOrder.{ByteOrder}
@@ -18,23 +18,26 @@ number_in HighFirst bytes at = half_in HighFirst bytes (at + 2) + 65536 * half_i
 abbrev pub is_magic : ℕ → Bool
 is_magic number = (number == 0xa1b2c3d4) || (number == 0xa1b23c4d)
 
--- a capture's header, its numbers in this byte order: the magic, versions 2 and 4, and the link type 1, of Ethernet, as the low 16 bits of
--- the last four bytes; the 12 bytes between them say nothing here
+-- a capture's header, its numbers in this byte order: the magic, versions 2 and 4, and the link type 1, of Ethernet, as
+-- the low 16 bits of the last four bytes; the 12 bytes between them say nothing here
 unfoldable pub is_header : ByteOrder → List ℕ → Bool
-is_header order bytes = nat_le 24 (length bytes) && is_magic (number_in order bytes 0) && (half_in order bytes 4 == 2) && (half_in order bytes 6 == 4) && (number_in order bytes 20 % 65536 == 1)
+is_header order bytes = nat_le 24 (length bytes) && is_magic (number_in order bytes 0) && (half_in order bytes 4 == 2)
+    && (half_in order bytes 6 == 4) && (number_in order bytes 20 % 65536 == 1)
 
 -- the byte order that the header at the front of these bytes has, if that is one
 abbrev pub header_order : List ℕ → Option ByteOrder
-header_order bytes = if is_header HighFirst bytes then Some HighFirst else if is_header LowFirst bytes then Some LowFirst else None
+header_order bytes = if is_header HighFirst bytes then Some HighFirst else if is_header LowFirst bytes
+    then Some LowFirst else None
 
--- how many bytes of its packet the record at the front has: the number behind its eight bytes of time; that behind it, the packet's length
--- on the line, says nothing here
+-- how many bytes of its packet the record at the front has: the number behind its eight bytes of time; that behind it,
+-- the packet's length on the line, says nothing here
 abbrev pub captured : ByteOrder → List ℕ → ℕ
 captured order bytes = number_in order bytes 8
 
 -- a whole record at the front: 16 bytes, which tell of at most 65,527 bytes, and these
 unfoldable pub is_whole_record : ByteOrder → List ℕ → Bool
-is_whole_record order bytes = nat_le 16 (length bytes) && nat_le (captured order bytes) 65527 && nat_le (16 + captured order bytes) (length bytes)
+is_whole_record order bytes = nat_le 16 (length bytes) && nat_le (captured order bytes) 65527
+    && nat_le (16 + captured order bytes) (length bytes)
 
 -- its packet
 abbrev pub packet_in : ByteOrder → List ℕ → List ℕ
@@ -48,11 +51,12 @@ behind_record order bytes = drop (16 + captured order bytes) bytes
 abbrev pub bad_line : List ℕ
 bad_line = 33 ∷ 10 ∷ []
 
--- the text of records: a line for each whole one, which is the empty line where it has no byte, and the bad line where no whole one stands;
--- at most so many are looked at
+-- the text of records: a line for each whole one, which is the empty line where it has no byte, and the bad line where
+-- no whole one stands; at most so many are looked at
 unfoldable pub records : ℕ → ByteOrder → List ℕ → List ℕ
 records zero order bytes = []
-records (suc n) order bytes = if is_nothing bytes then [] else if is_whole_record order bytes then packet_line (packet_in order bytes) ++ records n order (behind_record order bytes) else bad_line
+records (suc n) order bytes = if is_nothing bytes then [] else if is_whole_record order bytes
+    then packet_line (packet_in order bytes) ++ records n order (behind_record order bytes) else bad_line
 
 -- the text of all records: each has a byte at least
 abbrev pub records_text : ByteOrder → List ℕ → List ℕ

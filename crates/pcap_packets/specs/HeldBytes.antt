@@ -1,4 +1,4 @@
--- What is seen of bytes that wait in a buffer.
+-- API: what is seen of bytes that wait in a buffer.
 use Rattle.std.specs.Prelude.{ℕ, ◌-◌, List, take, drop}
 use Rattle.pcap_packets.specs.declared.held.Held.{Held}
 

@@ -3,7 +3,7 @@ pub mod HeldBytes
 pub mod Captures
 pub mod Written
 pub mod Writing
-pub mod Gathering
 pub mod Sinks
 pub mod Laws
 pub mod Turned
+pub mod Steps

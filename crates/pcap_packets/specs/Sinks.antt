@@ -1,4 +1,4 @@
--- What is seen of a sink over a capture.
+-- API: what is seen of a sink over a capture.
 use Rattle.std.specs.Prelude.{ℕ, ◌==◌, ◌||◌, if◌then◌else◌, [], ◌∷◌, length, Bool, not, ◌+◌, ◌-◌, ◌^◌, min, List, ◌++◌, Option}
 use Rattle.std.specs.Option.{option_map}
 use Rattle.otn_ports.specs.declared.sink.Sink.{Ghosts}
@@ -7,7 +7,8 @@ use Rattle.pcap_packets.specs.HeldBytes.{held}
 use Rattle.pcap_packets.specs.Written.{packets_written, digits_in_front, is_line}
 use Rattle.pcap_packets.specs.declared.sink.PcapSink.{PcapSink}
 
--- the text that it got: the lines of the whole records that its inner sink got, where that tells its bytes, and the digits of the line in hand
+-- the text that it got: the lines of the whole records that its inner sink got, where that tells its bytes, and the
+-- digits of the line in hand
 abbrev pub written_got : {S : Type 0} {g : Ghosts S} → (S → Option (List ℕ)) → PcapSink S g → Option (List ℕ)
 written_got got sink = option_map (λ bytes. hex_text (packets_written bytes) ++ held sink.lines.line) (got sink.inner)
 
@@ -23,8 +24,8 @@ written_to sink = sink.inner
 abbrev pub has_rest : {S : Type 0} {g : Ghosts S} → PcapSink S g → Bool
 has_rest sink = not (is_nothing (held sink.lines.rest))
 
--- how many bytes a write takes where the sink below does not fail: LF alone, behind a line or where a rest of its record is left, or else
--- the digits in front, as far as the line has room
+-- how many bytes a write takes where the sink below does not fail: LF alone, behind a line or where a rest of its
+-- record is left, or else the digits in front, as far as the line has room
 abbrev pub bytes_taken : (digits rest bytes : List ℕ) → ℕ
 bytes_taken digits rest [] = 0
 bytes_taken digits rest (byte ∷ bytes) = if byte == 10 then (if not (is_nothing rest) || is_line digits then 1 else 0)

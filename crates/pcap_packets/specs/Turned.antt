@@ -1,4 +1,4 @@
--- A capture in the other byte order.
+-- API: a capture in the other byte order.
 use Rattle.std.specs.Prelude.{ℕ, zero, suc, ◌+◌, nat_lt, if◌then◌else◌, List, ◌++◌, length, take, drop, reverse, Option, Some, None}
 use Rattle.pcap_packets.specs.CaptureText.{header_order, packet_in, behind_record}
 use Rattle.pcap_packets.specs.declared.order.ByteOrder.{ByteOrder}
@@ -24,7 +24,8 @@ turned_header bytes = turned_at 20 4 (turned_at 6 2 (turned_at 4 2 (turned_at 0 
 -- records of this byte order with their numbers in the other one; at most so many are looked at
 unfoldable pub turned_records : ℕ → ByteOrder → List ℕ → List ℕ
 turned_records zero order bytes = bytes
-turned_records (suc n) order bytes = if nat_lt (length bytes) 16 then bytes else turned_sizes (take 16 bytes) ++ (packet_in order bytes ++ turned_records n order (behind_record order bytes))
+turned_records (suc n) order bytes = if nat_lt (length bytes) 16 then bytes
+    else turned_sizes (take 16 bytes) ++ (packet_in order bytes ++ turned_records n order (behind_record order bytes))
 
 -- the bytes behind a header of this byte order
 abbrev pub turned_behind : Option ByteOrder → List ℕ → List ℕ

@@ -1,6 +1,5 @@
--- Where a writer of a capture stands.
-use Rattle.std.specs.Prelude.{ℕ, ◌≡◌, ◌^◌, ◌&&◌, not, nat_lt, Bool, true, if◌then◌else◌, List, [], ◌∷◌, ◌++◌, length, drop, Option}
-use Rattle.otn_ports.specs.Bytes.{after}
+-- API: where a writer of a capture stands.
+use Rattle.std.specs.Prelude.{ℕ, ◌≡◌, ◌^◌, ◌&&◌, not, nat_lt, Bool, true, if◌then◌else◌, List, ◌∷◌, ◌++◌, length, drop}
 use Rattle.pcap_packets.specs.Written.{header_written, record_of, is_none, capture_of, packets_written, packet_of}
 
 -- the packet whose record is being written, where a rest of that is left
@@ -26,15 +25,10 @@ all_fit (packet ∷ packets) = nat_lt (length packet) (2 ^ 32) && all_fit packet
 abbrev pub part_written : List ℕ → List ℕ
 part_written bytes = drop (length (capture_of (packets_written bytes))) bytes
 
--- What was written is the capture of the packets of its whole records, and behind it a part of the next record, of which this rest is left.
+-- What was written is the capture of the packets of its whole records, and behind it a part of the next record, of
+-- which this rest is left.
 pub record Stands (any : Bool) (digits rest bytes : List ℕ) : Type 0 where
   pub parts : bytes ≡ capture_of (packets_written bytes) ++ part_written bytes
   pub left : part_written bytes ++ rest ≡ wanted (packets_written bytes) (in_hand rest digits)
   pub fits : all_fit (packets_written bytes) ≡ true
   pub begun : any ≡ not (is_none (packets_written bytes ++ in_hand rest digits))
-
--- bytes went from the front of a rest to a sink
-pub record Went (old : List ℕ) (before' : Option (List ℕ)) (new : List ℕ) (now : Option (List ℕ)) : Type 0 where
-  pub went : List ℕ
-  pub parts : old ≡ went ++ new
-  pub got : now ≡ after before' went

@@ -1,4 +1,4 @@
--- The capture that is written of packets, and what it reads as.
+-- API: the capture that is written of packets, and what it reads as.
 use Rattle.std.specs.Prelude.{◌==◌, ◌%◌, not, ℕ, zero, suc, ◌+◌, ◌&&◌, ◌||◌, nat_le, Bool, true, false, if◌then◌else◌, List, [], ◌∷◌, ◌++◌, length, drop}
 use Rattle.std.specs.Option.{unwrap_or}
 use Rattle.std.specs.Int.{to_le_bytes, w32, is_in_range}
@@ -7,10 +7,11 @@ use Rattle.packet_text.specs.PacketText.{is_nothing, decoded, packet_line}
 use Rattle.pcap_packets.specs.CaptureText.{captured, packet_in, behind_record, bad_line}
 use Rattle.pcap_packets.specs.declared.order.ByteOrder.TheVariants.{LowFirst}
 
--- the header that is written, low byte first: the magic of microseconds, versions 2 and 4, no time zone, packets of 65,535 bytes at most,
--- Ethernet
+-- the header that is written, low byte first: the magic of microseconds, versions 2 and 4, no time zone, packets of
+-- 65,535 bytes at most, Ethernet
 abbrev pub header_written : List ℕ
-header_written = 0xd4 ∷ 0xc3 ∷ 0xb2 ∷ 0xa1 ∷ 2 ∷ 0 ∷ 4 ∷ 0 ∷ 0 ∷ 0 ∷ 0 ∷ 0 ∷ 0 ∷ 0 ∷ 0 ∷ 0 ∷ 0xff ∷ 0xff ∷ 0 ∷ 0 ∷ 1 ∷ 0 ∷ 0 ∷ 0 ∷ []
+header_written = 0xd4 ∷ 0xc3 ∷ 0xb2 ∷ 0xa1 ∷ 2 ∷ 0 ∷ 4 ∷ 0 ∷ 0 ∷ 0 ∷ 0 ∷ 0 ∷ 0 ∷ 0 ∷ 0 ∷ 0 ∷ 0xff ∷ 0xff ∷ 0 ∷ 0 ∷ 1 ∷ 0
+    ∷ 0 ∷ 0 ∷ []
 
 -- the time that is written: none
 abbrev pub time_written : List ℕ
@@ -41,7 +42,8 @@ is_record bytes = nat_le 16 (length bytes) && nat_le (16 + captured LowFirst byt
 -- the packets of the whole records from here on; at most so many are looked at
 unfoldable pub record_packets : ℕ → List ℕ → List (List ℕ)
 record_packets zero bytes = []
-record_packets (suc n) bytes = if is_record bytes then packet_in LowFirst bytes ∷ record_packets n (behind_record LowFirst bytes) else []
+record_packets (suc n) bytes = if is_record bytes
+    then packet_in LowFirst bytes ∷ record_packets n (behind_record LowFirst bytes) else []
 
 -- the packets of the whole records of what was written
 unfoldable pub packets_written : List ℕ → List (List ℕ)
@@ -69,7 +71,9 @@ is_line digits = not (is_nothing digits) && (length digits % 2 == 0)
 unfoldable pub packet_of : List ℕ → List ℕ
 packet_of digits = unwrap_or (decoded (decode_of digits)) []
 
--- the text that packets are read back as, of which one was written that is too long to be read: the text ends there; else it ends so
+-- the text that packets are read back as, of which one was written that is too long to be read: the text ends there;
+-- else it ends so
 unfoldable pub read_back : List (List ℕ) → List ℕ → List ℕ
 read_back [] ending = ending
-read_back (packet ∷ packets) ending = if nat_le (length packet) 65527 then packet_line packet ++ read_back packets ending else bad_line
+read_back (packet ∷ packets) ending = if nat_le (length packet) 65527
+    then packet_line packet ++ read_back packets ending else bad_line

@@ -1,7 +1,7 @@
 // The bytes at the front of a capture's records.
 ghost use Rattle.std.specs.Prelude.{◌≡◌, ◌≤◌, ◌-◌, nat_le, length};
 ghost use Rattle.pcap_packets.specs.CaptureText.{captured};
-ghost use Rattle.pcap_packets.specs.Captures.{IsFront};
+ghost use Rattle.pcap_packets.specs.Steps.Captures.{IsFront};
 
 use crate::order::{ByteOrder, number_at};
 

@@ -15,7 +15,8 @@ const NANOSECONDS: u32 = 0xa1b2_3c4d;
 // The link type of Ethernet.
 const ETHERNET: u32 = 1;
 
-/// The byte order that the header at the front has. None where it is no header of a classic capture of Ethernet packets.
+/// The byte order that the header at the front has. None where it is no header of a classic capture of Ethernet
+/// packets.
 pub(crate) fn order_of(bytes: &[u8]) -> Option<ByteOrder>
     requires { 24 ≤ length bytes.now }
     ensures { result ≡ header_order bytes.now }

@@ -4,7 +4,7 @@ ghost use Rattle.otn_ports.specs.Bytes.{before, taken, HasFailed};
 ghost use Rattle.otn_ports.specs.Reads.{HasEnded};
 ghost use Rattle.packet_text.specs.PacketText.{packet_line};
 ghost use Rattle.pcap_packets.specs.Written.{all_lower, packet_of, record_of};
-ghost use Rattle.pcap_packets.specs.Writing.{Went};
+ghost use Rattle.pcap_packets.specs.Steps.Writing.{Went};
 
 use otn_base::Memory;
 use otn_ports::{Failed, Sink, Source};
@@ -147,7 +147,8 @@ impl Held {
         self.push_packet(pairs, digits);
     }
 
-    /// Writes them to a sink, from the front, until none is left or a call fails. Failed as the sink does, and then some are left.
+    /// Writes them to a sink, from the front, until none is left or a call fails. Failed as the sink does, and then
+    /// some are left.
     pub(crate) fn drain<S: Sink>(&mut self, sink: &mut S) -> Result<(), Failed>
         ensures went { Went (held self.old) (S.got sink.old) (held self.new) (S.got sink.new) }
         ensures whole { OnOk result (held self.new ≡ []) }
@@ -163,8 +164,8 @@ impl Held {
         Ok(())
     }
 
-    /// Asks a source once for more, and says how many came. There are less than 65,543 before, so that there is room for some.
-    /// Failed as the source does, and then they are as they were.
+    /// Asks a source once for more, and says how many came. There are less than 65,543 before, so that there is room
+    /// for some. Failed as the source does, and then they are as they were.
     pub(crate) fn ask<S: Source>(&mut self, source: &mut S) -> Result<usize, Failed>
         requires { length (held self.old) < 65543 }
         ensures bytes { S.left source.old ≡ before (drop (length (held self.old)) (held self.new)) (S.left source.new) }

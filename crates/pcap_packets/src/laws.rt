@@ -6,8 +6,8 @@ pub fn byte_order_alike()
     ensures { ByteOrderAlike }
 {}
 
-/// What is written of packets reads back as their lines, up to the first that has more than 65,527 bytes: there the text ends
-/// with the bad line.
+/// What is written of packets reads back as their lines, up to the first that has more than 65,527 bytes: there the
+/// text ends with the bad line.
 pub fn written_reads_back()
     ensures { WrittenReadsBack }
 {}

@@ -1,7 +1,7 @@
 // The digits in front of a line.
 ghost use Rattle.std.specs.Prelude.{◌≡◌, ◌<◌, ◌≤◌, ◌+◌, ◌∷◌, ◌++◌, [], true, length, take};
 ghost use Rattle.pcap_packets.specs.Written.{is_lower_digit, all_lower, digits_in_front};
-ghost use Rattle.pcap_packets.specs.Gathering.{is_whole_line};
+ghost use Rattle.pcap_packets.specs.Steps.Gathering.{is_whole_line};
 
 /// Digits of a line at most: those of 65,531 bytes.
 pub(crate) const MOST_DIGITS: usize = 131_062;
@@ -24,8 +24,8 @@ pub(crate) fn leading_digits(bytes: &[u8]) -> usize
     count
 }
 
-/// How many digits the line in front has, if it is whole: it has some, of even count, as many as a line may have at most, and its
-/// LF. Else 0.
+/// How many digits the line in front has, if it is whole: it has some, of even count, as many as a line may have at
+/// most, and its LF. Else 0.
 pub(crate) fn whole_line(bytes: &[u8]) -> usize
     ensures within { 0 < result → result < length bytes.now }
     ensures line { 0 < result → is_whole_line (take result bytes.now) ≡ true }

@@ -1,5 +1,5 @@
-//! Captures as client ports: a source that gives the packets of a pcap file as hex lines, and a sink that writes hex lines as
-//! such a file.
+//! Captures as client ports: a source that gives the packets of a pcap file as hex lines, and a sink that writes hex
+//! lines as such a file.
 //!
 //! - `order`: the two byte orders of a capture's numbers.
 //! - `header`, `front`: what the bytes at the front of a capture, or of its records, are.

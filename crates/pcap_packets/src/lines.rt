@@ -5,7 +5,8 @@ ghost use Rattle.otn_ports.specs.Bytes.{HasFailed};
 ghost use Rattle.packet_text.specs.PacketText.{packet_line};
 ghost use Rattle.pcap_packets.specs.CaptureText.{capture_text, header_order, bad_line};
 ghost use Rattle.pcap_packets.specs.HeldBytes.{held};
-ghost use Rattle.pcap_packets.specs.Captures.{lines_left, bytes_left, IsWaiting};
+ghost use Rattle.pcap_packets.specs.Captures.{lines_left};
+ghost use Rattle.pcap_packets.specs.Steps.Captures.{bytes_left, IsWaiting};
 
 use crate::front::{Front, RECORD_HEADER, front_of};
 use crate::header::{FILE_HEADER, order_of};
@@ -27,8 +28,8 @@ pub(crate) enum Stage {
     Over,
 }
 
-/// Makes lines of a capture's bytes: those that came and are not used are in hand, and what is not given of the line that was
-/// made last is in hand, too.
+/// Makes lines of a capture's bytes: those that came and are not used are in hand, and what is not given of the line
+/// that was made last is in hand, too.
 #[derive(Drop)]
 pub(crate) struct CaptureLines {
     stage: Stage,
@@ -50,11 +51,12 @@ impl CaptureLines {
         })
     }
 
-    /// Gives bytes of lines, as far as what is in hand makes any, and says how many. None come into a slice with room only where no
-    /// line is in hand.
+    /// Gives bytes of lines, as far as what is in hand makes any, and says how many. None come into a slice with room
+    /// only where no line is in hand.
     pub(crate) fn give(&mut self, into: &mut [u8]) -> usize
         ensures bound { result ≤ length into.old }
-        ensures bytes { (coming : List ℕ) → lines_left self.old coming ≡ take result into.new ++ lines_left self.new coming }
+        ensures bytes { (coming : List ℕ)
+            → lines_left self.old coming ≡ take result into.new ++ lines_left self.new coming }
         ensures none { result ≡ 0 → 0 < length into.old → held self.old.line ≡ [] }
     {
         let done = self.line.give(into);
@@ -68,7 +70,8 @@ impl CaptureLines {
     fn give_lines(&mut self, into: &mut [u8]) -> usize
         requires empty { held self.old.line ≡ [] }
         ensures bound { result ≤ length into.old }
-        ensures bytes { (coming : List ℕ) → lines_left self.old coming ≡ take result into.new ++ lines_left self.new coming }
+        ensures bytes { (coming : List ℕ)
+            → lines_left self.old coming ≡ take result into.new ++ lines_left self.new coming }
     {
         let done = self.put_lines(into);
         if done < into.len() && self.next() {
@@ -81,7 +84,8 @@ impl CaptureLines {
     fn put_lines(&mut self, into: &mut [u8]) -> usize
         requires empty { held self.old.line ≡ [] }
         ensures bound { result ≤ length into.old }
-        ensures bytes { (coming : List ℕ) → lines_left self.old coming ≡ take result into.new ++ lines_left self.new coming }
+        ensures bytes { (coming : List ℕ)
+            → lines_left self.old coming ≡ take result into.new ++ lines_left self.new coming }
         ensures empty { held self.new.line ≡ [] }
     {
         match self.stage {
@@ -94,7 +98,8 @@ impl CaptureLines {
         requires records { self.old.stage ≡ Stage.Records order }
         requires empty { held self.old.line ≡ [] }
         ensures bound { result ≤ length into.old }
-        ensures bytes { (coming : List ℕ) → lines_left self.old coming ≡ take result into.new ++ lines_left self.new coming }
+        ensures bytes { (coming : List ℕ)
+            → lines_left self.old coming ≡ take result into.new ++ lines_left self.new coming }
         ensures empty { held self.new.line ≡ [] }
     {
         let mut done = 0;
@@ -107,12 +112,14 @@ impl CaptureLines {
         }
     }
 
-    // Puts the line of the record at the front, where that is whole and there is room for the line, and says how many bytes.
+    // Puts the line of the record at the front, where that is whole and there is room for the line, and says how many
+    // bytes.
     fn put_next(&mut self, order: ByteOrder, into: &mut [u8]) -> usize
         requires records { self.old.stage ≡ Stage.Records order }
         requires empty { held self.old.line ≡ [] }
         ensures bound { result ≤ length into.old }
-        ensures bytes { (coming : List ℕ) → lines_left self.old coming ≡ take result into.new ++ lines_left self.new coming }
+        ensures bytes { (coming : List ℕ)
+            → lines_left self.old coming ≡ take result into.new ++ lines_left self.new coming }
         ensures empty { held self.new.line ≡ [] }
         ensures stage { self.new.stage ≡ self.old.stage }
     {
@@ -143,9 +150,11 @@ impl CaptureLines {
         count
     }
 
-    /// Asks the source until a line is in hand or the text is over. Failed as the source does; the text to come is the same.
+    /// Asks the source until a line is in hand or the text is over. Failed as the source does; the text to come is the
+    /// same.
     pub(crate) fn ready<S: Source>(&mut self, source: &mut S) -> Result<(), Failed>
-        ensures same { option_map (lines_left self.new) (S.left source.new) ≡ option_map (lines_left self.old) (S.left source.old) }
+        ensures same { option_map (lines_left self.new) (S.left source.new)
+            ≡ option_map (lines_left self.old) (S.left source.old) }
         ensures ready { OnOk result (held self.new.line ≡ [] → self.new.stage ≡ Stage.Over) }
         ensures later { S.faults source.old ≤ S.faults source.new }
         ensures cause { OnErr result (HasFailed (S.faults source.old) (S.faults source.new)) }
@@ -157,7 +166,8 @@ impl CaptureLines {
         Ok(())
     }
 
-    // Makes a line of what is in hand, and says whether one is in hand now, or the text is over. If not, more bytes are wanted.
+    // Makes a line of what is in hand, and says whether one is in hand now, or the text is over. If not, more bytes are
+    // wanted.
     fn settle(&mut self) -> bool
         ensures same { (coming : List ℕ) → lines_left self.new coming ≡ lines_left self.old coming }
         ensures settled { result ≡ true → held self.new.line ≡ [] → self.new.stage ≡ Stage.Over }
@@ -267,7 +277,8 @@ impl CaptureLines {
     // Asks the source once for more bytes.
     fn ask<S: Source>(&mut self, source: &mut S) -> Result<(), Failed>
         requires { IsWaiting self.old }
-        ensures same { option_map (lines_left self.new) (S.left source.new) ≡ option_map (lines_left self.old) (S.left source.old) }
+        ensures same { option_map (lines_left self.new) (S.left source.new)
+            ≡ option_map (lines_left self.old) (S.left source.old) }
         ensures less { OnOk result (bytes_left self.new < bytes_left self.old) }
         ensures later { S.faults source.old ≤ S.faults source.new }
         ensures cause { OnErr result (HasFailed (S.faults source.old) (S.faults source.new)) }

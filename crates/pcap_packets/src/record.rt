@@ -4,8 +4,8 @@ ghost use Rattle.otn_ports.specs.Bytes.{HasFailed};
 ghost use Rattle.otn_ports.specs.declared.drain.Written.TheVariants as written;
 ghost use Rattle.pcap_packets.specs.HeldBytes.{held};
 ghost use Rattle.pcap_packets.specs.Written.{all_lower, is_line, digits_in_front, packet_of, header_written, record_of};
-ghost use Rattle.pcap_packets.specs.Writing.{Went};
-ghost use Rattle.pcap_packets.specs.Gathering.{lines_records, is_whole_line, Gathered, OneMore, IsCut, HasCut, PartWent, StopsAt, WentLines};
+ghost use Rattle.pcap_packets.specs.Steps.Writing.{Went};
+ghost use Rattle.pcap_packets.specs.Steps.Gathering.{lines_records, is_whole_line, Gathered, OneMore, IsCut, HasCut, PartWent, StopsAt, WentLines};
 
 use crate::front::RECORD_HEADER;
 use crate::held::{Held, ROOM};
@@ -77,7 +77,8 @@ impl LineRecord {
         requires { held self.old.rest ≡ [] }
         ensures made { result ≡ is_line (held self.old.line) }
         ensures line { self.new.line ≡ self.old.line }
-        ensures rest { result ≡ true → held self.new.rest ≡ (if self.old.begun then [] else header_written) ++ record_of (packet_of (held self.old.line)) }
+        ensures rest { result ≡ true → held self.new.rest ≡ (if self.old.begun then [] else header_written)
+            ++ record_of (packet_of (held self.old.line)) }
         ensures begun { result ≡ true → self.new.begun ≡ true }
         ensures none { result ≡ false → self.new ≡ self.old }
     {
@@ -93,7 +94,8 @@ impl LineRecord {
     fn make_record(&mut self)
         requires { length (held self.old.line) % 2 ≡ 0 }
         ensures line { self.new.line ≡ self.old.line }
-        ensures rest { held self.new.rest ≡ (if self.old.begun then [] else header_written) ++ record_of (packet_of (held self.old.line)) }
+        ensures rest { held self.new.rest ≡ (if self.old.begun then [] else header_written)
+            ++ record_of (packet_of (held self.old.line)) }
         ensures begun { self.new.begun ≡ true }
     {
         self.begin_record();
@@ -115,7 +117,8 @@ impl LineRecord {
         }
     }
 
-    /// Writes what is left of the record, and begins a line behind it. Failed as the sink does, and then that much is left.
+    /// Writes what is left of the record, and begins a line behind it. Failed as the sink does, and then that much is
+    /// left.
     pub(crate) fn write<S: Sink>(&mut self, sink: &mut S) -> Result<(), Failed>
         ensures went { Went (held self.old.rest) (S.got sink.old) (held self.new.rest) (S.got sink.new) }
         ensures whole { OnOk result ((held self.new.rest ≡ []) × (held self.new.line ≡ [])) }
@@ -139,12 +142,14 @@ impl LineRecord {
         self.begun && self.line.is_empty() && self.rest.is_empty()
     }
 
-    /// Writes the records of the whole lines at the front together, as many as there is room for, and says how many bytes of the
-    /// lines went. After Lost the line in which the sink stopped is in hand, and what is left of its record.
+    /// Writes the records of the whole lines at the front together, as many as there is room for, and says how many
+    /// bytes of the lines went. After Lost the line in which the sink stopped is in hand, and what is left of its
+    /// record.
     pub(crate) fn write_lines<S: Sink>(&mut self, sink: &mut S, lines: &[u8]) -> (Written, usize)
         requires line { held self.old.line ≡ [] }
         ensures within { result.1 ≤ length lines.now }
-        ensures went { WentLines result.0 (take result.1 lines.now) (S.got sink.old) (held self.new.line) (held self.new.rest) (S.got sink.new) }
+        ensures went { WentLines result.0 (take result.1 lines.now) (S.got sink.old) (held self.new.line)
+            (held self.new.rest) (S.got sink.new) }
         ensures part { result.0 ≡ Written.Lost → (0 < result.1) × (result.1 < length lines.now) }
         ensures rest { result.0 ≡ Written.Lost → held self.new.rest ≢ [] }
         ensures begun { self.new.begun ≡ self.old.begun }
@@ -163,7 +168,8 @@ impl LineRecord {
         }
     }
 
-    // Makes the records of the whole lines at the front, as many as there is room for, and says how many bytes these lines have.
+    // Makes the records of the whole lines at the front, as many as there is room for, and says how many bytes these
+    // lines have.
     fn gather(&mut self, bytes: &[u8]) -> usize
         requires { held self.old.line ≡ [] }
         ensures within { result ≤ length bytes.now }
@@ -181,8 +187,8 @@ impl LineRecord {
         done
     }
 
-    // Puts the record of the line at the front behind the others, where that line is whole and there is room, and says how many
-    // bytes the line has with its LF: none where there is no such line or no room.
+    // Puts the record of the line at the front behind the others, where that line is whole and there is room, and says
+    // how many bytes the line has with its LF: none where there is no such line or no room.
     fn add_record(&mut self, bytes: &[u8]) -> usize
         requires line { held self.old.line ≡ [] }
         requires front { self.old.rest.at ≡ 0 }
@@ -201,12 +207,14 @@ impl LineRecord {
         count + 1
     }
 
-    // So many bytes of these lines' records went: the line in which they end is in hand, and what is left of its record. Says
-    // how many bytes of the lines are written or in hand.
+    // So many bytes of these lines' records went: the line in which they end is in hand, and what is left of its
+    // record. Says how many bytes of the lines are written or in hand.
     fn stop(&mut self, lines: &[u8], went: usize) -> usize
         requires { HasCut lines.now went }
         ensures within { (0 < result) × (result < length lines.now) }
-        ensures stopped { (all : List (List ℕ)) → IsCut all lines.now went → PartWent (take result lines.now) (take went (lines_records all)) (held self.new.line) (held self.new.rest) }
+        ensures stopped { (all : List (List ℕ)) → IsCut all lines.now went
+            → PartWent (take result lines.now) (take went (lines_records all)) (held self.new.line)
+            (held self.new.rest) }
         ensures rest { held self.new.rest ≢ [] }
         ensures begun { self.new.begun ≡ self.old.begun }
     {
@@ -231,8 +239,8 @@ impl LineRecord {
     }
 }
 
-// Where so many bytes of lines' records end: how many bytes the lines have whose records are within, how many digits the next one
-// has, and how many bytes of its record are within.
+// Where so many bytes of lines' records end: how many bytes the lines have whose records are within, how many digits
+// the next one has, and how many bytes of its record are within.
 fn stopped_line(lines: &[u8], went: usize) -> (usize, usize, usize)
     requires { HasCut lines.now went }
     ensures room { (0 < result.1) × (result.0 + (result.1 + 1) ≤ length lines.now) }

@@ -15,10 +15,11 @@ use std::alloc::Global;
 
 const LF: u8 = b'\n';
 
-/// Writes each line of hex digits in lower case that it takes as a record of a capture to another sink: the header goes with the
-/// first. A write of a digit takes the digits up to the first byte that is none, at most 131,062 in a line. A write of LF behind
-/// digits of even count, two at least, writes the line's record and takes this one byte; where the sink below fails in that, the
-/// line has no room for further digits, and the next LF goes on with the rest. Any other write fails by itself.
+/// Writes each line of hex digits in lower case that it takes as a record of a capture to another sink: the header goes
+/// with the first. A write of a digit takes the digits up to the first byte that is none, at most 131,062 in a line. A
+/// write of LF behind digits of even count, two at least, writes the line's record and takes this one byte; where the
+/// sink below fails in that, the line has no room for further digits, and the next LF goes on with the rest. Any other
+/// write fails by itself.
 #[derive(Drop)]
 pub struct PcapSink<S: Sink> {
     inner: S,
@@ -47,12 +48,13 @@ impl<S: Sink> PcapSink<S> {
         })
     }
 
-    /// The sink that the capture went to. Where that tells its bytes, they read back as the packets of the lines that were taken, up
-    /// to the first packet of more than 65,527 bytes, and where no write failed they are the capture of these packets; that of no
-    /// packet has no byte, which is no capture.
+    /// The sink that the capture went to. Where that tells its bytes, they read back as the packets of the lines that
+    /// were taken, up to the first packet of more than 65,527 bytes, and where no write failed they are the capture of
+    /// these packets; that of no packet has no byte, which is no capture.
     pub fn inner(&self) -> &S
         ensures same { result.now ≡ written_to self.now }
-        ensures whole { (bytes : List ℕ) → S.got result.now ≡ Some bytes → has_rest self.now ≡ false → bytes ≡ capture_of (packets_written bytes) }
+        ensures whole { (bytes : List ℕ) → S.got result.now ≡ Some bytes → has_rest self.now ≡ false
+            → bytes ≡ capture_of (packets_written bytes) }
         ensures reads { (bytes : List ℕ) → S.got result.now ≡ Some bytes → ReadsBack bytes }
     {
         &self.inner
@@ -73,8 +75,12 @@ impl<S: Sink> PcapSink<S> {
     // Ends the line, or goes on with its record: so the LF is taken.
     fn end_line(&mut self) -> Result<usize, Failed>
         ensures taken { (more : List ℕ) → IfOk result (λ n. n ≡ takes self.old (10 ∷ more)) }
-        ensures fails { (more : List ℕ) → OnErr result ((takes self.old (10 ∷ more) ≡ 0) ⊎ HasFailed (S.faults (written_to self.old)) (S.faults (written_to self.new))) }
-        ensures refused { (more : List ℕ) → OnErr result ((takes self.new (10 ∷ more) ≡ 0) ⊎ HasFailed (S.faults (written_to self.old)) (S.faults (written_to self.new))) }
+        ensures fails { (more : List ℕ) → OnErr result
+            ((takes self.old (10 ∷ more) ≡ 0)
+            ⊎ HasFailed (S.faults (written_to self.old)) (S.faults (written_to self.new))) }
+        ensures refused { (more : List ℕ)
+            → OnErr result ((takes self.new (10 ∷ more) ≡ 0)
+            ⊎ HasFailed (S.faults (written_to self.old)) (S.faults (written_to self.new))) }
         ensures still { OnOk result (S.faults (written_to self.new) ≡ S.faults (written_to self.old)) }
         ensures one { IfOk result (λ n. n ≡ 1) }
         ensures got { written_got S.got self.new ≡ after (written_got S.got self.old) (sent result (10 ∷ [])) }
@@ -138,10 +144,13 @@ impl<S: Sink> PcapSink<S> {
         ensures progress { result.0 ≢ Written.Lost → 0 < result.1 }
         ensures part { result.0 ≡ Written.Lost → result.1 < length lines.now }
         ensures got { written_got S.got self.new ≡ after (written_got S.got self.old) (take result.1 lines.now) }
-        ensures fails { result.0 ≡ Written.Lost → (takes self.new (drop result.1 lines.now) ≡ 0) ⊎ HasFailed (S.faults (written_to self.old)) (S.faults (written_to self.new)) }
+        ensures fails { result.0 ≡ Written.Lost
+            → (takes self.new (drop result.1 lines.now) ≡ 0)
+            ⊎ HasFailed (S.faults (written_to self.old)) (S.faults (written_to self.new)) }
         ensures still { result.0 ≢ Written.Lost → S.faults (written_to self.new) ≡ S.faults (written_to self.old) }
         ensures later { written_faults S.faults self.old ≤ written_faults S.faults self.new }
-        ensures cause { result.0 ≡ Written.Lost → HasFailed (written_faults S.faults self.old) (written_faults S.faults self.new) }
+        ensures cause { result.0 ≡ Written.Lost
+            → HasFailed (written_faults S.faults self.old) (written_faults S.faults self.new) }
         ensures well { result.0 ≢ Written.Lost → written_faults S.faults self.new ≡ written_faults S.faults self.old }
     {
         let (answer, went) = self.write_together(lines);
@@ -158,10 +167,13 @@ impl<S: Sink> PcapSink<S> {
         ensures progress { result.0 ≢ Written.Lost → 0 < result.1 }
         ensures part { result.0 ≡ Written.Lost → result.1 ≡ 0 }
         ensures got { written_got S.got self.new ≡ after (written_got S.got self.old) (take result.1 lines.now) }
-        ensures fails { result.0 ≡ Written.Lost → (takes self.new lines.now ≡ 0) ⊎ HasFailed (S.faults (written_to self.old)) (S.faults (written_to self.new)) }
+        ensures fails { result.0 ≡ Written.Lost
+            → (takes self.new lines.now ≡ 0)
+            ⊎ HasFailed (S.faults (written_to self.old)) (S.faults (written_to self.new)) }
         ensures still { result.0 ≢ Written.Lost → S.faults (written_to self.new) ≡ S.faults (written_to self.old) }
         ensures later { written_faults S.faults self.old ≤ written_faults S.faults self.new }
-        ensures cause { result.0 ≡ Written.Lost → HasFailed (written_faults S.faults self.old) (written_faults S.faults self.new) }
+        ensures cause { result.0 ≡ Written.Lost
+            → HasFailed (written_faults S.faults self.old) (written_faults S.faults self.new) }
         ensures well { result.0 ≢ Written.Lost → written_faults S.faults self.new ≡ written_faults S.faults self.old }
     {
         match self.write(lines) {
@@ -170,16 +182,18 @@ impl<S: Sink> PcapSink<S> {
         }
     }
 
-    // Writes the records of the whole lines at the front together, and says how many bytes of the lines went: none where no record
-    // was made before, a line is in hand, or the first line is not whole.
+    // Writes the records of the whole lines at the front together, and says how many bytes of the lines went: none
+    // where no record was made before, a line is in hand, or the first line is not whole.
     fn write_together(&mut self, lines: &[u8]) -> (Written, usize)
         ensures within { result.1 ≤ length lines.now }
         ensures part { result.0 ≡ Written.Lost → (0 < result.1) × (result.1 < length lines.now) }
         ensures got { written_got S.got self.new ≡ after (written_got S.got self.old) (take result.1 lines.now) }
-        ensures fails { result.0 ≡ Written.Lost → HasFailed (S.faults (written_to self.old)) (S.faults (written_to self.new)) }
+        ensures fails { result.0 ≡ Written.Lost
+            → HasFailed (S.faults (written_to self.old)) (S.faults (written_to self.new)) }
         ensures still { result.0 ≢ Written.Lost → S.faults (written_to self.new) ≡ S.faults (written_to self.old) }
         ensures later { written_faults S.faults self.old ≤ written_faults S.faults self.new }
-        ensures cause { result.0 ≡ Written.Lost → HasFailed (written_faults S.faults self.old) (written_faults S.faults self.new) }
+        ensures cause { result.0 ≡ Written.Lost
+            → HasFailed (written_faults S.faults self.old) (written_faults S.faults self.new) }
         ensures well { result.0 ≢ Written.Lost → written_faults S.faults self.new ≡ written_faults S.faults self.old }
     {
         if !self.lines.is_between() {
@@ -198,12 +212,14 @@ impl<S: Sink> Sink for PcapSink<S> {
 
     ghost keeps = { λ _. false };
 
-    /// Takes LF alone, or the digits in front. Failed where there is none of these to take, and then its own count rose or stands
-    /// at its end, or where the sink below failed.
+    /// Takes LF alone, or the digits in front. Failed where there is none of these to take, and then its own count rose
+    /// or stands at its end, or where the sink below failed.
     fn write(&mut self, bytes: &[u8]) -> Result<usize, Failed>
         ensures taken { IfOk result (λ n. n ≡ takes self.old bytes.now) }
-        ensures fails { OnErr result ((takes self.old bytes.now ≡ 0) ⊎ HasFailed (S.faults (written_to self.old)) (S.faults (written_to self.new))) }
-        ensures refused { OnErr result ((takes self.new bytes.now ≡ 0) ⊎ HasFailed (S.faults (written_to self.old)) (S.faults (written_to self.new))) }
+        ensures fails { OnErr result ((takes self.old bytes.now ≡ 0)
+            ⊎ HasFailed (S.faults (written_to self.old)) (S.faults (written_to self.new))) }
+        ensures refused { OnErr result ((takes self.new bytes.now ≡ 0)
+            ⊎ HasFailed (S.faults (written_to self.old)) (S.faults (written_to self.new))) }
         ensures still { OnOk result (S.faults (written_to self.new) ≡ S.faults (written_to self.old)) }
         ensures bound { IfOk result (λ n. n ≤ length bytes.now) }
         ensures progress { IfOk result (λ n. 0 < length bytes.now → 0 < n) }
@@ -222,16 +238,20 @@ impl<S: Sink> Sink for PcapSink<S> {
         }
     }
 
-    /// Writes whole lines together, as many as the buffer has room for, so that many records leave in one write of the sink below;
-    /// what is no whole line goes as `write` has it. Lost where what comes next is nothing to take, or where the sink below failed:
-    /// then the line in which it stopped is in hand, and the lines behind it are not taken.
+    /// Writes whole lines together, as many as the buffer has room for, so that many records leave in one write of the
+    /// sink below; what is no whole line goes as `write` has it. Lost where what comes next is nothing to take, or
+    /// where the sink below failed: then the line in which it stopped is in hand, and the lines behind it are not
+    /// taken.
     fn write_lines(&mut self, lines: &[u8]) -> (Written, usize)
         ensures within { result.1 ≤ length lines.now }
         ensures bytes { written_got S.got self.new ≡ after (written_got S.got self.old) (take result.1 lines.now) }
         ensures writing { IsWriting result.0 result.1 (length lines.now) }
-        ensures fails { result.0 ≡ Written.Lost → (takes self.new (drop result.1 lines.now) ≡ 0) ⊎ HasFailed (S.faults (written_to self.old)) (S.faults (written_to self.new)) }
+        ensures fails { result.0 ≡ Written.Lost
+            → (takes self.new (drop result.1 lines.now) ≡ 0)
+            ⊎ HasFailed (S.faults (written_to self.old)) (S.faults (written_to self.new)) }
         ensures later { written_faults S.faults self.old ≤ written_faults S.faults self.new }
-        ensures cause { result.0 ≡ Written.Lost → HasFailed (written_faults S.faults self.old) (written_faults S.faults self.new) }
+        ensures cause { result.0 ≡ Written.Lost
+            → HasFailed (written_faults S.faults self.old) (written_faults S.faults self.new) }
         ensures well { result.0 ≢ Written.Lost → written_faults S.faults self.new ≡ written_faults S.faults self.old }
     {
         let mut done = 0;

@@ -11,8 +11,8 @@ use otn_base::Memory;
 use otn_ports::{Failed, Source};
 use std::alloc::Global;
 
-/// Gives the text of the capture whose bytes another source gives: for each packet a line of hex digits in lower case. It reads
-/// ahead of what it gives. It fails only where that source does, and then none of the text is gone.
+/// Gives the text of the capture whose bytes another source gives: for each packet a line of hex digits in lower case.
+/// It reads ahead of what it gives. It fails only where that source does, and then none of the text is gone.
 #[derive(Drop)]
 pub struct PcapSource<S> {
     inner: S,
@@ -21,8 +21,8 @@ pub struct PcapSource<S> {
 }
 
 impl<S: Source> PcapSource<S> {
-    /// Gives the text of this source's capture: `!` and LF at the first bytes that are none of a capture. All memory, 256 KiB and
-    /// a little, is taken here.
+    /// Gives the text of this source's capture: `!` and LF at the first bytes that are none of a capture. All memory,
+    /// 256 KiB and a little, is taken here.
     pub fn new(alloc: Global, inner: S) -> Result<PcapSource<S>, Memory>
         ensures left { IfOk result (λ source. capture_left S.left source ≡ option_map capture_text (S.left inner)) }
         ensures ended { IfOk result (λ source. capture_ended source ≡ false) }

@@ -32,7 +32,7 @@ use Rattle.plan_table.specs.declared.ends.Side.TheVariants.{To}
 use Rattle.plan_table.specs.Ends.{has, form_of}
 use Rattle.plan_file.specs.Places.{broken_or, first_broken, places, places_from, later_places, top_place}
 use Rattle.plan_file.specs.Rules.{is_within, is_name, is_sapi, rises, is_line_list, is_placed, is_slot_list, is_same_kind, has_slots, has_equal_counts, suits, least_pace, most_pace, is_span, can_retire, breaks_name, breaks_place, breaks_slots, breaks_pace, breaks_span}
-use Rattle.plan_file.specs.Sound.{is_sound, is_no_signal, IsSoundTop, IsSound, AreSound, IsSoundOutline}
+use Rattle.plan_file.specs.Steps.Sound.{is_sound, is_no_signal, IsSoundTop, IsSound, AreSound, IsSoundOutline}
 use Rattle.plan_file.specs.Table.{entry_at, end_of, form_at, top_at, connections_at, outline_at}
 use Rattle.plan_table.specs.Lines.{line_kind, line_slots}
 use Rattle.plan_file.proofs.Fitting.{within, is_within-wider, list_all-wider, pos-natural}

@@ -1,5 +1,5 @@
--- The answer to a text: the first rule that it breaks, or else the plan that it means. And that to a plan: the first
--- rule that it breaks.
+-- Believed: the answer to a text: the first rule that it breaks, or else the plan that it means. And that to a plan:
+-- the first rule that it breaks.
 use Rattle.std.specs.Prelude.{ℕ, List, Option, Some, None, Result, Ok, Err}
 use Rattle.plan_file.specs.declared.error.PlanError.{PlanError}
 use Rattle.plan_file.specs.declared.error.NoPlan.{NoPlan}

@@ -1,4 +1,4 @@
--- The numbers of the rules.
+-- Believed: the numbers of the rules.
 use Rattle.std.specs.Prelude.{ℕ}
 use Rattle.plan_file.specs.declared.error.PlanError.{PlanError}
 use Rattle.plan_file.specs.declared.error.PlanError.TheVariants.{NotToml, UnknownKey, MissingKey, WrongKind, Turns, TooMany, BadName, NameTwice, BadPlace, BadSlots, SlotTwice, PortTwice, ClientTwice, BadPace, BadSpan}

@@ -1,4 +1,5 @@
--- A plan as its rules see it: the number of turns, and for each connection what its keys say, each number as wide as a text can write it.
+-- Believed: a plan as its rules see it: the number of turns, and for each connection what its keys say, each number as
+-- wide as a text can write it.
 use Rattle.std.specs.Prelude.{ℕ, ℤ, pos, negsuc, List, map, length, Bool, true, false, if◌then◌else◌}
 use Rattle.maintenance_signals.specs.declared.signal.Signal.{Signal}
 use Rattle.otn_base.specs.LineSlots.{LineSlots}

@@ -12,7 +12,7 @@ pub mod Rules
 pub mod Places
 pub mod TableRules
 pub mod PlanRules
-pub mod Sound
 pub mod Meaning
 pub mod Refusal
 pub mod Answer
+pub mod Steps

@@ -1,4 +1,4 @@
--- The plan that a text means. No rule stands here: which texts are refused, and why, `Refusal` says.
+-- Believed: the plan that a text means. No rule stands here: which texts are refused, and why, `Refusal` says.
 use Rattle.std.specs.Prelude.{ℕ, nat_le, List, length, ◌&&◌, if◌then◌else◌, Option, None, unwrap_or}
 use Rattle.std.specs.Str.{is_utf8}
 use Rattle.toml.specs.Data.{Members, no_members}

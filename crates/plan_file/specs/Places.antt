@@ -1,4 +1,4 @@
--- Places: 0 is the top, and the connections count from 1 in the order of the file.
+-- Believed: places: 0 is the top, and the connections count from 1 in the order of the file.
 use Rattle.std.specs.Prelude.{ℕ, ◌+◌, List, [], ◌∷◌, ◌++◌, length, Bool, if◌then◌else◌, Option, Some, None}
 use Rattle.std.specs.List.{list_any}
 use Rattle.std.specs.Option.{option_map, option_or}
@@ -11,7 +11,8 @@ top_place broken = if broken then 0 ∷ [] else []
 -- the places from `place` on whose connection passes the test
 abbrev pub places_from : {A : Type 0} → ℕ → (A → Bool) → List A → List ℕ
 places_from place test [] = []
-places_from place test (x ∷ xs) = if test x then place ∷ places_from (place + 1) test xs else places_from (place + 1) test xs
+places_from place test (x ∷ xs) = if test x then place ∷ places_from (place + 1) test xs
+    else places_from (place + 1) test xs
 
 -- the same of all connections, from place 1 on
 abbrev pub places : {A : Type 0} → (A → Bool) → List A → List ℕ

@@ -1,4 +1,4 @@
--- The rules of a plan's values: what breaks them in the whole, at a connection, and at two of them.
+-- Believed: the rules of a plan's values: what breaks them in the whole, at a connection, and at two of them.
 use Rattle.std.specs.Prelude.{ℕ, nat_lt, List, [], ◌∷◌, ◌++◌, length, Bool, false, not}
 use Rattle.plan_file.specs.declared.error.PlanError.{PlanError}
 use Rattle.plan_file.specs.declared.error.PlanError.TheVariants.{Turns, TooMany, BadName, NameTwice, BadPlace, BadSlots, SlotTwice, PortTwice, ClientTwice, BadPace, BadSpan}
@@ -9,7 +9,8 @@ use Rattle.plan_file.specs.Rules.{is_within, breaks_name, have_one_name, breaks_
 
 -- the rules of connections, in the order in which they are tried
 abbrev pub connection_rules : List PlanError
-connection_rules = BadName ∷ NameTwice ∷ BadPlace ∷ BadSlots ∷ SlotTwice ∷ PortTwice ∷ ClientTwice ∷ BadPace ∷ BadSpan ∷ []
+connection_rules = BadName ∷ NameTwice ∷ BadPlace ∷ BadSlots ∷ SlotTwice ∷ PortTwice ∷ ClientTwice ∷ BadPace ∷ BadSpan
+    ∷ []
 
 -- the rules of the whole, and behind them those of connections
 abbrev pub plan_rules : List PlanError
@@ -41,4 +42,5 @@ clashes _ e f = false
 
 -- where an outline breaks the rule: the top comes before the connections
 abbrev pub plan_places : Outline → PlanError → List ℕ
-plan_places o rule = top_place (breaks_whole rule o) ++ (places (breaks_alone rule o.top) o.entries ++ later_places (clashes rule) o.entries)
+plan_places o rule = top_place (breaks_whole rule o)
+    ++ (places (breaks_alone rule o.top) o.entries ++ later_places (clashes rule) o.entries)

@@ -1,5 +1,5 @@
--- Which texts are refused, by the first of fifteen rules that is broken, at its first place. What an accepted text
--- means `Meaning` says: who reads of accepted plans alone leaves this file unread, and the rules that it imports.
+-- Believed: which texts are refused, by the first of fifteen rules that is broken, at its first place. What an accepted
+-- text means `Meaning` says: who reads of accepted plans alone leaves this file unread, and the rules that it imports.
 use Rattle.std.specs.Prelude.{ℕ, List, Option, Some, None}
 use Rattle.std.specs.Option.{option_or}
 use Rattle.toml.specs.Data.{Members}

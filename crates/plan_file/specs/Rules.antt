@@ -1,4 +1,4 @@
--- The rules of a plan's values: of the number of turns, of each connection, and of two connections.
+-- Believed: the rules of a plan's values: of the number of turns, of each connection, and of two connections.
 use Rattle.std.specs.Prelude.{ℕ, ℤ, pos, int_le, ◌==◌, List, length, Bool, true, false, not, ◌&&◌, ◌||◌}
 use Rattle.std.specs.Int.{int_max, int_min}
 use Rattle.std.specs.Ordering.{int_eq}
@@ -21,7 +21,8 @@ breaks_name e = not (is_name e.name && is_sapi e.trace)
 
 -- one of the four lists of the top is not a list of lines
 abbrev pub breaks_lines : Top → Bool
-breaks_lines top = not ((is_line_list top.otu3_in && is_line_list top.otu3_out) && (is_line_list top.scrambled_in && is_line_list top.scrambled_out))
+breaks_lines top = not ((is_line_list top.otu3_in && is_line_list top.otu3_out)
+    && (is_line_list top.scrambled_in && is_line_list top.scrambled_out))
 
 -- where these lines of the end's side are OTU3
 abbrev pub is_placed : List ℤ → End → Bool
@@ -31,7 +32,8 @@ is_placed otu3 (of_signal signal) = true
 
 -- an end's line, tributary port or client is out of range, or neither end is at a line
 abbrev pub breaks_place : Top → Entry → Bool
-breaks_place top e = not ((is_placed top.otu3_in e.from && is_placed top.otu3_out e.to) && (is_line e.from || is_line e.to))
+breaks_place top e = not ((is_placed top.otu3_in e.from && is_placed top.otu3_out e.to)
+    && (is_line e.from || is_line e.to))
 
 -- ---- slots
 
@@ -49,7 +51,8 @@ suits Flex count = true
 -- where these lines of the end's side are OTU3: the slots are slots of the line, and suit the connection's kind
 abbrev pub has_slots : List ℤ → Kind → End → Bool
 has_slots otu3 kind (at_line line port made_for slots) =
-    (is_same_kind made_for (line_kind otu3 line) && is_slot_list (line_slots otu3 line) slots) && suits kind (length slots)
+    (is_same_kind made_for (line_kind otu3 line) && is_slot_list (line_slots otu3 line) slots)
+    && suits kind (length slots)
 has_slots otu3 kind _ = true
 
 -- where both ends are at lines, they have as many slots
@@ -59,7 +62,8 @@ has_equal_counts _ _ = true
 
 -- an end has not the slots that it may have, or two ends at lines have not as many
 abbrev pub breaks_slots : Top → Entry → Bool
-breaks_slots top e = not ((has_slots top.otu3_in e.kind e.from && has_slots top.otu3_out e.kind e.to) && has_equal_counts e.from e.to)
+breaks_slots top e = not ((has_slots top.otu3_in e.kind e.from && has_slots top.otu3_out e.kind e.to)
+    && has_equal_counts e.from e.to)
 
 -- ---- the pace
 
@@ -93,12 +97,14 @@ meet e f = int_le (int_max e.start f.start) (int_min e.stop f.stop)
 
 -- at one line, with a slot of both
 abbrev pub share_slot : End → End → Bool
-share_slot (at_line line port kind slots) (at_line number other made_for others) = int_eq line number && have_common slots others
+share_slot (at_line line port kind slots) (at_line number other made_for others) = int_eq line number
+    && have_common slots others
 share_slot _ _ = false
 
 -- at one line, with one tributary port
 abbrev pub share_port : End → End → Bool
-share_port (at_line line port kind slots) (at_line number other made_for others) = int_eq line number && int_eq port other
+share_port (at_line line port kind slots) (at_line number other made_for others) = int_eq line number
+    && int_eq port other
 share_port _ _ = false
 
 -- at one client

@@ -1,4 +1,4 @@
--- What the table of a plan says: the value of each key, or what stands for it where the key is not there.
+-- Believed: what the table of a plan says: the value of each key, or what stands for it where the key is not there.
 use Rattle.std.specs.Prelude.{ℤ, pos, List, [], map, true, false, Option, codes}
 use Rattle.std.specs.Option.{option_map_or}
 use Rattle.otn_base.specs.declared.line_kind.LineKind.TheVariants.{Otu2}
@@ -17,7 +17,8 @@ pub use Rattle.plan_table.specs.Values.{number_or, truth_or, text_of, listed, li
 abbrev pub line_at : List ℤ → Data → End
 line_at otu3 end =
     let line = number_or (pos 0) (get (codes "line") end) in
-    at_line line (number_or (pos 0) (get (codes "port") end)) (line_kind otu3 line) (numbers (list_of (get (codes "slots") end)))
+    at_line line (number_or (pos 0) (get (codes "port") end)) (line_kind otu3 line)
+    (numbers (list_of (get (codes "slots") end)))
 
 -- an end at a client
 abbrev pub client_at : Data → End

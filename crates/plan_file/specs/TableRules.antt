@@ -1,4 +1,4 @@
--- The rules of keys and kinds: what breaks them at the top of a table, and at a connection.
+-- Believed: the rules of keys and kinds: what breaks them at the top of a table, and at a connection.
 use Rattle.std.specs.Prelude.{ℕ, List, [], ◌∷◌, ◌++◌, is_none, codes, Bool, false, not}
 use Rattle.toml.specs.Data.{Data, Members, get_member}
 use Rattle.plan_file.specs.declared.error.PlanError.{PlanError}

@@ -1,4 +1,4 @@
--- The ends of a connection in a table: the values of `from` and `to`, and the form that each takes.
+-- Believed: the ends of a connection in a table: the values of `from` and `to`, and the form that each takes.
 use Rattle.std.specs.Prelude.{ℕ, List, Bool, true, false, ◌&&◌, if◌then◌else◌, Option, is_some, codes}
 use Rattle.std.specs.Option.{option_map}
 use Rattle.toml.specs.Data.{Data, get, as_table}
@@ -27,7 +27,8 @@ can_be_signal To = false
 
 -- an end at a client where it has the key `client`, else a signal where it has the key `signal`, else an end at a line
 abbrev pub form_of : Side → Data → Form
-form_of side value = if has (codes "client") value then Client else if can_be_signal side && has (codes "signal") value then Signal else Line
+form_of side value = if has (codes "client") value then Client else if can_be_signal side && has (codes "signal") value
+    then Signal else Line
 
 -- a value of `from` or `to`
 pub record TableEnd : Type 0 where
@@ -36,4 +37,5 @@ pub record TableEnd : Type 0 where
 
 -- what the connection has as this end, if anything
 abbrev pub end_at : Side → Data → Option TableEnd
-end_at side connection = option_map (λ value. record { form = form_of side value; value = value }) (get (side_key side) connection)
+end_at side connection = option_map (λ value. record { form = form_of side value; value = value })
+    (get (side_key side) connection)

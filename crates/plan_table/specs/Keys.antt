@@ -1,4 +1,4 @@
--- The keys of a plan's tables: which a table may have, and which it must have.
+-- Believed: the keys of a plan's tables: which a table may have, and which it must have.
 use Rattle.std.specs.Prelude.{ℕ, ℤ, pos, List, [], ◌∷◌, ◌++◌, Bool, true, false, not, ◌&&◌, ◌||◌, if◌then◌else◌, codes}
 use Rattle.std.specs.List.{list_any}
 use Rattle.std.specs.Option.{option_map_or}
@@ -18,7 +18,8 @@ line_list_keys = codes "otu3-in" ∷ codes "otu3-out" ∷ codes "scrambled-in" �
 
 -- the keys of the top, in version 2 or not
 abbrev pub top_keys : Bool → List (List ℕ)
-top_keys is_second = (codes "version" ∷ codes "turns" ∷ codes "connection" ∷ []) ++ (if is_second then line_list_keys else [])
+top_keys is_second = (codes "version" ∷ codes "turns" ∷ codes "connection" ∷ [])
+    ++ (if is_second then line_list_keys else [])
 
 -- the keys of an end at a client
 abbrev pub client_keys : List (List ℕ)
@@ -34,7 +35,8 @@ line_keys = codes "line" ∷ codes "port" ∷ codes "slots" ∷ []
 
 -- the keys of a connection, where it may have a pace, and where it may have what belongs to a client input
 abbrev pub connection_keys : Bool → Bool → List (List ℕ)
-connection_keys paced from_client = (codes "name" ∷ codes "kind" ∷ codes "from" ∷ codes "to" ∷ codes "start" ∷ codes "stop" ∷ codes "retire" ∷ [])
+connection_keys paced from_client = (codes "name" ∷ codes "kind" ∷ codes "from" ∷ codes "to" ∷ codes "start"
+    ∷ codes "stop" ∷ codes "retire" ∷ [])
     ++ ((if paced then codes "pace" ∷ [] else [])
     ++ (if from_client then codes "fcs" ∷ codes "trace" ∷ [] else []))
 
@@ -54,7 +56,8 @@ end_keys Client = client_keys
 end_keys Signal = signal_keys
 end_keys Line = line_keys
 
--- the list of a connection from an end of the form: a pace only from a client or a signal, what belongs to a client input only from a client
+-- the list of a connection from an end of the form: a pace only from a client or a signal, what belongs to a client
+-- input only from a client
 abbrev pub form_keys : Form → List (List ℕ)
 form_keys Client = connection_keys true true
 form_keys Signal = connection_keys true false

@@ -1,4 +1,4 @@
--- The kinds of a plan's values: what each key's value has to be.
+-- Believed: the kinds of a plan's values: what each key's value has to be.
 use Rattle.std.specs.Prelude.{ℕ, pos, List, Bool, true, false, ◌&&◌, ◌||◌, is_some, codes}
 use Rattle.std.specs.Option.{option_map_or}
 use Rattle.std.specs.Str.{bytes_eq}
@@ -6,8 +6,6 @@ use Rattle.toml.specs.Data.{Data, Items, no_items, item, get, get_member, Member
 use Rattle.plan_table.specs.declared.ends.Form.{Form}
 use Rattle.plan_table.specs.declared.ends.Form.TheVariants.{Client, Signal, Line}
 use Rattle.plan_table.specs.declared.ends.Side.TheVariants.{From, To}
-use Rattle.plan_table.specs.declared.kinds.value.Wanted.{Wanted}
-use Rattle.plan_table.specs.declared.kinds.value.Wanted.TheVariants as wanted
 use Rattle.plan_table.specs.Ends.{is_table, TableEnd, end_at}
 use Rattle.plan_table.specs.Keys.{is_this_number}
 
@@ -52,24 +50,14 @@ is_kind = is_either (codes "odu0") (codes "flex")
 abbrev pub is_signal : Data → Bool
 is_signal = is_either (codes "oci") (codes "lck")
 
--- what a key asks for
-abbrev pub is_wanted : Wanted → Data → Bool
-is_wanted wanted.Number = is_number
-is_wanted wanted.Numbers = is_number_list
-is_wanted wanted.Truth = is_truth
-is_wanted wanted.Text = is_text
-is_wanted wanted.Tables = is_table_list
-is_wanted wanted.Version = is_version
-is_wanted wanted.Kind = is_kind
-is_wanted wanted.Signal = is_signal
-
 -- what the value has at the key, if anything, passes the test
 abbrev pub each_at : List ℕ → (Data → Bool) → Data → Bool
 each_at key test value = option_map_or test (get key value) true
 
 -- an end at a line
 abbrev pub is_line_end : Data → Bool
-is_line_end end = (each_at (codes "line") is_number end && each_at (codes "port") is_number end) && each_at (codes "slots") is_number_list end
+is_line_end end = (each_at (codes "line") is_number end && each_at (codes "port") is_number end)
+    && each_at (codes "slots") is_number_list end
 
 -- an end of the form
 abbrev pub has_form : Form → Data → Bool

@@ -1,4 +1,4 @@
--- The lines of a plan: of which kind each is, by the list of the lines that are OTU3.
+-- Believed: the lines of a plan: of which kind each is, by the list of the lines that are OTU3.
 use Rattle.std.specs.Prelude.{ℕ, ℤ, List, if◌then◌else◌}
 use Rattle.std.specs.List.{list_any}
 use Rattle.std.specs.Ordering.{int_eq}

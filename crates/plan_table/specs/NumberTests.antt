@@ -1,4 +1,4 @@
--- Tests of numbers, of lists of numbers, of paces, and of names and traces.
+-- Believed: tests of numbers, of lists of numbers, of paces, and of names and traces.
 use Rattle.std.specs.Prelude.{ℕ, ◌*◌, ◌+◌, ◌-◌, ℤ, pos, negsuc, int_lt, nat_le, ◌==◌, List, [], ◌∷◌, length, Bool, true, false, ◌&&◌, ◌||◌}
 use Rattle.std.specs.Int.{is_in_range}
 use Rattle.std.specs.List.{list_all, list_any}
@@ -46,7 +46,8 @@ most_pace Flex m = m * GROUPS
 
 -- a pace: a list of such numbers, not empty and not too long
 abbrev pub is_pace : Kind → ℕ → List ℤ → Bool
-is_pace kind m pace = (nat_le 1 (length pace) && nat_le (length pace) MOST_PACES) && list_all (is_within (least_pace kind m) (most_pace kind m)) pace
+is_pace kind m pace = (nat_le 1 (length pace) && nat_le (length pace) MOST_PACES)
+    && list_all (is_within (least_pace kind m) (most_pace kind m)) pace
 
 -- ---- names and traces
 

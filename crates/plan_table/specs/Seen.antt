@@ -1,4 +1,4 @@
--- What the code's views of a table are in its values.
+-- API: what the code's views of a table are in its values.
 use Rattle.std.specs.Prelude.{ℕ, ℤ, pos, List, map, Option}
 use Rattle.std.specs.Option.{option_map_or}
 use Rattle.toml.specs.View.{view}

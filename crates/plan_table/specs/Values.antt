@@ -1,4 +1,4 @@
--- What a value of a plan's table says, or what stands for it where the key is not there.
+-- Believed: what a value of a plan's table says, or what stands for it where the key is not there.
 use Rattle.std.specs.Prelude.{ℕ, ◌*◌, ℤ, pos, List, [], ◌∷◌, map, Bool, if◌then◌else◌, Option, Some, unwrap_or, codes}
 use Rattle.std.specs.Option.{option_and_then, option_map_or}
 use Rattle.std.specs.Str.{bytes_eq}

@@ -1,4 +1,4 @@
--- The files of the current folder, and which of them each command reads and writes.
+-- API: the files of the current folder, and which of them each command reads and writes.
 use Rattle.std.specs.Prelude.{◌≡◌, ◌++◌, ◌⊎◌, ◌<◌, ◌/◌, ◌%◌, nat_lt, ◌==◌, ℕ, zero, suc, Bool, true, false, List, [], ◌∷◌, codes, filter}
 use Rattle.std.specs.Fmt.{decimal}
 use Rattle.std.specs.List.{list_any}
@@ -38,7 +38,8 @@ IsOutput (line-out n) = n < LINES
 IsOutput (text-out n) = n < CLIENTS
 IsOutput (capture-out n) = n < CLIENTS
 
--- the files of the first inputs, so many lines and so many clients: of a client its packet text comes before its capture
+-- the files of the first inputs, so many lines and so many clients: of a client its packet text comes before its
+-- capture
 abbrev pub first_lines_in : ℕ → List InputFile
 first_lines_in zero = []
 first_lines_in (suc n) = first_lines_in n ++ line-in n ∷ []
@@ -112,7 +113,8 @@ is_read (Protect port slots turns wait) file = is_line_below 2 file
 is_read (Bundle clients turns) file = is_text_of clients file
 is_read (Unbundle turns) file = is_line_below 1 file
 
--- whether a command writes this file: a run all outputs, `protect` and `bundle` line output 0, `unbundle` the packet texts, and all others none
+-- whether a command writes this file: a run all outputs, `protect` and `bundle` line output 0, `unbundle` the packet
+-- texts, and all others none
 abbrev pub is_written : Command → OutputFile → Bool
 is_written (Slot slot) file = false
 is_written (Pull port slots) file = false
@@ -147,10 +149,12 @@ files_written command = filter (is_written command) (first_lines_out LINES ++ fi
 
 -- these are the files that the command of these words reads, or writes; words that are no command have none
 abbrev pub AreRead : List (List ℕ) → List InputFile → Type 0
-AreRead words files = ((command : Command) × IsForm words command × (files ≡ files_read command)) ⊎ (IsNoForm words × (files ≡ []))
+AreRead words files = ((command : Command) × IsForm words command × (files ≡ files_read command))
+    ⊎ (IsNoForm words × (files ≡ []))
 
 abbrev pub AreWritten : List (List ℕ) → List OutputFile → Type 0
-AreWritten words files = ((command : Command) × IsForm words command × (files ≡ files_written command)) ⊎ (IsNoForm words × (files ≡ []))
+AreWritten words files = ((command : Command) × IsForm words command × (files ≡ files_written command))
+    ⊎ (IsNoForm words × (files ≡ []))
 
 -- these words are a command that reads the plan
 abbrev pub ReadsPlan : List (List ℕ) → Type 0

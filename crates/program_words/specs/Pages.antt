@@ -1,4 +1,4 @@
--- The words that are answered by a page of text.
+-- API: the words that are answered by a page of text.
 use Rattle.std.specs.Prelude.{◌≡◌, ◌⊎◌, ℕ, List, [], ◌∷◌, codes}
 use Rattle.program_words.specs.declared.pages.Page.{Page}
 use Rattle.program_words.specs.declared.pages.Page.TheVariants.{Help, Rules, Version}

@@ -1,4 +1,4 @@
--- The meanings of a file's port are those of what it holds.
+-- API: the meanings of a file's port are those of what it holds.
 use Rattle.std.specs.Prelude.{ℕ, Bool, false, List, Option}
 use Rattle.otn_ports.specs.declared.sink.Sink.{Ghosts}
 use Rattle.pcap_packets.specs.Captures.{capture_left, capture_ended, capture_faults}

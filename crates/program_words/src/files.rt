@@ -68,8 +68,9 @@ fn name_of_client(alloc: Global, n: u8, ending: &str) -> Result<String, AllocErr
     format!(in alloc; "client-{tens}{units}{ending}")
 }
 
-/// The files of the inputs that the command of these words reads, in the order in which they are opened. The packet text
-/// of a client comes before its capture, which is for a client without a text. Words that are no command have no files.
+/// The files of the inputs that the command of these words reads, in the order in which they are opened. The packet
+/// text of a client comes before its capture, which is for a client without a text. Words that are no command have no
+/// files.
 pub fn input_files(alloc: Global, words: &[String]) -> Result<Vec<InputFile>, AllocError>
     ensures files { IfOk result (λ files. AreRead (texts words.now) files.items) }
     ensures places { IfOk result (λ files. All IsInput files.items) }

@@ -5,8 +5,8 @@ ghost use Rattle.program_words.specs.Ports.{is_output_boxed, output_faults, outp
 use otn_ports::{Failed, Sink, Source, Written};
 use pcap_packets::{PcapSink, PcapSource};
 
-/// What the place of an input file holds: the file as it is, or the capture that it has. Each call on it, and each of its
-/// meanings, is that of what it holds.
+/// What the place of an input file holds: the file as it is, or the capture that it has. Each call on it, and each of
+/// its meanings, is that of what it holds.
 #[derive(Drop)]
 pub enum InputPort<S> {
     Plain(S),

@@ -25,7 +25,8 @@ use Rattle.otn_ports.specs.declared.ended.Ended.TheVariants.{ReportFault}
 use Rattle.protect_selector.specs.declared.protecting.Protecting.{Protecting}
 use Rattle.protect_selector.specs.Selector.{HasChosen}
 use Rattle.protect_selector.specs.OfLines.{turns_before, given_on, given_before, switch_text}
-use Rattle.protect_selector.specs.Protecting.{Ends, Stands, StandsLost, TurnGone, TurnsGone, SettledAs, AreReady, OnlyProtected, has_dead, ends_of}
+use Rattle.protect_selector.specs.Protecting.{Ends, OnlyProtected, ends_of}
+use Rattle.protect_selector.specs.Steps.Protecting.{Stands, StandsLost, TurnGone, TurnsGone, SettledAs, AreReady, has_dead}
 use Rattle.protect_selector.specs.ProtectLeft.{HasMore, IsCut, OutputDue, AllDone, LeftSo, ProtectRan}
 use Rattle.protect_selector.proofs.ProtectTurns.{SeenOf}
 

@@ -21,7 +21,8 @@ use Rattle.protect_selector.specs.declared.protecting.Protecting.{Protecting}
 use Rattle.protect_selector.specs.Selected.{BothTurn, of_side, choice_in}
 use Rattle.protect_selector.specs.Selector.{SelectorView, HasChosen}
 use Rattle.protect_selector.specs.OfLines.{both_turn, turns_before, choice_at, bytes_of, given_on, given_before, switch_line, switch_text, switch_text_at}
-use Rattle.protect_selector.specs.Protecting.{Ends, AgreesAfter, Stands, OnlyProtected, TurnGone}
+use Rattle.protect_selector.specs.Protecting.{Ends, OnlyProtected}
+use Rattle.protect_selector.specs.Steps.Protecting.{AgreesAfter, Stands, TurnGone}
 use Rattle.protect_selector.proofs.OfLines.{turns_next, given_next, completes_on}
 
 text_next : (own : Tributary) (n : ℕ) (w p : List ℕ) (t : ℕ) → switch_text own n w p (suc t) ≡ switch_text own n w p t ++ switch_text_at own n w p t

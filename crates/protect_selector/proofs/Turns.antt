@@ -7,7 +7,8 @@ use Rattle.protect_selector.specs.declared.side.Side.TheVariants.{Working, Prote
 use Rattle.protect_selector.specs.declared.side.SwitchCause.{SwitchCause}
 use Rattle.protect_selector.specs.declared.side.Choice.{Choice}
 use Rattle.protect_selector.specs.Selected.{BothTurn, Selection, of_side, other, is_up, turns_up, cause_in, side_by, came_of, to_skip_in, choice_in, selection, selection_after}
-use Rattle.protect_selector.specs.Selector.{SelectorView, HasChosen, IsSelector, number_by, state_by, came_in, cause_by, to_skip_by}
+use Rattle.protect_selector.specs.Selector.{SelectorView, HasChosen, IsSelector, number_by, came_in}
+use Rattle.protect_selector.specs.Steps.Selector.{state_by, cause_by, to_skip_by}
 use Rattle.protect_selector.specs.Laws.{AreAligned, CompletesNoMore}
 use Rattle.protect_selector.proofs.Modulo.{still_aligned, aligned_at_switch, no_more_groups, no_more_in_total}
 

@@ -1,4 +1,4 @@
--- What is carried on the working line of a protected tributary.
+-- API: what is carried on the working line of a protected tributary.
 use Rattle.std.specs.Prelude.{◌≡◌, ℕ, suc, ◌*◌, ◌≤◌, List, ◌∷◌, None}
 use Rattle.std.specs.List.{concat}
 use Rattle.otn_base.specs.declared.limits.TheConstants.{OTU2_SLOTS}
@@ -12,8 +12,8 @@ use Rattle.tributary_line.specs.TributaryFile.{IsTributaryFile}
 use Rattle.protect_selector.specs.declared.side.Side.TheVariants.{Working}
 use Rattle.protect_selector.specs.OfLines.{choice_at, given_on, given_before, switch_text}
 
--- Where the working line carries a sender's bytes in steady numbers from the first turn to turn u, there is no switch until then, whatever protection brings, and
--- all that the working sink emits goes on.
+-- Where the working line carries a sender's bytes in steady numbers from the first turn to turn u, there is no switch
+-- until then, whatever protection brings, and all that the working sink emits goes on.
 pub record Stays (own : Tributary) (n : ℕ) (w p : List ℕ) (t : ℕ) : Type 0 where
   pub choice : choice_at own n w p t ≡ record { side = Working; skip = 0; cause = None }
   pub given : given_on own n w p t ≡ emitted_at own w t
@@ -29,7 +29,9 @@ CarriesTwoLater = (own : Tributary) (n b : ℕ) (bytes numbers w p : List ℕ) (
     → IsTributaryFile b own (given_before own n w p (suc u)) (OTU2_SLOTS * suc u) frames
     → Arrives own bytes (0 ∷ 0 ∷ numbers) (view_at own (concat frames)) 0 0 0 u
 
--- What goes on, and what is told, is fixed by the own places of both lines and their MFAS bytes: on lines that agree on these it is the same.
+-- What goes on, and what is told, is fixed by the own places of both lines and their MFAS bytes: on lines that agree on
+-- these it is the same.
 abbrev pub IsApart : Type 0
-IsApart = (own : Tributary) (n : ℕ) (w w' p p' : List ℕ) (t : ℕ) → IsTributary own → AgreeOnTributary own w w' → AgreeOnTributary own p p'
+IsApart = (own : Tributary) (n : ℕ) (w w' p p' : List ℕ) (t : ℕ) → IsTributary own → AgreeOnTributary own w w'
+    → AgreeOnTributary own p p'
     → (given_before own n w p t ≡ given_before own n w' p' t) × (switch_text own n w p t ≡ switch_text own n w' p' t)

@@ -1,4 +1,4 @@
--- What holds of every choice.
+-- API: what holds of every choice.
 use Rattle.std.specs.Prelude.{◌≡◌, ℕ, ◌+◌, ◌/◌, ◌%◌, ◌<◌, ◌≤◌, List, ◌∷◌, true, false, Some, None}
 use Rattle.protect_selector.specs.declared.side.Side.{Side}
 use Rattle.protect_selector.specs.declared.side.Side.TheVariants.{Working, Protection}
@@ -16,17 +16,21 @@ IsNotUpIn side now = is_up (of_side side now).state ≡ false
 -- why a turn's choice is as it is, after a turn in which this was the side
 pub record HasCause (m n : ℕ) (now : BothTurn) (past : List BothTurn) (before : Side) : Type 0 where
   pub none : (choice_in m n now past).cause ≡ None → (choice_in m n now past).side ≡ before
-  pub defect : (choice_in m n now past).cause ≡ Some Defect → ((choice_in m n now past).side ≡ other before) × IsNotUpIn before now × IsUpIn (other before) now
+  pub defect : (choice_in m n now past).cause ≡ Some Defect
+      → ((choice_in m n now past).side ≡ other before) × IsNotUpIn before now × IsUpIn (other before) now
   pub restored : (choice_in m n now past).cause ≡ Some Restored
-      → (before ≡ Protection) × ((choice_in m n now past).side ≡ Working) × (0 < n) × (n ≤ turns_up (now ∷ past)) × IsUpIn Working now
+      → (before ≡ Protection) × ((choice_in m n now past).side ≡ Working) × (0 < n) × (n ≤ turns_up (now ∷ past))
+      × IsUpIn Working now
 
--- Every switch has its cause: after a defect the side was not Up and the other is; a side that is restored was Up for so many turns.
+-- Every switch has its cause: after a defect the side was not Up and the other is; a side that is restored was Up for
+-- so many turns.
 abbrev pub HaveCauses : Type 0
 HaveCauses = (m n : ℕ) (now : BothTurn) (past : List BothTurn) → HasCause m n now past (selection m n past).side
 
 -- After each turn in which a sink of the two is Up, that of the side is.
 abbrev pub IsUpWhereOneIs : Type 0
-IsUpWhereOneIs = (m n : ℕ) (now : BothTurn) (past : List BothTurn) (side : Side) → IsUpIn side now → IsUpIn (choice_in m n now past).side now
+IsUpWhereOneIs = (m n : ℕ) (now : BothTurn) (past : List BothTurn) (side : Side) → IsUpIn side now
+    → IsUpIn (choice_in m n now past).side now
 
 -- In a turn without a switch that begins with nothing to be skipped, nothing is skipped.
 abbrev pub GivesAllOn : Type 0

@@ -6,3 +6,4 @@ pub mod ProtectLeft
 pub mod Laws
 pub mod Carried
 pub mod ReadsBack
+pub mod Steps

@@ -1,4 +1,4 @@
--- What the command leaves, from its places and the report as they were first to how they are last.
+-- Believed: what the command leaves, from its places and the report as they were first to how they are last.
 use Rattle.std.specs.Prelude.{◌≡◌, ◌⊎◌, ◌↔◌, ◌<◌, ◌*◌, ℕ, suc, min, Bool, List, ◌++◌, length, take}
 use Rattle.std.specs.List.{concat}
 use Rattle.otn_base.specs.declared.limits.TheConstants.{OTU2_SLOTS}
@@ -34,7 +34,8 @@ pub record OutputDue (own : Tributary) (turns : List (List ℕ)) (count : ℕ) (
   pub sent : IsSent first.output (concat frames) last.output
 
 -- where the report did not fail: all turns were done, and all lines written; the lines of both were taken
-pub record AllDone (own : Tributary) (turns n : ℕ) (first last : Ends) (ended : Ended) (working protection w p : List ℕ) : Type 0 where
+pub record AllDone (own : Tributary) (turns n : ℕ) (first last : Ends) (ended : Ended)
+    (working protection w p : List ℕ) : Type 0 where
   pub output : OutputDue own (given_before own n w p turns) turns first last
   pub report : SinkGot first.report (switch_text own n w p turns) last.report
   pub working_took : TookOf turns w working
@@ -42,8 +43,8 @@ pub record AllDone (own : Tributary) (turns n : ℕ) (first last : Ends) (ended 
   pub cut : (ended ≡ Cut) ↔ IsCut last
   pub unfinished : (ended ≡ Unfinished) ↔ ((IsCut last → ⊥) × (HasMore turns w ⊎ HasMore turns p))
 
--- Where it failed: that was at the line of the switch in turn t + 1, of which a part was written and not all, behind the lines before. The
--- frames of the turns before were written.
+-- Where it failed: that was at the line of the switch in turn t + 1, of which a part was written and not all, behind
+-- the lines before. The frames of the turns before were written.
 pub record StoppedIn (own : Tributary) (t n : ℕ) (first last : Ends) (w p : List ℕ) : Type 0 where
   pub output : OutputDue own (given_before own n w p t) t first last
   pub went : ℕ
@@ -51,10 +52,12 @@ pub record StoppedIn (own : Tributary) (t n : ℕ) (first last : Ends) (w p : Li
   pub report : SinkGot first.report (switch_text own n w p t ++ take went (switch_text_at own n w p t)) last.report
 
 -- by how the command ended, where the lines are these, of so many turns
-abbrev pub LeftSo : (ended : Ended) → Tributary → (turns n t : ℕ) → (first last : Ends) → (working protection w p : List ℕ) → Type 0
+abbrev pub LeftSo : (ended : Ended) → Tributary → (turns n t : ℕ) → (first last : Ends)
+    → (working protection w p : List ℕ) → Type 0
 LeftSo ReportFault own turns n t first last working protection w p = (t < turns) × StoppedIn own t n first last w p
 LeftSo Memory own turns n t first last working protection w p = ⊥
-LeftSo ended own turns n t first last working protection w p = AllDone own turns n first last ended working protection w p
+LeftSo ended own turns n t first last working protection w p =
+    AllDone own turns n first last ended working protection w p
 
 -- These bytes were taken of the lines. More may stand behind them; whatever both turn out to be, this is left.
 pub record ProtectRan (own : Tributary) (turns n : ℕ) (first last : Ends) (ended : Ended) : Type 0 where
@@ -66,4 +69,5 @@ pub record ProtectRan (own : Tributary) (turns n : ℕ) (first last : Ends) (end
   pub protection_left : InputLeft first.protection last.protection protection protection_more
   -- the turn at whose switch the report failed, from 0, where it did
   pub stopped : ℕ
-  pub left : (w p : List ℕ) → MayHave working_more working w → MayHave protection_more protection p → LeftSo ended own turns n stopped first last working protection w p
+  pub left : (w p : List ℕ) → MayHave working_more working w → MayHave protection_more protection p
+      → LeftSo ended own turns n stopped first last working protection w p

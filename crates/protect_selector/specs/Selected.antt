@@ -1,4 +1,5 @@
--- What 1+1 protection gives on (G.873.1: unidirectional, without APS). Turns of both lines are listed with the last first.
+-- Believed: what 1+1 protection gives on (G.873.1: unidirectional, without APS). Turns of both lines are listed with
+-- the last first.
 use Rattle.std.specs.Prelude.{ℕ, suc, ◌+◌, ◌-◌, ◌%◌, min, nat_lt, nat_le, List, [], ◌∷◌, Bool, true, false, not, ◌&&◌, if◌then◌else◌, Option, Some, None}
 use Rattle.tributary_model.specs.declared.turns.SinkState.{SinkState}
 use Rattle.tributary_model.specs.declared.turns.SinkState.TheVariants.{Waiting, Up, Down}
@@ -46,14 +47,15 @@ turns_up (now ∷ past) = if is_up now.working.state then suc (turns_up past) el
 abbrev pub has_defect : Side → BothTurn → Bool
 has_defect side now = not (is_up (of_side side now).state) && is_up (of_side (other side) now).state
 
--- Revertive operation, n turns of waiting to restore: the side is protection, and working was Up after each of the last n turns. With
--- n = 0 the operation is non-revertive.
+-- Revertive operation, n turns of waiting to restore: the side is protection, and working was Up after each of the last
+-- n turns. With n = 0 the operation is non-revertive.
 abbrev pub is_restored : (n : ℕ) → Side → List BothTurn → Bool
 is_restored n side turns = is_protection side && nat_lt 0 n && nat_le n (turns_up turns)
 
 -- the cause of a switch in the first of these turns, where this was the side before it
 abbrev pub cause_in : (n : ℕ) → Side → (now : BothTurn) → (past : List BothTurn) → Option SwitchCause
-cause_in n side now past = if has_defect side now then Some Defect else if is_restored n side (now ∷ past) then Some Restored else None
+cause_in n side now past = if has_defect side now then Some Defect else if is_restored n side (now ∷ past)
+    then Some Restored else None
 
 -- the side after it
 abbrev pub side_by : Side → Option SwitchCause → Side
@@ -67,14 +69,15 @@ abbrev pub came_of : Side → List BothTurn → ℕ
 came_of side [] = 0
 came_of side (now ∷ past) = came_of side past + (of_side side now).bytes
 
--- after some turns: the side, how many of its next bytes are still to be skipped, and how many bytes were given on in all
+-- after some turns: the side, how many of its next bytes are still to be skipped, and how many bytes were given on in
+-- all
 pub record Selection : Type 0 where
   pub side : Side
   pub to_skip : ℕ
   pub given : ℕ
 
--- What is skipped of a side from a switch on, so that groups of m bytes stay whole: the number of bytes given on less that of the bytes that
--- the side emitted before, modulo m.
+-- What is skipped of a side from a switch on, so that groups of m bytes stay whole: the number of bytes given on less
+-- that of the bytes that the side emitted before, modulo m.
 abbrev pub skip_at_switch : (m given came : ℕ) → ℕ
 skip_at_switch m given came = (given + (m - came % m)) % m
 

@@ -1,15 +1,13 @@
--- A selector after some turns.
-use Rattle.std.specs.Prelude.{◌≡◌, ℕ, ◌+◌, ◌-◌, ◌%◌, ◌<◌, ◌≤◌, min, nat_lt, nat_le, not, ◌&&◌, if◌then◌else◌, List, Option, Some, None}
+-- API: a selector after some turns.
+use Rattle.std.specs.Prelude.{◌≡◌, ℕ, ◌+◌, ◌%◌, ◌<◌, ◌≤◌, min, List}
 use Rattle.otn_base.specs.declared.limits.TheConstants.{MOST_SLOTS}
-use Rattle.tributary_model.specs.declared.turns.SinkState.{SinkState}
 use Rattle.protect_selector.specs.declared.side.Side.{Side}
 use Rattle.protect_selector.specs.declared.side.Side.TheVariants.{Working, Protection}
-use Rattle.protect_selector.specs.declared.side.SwitchCause.{SwitchCause}
-use Rattle.protect_selector.specs.declared.side.SwitchCause.TheVariants.{Defect, Restored}
-use Rattle.protect_selector.specs.Selected.{BothTurn, selection, is_up, is_protection, turns_up, came_of}
+use Rattle.protect_selector.specs.Selected.{BothTurn, selection, turns_up, came_of}
 
--- what is seen of a selector: its slots, the turns that are waited for, the side, for how many turns working was Up, at most as many as are
--- waited for, what is still to be skipped, and modulo the slots how many bytes were given on and emitted by each side
+-- what is seen of a selector: its slots, the turns that are waited for, the side, for how many turns working was Up, at
+-- most as many as are waited for, what is still to be skipped, and modulo the slots how many bytes were given on and
+-- emitted by each side
 pub record SelectorView : Type 0 where
   pub m : ℕ
   pub n : ℕ
@@ -25,27 +23,12 @@ abbrev pub number_by : Side → (working protection : ℕ) → ℕ
 number_by Working working protection = working
 number_by Protection working protection = protection
 
-abbrev pub state_by : Side → (working protection : SinkState) → SinkState
-state_by Working working protection = working
-state_by Protection working protection = protection
-
 -- how many bytes a side emitted, modulo the slots
 abbrev pub came_in : Side → SelectorView → ℕ
 came_in side s = number_by side s.working s.protection
 
--- the cause of a switch, by how the sinks of the side and of the other stand, where working was Up for so many turns
-abbrev pub cause_by : (n up : ℕ) → Side → (own beside : SinkState) → Option SwitchCause
-cause_by n up side own beside =
-    if not (is_up own) && is_up beside then Some Defect
-    else if is_protection side && nat_lt 0 n && nat_le n up then Some Restored else None
-
--- what is to be skipped in a turn, by counts modulo m
-abbrev pub to_skip_by : (m came : ℕ) → Option SwitchCause → (skip given : ℕ) → ℕ
-to_skip_by m came None skip given = skip
-to_skip_by m came (Some cause) skip given = (given + (m - came)) % m
-
--- What holds of every selector: it has slots, counts modulo these, and once it has skipped what is still to be skipped, the groups that it
--- gives on are those of the side.
+-- What holds of every selector: it has slots, counts modulo these, and once it has skipped what is still to be skipped,
+-- the groups that it gives on are those of the side.
 pub record IsSelector (s : SelectorView) : Type 0 where
   pub some : 1 ≤ s.m
   pub few : s.m ≤ MOST_SLOTS

@@ -6,7 +6,8 @@ ghost use Rattle.otn_ports.specs.PortViews.{sink_view};
 ghost use Rattle.otn_ports.specs.Racks.{bays_view};
 ghost use Rattle.tributary_model.specs.Laws.{IsTributary};
 ghost use Rattle.tributary_model.specs.Places.{Tributary, tributary_of};
-ghost use Rattle.protect_selector.specs.Protecting.{AreReady, OnlyProtected, TurnsGone, ends_of};
+ghost use Rattle.protect_selector.specs.Protecting.{OnlyProtected, ends_of};
+ghost use Rattle.protect_selector.specs.Steps.Protecting.{AreReady, TurnsGone};
 ghost use Rattle.protect_selector.specs.ProtectLeft.{ProtectRan};
 
 use crate::protecting::Protecting;
@@ -16,11 +17,12 @@ use otn_base::{LineKind, Slots};
 use otn_ports::{Ended, Rack, Sink, Source, Written};
 use std::alloc::{AllocError, Global};
 
-/// Takes the tributary of these slots and this tributary port, 1 to 8, from line input 0, the working line, and from line input 1, the
-/// protection line, in each of so many turns, 1 to 16,384, and puts the better one on line output 0, with the same slots and port: all are
-/// plain OTU2 lines. It goes back to working once that was Up for `wait` turns in a row; never, where `wait` is 0. The report
-/// has a line for each switch, which is written when it happens; a write of it that fails ends the command at once. A line that is dead or has
-/// ended stops nothing. After the last turn both lines are asked for one byte more.
+/// Takes the tributary of these slots and this tributary port, 1 to 8, from line input 0, the working line, and from
+/// line input 1, the protection line, in each of so many turns, 1 to 16,384, and puts the better one on line output 0,
+/// with the same slots and port: all are plain OTU2 lines. It goes back to working once that was Up for `wait` turns in
+/// a row; never, where `wait` is 0. The report has a line for each switch, which is written when it happens; a write of
+/// it that fails ends the command at once. A line that is dead or has ended stops nothing. After the last turn both
+/// lines are asked for one byte more.
 pub fn protect<I: Source, O: Sink, K: Sink>(
     alloc: Global,
     port: u8,
@@ -38,7 +40,8 @@ pub fn protect<I: Source, O: Sink, K: Sink>(
     ensures ran { result ≢ Ended.Memory → ProtectRan (tributary_of slots.now port) turns wait
         (ends_of (bays_view I.Source O.Sink bays.old) (sink_view K.Sink report.old)) (ends_of (bays_view I.Source O.Sink bays.new) (sink_view K.Sink report.new)) result }
 
-    // all places but these three are as they were; the report's count of faults rose or stands at its end where it ended the command, and else it is as it was
+    // all places but these three are as they were; the report's count of faults rose or stands at its end where it
+    // ended the command, and else it is as it was
     ensures alone { OnlyProtected (bays_view I.Source O.Sink bays.old) (bays_view I.Source O.Sink bays.new) }
     ensures cause { result ≡ Ended.ReportFault → HasFailed (K.faults report.old) (K.faults report.new) }
     ensures well { result ≢ Ended.ReportFault → K.faults report.new ≡ K.faults report.old }
@@ -83,8 +86,10 @@ fn run_turns<I: Source, O: Sink, K: Sink>(
     requires protection_room { vec_len protection_room.old ≡ length parts.old.feed.source.slots.list * (GROUPS + 1) }
     requires turns { turns ≤ MOST_TURNS }
     ensures ran { (own : Tributary) (n : ℕ) → IsTributary own
-        → TurnsGone own n (ends_of (bays_view I.Source O.Sink bays.old) (sink_view K.Sink report.old)) (ends_of (bays_view I.Source O.Sink bays.old) (sink_view K.Sink report.old)) 0 parts.old
-        → ProtectRan own turns n (ends_of (bays_view I.Source O.Sink bays.old) (sink_view K.Sink report.old)) (ends_of (bays_view I.Source O.Sink bays.new) (sink_view K.Sink report.new)) result }
+        → TurnsGone own n (ends_of (bays_view I.Source O.Sink bays.old) (sink_view K.Sink report.old))
+        (ends_of (bays_view I.Source O.Sink bays.old) (sink_view K.Sink report.old)) 0 parts.old
+        → ProtectRan own turns n (ends_of (bays_view I.Source O.Sink bays.old) (sink_view K.Sink report.old))
+        (ends_of (bays_view I.Source O.Sink bays.new) (sink_view K.Sink report.new)) result }
     ensures some { result ≢ Ended.Memory }
     ensures alone { OnlyProtected (bays_view I.Source O.Sink bays.old) (bays_view I.Source O.Sink bays.new) }
     ensures cause { result ≡ Ended.ReportFault → HasFailed (K.faults report.old) (K.faults report.new) }

@@ -1,5 +1,5 @@
-//! 1+1 protection (G.873.1, unidirectional, without APS): one tributary arrives on two lines, working and protection, and the
-//! better one of them goes on.
+//! 1+1 protection (G.873.1, unidirectional, without APS): one tributary arrives on two lines, working and protection,
+//! and the better one of them goes on.
 //!
 //! - `side`: the two lines, why one is left for the other, and what is chosen in a turn.
 //! - `selector`: `Selector`, which chooses turn by turn.

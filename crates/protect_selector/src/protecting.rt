@@ -31,12 +31,13 @@ ghost use Rattle.otn_ports.specs.Bytes.{HasFailed};
 ghost use Rattle.otn_ports.specs.Racks.{bays_view};
 ghost use Rattle.tributary_model.specs.Laws.{IsTributary};
 ghost use Rattle.protect_selector.specs.OfLines.{bytes_of};
-ghost use Rattle.protect_selector.specs.Protecting.{AreReady, Ends, OnlyProtected, Stands, TurnGone, ends_of};
-ghost use Rattle.protect_selector.specs.Protecting.{TurnsGone};
+ghost use Rattle.protect_selector.specs.Protecting.{Ends, OnlyProtected, ends_of};
+ghost use Rattle.protect_selector.specs.Steps.Protecting.{AreReady, Stands, TurnGone};
+ghost use Rattle.protect_selector.specs.Steps.Protecting.{TurnsGone};
 
 impl Protecting {
-    /// The parts for a tributary of these slots and this tributary port, 1 to 8, before the first turn, with so many turns of waiting
-    /// to restore. Takes all memory that they will ever need; answers `Memory` where there is none.
+    /// The parts for a tributary of these slots and this tributary port, 1 to 8, before the first turn, with so many
+    /// turns of waiting to restore. Takes all memory that they will ever need; answers `Memory` where there is none.
     pub(crate) fn new(
         alloc: Global,
         port: u8,
@@ -46,7 +47,8 @@ impl Protecting {
         requires low { 1 ≤ port }
         requires high { port ≤ OTU2_SLOTS }
         requires plain { slots.now.kind ≡ LineKind.Otu2 }
-        ensures gone { IfOk result (λ parts. (first : Ends) → TurnsGone (tributary_of slots.now port) wait first first 0 parts) }
+        ensures gone { IfOk result (λ parts. (first : Ends)
+            → TurnsGone (tributary_of slots.now port) wait first first 0 parts) }
         ensures tributary { IfOk result (λ _. IsTributary (tributary_of slots.now port)) }
         ensures ready { IfOk result AreReady }
         ensures slots { IfOk result (λ parts. parts.feed.source.slots ≡ slots.now) }
@@ -63,8 +65,8 @@ impl Protecting {
         })
     }
 
-    /// Turn t + 1: the sinks see a turn of their lines each, the choice is told where it is a switch, and what is chosen goes on. Where the
-    /// report fails nothing goes on.
+    /// Turn t + 1: the sinks see a turn of their lines each, the choice is told where it is a switch, and what is
+    /// chosen goes on. Where the report fails nothing goes on.
     pub(crate) fn turn<I: Source, O: Sink, K: Sink>(
         &mut self,
         t: u32,
@@ -78,8 +80,10 @@ impl Protecting {
         requires protection_room { vec_len protection_room.old ≡ length self.old.feed.source.slots.list * (GROUPS + 1) }
         requires turn { t < MOST_TURNS }
         ensures gone { (own : Tributary) (n : ℕ) (first : Ends) (working protection : List ℕ) → IsTributary own
-            → Stands own n first (ends_of (bays_view I.Source O.Sink bays.old) (sink_view K.Sink report.old)) working protection t self.old
-            → TurnGone result own n first (ends_of (bays_view I.Source O.Sink bays.new) (sink_view K.Sink report.new)) working protection t self.new }
+            → Stands own n first (ends_of (bays_view I.Source O.Sink bays.old) (sink_view K.Sink report.old)) working
+            protection t self.old
+            → TurnGone result own n first (ends_of (bays_view I.Source O.Sink bays.new) (sink_view K.Sink report.new))
+            working protection t self.new }
         ensures ready { AreReady self.new }
         ensures slots { self.new.feed.source.slots ≡ self.old.feed.source.slots }
         ensures working_stays { vec_len working_room.new ≡ vec_len working_room.old }
@@ -112,7 +116,8 @@ impl Protecting {
     }
 }
 
-// The source takes the bytes of the side, which stand in one of the buffers, without those that are skipped: the frames of a turn are written.
+// The source takes the bytes of the side, which stand in one of the buffers, without those that are skipped: the frames
+// of a turn are written.
 fn give_on<O: Sink>(
     feed: &mut Feed,
     choice: Choice,
@@ -129,8 +134,12 @@ fn give_on<O: Sink>(
     requires working_room { vec_len working_room.old ≡ length feed.old.source.slots.list * (GROUPS + 1) }
     requires protection_room { vec_len protection_room.old ≡ length feed.old.source.slots.list * (GROUPS + 1) }
     requires plain { feed.old.source.slots.kind ≡ LineKind.Otu2 }
-    requires skip { choice.skip ≤ length (bytes_of choice.side (slice_range working_room.old.items working.start working.end) (slice_range protection_room.old.items protection.start protection.end)) }
-    ensures stands { let bytes : List ℕ = drop choice.skip (bytes_of choice.side (slice_range working_room.old.items working.start working.end) (slice_range protection_room.old.items protection.start protection.end)) in
+    requires skip { choice.skip ≤ length (bytes_of choice.side
+        (slice_range working_room.old.items working.start working.end)
+        (slice_range protection_room.old.items protection.start protection.end)) }
+    ensures stands { let bytes : List ℕ = drop choice.skip
+        (bytes_of choice.side (slice_range working_room.old.items working.start working.end)
+        (slice_range protection_room.old.items protection.start protection.end)) in
         (own : Tributary) (first : OutView) (turns : List (List ℕ)) → FeedStands own first (out_view O.Sink place.old) turns feed.old
         → Completes own turns bytes → FeedStands own first (out_view O.Sink place.new) (turns ++ bytes ∷ []) feed.new }
     ensures slots { feed.new.source.slots ≡ feed.old.source.slots }

@@ -13,7 +13,8 @@ use otn_ports::{Sink, Written, write_whole};
 /// Writes the line of turn t + 1, where the choice in it is a switch.
 pub(crate) fn write_switch<K: Sink>(report: &mut K, t: u32, choice: Choice) -> Written
     requires { t ≤ MOST_TURNS }
-    ensures { SinkWrites result (sink_view K.Sink report.old) (switch_line t choice.side choice.cause) (sink_view K.Sink report.new) }
+    ensures { SinkWrites result (sink_view K.Sink report.old) (switch_line t choice.side choice.cause)
+        (sink_view K.Sink report.new) }
 {
     match choice.cause {
         None => Written::Whole,
@@ -24,7 +25,8 @@ pub(crate) fn write_switch<K: Sink>(report: &mut K, t: u32, choice: Choice) -> W
 // The same of a switch.
 fn write_line<K: Sink>(report: &mut K, t: u32, side: Side, cause: SwitchCause) -> Written
     requires { t ≤ MOST_TURNS }
-    ensures { SinkWrites result (sink_view K.Sink report.old) (switch_line t side (Some cause)) (sink_view K.Sink report.new) }
+    ensures { SinkWrites result (sink_view K.Sink report.old) (switch_line t side (Some cause))
+        (sink_view K.Sink report.new) }
 {
     let mut digits = Buffer::new();
     let mut line = ArrayString::<64>::new();

@@ -2,14 +2,15 @@
 ghost use Rattle.std.specs.Prelude.{◌≡◌, ◌+◌, ◌-◌, ◌/◌, ◌%◌, ◌<◌, ◌≤◌, ℕ, min, nat_le, List, [], ◌∷◌, Option, None, if◌then◌else◌};
 ghost use Rattle.otn_base.specs.declared.limits.TheConstants.{MOST_SLOTS};
 ghost use Rattle.protect_selector.specs.Selected.{BothTurn, of_side as of_side_in, other, is_up, choice_in, side_by};
-ghost use Rattle.protect_selector.specs.Selector.{HasChosen, came_in, number_by, state_by, cause_by, to_skip_by};
+ghost use Rattle.protect_selector.specs.Selector.{HasChosen, came_in, number_by};
+ghost use Rattle.protect_selector.specs.Steps.Selector.{state_by, cause_by, to_skip_by};
 
 use crate::side::{Choice, Side, SwitchCause};
 use std::marker::Model;
 use tributary_model::SinkState;
 
-/// Chooses in each turn which of two lines goes on, by how the sinks of both stand after it. Counts of bytes are kept modulo the number of
-/// slots. Contracts say which turns went by.
+/// Chooses in each turn which of two lines goes on, by how the sinks of both stand after it. Counts of bytes are kept
+/// modulo the number of slots. Contracts say which turns went by.
 #[derive(Clone, Copy, Drop)]
 pub struct Selector {
     slots: u32,
@@ -35,8 +36,8 @@ impl Model for Selector {
 }
 
 impl Selector {
-    /// A selector for a tributary of `m` slots, 1 to 32, before the first turn: working is the side. It goes back to working once
-    /// that was Up for `n` turns in a row; never, where `n` is 0.
+    /// A selector for a tributary of `m` slots, 1 to 32, before the first turn: working is the side. It goes back to
+    /// working once that was Up for `n` turns in a row; never, where `n` is 0.
     pub fn new(m: u32, n: u32) -> Selector
         requires some { 1 ≤ m }
         requires few { m ≤ MOST_SLOTS }
@@ -62,13 +63,25 @@ impl Selector {
         protection: SinkState,
         protection_len: usize,
     ) -> Choice
-        ensures choice { let now : BothTurn = record { working = record { state = working; bytes = working_len }; protection = record { state = protection; bytes = protection_len } } in
+        ensures choice { let now : BothTurn =
+            record {
+              working = record { state = working; bytes = working_len };
+              protection = record { state = protection; bytes = protection_len };
+            } in
             (m n : ℕ) (past : List BothTurn) → HasChosen m n past self.old → (result ≡ choice_in m n now past) × HasChosen m n (now ∷ past) self.new }
 
         // at most all of the side's bytes are skipped, and no more groups are completed than by these bytes
-        ensures within { let now : BothTurn = record { working = record { state = working; bytes = working_len }; protection = record { state = protection; bytes = protection_len } } in
+        ensures within { let now : BothTurn =
+            record {
+              working = record { state = working; bytes = working_len };
+              protection = record { state = protection; bytes = protection_len };
+            } in
             result.skip ≤ (of_side_in result.side now).bytes }
-        ensures groups { let now : BothTurn = record { working = record { state = working; bytes = working_len }; protection = record { state = protection; bytes = protection_len } } in
+        ensures groups { let now : BothTurn =
+            record {
+              working = record { state = working; bytes = working_len };
+              protection = record { state = protection; bytes = protection_len };
+            } in
             (self.old.given + ((of_side_in result.side now).bytes - result.skip)) / self.old.m ≤ (came_in result.side self.old + (of_side_in result.side now).bytes) / self.old.m }
         ensures slots { self.new.m ≡ self.old.m }
     {
@@ -108,7 +121,8 @@ fn cause_of(
     up: u32,
     wait: u32,
 ) -> Option<SwitchCause>
-    ensures { result ≡ cause_by wait up side (state_by side working protection) (state_by (other side) working protection) }
+    ensures { result ≡ cause_by wait up side (state_by side working protection)
+        (state_by (other side) working protection) }
 {
     let (own, beside) = match side {
         Side::Working => (working, protection),

@@ -2,7 +2,8 @@
 ghost use Rattle.std.specs.Prelude.{◌≡◌, ◌≢◌};
 ghost use Rattle.otn_ports.specs.PortViews.{SinkView};
 ghost use Rattle.otn_ports.specs.Racks.{bays_view};
-ghost use Rattle.protect_selector.specs.Protecting.{OnlyProtected, SettledAs, ends_of, has_dead};
+ghost use Rattle.protect_selector.specs.Protecting.{OnlyProtected, ends_of};
+ghost use Rattle.protect_selector.specs.Steps.Protecting.{SettledAs, has_dead};
 
 use crate::protecting::Protecting;
 use otn_ports::{Ended, Rack, Sink, Source};
@@ -10,7 +11,9 @@ use tributary_line::{either, ended_by, is_dead_in, is_dead_out};
 
 /// Asks both lines for one byte more, each where its end was not seen, and says how the command ended.
 pub(crate) fn settle<I: Source, O: Sink>(parts: &Protecting, bays: &mut Rack<I, O>) -> Ended
-    ensures settled { (report : SinkView) → SettledAs parts.now (ends_of (bays_view I.Source O.Sink bays.old) report) (ends_of (bays_view I.Source O.Sink bays.new) report) result }
+    ensures settled { (report : SinkView)
+        → SettledAs parts.now (ends_of (bays_view I.Source O.Sink bays.old) report)
+        (ends_of (bays_view I.Source O.Sink bays.new) report) result }
     ensures other { (result ≢ Ended.ReportFault) × (result ≢ Ended.Memory) }
     ensures alone { OnlyProtected (bays_view I.Source O.Sink bays.old) (bays_view I.Source O.Sink bays.new) }
 {

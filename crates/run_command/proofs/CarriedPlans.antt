@@ -14,7 +14,8 @@ use Rattle.device_model.specs.RunLeft.{Takings, RunLeft}
 use Rattle.check_command.specs.PlanReading.{WasRead}
 use Rattle.command_base.specs.Device.{Device, Stays}
 use Rattle.check_command.specs.PlanReading.{PlanReading}
-use Rattle.run_command.specs.PlanRuns.{PlanCarried, run_status}
+use Rattle.run_command.specs.PlanRuns.{run_status}
+use Rattle.run_command.specs.Steps.PlanRuns.{PlanCarried}
 use Rattle.run_command.specs.RunAnswers.{PlanRan, RunAnswers, TextRan, outcome_status, pieces_in_all}
 use Rattle.command_base.specs.AnswerWords.{IsRefusal, Reports}
 use Rattle.run_command.specs.declared.plan_run.Ran.{Ran}

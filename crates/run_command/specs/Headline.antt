@@ -1,5 +1,5 @@
--- The headline, of each connection of a plan that `run` carried, by what is seen of the places before and after the call: no connection touches
--- another, and where its bytes come unharmed they leave the same.
+-- Believed: the headline, of each connection of a plan that `run` carried, by what is seen of the places before and
+-- after the call: no connection touches another, and where its bytes come unharmed they leave the same.
 use Rattle.std.specs.Prelude.{◌≡◌, ℕ, false, Ok}
 use Rattle.std.specs.List.{Contains}
 use Rattle.otn_base.specs.declared.kind.PortName.{PortName}
@@ -14,8 +14,8 @@ use Rattle.run_command.specs.RunAnswers.{RunAnswers}
 use Rattle.run_command.specs.RunCalls.{CarriesPlan}
 use Rattle.command_base.specs.declared.status.Status.{Status}
 
--- A call of `run` that carried this plan, over places that were seen so before it and after it. That it answered so is `run`'s own clause
--- `answers`, which all its calls meet: nothing here looks into it.
+-- A call of `run` that carried this plan, over places that were seen so before it and after it. That it answered so is
+-- `run`'s own clause `answers`, which all its calls meet: nothing here looks into it.
 pub record Ran (run : Run) : Type 0 where
   pub old : Device
   pub new : Device
@@ -33,24 +33,29 @@ abbrev pub IsOfAPlan : Type 0
 IsOfAPlan = (old new : Device) (asked now : ℕ) (reply : Status) → RunAnswers old new asked now reply → CarriesPlan reply
     → (plan : Plan) × Ran (record { plan = plan; before = old.bays; after = new.bays })
 
--- Isolated: where two calls share a connection (with its stop and its lines' kinds), and agree on what it comes from, the same leaves on it as far as both have gone, whatever other
--- connections, slots, ports, bytes, faults and orders there are.
+-- Isolated: where two calls share a connection (with its stop and its lines' kinds), and agree on what it comes from,
+-- the same leaves on it as far as both have gone, whatever other connections, slots, ports, bytes, faults and orders
+-- there are.
 abbrev pub IsIsolated : Type 0
 IsIsolated = (one other : Run) (x : Connection) → Ran one → Ran other → ShareInput one other x → SameOutput one other x
 
--- Not ahead: where they agree on it in the connection's first n own turns alone, the same leaves on its line up to the frames of own turn n, from 0.
+-- Not ahead: where they agree on it in the connection's first n own turns alone, the same leaves on its line up to the
+-- frames of own turn n, from 0.
 abbrev pub LooksNotAhead : Type 0
-LooksNotAhead = (n : ℕ) (one other : Run) (x : Connection) → Ran one → Ran other → ShareInputUpTo n one other x → SameLineUpTo n one other x
+LooksNotAhead = (n : ℕ) (one other : Run) (x : Connection) → Ran one → Ran other → ShareInputUpTo n one other x
+    → SameLineUpTo n one other x
 
--- Through: to a client went the text that its own entry puts through it of its own input, to a line the line's file: from the front, and all
--- where its place has lived.
+-- Through: to a client went the text that its own entry puts through it of its own input, to a line the line's file:
+-- from the front, and all where its place has lived.
 abbrev pub IsThrough : Type 0
 IsThrough = (run : Run) (x : Connection) → Ran run → Contains run.plan.connections x → PutThrough run x
 
--- Carried: where its bytes come unharmed they leave the same, three turns later, and of packets exactly those that came whole.
+-- Carried: where its bytes come unharmed they leave the same, three turns later, and of packets exactly those that came
+-- whole.
 abbrev pub IsCarried : Type 0
 IsCarried = (run : Run) (x : Connection) → Ran run → Contains run.plan.connections x → CarriesOver run x
 
 -- Left alone: the place of each port that the plan does not use is seen as it was.
 abbrev pub LeavesOthers : Type 0
-LeavesOthers = (run : Run) (name : PortName) → Ran run → uses run.plan name ≡ false → SamePlace name run.before run.after
+LeavesOthers = (run : Run) (name : PortName) → Ran run → uses run.plan name ≡ false
+    → SamePlace name run.before run.after

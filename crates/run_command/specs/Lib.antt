@@ -4,3 +4,4 @@ pub mod PlanRuns
 pub mod RunAnswers
 pub mod RunCalls
 pub mod RunLaws
+pub mod Steps

@@ -1,4 +1,4 @@
--- What the command `run` answers for: the plan that was read, and what carrying it left.
+-- Believed: what the command `run` answers for: the plan that was read, and what carrying it left.
 use Rattle.std.specs.Prelude.{◌≡◌, ◌≢◌, ◌≤◌, ◌*◌, ℕ, List, Ok, Err, length}
 use Rattle.otn_ports.specs.Bytes.{before, raised}
 use Rattle.plan_file.specs.Answer.{plan_of_text}
@@ -25,8 +25,9 @@ outcome_status outcome.Cut = status.Cut
 abbrev pub pieces_in_all : Plan → ℕ
 pieces_in_all plan = over_ports (pieces_of plan) * plan.turns
 
--- A plan was carried: the places are as such a run leaves them, with these numbers; its report was written, whole, or a part of it from the
--- front where a write failed; the answer is by its outcome, but where a write failed; and the chooser was asked once for each piece.
+-- A plan was carried: the places are as such a run leaves them, with these numbers; its report was written, whole, or a
+-- part of it from the front where a write failed; the answer is by its outcome, but where a write failed; and the
+-- chooser was asked once for each piece.
 pub record PlanRan (plan : Plan) (old new : Device) (asked asked_now : ℕ) (reply : Status) : Type 0 where
   pub takings : Takings
   pub numbers : Numbers
@@ -35,14 +36,15 @@ pub record PlanRan (plan : Plan) (old new : Device) (asked asked_now : ℕ) (rep
   pub answer : reply ≢ status.ReportFault → reply ≡ outcome_status numbers.outcome
   pub asked_each : asked_now ≡ raised asked (pieces_in_all plan)
 
--- what is answered to the text of a plan: the first rule that it breaks; nothing, after PlanFault and Memory; else a plan that was carried.
--- Words is no answer to a text
+-- what is answered to the text of a plan: the first rule that it breaks; nothing, after PlanFault and Memory; else a
+-- plan that was carried. Words is no answer to a text
 abbrev pub TextRan : Status → (text : List ℕ) → (old new : Device) → (asked asked_now : ℕ) → Type 0
 TextRan (status.Plan error place) text old new asked asked_now = plan_of_text text ≡ Err (Refused error place)
 TextRan status.PlanFault text old new asked asked_now = Unit {0}
 TextRan status.Memory text old new asked asked_now = Unit {0}
 TextRan status.Words text old new asked asked_now = ⊥
-TextRan carried text old new asked asked_now = (plan : Plan) × (plan_of_text text ≡ Ok plan) × PlanRan plan old new asked asked_now carried
+TextRan carried text old new asked asked_now = (plan : Plan) × (plan_of_text text ≡ Ok plan)
+    × PlanRan plan old new asked asked_now carried
 
 -- `run` from all that it was handed, and how often the chooser had been asked, to how they are
 pub record RunAnswers (old new : Device) (asked asked_now : ℕ) (reply : Status) : Type 0 where

@@ -1,5 +1,6 @@
--- Calls of `run` that carried a plan, whatever their inputs may have been, also where no port tells its bytes: what went to their outputs, by what
--- the calls themselves say of it. `Headline` says the same by what is seen of the places.
+-- Believed: calls of `run` that carried a plan, whatever their inputs may have been, also where no port tells its
+-- bytes: what went to their outputs, by what the calls themselves say of it. `Headline` says the same by what is seen
+-- of the places.
 use Rattle.std.specs.Prelude.{◌≡◌, ℕ, List, Ok}
 use Rattle.std.specs.List.{Contains}
 use Rattle.plan_file.specs.Answer.{plan_of_text}
@@ -19,8 +20,8 @@ use Rattle.command_base.specs.declared.status.Status.TheVariants as status
 
 -- ---- calls
 
--- a call of `run`: the text of its plan and the plan, all that it was handed before and after, how often its chooser had been asked before and
--- after, its answer, and what its inputs may have been
+-- a call of `run`: the text of its plan and the plan, all that it was handed before and after, how often its chooser
+-- had been asked before and after, its answer, and what its inputs may have been
 pub record Call : Type 0 where
   pub text : List ℕ
   pub plan : Plan
@@ -48,32 +49,46 @@ CarriesPlan status.PlanFault = ⊥
 CarriesPlan (status.Plan error place) = ⊥
 CarriesPlan status.Memory = ⊥
 
--- After these `run` has carried the plan of the text that was read, and where its inputs tell their bytes, what they gave is among what they may have been.
+-- After these `run` has carried the plan of the text that was read, and where its inputs tell their bytes, what they
+-- gave is among what they may have been.
 abbrev pub HasRunItsPlan : Type 0
-HasRunItsPlan = (old new : Device) (asked now : ℕ) (reply : Status) → (answers : RunAnswers old new asked now reply) → CarriesPlan reply
+HasRunItsPlan = (old new : Device) (asked now : ℕ) (reply : Status) → (answers : RunAnswers old new asked now reply)
+    → CarriesPlan reply
     → (plan : Plan) × (ran : PlanRan plan old new asked now reply) × (plan_of_text answers.text ≡ Ok plan)
-    × ((inputs : Inputs) → HasGiven plan old.bays new.bays → AreInputs plan old.bays new.bays inputs → MayBeInputs plan old.bays new.bays ran.takings inputs)
+    × ((inputs : Inputs) → HasGiven plan old.bays new.bays → AreInputs plan old.bays new.bays inputs
+    → MayBeInputs plan old.bays new.bays ran.takings inputs)
 
 -- ---- what they left
 
 -- the run of a call, and what went to its outputs
 abbrev pub world_of : (call : Call) → HasCarried call → World
-world_of call has = record { plan = call.plan; first = call.old.bays; last = call.new.bays; takings = has.ran.takings; numbers = has.ran.numbers; inputs = call.inputs }
+world_of call has = record {
+  plan = call.plan;
+  first = call.old.bays;
+  last = call.new.bays;
+  takings = has.ran.takings;
+  numbers = has.ran.numbers;
+  inputs = call.inputs;
+}
 
 abbrev pub went_of : (call : Call) → HasCarried call → Went
 went_of call has = (has.ran.left.of_inputs call.inputs has.may_be).went
 
--- Isolated: where two calls share a connection, and their inputs agree on what it comes from, what leaves on it is the same as far as both have
--- gone, whatever other connections, slots, ports, faults and orders there are.
+-- Isolated: where two calls share a connection, and their inputs agree on what it comes from, what leaves on it is the
+-- same as far as both have gone, whatever other connections, slots, ports, faults and orders there are.
 abbrev pub CallsAreIsolated : Type 0
-CallsAreIsolated = (one other : Call) (x : Connection) (first : HasCarried one) (second : HasCarried other) → ShareOne (world_of one first) (world_of other second) x
+CallsAreIsolated = (one other : Call) (x : Connection) (first : HasCarried one)
+    (second : HasCarried other) → ShareOne (world_of one first) (world_of other second) x
     → LeftAlike (world_of one first) (world_of other second) (went_of one first) (went_of other second) x
 
--- Through: to a client went the text that its own entry puts through it of its own input, to a line the line's file: from the front, and all where its
--- place has lived.
+-- Through: to a client went the text that its own entry puts through it of its own input, to a line the line's file:
+-- from the front, and all where its place has lived.
 abbrev pub CallsPutThrough : Type 0
-CallsPutThrough = (call : Call) (x : Connection) (has : HasCarried call) → Contains call.plan.connections x → LeftThrough (world_of call has) (went_of call has) x
+CallsPutThrough = (call : Call) (x : Connection) (has : HasCarried call) → Contains call.plan.connections x
+    → LeftThrough (world_of call has) (went_of call has) x
 
--- Carried: where its bytes come unharmed they leave the same, three turns later, and of packets exactly those that came whole.
+-- Carried: where its bytes come unharmed they leave the same, three turns later, and of packets exactly those that came
+-- whole.
 abbrev pub CallsCarry : Type 0
-CallsCarry = (call : Call) (x : Connection) (has : HasCarried call) → Contains call.plan.connections x → CarriedIn (world_of call has) (went_of call has) x
+CallsCarry = (call : Call) (x : Connection) (has : HasCarried call) → Contains call.plan.connections x
+    → CarriedIn (world_of call has) (went_of call has) x

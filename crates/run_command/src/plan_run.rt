@@ -4,7 +4,8 @@ ghost use Rattle.otn_ports.specs.PortViews.{sink_view};
 ghost use Rattle.otn_ports.specs.Racks.{bays_view};
 ghost use Rattle.plan_file.specs.Answer.{fault_in};
 ghost use Rattle.command_base.specs.Device.{Stays, device};
-ghost use Rattle.run_command.specs.PlanRuns.{PlanCarried, run_status};
+ghost use Rattle.run_command.specs.PlanRuns.{run_status};
+ghost use Rattle.run_command.specs.Steps.PlanRuns.{PlanCarried};
 ghost use Rattle.run_command.specs.RunAnswers.{RunAnswers, outcome_status};
 ghost use Rattle.command_base.specs.AnswerWords.{IsRefusal};
 
@@ -54,7 +55,8 @@ fn status_of_outcome(outcome: Outcome) -> Status
     }
 }
 
-/// Reads the plan, and where it is accepted carries it over the places, in an order that the chooser says, and writes its report.
+/// Reads the plan, and where it is accepted carries it over the places, in an order that the chooser says, and writes
+/// its report.
 pub fn run_plan<P: Source, K: Sink, C: Chooser, I: Source, O: Sink>(
     alloc: Global,
     plan: &mut P,
@@ -62,10 +64,13 @@ pub fn run_plan<P: Source, K: Sink, C: Chooser, I: Source, O: Sink>(
     chooser: &mut C,
     report: &mut K,
 ) -> Result<Ran, Memory>
-    ensures ran { RunAnswers (device P.Source K.Sink I.Source O.Sink plan.old bays.old report.old) (device P.Source K.Sink I.Source O.Sink plan.new bays.new report.new)
+    ensures ran { RunAnswers (device P.Source K.Sink I.Source O.Sink plan.old bays.old report.old)
+        (device P.Source K.Sink I.Source O.Sink plan.new bays.new report.new)
         (C.asked chooser.old) (C.asked chooser.new) (run_status result) }
-    ensures stays { Stays (device P.Source K.Sink I.Source O.Sink plan.old bays.old report.old) (device P.Source K.Sink I.Source O.Sink plan.new bays.new report.new) }
-    ensures refused { IsRefusal (run_status result) → (bays.new ≡ bays.old) × (report.new ≡ report.old) × (chooser.new ≡ chooser.old) }
+    ensures stays { Stays (device P.Source K.Sink I.Source O.Sink plan.old bays.old report.old)
+        (device P.Source K.Sink I.Source O.Sink plan.new bays.new report.new) }
+    ensures refused { IsRefusal (run_status result) → (bays.new ≡ bays.old) × (report.new ≡ report.old)
+        × (chooser.new ≡ chooser.old) }
 {
     match read_plan(alloc, plan)? {
         Planned::Accepted(plan) => carry_plan(alloc, &plan, bays, chooser, report),
@@ -83,8 +88,10 @@ fn carry_plan<K: Sink, C: Chooser, I: Source, O: Sink>(
     report: &mut K,
 ) -> Result<Ran, Memory>
     requires accepted { fault_in plan.now ≡ None }
-    ensures memory { IfErr result (λ _. (bays.new ≡ bays.old) × (report.new ≡ report.old) × (chooser.new ≡ chooser.old)) }
-    ensures ran { IfOk result (PlanCarried plan.now (bays_view I.Source O.Sink bays.old) (bays_view I.Source O.Sink bays.new) (sink_view K.Sink report.old) (sink_view K.Sink report.new)
+    ensures memory { IfErr result (λ _. (bays.new ≡ bays.old) × (report.new ≡ report.old)
+        × (chooser.new ≡ chooser.old)) }
+    ensures ran { IfOk result (PlanCarried plan.now (bays_view I.Source O.Sink bays.old)
+        (bays_view I.Source O.Sink bays.new) (sink_view K.Sink report.old) (sink_view K.Sink report.new)
         (C.asked chooser.old) (C.asked chooser.new)) }
 {
     let mut text = ArrayString::new();

@@ -177,7 +177,8 @@ all_gone world x b number past n row column slots went is has place l lived =
 
 -- ---- both
 
--- two runs that carry the connection, on which the same leaves in each of its turns, and a client that it comes from is the same
+-- two runs that carry the connection, on which the same leaves in each of its turns, and a client that it comes from is
+-- the same
 pub record CarryAlike (one other : World) (x : Connection) : Type 0 where
   pub first : Contains one.plan.connections x
   pub second : Contains other.plan.connections x

@@ -1,4 +1,4 @@
--- Runs whose inputs tell their bytes.
+-- API: runs whose inputs tell their bytes.
 use Rattle.std.specs.Prelude.{◌≡◌, ℕ, true, List}
 use Rattle.otn_base.specs.declared.kind.PortName.TheVariants as port
 use Rattle.otn_ports.specs.Given.{HadToGive}
@@ -12,8 +12,10 @@ use Rattle.device_model.specs.RunLeft.{Takings, MayBeInputs, RunLeft, RunOf}
 
 -- each input line and each client that the plan reads tells the bytes that it had to give
 pub record HasGiven (plan : Plan) (first last : BaysView) : Type 0 where
-  pub line : (a : ℕ) → uses plan (port.LineIn a) ≡ true → (given : List ℕ) × HadToGive (line_in_at first a) (line_in_at last a) given
-  pub client : (n : ℕ) → uses plan (port.ClientIn n) ≡ true → (given : List ℕ) × HadToGive (client_in_at first n) (client_in_at last n) given
+  pub line : (a : ℕ) → uses plan (port.LineIn a) ≡ true
+      → (given : List ℕ) × HadToGive (line_in_at first a) (line_in_at last a) given
+  pub client : (n : ℕ) → uses plan (port.ClientIn n) ≡ true
+      → (given : List ℕ) × HadToGive (client_in_at first n) (client_in_at last n) given
 
 -- Where they tell them, the inputs of a run may be what they gave.
 abbrev pub GivenMayBeInputs : Type 0

@@ -1,5 +1,5 @@
--- Two worlds, by what runs leave: two runs that carry one connection, which comes from the same in both. What left on it is the same, as far as
--- both have gone.
+-- Believed: two worlds, by what runs leave: two runs that carry one connection, which comes from the same in both. What
+-- left on it is the same, as far as both have gone.
 use Rattle.std.specs.Prelude.{◌≡◌, ◌≢◌, ◌<◌, ◌+◌, ◌*◌, ◌%◌, ◌⊎◌, ℕ, List, ◌++◌, None, Some, length, slice_get}
 use Rattle.std.specs.List.{Contains}
 use Rattle.otn_base.specs.LineSlots.{LineSlots, slots_of}
@@ -21,7 +21,8 @@ use Rattle.device_model.specs.RunLeft.{Takings, MayBeInputs, RunLeft}
 
 -- ---- runs
 
--- a run: its plan, its places as they were first and as they are last, what was taken of its inputs, its numbers, and what its inputs may have been
+-- a run: its plan, its places as they were first and as they are last, what was taken of its inputs, its numbers, and
+-- what its inputs may have been
 pub record World : Type 0 where
   pub plan : Plan
   pub first : BaysView
@@ -52,7 +53,8 @@ pub record ShareOne (one other : World) (x : Connection) : Type 0 where
 abbrev pub IsFrontOfOther : (one other : List ℕ) → Type 0
 IsFrontOfOther one other = ((rest : List ℕ) × (one ++ rest ≡ other)) ⊎ ((rest : List ℕ) × (other ++ rest ≡ one))
 
--- a place was live and has not died: it is live, or was emptied when its connection retired (what went there `ClientGot` does not tell then)
+-- a place was live and has not died: it is live, or was emptied when its connection retired (what went there
+-- `ClientGot` does not tell then)
 pub record HasLived (first last : State) : Type 0 where
   pub was : first ≡ Live
   pub is : last ≢ Dead
@@ -69,8 +71,8 @@ state_of_line b bays = (line_out_at bays b).state
 abbrev pub state_of_client : ℕ → BaysView → State
 state_of_client n bays = (client_out_at bays n).state
 
--- The connection goes in turn past + 1 to these slots of line b, with this tributary port; and in frame n, from 0, of the turn this is an own
--- place, by the MFAS that the frame has there.
+-- The connection goes in turn past + 1 to these slots of line b, with this tributary port; and in frame n, from 0, of
+-- the turn this is an own place, by the MFAS that the frame has there.
 pub record HasPlace (x : Connection) (b port past n row column : ℕ) (slots : LineSlots) : Type 0 where
   pub to : x.to ≡ to_end.Line b port slots
   pub active : IsActive x past
@@ -83,22 +85,28 @@ HasGone line f row column = LINE_FRAME_BYTES * f + place_of LINE_COLUMNS row col
 
 -- ---- all of it
 
--- What left on the connection is the same in both runs, to whose outputs these went. To a client: of the two texts one begins with the other,
--- and where its place has lived in both they are one, as are the client's numbers. On a line: at each own place whose byte has gone in both,
--- and so in each of its turns where the line has lived in both, stands the same byte, where both lines are scrambled, or neither is. The numbers of a client that it comes from are the same; and so, in runs of as many turns, is its own line of the report.
+-- What left on the connection is the same in both runs, to whose outputs these went. To a client: of the two texts one
+-- begins with the other, and where its place has lived in both they are one, as are the client's numbers. On a line: at
+-- each own place whose byte has gone in both, and so in each of its turns where the line has lived in both, stands the
+-- same byte, where both lines are scrambled, or neither is. The numbers of a client that it comes from are the same;
+-- and so, in runs of as many turns, is its own line of the report.
 pub record LeftAlike (one other : World) (went others : Went) (x : Connection) : Type 0 where
   pub text : (n : ℕ) → x.to ≡ to_end.Client n → IsFrontOfOther (went.client n) (others.client n)
-  pub whole_text : (n : ℕ) → x.to ≡ to_end.Client n → BothLived one other (state_of_client n) → went.client n ≡ others.client n
+  pub whole_text : (n : ℕ) → x.to ≡ to_end.Client n → BothLived one other (state_of_client n)
+      → went.client n ≡ others.client n
   pub places : (b port past n row column : ℕ) (slots : LineSlots) → HasPlace x b port past n row column slots
       → (form_out one.plan b).scrambled ≡ (form_out other.plan b).scrambled
-      → HasGone (went.line b) (slots_of slots.kind * past + n) row column → HasGone (others.line b) (slots_of slots.kind * past + n) row column
+      → HasGone (went.line b) (slots_of slots.kind * past + n) row column
+      → HasGone (others.line b) (slots_of slots.kind * past + n) row column
       → HaveSameByte (went.line b) (others.line b) (slots_of slots.kind * past + n) row column
   pub all_places : (b port past n row column : ℕ) (slots : LineSlots) → HasPlace x b port past n row column slots
       → (form_out one.plan b).scrambled ≡ (form_out other.plan b).scrambled → BothLived one other (state_of_line b)
       → HaveSameByte (went.line b) (others.line b) (slots_of slots.kind * past + n) row column
   pub client_in : (n : ℕ) → x.from ≡ from_end.Client n → one.numbers.client_in n ≡ other.numbers.client_in n
-  pub client_out : (n : ℕ) → x.to ≡ to_end.Client n → BothLived one other (state_of_client n) → one.numbers.client_out n ≡ other.numbers.client_out n
-  pub from : (i j : ℕ) → slice_get one.plan.connections i ≡ Some x → slice_get other.plan.connections j ≡ Some x → one.plan.turns ≡ other.plan.turns
+  pub client_out : (n : ℕ) → x.to ≡ to_end.Client n → BothLived one other (state_of_client n)
+      → one.numbers.client_out n ≡ other.numbers.client_out n
+  pub from : (i j : ℕ) → slice_get one.plan.connections i ≡ Some x → slice_get other.plan.connections j ≡ Some x
+      → one.plan.turns ≡ other.plan.turns
       → one.numbers.from i ≡ other.numbers.from j
 
 -- So it is of any two runs that share it, whatever else they carry.

@@ -1,5 +1,6 @@
--- What runs leave on a connection, by what is seen of the places before and after: what the port that it comes from had to give, and what the port
--- that it goes to got, where these tell it. Nothing that a run keeps to itself is named.
+-- Believed: what runs leave on a connection, by what is seen of the places before and after: what the port that it
+-- comes from had to give, and what the port that it goes to got, where these tell it. Nothing that a run keeps to
+-- itself is named.
 use Rattle.std.specs.Prelude.{◌≡◌, ◌<◌, ◌≤◌, ◌+◌, ◌-◌, ◌*◌, ℕ, Bool, false, List, ◌∷◌, None, ⊤}
 use Rattle.std.specs.List.{concat, Contains}
 use Rattle.otn_base.specs.LineSlots.{LineSlots, slots_of}
@@ -59,16 +60,19 @@ pub record LineGave (run : Run) (a : ℕ) (line : List ℕ) : Type 0 where
   pub had : HadToGive (line_in_at run.before a) (line_in_at run.after a) given
   pub frames : line ≡ through_mask (form_in run.plan a).scrambled given
 
--- the packets of client n and how they end: those of the text that its place had to give, or of what is left of that where the place died
+-- the packets of client n and how they end: those of the text that its place had to give, or of what is left of that
+-- where the place died
 pub record ClientGave (run : Run) (n : ℕ) (input : ClientInput) : Type 0 where
   pub given : List ℕ
   pub had : HadToGive (client_in_at run.before n) (client_in_at run.after n) given
   pub packets : input ≡ input_given (has_died (client_in_at run.before n).state (client_in_at run.after n).state) given
 
--- Two runs agree on what an end comes from: its line, each read through its own plan's mask, has as many whole frames in both, with the same MFAS bytes, and the same bytes at the own
--- places of its tributary; its client has the same packets, which end in the same way. Of all other ports nothing is said.
+-- Two runs agree on what an end comes from: its line, each read through its own plan's mask, has as many whole frames
+-- in both, with the same MFAS bytes, and the same bytes at the own places of its tributary; its client has the same
+-- packets, which end in the same way. Of all other ports nothing is said.
 abbrev pub AgreeOnInput : FromEnd → (one other : Run) → Type 0
-AgreeOnInput (from_end.Line a port slots) one other = (line others : List ℕ) × LineGave one a line × LineGave other a others × AgreeOnTributary (tributary_of slots port) line others
+AgreeOnInput (from_end.Line a port slots) one other = (line others : List ℕ) × LineGave one a line
+    × LineGave other a others × AgreeOnTributary (tributary_of slots port) line others
 AgreeOnInput (from_end.Client n) one other = (input : ClientInput) × ClientGave one n input × ClientGave other n input
 AgreeOnInput (from_end.Signal signal) one other = ⊤
 
@@ -80,7 +84,8 @@ pub record ShareInput (one other : Run) (x : Connection) : Type 0 where
 
 -- ---- what its own output got
 
--- these bytes went to output line b, and to client n, by which what their ports got grew; no bytes are these where a client's place was retired
+-- these bytes went to output line b, and to client n, by which what their ports got grew; no bytes are these where a
+-- client's place was retired
 abbrev pub LineGot : Run → (b : ℕ) → (went : List ℕ) → Type 0
 LineGot run b went = IsGone (line_out_at run.before b) (line_out_at run.after b) went
 
@@ -94,38 +99,45 @@ LineLived run b = HasLived (line_out_at run.before b).state (line_out_at run.aft
 abbrev pub ClientLived : Run → (n : ℕ) → Type 0
 ClientLived run n = HasLived (client_out_at run.before n).state (client_out_at run.after n).state
 
--- To the client of a connection the same text went in both runs, as far as both have gone: one begins with the other, and where the place has
--- lived in both they are one.
+-- To the client of a connection the same text went in both runs, as far as both have gone: one begins with the other,
+-- and where the place has lived in both they are one.
 pub record SameText (one other : Run) (n : ℕ) (went others : List ℕ) : Type 0 where
   pub front : IsFrontOfOther went others
   pub whole : ClientLived one n → ClientLived other n → went ≡ others
 
--- The same byte stands at an own place of a connection on its line, in a row and a column of frame f, where it has gone in both runs; and so
--- where the line has lived in both.
+-- The same byte stands at an own place of a connection on its line, in a row and a column of frame f, where it has gone
+-- in both runs; and so where the line has lived in both.
 pub record SameOnLine (one other : Run) (b f row column : ℕ) (went others : List ℕ) : Type 0 where
   pub gone : HasGone went f row column → HasGone others f row column → HaveSameByte went others f row column
   pub whole : LineLived one b → LineLived other b → HaveSameByte went others f row column
 
--- What left on a connection is the same in both: to its client the same text; on its line the same bytes, as written, at its own places, in the frames of its
--- turns, where both lines are scrambled, or neither is.
+-- What left on a connection is the same in both: to its client the same text; on its line the same bytes, as written,
+-- at its own places, in the frames of its turns, where both lines are scrambled, or neither is.
 pub record SameOutput (one other : Run) (x : Connection) : Type 0 where
-  pub client : (n : ℕ) (went others : List ℕ) → x.to ≡ to_end.Client n → ClientGot one n went → ClientGot other n others → SameText one other n went others
-  pub line : (b port past n row column : ℕ) (slots : LineSlots) (went others : List ℕ) → HasPlace x b port past n row column slots
-      → (form_out one.plan b).scrambled ≡ (form_out other.plan b).scrambled → LineGot one b went → LineGot other b others
+  pub client : (n : ℕ) (went others : List ℕ) → x.to ≡ to_end.Client n → ClientGot one n went → ClientGot other n others
+      → SameText one other n went others
+  pub line : (b port past n row column : ℕ) (slots : LineSlots) (went others : List ℕ)
+      → HasPlace x b port past n row column slots
+      → (form_out one.plan b).scrambled ≡ (form_out other.plan b).scrambled → LineGot one b went
+      → LineGot other b others
       → SameOnLine one other b (slots_of slots.kind * past + n) row column went others
 
 -- So it is of any two runs that share a connection, whatever else they carry.
 abbrev pub SeenRunsAgree : Type 0
-SeenRunsAgree = (one other : Run) (x : Connection) → IsRun one → IsRun other → ShareInput one other x → SameOutput one other x
+SeenRunsAgree = (one other : Run) (x : Connection) → IsRun one → IsRun other → ShareInput one other x
+    → SameOutput one other x
 
 -- ---- up to a turn
 
--- Two runs agree on what an end comes from in a connection's first n own turns: in each of these its line has the same multiframe in both, or has
--- none in either, with the same bytes at the own places of its tributary; its client has brought the same packets by then.
+-- Two runs agree on what an end comes from in a connection's first n own turns: in each of these its line has the same
+-- multiframe in both, or has none in either, with the same bytes at the own places of its tributary; its client has
+-- brought the same packets by then.
 abbrev pub AgreeOnInputUpTo : FromEnd → Connection → (n : ℕ) → (one other : Run) → Type 0
-AgreeOnInputUpTo (from_end.Line a port slots) x n one other = (line others : List ℕ) × LineGave one a line × LineGave other a others
+AgreeOnInputUpTo (from_end.Line a port slots) x n one other = (line others : List ℕ) × LineGave one a line
+    × LineGave other a others
     × ((j : ℕ) → j < n → AgreeInTurn (tributary_of slots port) line others (first_turn x + j))
-AgreeOnInputUpTo (from_end.Client m) x n one other = (input others : ClientInput) × ClientGave one m input × ClientGave other m others
+AgreeOnInputUpTo (from_end.Client m) x n one other = (input others : ClientInput) × ClientGave one m input
+    × ClientGave other m others
     × BringAlike x.fcs (emitted_before x.pace n) input others
 AgreeOnInputUpTo (from_end.Signal signal) x n one other = ⊤
 
@@ -135,43 +147,52 @@ pub record ShareInputUpTo (n : ℕ) (one other : Run) (x : Connection) : Type 0 
   pub second : Contains other.plan.connections x
   pub agree : AgreeOnInputUpTo x.from x n one other
 
--- Its own places on its line are the same in both up to the frames of own turn n, from 0, whatever its input shows from that turn on.
+-- Its own places on its line are the same in both up to the frames of own turn n, from 0, whatever its input shows from
+-- that turn on.
 pub record SameLineUpTo (n : ℕ) (one other : Run) (x : Connection) : Type 0 where
-  pub line : (b port past k row column : ℕ) (slots : LineSlots) (went others : List ℕ) → HasPlace x b port past k row column slots
-      → (form_out one.plan b).scrambled ≡ (form_out other.plan b).scrambled → own_turn x past ≤ n → LineGot one b went → LineGot other b others
+  pub line : (b port past k row column : ℕ) (slots : LineSlots) (went others : List ℕ)
+      → HasPlace x b port past k row column slots
+      → (form_out one.plan b).scrambled ≡ (form_out other.plan b).scrambled → own_turn x past ≤ n → LineGot one b went
+      → LineGot other b others
       → SameOnLine one other b (slots_of slots.kind * past + k) row column went others
 
 -- So it is of any two runs that share a connection.
 abbrev pub SeenRunsLookNotAhead : Type 0
-SeenRunsLookNotAhead = (n : ℕ) (one other : Run) (x : Connection) → IsRun one → IsRun other → ShareInputUpTo n one other x → SameLineUpTo n one other x
+SeenRunsLookNotAhead = (n : ℕ) (one other : Run) (x : Connection) → IsRun one → IsRun other
+    → ShareInputUpTo n one other x → SameLineUpTo n one other x
 
 -- ---- what is put through
 
 -- what a run shows of an end: of its line what each turn shows of the tributary; of its client the packets
 abbrev pub Shows : Run → FromEnd → OwnInput → Type 0
-Shows run (from_end.Line a port slots) own = (line : List ℕ) × LineGave run a line × (own ≡ of_line (view_at (tributary_of slots port) line))
+Shows run (from_end.Line a port slots) own = (line : List ℕ) × LineGave run a line
+    × (own ≡ of_line (view_at (tributary_of slots port) line))
 Shows run (from_end.Client n) own = (input : ClientInput) × ClientGave run n input × (own ≡ of_client input)
 Shows run (from_end.Signal signal) own = own ≡ of_signal
 
--- inputs have what the port of an end had to give; and so of each end from which a connection of the plan goes to line b
+-- inputs have what the port of an end had to give; and so of each end from which a connection of the plan goes to line
+-- b
 abbrev pub Gave : Run → FromEnd → Inputs → Type 0
 Gave run (from_end.Line a port slots) inputs = LineGave run a (inputs.line a)
 Gave run (from_end.Client n) inputs = ClientGave run n (inputs.client n)
 Gave run (from_end.Signal signal) inputs = ⊤
 
 abbrev pub GaveTo : Run → (b : ℕ) → Inputs → Type 0
-GaveTo run b inputs = (y : Connection) (port : ℕ) (slots : LineSlots) → Contains run.plan.connections y → y.to ≡ to_end.Line b port slots → Gave run y.from inputs
+GaveTo run b inputs = (y : Connection) (port : ℕ) (slots : LineSlots) → Contains run.plan.connections y
+    → y.to ≡ to_end.Line b port slots → Gave run y.from inputs
 
 -- so much of the file of line b, where the inputs are these, went to it
 pub record FileGot (run : Run) (inputs : Inputs) (b : ℕ) (went : List ℕ) : Type 0 where
   pub frames : List (List ℕ)
   pub file : IsLineFile run.plan inputs b (size_of (form_out run.plan b) * run.plan.turns) frames
-  pub front : IsFrontOf (line_out_at run.before b) (line_out_at run.after b) (through_mask (form_out run.plan b).scrambled (concat frames)) went
+  pub front : IsFrontOf (line_out_at run.before b) (line_out_at run.after b)
+      (through_mask (form_out run.plan b).scrambled (concat frames)) went
 
--- To a client of a connection went the text that its own entry puts through it of its own input; to a line of it the line's file, of all
--- connections that go there.
+-- To a client of a connection went the text that its own entry puts through it of its own input; to a line of it the
+-- line's file, of all connections that go there.
 pub record PutThrough (run : Run) (x : Connection) : Type 0 where
-  pub client : (n : ℕ) (own : OwnInput) (went : List ℕ) → x.to ≡ to_end.Client n → Shows run x.from own → ClientGot run n went
+  pub client : (n : ℕ) (own : OwnInput) (went : List ℕ) → x.to ≡ to_end.Client n → Shows run x.from own
+      → ClientGot run n went
       → IsFrontOf (client_out_at run.before n) (client_out_at run.after n) (text_by x own (x.stop - first_turn x)) went
   pub line : (b port : ℕ) (slots : LineSlots) (inputs : Inputs) (went : List ℕ) → x.to ≡ to_end.Line b port slots
       → GaveTo run b inputs → LineGot run b went → FileGot run inputs b went
@@ -186,23 +207,30 @@ SeenRunsPutThrough = (run : Run) (x : Connection) → IsRun run → Contains run
 abbrev pub read_back : Run → (b : ℕ) → (went : List ℕ) → List ℕ
 read_back run b went = through_mask (form_out run.plan b).scrambled went
 
--- What a connection carries to a place that has lived. From a line that carries a client's bytes to it: the output line carries them too, by the
--- same numbers three turns later. From a client or a signal: the front of its stream, by the paces, a turn later. To a client, of packets that
--- such a line carries: the text of exactly those whose GFP frames lie whole in the frames that came whole, of what the sender took up to three
--- turns before the stop.
+-- What a connection carries to a place that has lived. From a line that carries a client's bytes to it: the output line
+-- carries them too, by the same numbers three turns later. From a client or a signal: the front of its stream, by the
+-- paces, a turn later. To a client, of packets that such a line carries: the text of exactly those whose GFP frames lie
+-- whole in the frames that came whole, of what the sender took up to three turns before the stop.
 pub record CarriesOver (run : Run) (x : Connection) : Type 0 where
-  pub line : (a from b port u w : ℕ) (slots others : LineSlots) (line went bytes p : List ℕ) → x.from ≡ from_end.Line a from slots → x.to ≡ to_end.Line b port others
+  pub line : (a from b port u w : ℕ) (slots others : LineSlots) (line went bytes p : List ℕ)
+      → x.from ≡ from_end.Line a from slots → x.to ≡ to_end.Line b port others
       → LineGave run a line → LineGot run b went → LineLived run b → w ≤ u → w < x.stop
       → CarriedOn x from slots line bytes p u → CarriedOn x port others (read_back run b went) bytes (0 ∷ 0 ∷ 0 ∷ p) w
-  pub client : (m b port u n : ℕ) (slots : LineSlots) (input : ClientInput) (went : List ℕ) → x.from ≡ from_end.Client m → x.to ≡ to_end.Line b port slots
+  pub client : (m b port u n : ℕ) (slots : LineSlots) (input : ClientInput) (went : List ℕ) → x.from ≡ from_end.Client m
+      → x.to ≡ to_end.Line b port slots
       → ClientGave run m input → LineGot run b went → LineLived run b → u < x.stop → u ≤ first_turn x + n
-      → CarriedOn x port slots (read_back run b went) (client_stream x.trace input.packets x.fcs (emitted_before x.pace n)) (numbers_got x.pace n) u
-  pub signal : (signal : Signal) (b port u n : ℕ) (slots : LineSlots) (went : List ℕ) → x.from ≡ from_end.Signal signal → x.to ≡ to_end.Line b port slots
+      → CarriedOn x port slots (read_back run b went)
+      (client_stream x.trace input.packets x.fcs (emitted_before x.pace n)) (numbers_got x.pace n) u
+  pub signal : (signal : Signal) (b port u n : ℕ) (slots : LineSlots) (went : List ℕ) → x.from ≡ from_end.Signal signal
+      → x.to ≡ to_end.Line b port slots
       → LineGot run b went → LineLived run b → u < x.stop → u ≤ first_turn x + n
-      → CarriedOn x port slots (read_back run b went) (signal_bytes signal 0 (emitted_before x.pace n)) (numbers_got x.pace n) u
-  pub packets : (a from n u k : ℕ) (slots : LineSlots) (sapi : List ℕ) (packets : List (List ℕ)) (fcs : Bool) (line went p : List ℕ) → x.from ≡ from_end.Line a from slots → x.to ≡ to_end.Client n
+      → CarriedOn x port slots (read_back run b went) (signal_bytes signal 0 (emitted_before x.pace n))
+      (numbers_got x.pace n) u
+  pub packets : (a from n u k : ℕ) (slots : LineSlots) (sapi : List ℕ) (packets : List (List ℕ)) (fcs : Bool)
+      (line went p : List ℕ) → x.from ≡ from_end.Line a from slots → x.to ≡ to_end.Client n
       → LineGave run a line → ClientGot run n went → ClientLived run n → x.stop ≤ u + 2 → AreOffered packets
-      → CarriedOn x from slots line (client_stream sapi packets fcs k) p u → went ≡ hex_text (whole_packets packets fcs (sent p (x.stop - x.start - 2)))
+      → CarriedOn x from slots line (client_stream sapi packets fcs k) p u
+      → went ≡ hex_text (whole_packets packets fcs (sent p (x.stop - x.start - 2)))
 
 -- So does each connection of a run.
 abbrev pub SeenRunsCarry : Type 0
@@ -212,4 +240,5 @@ SeenRunsCarry = (run : Run) (x : Connection) → IsRun run → Contains run.plan
 
 -- The place of each port that the plan does not use is seen as it was.
 abbrev pub SeenRunsLeaveOthers : Type 0
-SeenRunsLeaveOthers = (run : Run) (name : PortName) → IsRun run → uses run.plan name ≡ false → SamePlace name run.before run.after
+SeenRunsLeaveOthers = (run : Run) (name : PortName) → IsRun run → uses run.plan name ≡ false
+    → SamePlace name run.before run.after

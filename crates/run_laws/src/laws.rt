@@ -42,13 +42,13 @@ pub fn runs_carry()
     ensures { RunsCarry }
 {}
 
-/// The last three by what is seen of the places before and after: two runs of accepted plans have the same entry,
-/// and what its own port had to give agrees; then what its output's port got agrees (`agree`). To a client went
-/// what its entry puts through it of what its own port gave, to a line the file of what the ports of all entries that
-/// go there gave (`through`); and what is carried to a connection leaves on it (`carry`). That is said of ports that tell
-/// their bytes: of all other ports, and of what a run takes of its inputs and counts, nothing is asked. A place that the
-/// plan does not use is seen as it was (`others`). And no turn looks ahead (`ahead`): where the two agree in the entry's first own turns alone, so do
-/// its own places on its line in these and one turn more.
+/// The last three by what is seen of the places before and after: two runs of accepted plans have the same entry, and
+/// what its own port had to give agrees; then what its output's port got agrees (`agree`). To a client went what its
+/// entry puts through it of what its own port gave, to a line the file of what the ports of all entries that go there
+/// gave (`through`); and what is carried to a connection leaves on it (`carry`). That is said of ports that tell their
+/// bytes: of all other ports, and of what a run takes of its inputs and counts, nothing is asked. A place that the plan
+/// does not use is seen as it was (`others`). And no turn looks ahead (`ahead`): where the two agree in the entry's
+/// first own turns alone, so do its own places on its line in these and one turn more.
 pub fn seen_runs()
     ensures agree { SeenRunsAgree }
     ensures through { SeenRunsPutThrough }

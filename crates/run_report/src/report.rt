@@ -7,7 +7,7 @@ ghost use Rattle.plan_file.specs.Answer.{fault_in};
 ghost use Rattle.device_model.specs.Moments.{uses};
 ghost use Rattle.device_model.specs.Report.{connection_lines, report_text, used_lines};
 ghost use Rattle.device_model.specs.RunNumbers.{numbers_of_run};
-ghost use Rattle.run_report.specs.RunReport.{line_in_of, line_out_of, client_in_of, client_out_of};
+ghost use Rattle.run_report.specs.Steps.RunReport.{line_in_of, line_out_of, client_in_of, client_out_of};
 
 use crate::report_lines::{
     REPORT_BYTES, put_client_in, put_client_out, put_connection, put_line_in, put_line_out,
@@ -32,7 +32,8 @@ pub fn put_report<I: Source, O: Sink>(
 )
     requires accepted { fault_in plan.now ≡ None }
     requires empty { text.old.bytes ≡ [] }
-    ensures text { text.new.bytes ≡ report_text plan.now (numbers_of_run numbers.now) (bays_view I.Source O.Sink bays.now) }
+    ensures text { text.new.bytes ≡ report_text plan.now (numbers_of_run numbers.now)
+        (bays_view I.Source O.Sink bays.now) }
     ensures most { array_string_len text.new < 8192 }
 {
     put_turns(text, plan.turns);
@@ -196,7 +197,8 @@ fn put_used_client_out<I: Source, O: Sink>(
 fn put_connections(text: &mut ArrayString<REPORT_BYTES>, plan: &Plan, numbers: &RunNumbers)
     requires accepted { fault_in plan.now ≡ None }
     requires room { array_string_len text.old + 2496 ≤ 8192 }
-    ensures text { text.new.bytes ≡ text.old.bytes ++ connection_lines 0 (numbers_of_run numbers.now).from plan.now.connections }
+    ensures text { text.new.bytes ≡ text.old.bytes
+        ++ connection_lines 0 (numbers_of_run numbers.now).from plan.now.connections }
     ensures most { array_string_len text.new ≤ array_string_len text.old + 2496 }
 {
     accepted_plans();

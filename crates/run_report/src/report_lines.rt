@@ -63,7 +63,8 @@ pub(crate) fn put_client_in<I: Source>(
     place: &InPlaceOf<I>,
 )
     requires room { array_string_len text.old + 91 ≤ 8192 }
-    ensures text { text.new.bytes ≡ text.old.bytes ++ client_in_line n (client_in_numbers counts.now) (in_view I.Source place.now).state }
+    ensures text { text.new.bytes ≡ text.old.bytes
+        ++ client_in_line n (client_in_numbers counts.now) (in_view I.Source place.now).state }
     ensures most { array_string_len text.new ≤ array_string_len text.old + 91 }
 {
     put_number(text, "client-in ", n as u64);
@@ -94,7 +95,8 @@ pub(crate) fn put_client_out<O: Sink>(
     place: &OutPlaceOf<O>,
 )
     requires room { array_string_len text.old + 95 ≤ 8192 }
-    ensures text { text.new.bytes ≡ text.old.bytes ++ client_out_line n (client_out_numbers counts.now) (out_view O.Sink place.now).state }
+    ensures text { text.new.bytes ≡ text.old.bytes
+        ++ client_out_line n (client_out_numbers counts.now) (out_view O.Sink place.now).state }
     ensures most { array_string_len text.new ≤ array_string_len text.old + 95 }
 {
     put_number(text, "client-out ", n as u64);

@@ -33,8 +33,8 @@ const FRAME: u64 = 16_320;
 
 const TURN: u64 = 130_560;
 
-// Reports of a run from slot 3 of a line to a client, after `run` wrote one packet there: two parities are wrong; one is; none is; and a
-// multiframe was lost, behind which the sink began anew.
+// Reports of a run from slot 3 of a line to a client, after `run` wrote one packet there: two parities are wrong; one
+// is; none is; and a multiframe was lost, behind which the sink began anew.
 const TWO_WRONG: &str =
     "turns 8\nline-in 0 frames 64 lead-in 0 lost 0 rest 0 fas 0 sm 2 pm 2 live\nclient-out 0 frames 3 packets 1 live\nconnection b up\nstatus done\n";
 

@@ -1,4 +1,5 @@
-// The command `run`: what stands on its lines, of tributaries of several slots, of lines cut short, of 32 slots, and scrambled.
+// The command `run`: what stands on its lines, of tributaries of several slots, of lines cut short, of 32 slots, and
+// scrambled.
 use crate::plan_runs::{
     FRAME, FROM_LINE, LINE_ROOM, Places, REPORT_ROOM, TO_LINE, byte_at, carried, from_line, input,
     kept, output, packets, plan_of, said, said_of_rest, text_of, to_line,

@@ -71,8 +71,8 @@ pub struct Ran {
     pub asked: u64,
 }
 
-/// A run of a plan over these places. It chooses the first of the ports that are ready, or the last, and has room for so
-/// many bytes of its report.
+/// A run of a plan over these places. It chooses the first of the ports that are ready, or the last, and has room for
+/// so many bytes of its report.
 pub fn carried<P: Source, I: Source, O: Sink>(
     alloc: Global,
     mut plan: P,
@@ -202,7 +202,8 @@ pub fn said_of_rest(file: &[u8], frame: u16) -> [u8; 3] {
     ]
 }
 
-// Whether the byte at this place of a line file belongs to another slot than slot 3: its payload, its message, or its MSI.
+// Whether the byte at this place of a line file belongs to another slot than slot 3: its payload, its message, or its
+// MSI.
 fn is_foreign(place: usize) -> bool {
     let frame = place / FRAME;
     let row = place % FRAME / 4080 + 1;

@@ -10,8 +10,8 @@ use otn_ports::{MemSource, SpoiledSource};
 use std::alloc::Global;
 use std::test::Fail;
 
-// A part of what a sink emits, 15,168 bytes a turn: the payload of the turns from one to another, or so many turns of AIS
-// from its first byte on.
+// A part of what a sink emits, 15,168 bytes a turn: the payload of the turns from one to another, or so many turns of
+// AIS from its first byte on.
 #[derive(Clone, Copy)]
 enum Part {
     Payload(u8, u8),
@@ -55,8 +55,8 @@ fn spoiled(
     Ok(SpoiledSource::new(MemSource::new(bytes), places.to_vec(alloc)?))
 }
 
-// Whether `pull` of so many frames of the line of `pull`'s tests, with bytes spoiled at these places, writes exactly these
-// parts.
+// Whether `pull` of so many frames of the line of `pull`'s tests, with bytes spoiled at these places, writes exactly
+// these parts.
 fn pulls(alloc: Global, frames: u32, places: &[(u64, u8)], parts: &[Part]) -> Result<bool, Memory>
     requires { rises_from 0 places.now ≡ true }
 {

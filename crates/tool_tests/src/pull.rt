@@ -9,8 +9,8 @@ use std::test::Fail;
 /// How many groups of a multiframe carry data in these lines, of one byte each in one slot.
 pub const DATA_GROUPS: usize = 15_168;
 
-// A byte of a frame of this turn, from 1, of a line that carries a tributary of port 1 in slot 3. Its payload is the byte
-// that `fill` gives, or else the turn's number. What is not the tributary's is never 0.
+// A byte of a frame of this turn, from 1, of a line that carries a tributary of port 1 in slot 3. Its payload is the
+// byte that `fill` gives, or else the turn's number. What is not the tributary's is never 0.
 fn byte_of(fill: Option<u8>, turn: u8, mfas: u8, row: u32, column: u32) -> u8 {
     let told = mfas % 8 == 2 && row < 4;
     if row == 1 && column == 7 {
@@ -51,8 +51,8 @@ fn push_frame(bytes: &mut Vec<u8>, fill: Option<u8>, turn: u8, mfas: u8) -> Resu
     Ok(())
 }
 
-/// A line: frames of these MFAS bytes, like those of turn 1 but with payload 0; so many frames of MFAS 0, 1, 2 and so on, of
-/// the turns 1, 2 and so on; and then some more bytes.
+/// A line: frames of these MFAS bytes, like those of turn 1 but with payload 0; so many frames of MFAS 0, 1, 2 and so
+/// on, of the turns 1, 2 and so on; and then some more bytes.
 pub fn line(
     alloc: Global,
     fill: Option<u8>,
@@ -84,8 +84,8 @@ pub fn ais_byte(place: usize) -> u8 {
     }
 }
 
-// What is emitted, 15,168 bytes a turn: the payload of the turn with this number, or AIS where it is 0, which stands first.
-// At most so many bytes.
+// What is emitted, 15,168 bytes a turn: the payload of the turn with this number, or AIS where it is 0, which stands
+// first. At most so many bytes.
 fn emitted(alloc: Global, turns: &[u8], room: usize) -> Result<Vec<u8>, Memory> {
     let mut bytes = Vec::new(alloc);
     for turn in turns {

@@ -14,7 +14,7 @@ use Rattle.trial_command.specs.TrialAnswers.{TrialRan}
 use Rattle.trial_plans.specs.TrialCarried.{AreTrialPackets, AreTrialRuns}
 use Rattle.trial_plans.specs.TrialDraw.{packets_of_trial}
 use Rattle.trial_command.specs.TrialReport.{check_line, client_lines, trial_report}
-use Rattle.trial_command.specs.TrialRuns.{AllClientsLive, FirstRan, MiddleRan, LastRan, GotPackets, ClientsTold, last_text}
+use Rattle.trial_command.specs.Steps.TrialRuns.{AllClientsLive, FirstRan, MiddleRan, LastRan, GotPackets, ClientsTold, last_text}
 use Rattle.trial_plans.proofs.TrialCarried.{all_packets_come_back}
 use Rattle.trial_plans.proofs.TrialDraw.{trial_is_packets, trial_packets_are}
 use Rattle.trial_command.proofs.TrialReport.{long_packet}

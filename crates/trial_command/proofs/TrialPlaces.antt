@@ -26,7 +26,8 @@ use Rattle.device_model.specs.RunLeft.{Takings, RunLeft}
 use Rattle.packet_text.specs.PacketText.{hex_text}
 use Rattle.trial_plans.specs.TrialDraw.{packets_of_trial}
 use Rattle.trial_plans.specs.TrialPlans.{trial_plan}
-use Rattle.trial_command.specs.TrialRuns.{holding, waiting, ReadsWell, RunWent}
+use Rattle.trial_command.specs.TrialRuns.{holding, waiting}
+use Rattle.trial_command.specs.Steps.TrialRuns.{ReadsWell, RunWent}
 use Rattle.trial_command.specs.declared.places.TheConstants.{FILE_ROOM, TEXT_ROOM}
 use denote.Param.{number}
 

@@ -11,8 +11,9 @@ use Rattle.hex.proofs.HexLemmas.{length-encode_with, decode_of-encode_lower, dec
 use Rattle.otn_ports.specs.Views.{OutView, BaysView, client_out_at}
 use Rattle.packet_text.specs.Laws.{IsPacket}
 use Rattle.packet_text.specs.PacketText.{packet_line, hex_text}
-use Rattle.trial_command.specs.TrialReport.{feed, lines_in, bytes_in, bytes_of, client_line, text_line, client_lines}
-use Rattle.trial_command.specs.TrialRuns.{ClientsTold}
+use Rattle.trial_command.specs.TrialReport.{bytes_of, client_line, client_lines}
+use Rattle.trial_command.specs.Steps.TrialReport.{feed, lines_in, bytes_in, text_line}
+use Rattle.trial_command.specs.Steps.TrialRuns.{ClientsTold}
 
 lines_append : (xs ys : List ℕ) → lines_in (xs ++ ys) ≡ lines_in xs + lines_in ys
 unfolding lines_in

@@ -27,7 +27,8 @@ use Rattle.packet_text.specs.PacketText.{hex_text}
 use Rattle.packet_text.proofs.ReadingBack.{reads_back}
 use Rattle.trial_plans.specs.TrialDraw.{packets_of_trial}
 use Rattle.trial_plans.specs.TrialPlans.{trial_connection, trial_plan}
-use Rattle.trial_command.specs.TrialRuns.{holding, waiting, ReadsWell, FirstPlaces, MiddlePlaces, LastPlaces, RunWent, FirstRan, MiddleRan, LastRan, GotAll, last_text}
+use Rattle.trial_command.specs.TrialRuns.{holding, waiting}
+use Rattle.trial_command.specs.Steps.TrialRuns.{ReadsWell, FirstPlaces, MiddlePlaces, LastPlaces, RunWent, FirstRan, MiddleRan, LastRan, GotAll, last_text}
 use Rattle.trial_plans.proofs.TrialDraw.{trial_is_packets}
 
 -- ---- the ports that a plan uses

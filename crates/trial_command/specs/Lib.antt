@@ -1,3 +1,4 @@
 pub mod TrialAnswers
 pub mod TrialReport
 pub mod TrialRuns
+pub mod Steps

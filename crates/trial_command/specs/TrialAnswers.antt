@@ -1,4 +1,4 @@
--- What the command `trial` answers for.
+-- Believed: what the command `trial` answers for.
 use Rattle.std.specs.Prelude.{◌≡◌, ℕ, ◌*◌, List, Result, Ok, Err}
 use Rattle.otn_base.specs.declared.memory.Memory.{Memory as NoMemory}
 use Rattle.otn_ports.specs.Bytes.{raised}
@@ -23,9 +23,10 @@ trial_status (Err memory) = status.Memory
 abbrev pub trial_pieces : ℕ
 trial_pieces = 4 * run_pieces
 
--- The trial of a number, once there was memory for it: there are the inputs and the files of four runs that carry the packets that it draws, each but the first over the file of the one
--- before (the ports are inside, so no more of them is seen); the report of these files, and of all packets drawn as those that came, was written, whole, or a part of it from the front where a write failed; and the chooser was
--- asked once for each piece.
+-- The trial of a number, once there was memory for it: there are the inputs and the files of four runs that carry the
+-- packets that it draws, each but the first over the file of the one before (the ports are inside, so no more of them
+-- is seen); the report of these files, and of all packets drawn as those that came, was written, whole, or a part of it
+-- from the front where a write failed; and the chooser was asked once for each piece.
 pub record TrialRan (number : ℕ) (answer : Written) (old new : SinkView) (asked asked_now : ℕ) : Type 0 where
   -- what the inputs of each run were, and the frames of the line file that it made
   pub inputs : (run : ℕ) → Inputs
@@ -34,8 +35,8 @@ pub record TrialRan (number : ℕ) (answer : Written) (old new : SinkView) (aske
   pub wrote : SinkWrites answer old (trial_report frames (packets_of_trial number)) new
   pub asked_each : asked_now ≡ raised asked trial_pieces
 
--- the answer of the top call to the trial of a number: Done where its report was written whole, ReportFault where a write of it failed; after
--- Memory the report is as it was
+-- the answer of the top call to the trial of a number: Done where its report was written whole, ReportFault where a
+-- write of it failed; after Memory the report is as it was
 abbrev pub TrialAnswers : (number : ℕ) → (old new : SinkView) → (asked asked_now : ℕ) → Status → Type 0
 TrialAnswers number old new asked asked_now status.Done = TrialRan number written.Whole old new asked asked_now
 TrialAnswers number old new asked asked_now status.ReportFault = TrialRan number written.Lost old new asked asked_now

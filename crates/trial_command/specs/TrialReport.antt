@@ -1,5 +1,5 @@
--- The report of the trial.
-use Rattle.std.specs.Prelude.{ℕ, zero, suc, ◌+◌, ◌-◌, ◌/◌, ◌==◌, if◌then◌else◌, List, [], ◌∷◌, ◌++◌, length, sum, map, codes}
+-- Believed: the report of the trial.
+use Rattle.std.specs.Prelude.{ℕ, zero, suc, ◌+◌, List, ◌∷◌, ◌++◌, length, sum, map, codes}
 use Rattle.std.specs.Fmt.{decimal}
 use Rattle.std.specs.List.{concat}
 use Rattle.crc_small.specs.LongDivision.{crc32_of}
@@ -17,26 +17,10 @@ check_line line file = codes "line " ++ (decimal line ++ (codes " check " ++ (ch
 
 -- `client C sent 16 got G bytes B`
 unfoldable pub client_line : (c packets bytes : ℕ) → List ℕ
-client_line c packets bytes = codes "client " ++ (decimal c ++ (codes " sent 16 got " ++ (decimal packets ++ (codes " bytes " ++ (decimal bytes ++ 10 ∷ [])))))
+client_line c packets bytes = codes "client "
+    ++ (decimal c ++ (codes " sent 16 got " ++ (decimal packets ++ (codes " bytes " ++ (decimal bytes ++ 10 ∷ [])))))
 
 -- ---- what came at a client, by its text
-
--- whether a byte ends a line, as a count
-abbrev pub feed : (byte : ℕ) → ℕ
-feed byte = if byte == 10 then 1 else 0
-
--- how many lines a text has: its line feeds
-unfoldable pub lines_in : (text : List ℕ) → ℕ
-lines_in [] = 0
-lines_in (byte ∷ bytes) = feed byte + lines_in bytes
-
--- how many bytes its packets have: two digits each, beside the line feeds
-abbrev pub bytes_in : (text : List ℕ) → ℕ
-bytes_in text = (length text - lines_in text) / 2
-
--- the line of a client that got this text
-abbrev pub text_line : (c : ℕ) → (text : List ℕ) → List ℕ
-text_line c text = client_line c (lines_in text) (bytes_in text)
 
 -- the sum of the lengths of packets
 abbrev pub bytes_of : List (List ℕ) → ℕ
@@ -50,4 +34,5 @@ client_lines packets (suc n) = client_lines packets n ++ client_line n (length (
 -- the report of runs that wrote these files, and brought these packets to the clients
 unfoldable pub trial_report : (frames : (run : ℕ) → List (List ℕ)) → (packets : (c : ℕ) → List (List ℕ)) → List ℕ
 trial_report frames packets =
-    check_line 0 (concat (frames 0)) ++ (check_line 1 (concat (frames 1)) ++ (check_line 2 (concat (frames 2)) ++ client_lines packets trial_clients))
+    check_line 0 (concat (frames 0)) ++ (check_line 1 (concat (frames 1))
+    ++ (check_line 2 (concat (frames 2)) ++ client_lines packets trial_clients))

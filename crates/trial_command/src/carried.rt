@@ -1,7 +1,7 @@
 // The four runs of the trial.
 ghost use Rattle.std.specs.Prelude.{◌≡◌, ◌≤◌, ◌<◌, IfOk};
 ghost use Rattle.otn_ports.specs.Racks.{bays_view};
-ghost use Rattle.trial_command.specs.TrialRuns.{RunWent, FirstRan, MiddleRan, LastRan};
+ghost use Rattle.trial_command.specs.Steps.TrialRuns.{RunWent, FirstRan, MiddleRan, LastRan};
 
 use crate::places::{
     Memories, TEXT_ROOM, TextSink, file_of, first_places, last_places, middle_places,
@@ -50,7 +50,9 @@ pub(crate) fn last_run<C: Chooser>(
     file: Vec<u8>,
     chooser: &mut C,
 ) -> Result<Memories<TextSink>, Memory>
-    ensures { IfOk result (λ bays. LastRan TEXT_ROOM file.items (bays_view ⟦<MemSource as Source>⟧ ⟦<BoundedSink<TEXT_ROOM> as Sink>⟧ bays) (C.asked chooser.old) (C.asked chooser.new)) }
+    ensures { IfOk result (λ bays. LastRan TEXT_ROOM file.items
+        (bays_view ⟦<MemSource as Source>⟧ ⟦<BoundedSink<TEXT_ROOM> as Sink>⟧ bays) (C.asked chooser.old)
+        (C.asked chooser.new)) }
 {
     let mut bays = last_places(alloc, file)?;
     carry_run(alloc, 3, &mut bays, chooser)?;
@@ -66,7 +68,8 @@ fn carry_run<C: Chooser, K: Sink>(
     chooser: &mut C,
 ) -> Result<(), Memory>
     requires { run < 4 }
-    ensures { IfOk result (λ _. RunWent run (bays_view ⟦<MemSource as Source>⟧ K.Sink bays.old) (bays_view ⟦<MemSource as Source>⟧ K.Sink bays.new)
+    ensures { IfOk result (λ _. RunWent run (bays_view ⟦<MemSource as Source>⟧ K.Sink bays.old)
+        (bays_view ⟦<MemSource as Source>⟧ K.Sink bays.new)
         (C.asked chooser.old) (C.asked chooser.new)) }
 {
     let plan = plan_of_run(alloc, run)?;

@@ -1,7 +1,8 @@
 // The lines of the trial's report.
 ghost use Rattle.std.specs.Prelude.{◌≡◌, ◌≤◌, IfOk, length, string_bytes};
 ghost use Rattle.gfp_frames.specs.CoreHeader.{four_bytes};
-ghost use Rattle.trial_command.specs.TrialReport.{check_digits, check_line, client_line, feed, lines_in, text_line};
+ghost use Rattle.trial_command.specs.TrialReport.{check_digits, check_line, client_line};
+ghost use Rattle.trial_command.specs.Steps.TrialReport.{feed, lines_in, text_line};
 
 use crc_small::crc32;
 use hex::encode;
@@ -36,7 +37,8 @@ fn bytes_of(n: u32) -> [u8; 4]
     ]
 }
 
-/// The line of a client that got this text: how many packets came, and how many bytes they have, are counted in the text.
+/// The line of a client that got this text: how many packets came, and how many bytes they have, are counted in the
+/// text.
 pub(crate) fn line_of_client(alloc: Global, client: u8, text: &[u8]) -> Result<String, AllocError>
     ensures { IfOk result (λ line. string_bytes line ≡ text_line client text.now) }
 {

@@ -4,7 +4,8 @@ ghost use Rattle.otn_ports.specs.InPlace.{in_view};
 ghost use Rattle.otn_ports.specs.OutPlace.{out_view};
 ghost use Rattle.otn_ports.specs.Racks.{bays_view};
 ghost use Rattle.otn_ports.specs.Views.{Live, line_out_at};
-ghost use Rattle.trial_command.specs.TrialRuns.{FirstPlaces, MiddlePlaces, LastPlaces, holding, waiting};
+ghost use Rattle.trial_command.specs.TrialRuns.{holding, waiting};
+ghost use Rattle.trial_command.specs.Steps.TrialRuns.{FirstPlaces, MiddlePlaces, LastPlaces};
 
 use bounded_ports::BoundedSink;
 use otn_base::Memory;
@@ -16,7 +17,8 @@ use trial_plans::{CLIENTS, draw_text, generator_of};
 /// Places in memory, whose outputs are of this kind.
 pub(crate) type Memories<K> = Rack<MemSource, K>;
 
-/// Room for a line's file, of 16 turns of eight frames, and for one byte more: so it is never full, and no write to it fails.
+/// Room for a line's file, of 16 turns of eight frames, and for one byte more: so it is never full, and no write to it
+/// fails.
 pub(crate) const FILE_ROOM: usize = 2_088_961;
 
 /// Room for the text of 16 packets of 1,500 bytes, and for one byte more.
@@ -30,7 +32,8 @@ pub(crate) type TextSink = BoundedSink<TEXT_ROOM>;
 
 /// The places of the first run: the clients' texts, drawn by the number, and room for the file of line 0.
 pub(crate) fn first_places(alloc: Global, number: u64) -> Result<Memories<FileSink>, Memory>
-    ensures { IfOk result (λ bays. FirstPlaces number (bays_view ⟦<MemSource as Source>⟧ ⟦<BoundedSink<FILE_ROOM> as Sink>⟧ bays)) }
+    ensures { IfOk result (λ bays. FirstPlaces number
+        (bays_view ⟦<MemSource as Source>⟧ ⟦<BoundedSink<FILE_ROOM> as Sink>⟧ bays)) }
 {
     let mut generator = generator_of(number);
     let mut bays = Rack::new(alloc)?;
@@ -49,7 +52,8 @@ pub(crate) fn middle_places(
     file: Vec<u8>,
 ) -> Result<Memories<FileSink>, Memory>
     requires { run < 4 }
-    ensures { IfOk result (λ bays. MiddlePlaces run file.items (bays_view ⟦<MemSource as Source>⟧ ⟦<BoundedSink<FILE_ROOM> as Sink>⟧ bays)) }
+    ensures { IfOk result (λ bays. MiddlePlaces run file.items
+        (bays_view ⟦<MemSource as Source>⟧ ⟦<BoundedSink<FILE_ROOM> as Sink>⟧ bays)) }
 {
     let mut bays = Rack::new(alloc)?;
     bays.set_line_in(0, holding(file));
@@ -59,7 +63,8 @@ pub(crate) fn middle_places(
 
 /// The places of the last run: the file of the third one, and room for the clients' texts.
 pub(crate) fn last_places(alloc: Global, file: Vec<u8>) -> Result<Memories<TextSink>, Memory>
-    ensures { IfOk result (λ bays. LastPlaces file.items (bays_view ⟦<MemSource as Source>⟧ ⟦<BoundedSink<TEXT_ROOM> as Sink>⟧ bays)) }
+    ensures { IfOk result (λ bays. LastPlaces file.items
+        (bays_view ⟦<MemSource as Source>⟧ ⟦<BoundedSink<TEXT_ROOM> as Sink>⟧ bays)) }
 {
     let mut bays = Rack::new(alloc)?;
     bays.set_line_in(0, holding(file));
@@ -86,8 +91,10 @@ fn room_for<const ROOM: usize>(alloc: Global) -> Result<OutPlaceOf<BoundedSink<R
 /// The file that went to a line whose place lives, handed out whole.
 pub(crate) fn file_of(bays: Memories<FileSink>, line: u8) -> Vec<u8>
     requires line { line < 4 }
-    requires live { (line_out_at (bays_view ⟦<MemSource as Source>⟧ ⟦<BoundedSink<FILE_ROOM> as Sink>⟧ bays) line).state ≡ Live }
-    ensures { (line_out_at (bays_view ⟦<MemSource as Source>⟧ ⟦<BoundedSink<FILE_ROOM> as Sink>⟧ bays) line).got ≡ Some result.items }
+    requires live { (line_out_at (bays_view ⟦<MemSource as Source>⟧ ⟦<BoundedSink<FILE_ROOM> as Sink>⟧ bays) line).state
+        ≡ Live }
+    ensures { (line_out_at (bays_view ⟦<MemSource as Source>⟧ ⟦<BoundedSink<FILE_ROOM> as Sink>⟧ bays) line).got
+        ≡ Some result.items }
 {
     let mut bays = bays;
     match mem::replace(bays.line_out_mut(line), OutPlaceOf::Empty) {

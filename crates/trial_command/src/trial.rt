@@ -4,7 +4,7 @@ ghost use Rattle.otn_ports.specs.PortViews.{sink_view};
 ghost use Rattle.otn_ports.specs.Racks.{bays_view};
 ghost use Rattle.trial_command.specs.TrialAnswers.{TrialRan, trial_status};
 ghost use Rattle.trial_plans.specs.TrialPlans.{trial_clients};
-ghost use Rattle.trial_command.specs.TrialRuns.{AllClientsLive, ClientsTold};
+ghost use Rattle.trial_command.specs.Steps.TrialRuns.{AllClientsLive, ClientsTold};
 
 use crate::carried::{first_run, last_run, middle_run};
 use crate::lines::{line_of_check, line_of_client};
@@ -27,9 +27,10 @@ pub fn status_of_trial(answer: Result<Written, Memory>) -> Status
     }
 }
 
-/// Draws packets for eight clients by the number, carries them through four nodes in a row over ports in memory, in an order that the chooser
-/// says, and writes the checks of the three line files and what came back. No output of the trial is ever full, so none dies, and `Memory` is
-/// answered for want of memory alone. After it the report is as it was; the chooser may have been asked by then.
+/// Draws packets for eight clients by the number, carries them through four nodes in a row over ports in memory, in an
+/// order that the chooser says, and writes the checks of the three line files and what came back. No output of the
+/// trial is ever full, so none dies, and `Memory` is answered for want of memory alone. After it the report is as it
+/// was; the chooser may have been asked by then.
 pub fn run_trial<C: Chooser, K: Sink>(
     alloc: Global,
     number: u64,
@@ -37,7 +38,8 @@ pub fn run_trial<C: Chooser, K: Sink>(
     report: &mut K,
 ) -> Result<Written, Memory>
     ensures memory { IfErr result (λ _. report.new ≡ report.old) }
-    ensures ran { IfOk result (λ written. TrialRan number written (sink_view K.Sink report.old) (sink_view K.Sink report.new) (C.asked chooser.old) (C.asked chooser.new)) }
+    ensures ran { IfOk result (λ written. TrialRan number written (sink_view K.Sink report.old)
+        (sink_view K.Sink report.new) (C.asked chooser.old) (C.asked chooser.new)) }
 {
     let first = first_run(alloc, number, chooser)?;
     let mut text = line_of_check(alloc, 0, &first)?;
@@ -53,7 +55,8 @@ pub fn run_trial<C: Chooser, K: Sink>(
 // The lines of the clients, by the texts that they got. All their places live.
 fn lines_of_clients(alloc: Global, bays: &Memories<TextSink>) -> Result<String, Memory>
     requires { AllClientsLive (bays_view ⟦<MemSource as Source>⟧ ⟦<BoundedSink<TEXT_ROOM> as Sink>⟧ bays.now) }
-    ensures { IfOk result (λ lines. ClientsTold trial_clients (bays_view ⟦<MemSource as Source>⟧ ⟦<BoundedSink<TEXT_ROOM> as Sink>⟧ bays.now) (string_bytes lines)) }
+    ensures { IfOk result (λ lines. ClientsTold trial_clients
+        (bays_view ⟦<MemSource as Source>⟧ ⟦<BoundedSink<TEXT_ROOM> as Sink>⟧ bays.now) (string_bytes lines)) }
 {
     let mut lines = String::new(alloc);
     for c in 0..CLIENTS {

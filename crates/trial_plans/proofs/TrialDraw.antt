@@ -10,7 +10,8 @@ use Rattle.packet_text.specs.PacketText.{packet_line, hex_text}
 use Rattle.rand_pcg.specs.Lcg.{Lcg}
 use Rattle.rand_pcg.specs.Pcg.{pcg32}
 use Rattle.number_order.specs.NumberOrder.{generator_after, order_word}
-use Rattle.trial_plans.specs.TrialDraw.{drawn_size, drawn_packet, behind_packet, drawn_packets, behind_packets, client_place, packets_of_trial, DrawsPacket, DrawsText}
+use Rattle.trial_plans.specs.TrialDraw.{drawn_size, drawn_packet, behind_packet, drawn_packets, behind_packets, client_place, packets_of_trial, DrawsText}
+use Rattle.trial_plans.specs.Steps.TrialDraw.{DrawsPacket}
 use Rattle.trial_plans.specs.TrialCarried.{AreTrialPackets}
 use Rattle.number_order.proofs.NumberOrder.{generator_next}
 

@@ -1,4 +1,4 @@
--- What the trial's runs carry: all packets that are drawn come back.
+-- Believed: what the trial's runs carry: all packets that are drawn come back.
 use Rattle.std.specs.Prelude.{◌≡◌, ℕ, ◌+◌, ◌*◌, ◌<◌, ◌≤◌, List, All, length}
 use Rattle.std.specs.List.{concat}
 use Rattle.otn_base.specs.declared.limits.TheConstants.{OTU2_SLOTS}
@@ -22,18 +22,22 @@ pub record AreTrialPackets (packets : List (List ℕ)) : Type 0 where
 abbrev pub trial_frames : ℕ
 trial_frames = OTU2_SLOTS * trial_turns
 
--- Runs of the four plans. The clients of the first run give these packets, and end; each run but the last makes the file of the line of its
--- number, and the next run reads it as line 0.
-pub record AreTrialRuns (packets : (c : ℕ) → List (List ℕ)) (inputs : (run : ℕ) → Inputs) (frames : (run : ℕ) → List (List ℕ)) : Type 0 where
+-- Runs of the four plans. The clients of the first run give these packets, and end; each run but the last makes the
+-- file of the line of its number, and the next run reads it as line 0.
+pub record AreTrialRuns (packets : (c : ℕ) → List (List ℕ)) (inputs : (run : ℕ) → Inputs)
+    (frames : (run : ℕ) → List (List ℕ)) : Type 0 where
   pub clients : (c : ℕ) → c < trial_clients → (inputs 0).client c ≡ record { packets = packets c; ending = AtEnd }
   pub first : IsLineFile (trial_plan 0) (inputs 0) 0 trial_frames (frames 0)
   pub second : IsLineFile (trial_plan 1) (inputs 1) 1 trial_frames (frames 1)
   pub third : IsLineFile (trial_plan 2) (inputs 2) 2 trial_frames (frames 2)
   pub read : (run : ℕ) → run < 3 → (inputs (run + 1)).line 0 ≡ concat (frames run)
 
--- Then the packets that arrive at client c of the fourth run are those of client c of the first, and so is the text that it gets.
+-- Then the packets that arrive at client c of the fourth run are those of client c of the first, and so is the text
+-- that it gets.
 abbrev pub AllPacketsComeBack : Type 0
-AllPacketsComeBack = (packets : (c : ℕ) → List (List ℕ)) (inputs : (run : ℕ) → Inputs) (frames : (run : ℕ) → List (List ℕ)) (c : ℕ)
+AllPacketsComeBack = (packets : (c : ℕ) → List (List ℕ)) (inputs : (run : ℕ) → Inputs)
+    (frames : (run : ℕ) → List (List ℕ)) (c : ℕ)
     → AreTrialRuns packets inputs frames → c < trial_clients → AreTrialPackets (packets c)
-    → (arriving_packets (arrived_by (trial_connection 3 c) (own_input (inputs 3) (trial_connection 3 c)) trial_turns) ≡ packets c)
+    → (arriving_packets (arrived_by (trial_connection 3 c) (own_input (inputs 3) (trial_connection 3 c)) trial_turns)
+    ≡ packets c)
     × (text_by (trial_connection 3 c) (own_input (inputs 3) (trial_connection 3 c)) trial_turns ≡ hex_text (packets c))

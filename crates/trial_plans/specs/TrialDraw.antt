@@ -1,5 +1,5 @@
--- The draw of the trial: the packets of its clients, of the words of a generator in their order.
-use Rattle.std.specs.Prelude.{◌≡◌, ℕ, zero, suc, ◌+◌, ◌%◌, List, [], ◌∷◌, ◌++◌, map}
+-- Believed: the draw of the trial: the packets of its clients, of the words of a generator in their order.
+use Rattle.std.specs.Prelude.{◌≡◌, ℕ, zero, suc, ◌+◌, ◌%◌, List, ◌∷◌, ◌++◌, map}
 use Rattle.std.specs.List.{range_with_len}
 use Rattle.packet_text.specs.PacketText.{hex_text}
 use Rattle.rand_pcg.specs.Lcg.{Lcg}
@@ -11,7 +11,8 @@ use Rattle.trial_plans.specs.TrialPlans.{trial_packets}
 abbrev pub drawn_size : (word : ℕ) → ℕ
 drawn_size word = 1 + word % longest_packet
 
--- the packet that is drawn from the word of this place on: a word for its size, and one for each of its bytes, whose low eight bits are the byte
+-- the packet that is drawn from the word of this place on: a word for its size, and one for each of its bytes, whose
+-- low eight bits are the byte
 abbrev pub drawn_packet : (words : ℕ → ℕ) → (place : ℕ) → List ℕ
 drawn_packet words place = map (λ i. words i % 256) (range_with_len (place + 1) (drawn_size (words place)))
 
@@ -27,7 +28,8 @@ behind_packets words place (suc count) = behind_packet words (behind_packets wor
 -- so many packets, one after another
 unfoldable pub drawn_packets : (words : ℕ → ℕ) → (place count : ℕ) → List (List ℕ)
 drawn_packets words place zero = []
-drawn_packets words place (suc count) = drawn_packets words place count ++ drawn_packet words (behind_packets words place count) ∷ []
+drawn_packets words place (suc count) = drawn_packets words place count
+    ++ drawn_packet words (behind_packets words place count) ∷ []
 
 -- where the packets of client c, from 0, begin: each client has 16
 unfoldable pub client_place : (words : ℕ → ℕ) → (c : ℕ) → ℕ
@@ -40,12 +42,9 @@ packets_of_trial number c = drawn_packets (order_word number) (client_place (ord
 
 -- ---- a generator that gives these words
 
--- From one state of a generator to a later one this packet was drawn: whatever number it was made from, and however many words were given.
-pub record DrawsPacket (old new : Lcg) (packet : List ℕ) : Type 0 where
-  pub drawn : (number place : ℕ) → old ≡ generator_after number place → packet ≡ drawn_packet (order_word number) place
-  pub behind : (number place : ℕ) → old ≡ generator_after number place → new ≡ generator_after number (behind_packet (order_word number) place)
-
 -- So many packets were drawn, and this is their text.
 pub record DrawsText (count : ℕ) (old new : Lcg) (text : List ℕ) : Type 0 where
-  pub drawn : (number place : ℕ) → old ≡ generator_after number place → text ≡ hex_text (drawn_packets (order_word number) place count)
-  pub behind : (number place : ℕ) → old ≡ generator_after number place → new ≡ generator_after number (behind_packets (order_word number) place count)
+  pub drawn : (number place : ℕ) → old ≡ generator_after number place
+      → text ≡ hex_text (drawn_packets (order_word number) place count)
+  pub behind : (number place : ℕ) → old ≡ generator_after number place
+      → new ≡ generator_after number (behind_packets (order_word number) place count)

@@ -1,4 +1,5 @@
--- The plans of the trial: four runs of 16 turns, which carry eight clients to line 0, from line to line twice, and back to the clients.
+-- Believed: the plans of the trial: four runs of 16 turns, which carry eight clients to line 0, from line to line
+-- twice, and back to the clients.
 use Rattle.std.specs.Prelude.{ℕ, zero, suc, ◌+◌, ◌-◌, true, false, [], ◌∷◌, map}
 use Rattle.std.specs.List.{range_with_len}
 use Rattle.otn_base.specs.LineSlots.{LineSlots}
@@ -12,7 +13,8 @@ use Rattle.plan_file.specs.declared.connection.ToEnd.{ToEnd}
 use Rattle.plan_file.specs.declared.connection.ToEnd.TheVariants as to_end
 use Rattle.plan_file.specs.declared.plan.Plan.{Plan}
 
--- how many clients there are, one for each slot of an OTU2, how many packets each of them has, and how many turns a run has
+-- how many clients there are, one for each slot of an OTU2, how many packets each of them has, and how many turns a run
+-- has
 abbrev pub trial_clients : ℕ
 trial_clients = OTU2_SLOTS
 
@@ -26,8 +28,8 @@ trial_turns = 16
 abbrev pub one_slot : (slot : ℕ) → LineSlots
 one_slot slot = record { kind = Otu2; list = slot ∷ [] }
 
--- where the connection of client c, from 0, comes from in a run, from 0: from the client, then from line 0, into which the file of the run
--- before is handed
+-- where the connection of client c, from 0, comes from in a run, from 0: from the client, then from line 0, into which
+-- the file of the run before is handed
 abbrev pub comes_from : (run c : ℕ) → FromEnd
 comes_from zero c = from_end.Client c
 comes_from (suc zero) c = from_end.Line 0 (c + 1) (one_slot (c + 1))

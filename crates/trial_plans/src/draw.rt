@@ -1,7 +1,8 @@
 // The packets of the trial, drawn by a generator.
 ghost use Rattle.std.specs.Prelude.{◌≡◌, ℕ, IfOk};
 ghost use Rattle.number_order.specs.NumberOrder.{generator_after};
-ghost use Rattle.trial_plans.specs.TrialDraw.{DrawsPacket, DrawsText};
+ghost use Rattle.trial_plans.specs.TrialDraw.{DrawsText};
+ghost use Rattle.trial_plans.specs.Steps.TrialDraw.{DrawsPacket};
 
 use hex::encode;
 use otn_base::Memory;

@@ -6,8 +6,9 @@ ghost use Rattle.trial_plans.specs.TrialDraw.{packets_of_trial};
 
 /// A client's packets that a first run takes to a line, that go on from line to line in one run or more, and that a
 /// last run takes to a client, each run of an accepted plan and over the file that the one before made: what arrives
-/// there is the front of the first client's stream, a turn later for the first run and three for each other (`stream`). So all of its packets
-/// arrive, in order, where their frames lie in the client frames that are whole in that (`packets`).
+/// there is the front of the first client's stream, a turn later for the first run and three for each other (`stream`).
+/// So all of its packets arrive, in order, where their frames lie in the client frames that are whole in that
+/// (`packets`).
 pub fn come_back()
     ensures stream { BringsTheStreamBack }
     ensures packets { BringsAllPacketsBack }

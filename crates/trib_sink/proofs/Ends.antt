@@ -18,7 +18,8 @@ use Rattle.tributary_model.specs.Laws.{IsTributary}
 use Rattle.tributary_model.proofs.Law.{machine_next, machine_is_emission}
 use Rattle.tributary_model.proofs.OnLine.{evenly}
 use Rattle.tributary_model.proofs.Views.{whole_view}
-use Rattle.trib_sink.specs.Following.{Following, IsAt, IsBetween, listener_after}
+use Rattle.trib_sink.specs.Following.{Following, IsAt}
+use Rattle.trib_sink.specs.Steps.Following.{IsBetween, listener_after}
 use Rattle.trib_sink.specs.Watching.{Watched}
 use Rattle.trib_sink.specs.Sink.{Sink, IsSink, StandsAfter, ended_view}
 use Rattle.trib_sink.proofs.Stands.{some_greatest, bytes_start}

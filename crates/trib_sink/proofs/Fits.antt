@@ -7,7 +7,8 @@ use Rattle.tributary_model.proofs.Heard.{small_message}
 use Rattle.tributary_model.specs.declared.turns.Said.{Said}
 use Rattle.tributary_model.specs.declared.turns.Standing.{Standing}
 use Rattle.tributary_model.specs.declared.turns.Standing.TheVariants.{Up}
-use Rattle.trib_sink.specs.Following.{FitsStanding, FitsDue, IsSmallSaid, FitsNext, IsSmallHearing}
+use Rattle.trib_sink.specs.Following.{FitsStanding, FitsDue, IsSmallSaid}
+use Rattle.trib_sink.specs.Steps.Following.{FitsNext, IsSmallHearing}
 
 fits_up : (slots : ℕ) (pending : List ℕ) (standing : Standing) (said : Said) → standing ≡ Up said → FitsStanding slots pending standing → IsSmallSaid slots said × FitsDue slots pending said.due
 fits_up slots pending standing said e h = subst (FitsStanding slots pending) e h

@@ -5,7 +5,8 @@ use Rattle.tributary_model.specs.Stretches.{Member, Part, WaitingTurn, DownTurn,
 use Rattle.tributary_model.specs.Emission.{down_run}
 use Rattle.tributary_model.specs.Machine.{Machine, machine_after}
 use Rattle.tributary_model.proofs.Law.{SoundCourse, machine_of, waits, waiting_at, down_at, stands}
-use Rattle.trib_sink.specs.Pairs.{pair_of, pair_after, pair_of_standing}
+use Rattle.trib_sink.specs.Pairs.{pair_of, pair_after}
+use Rattle.trib_sink.specs.Steps.Pairs.{pair_of_standing}
 use Rattle.trib_sink.specs.Sink.{Sink, StandsAfter}
 
 -- a machine in no stretch has none

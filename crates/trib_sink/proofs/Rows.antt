@@ -5,7 +5,7 @@ use Rattle.std.proofs.lemmas.List.Concat.{flat_map-append}
 use Rattle.gmp_rule.specs.DataRule.{is_data_at}
 use Rattle.odtu_columns.specs.Payload.{payload_group}
 use Rattle.odtu_columns.proofs.Cycles.{range-append}
-use Rattle.trib_sink.specs.Rows.{row_data}
+use Rattle.trib_sink.specs.Steps.Rows.{row_data}
 
 pub row_data-none : (line c before : ℕ) (payload slots : List ℕ) → row_data line c before payload slots 0 ≡ []
 unfolding row_data

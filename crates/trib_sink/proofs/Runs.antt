@@ -6,7 +6,7 @@ use Rattle.odtu_columns.specs.Payload.{payload_group, run_groups}
 use Rattle.odtu_columns.proofs.RunGroups.{run_groups-none, run_groups-more}
 use Rattle.std.proofs.lemmas.Slice.{take-put_mid}
 use borrow.Rule.Slice.PartMut.{put_mid}
-use Rattle.trib_sink.specs.Rows.{row_data}
+use Rattle.trib_sink.specs.Steps.Rows.{row_data}
 use Rattle.trib_sink.proofs.Rows.{row_data-more}
 
 -- a data group gives its bytes

@@ -17,7 +17,8 @@ use Rattle.tributary_model.specs.Machine.{start, number_of, machine_after, state
 use Rattle.tributary_model.proofs.Law.{state_is}
 use Rattle.trib_sink.specs.Following.{Following, IsAt}
 use Rattle.trib_sink.specs.Watching.{Watched, AreOfSlots}
-use Rattle.trib_sink.specs.Rows.{row_cycles, with_frame, after_frame}
+use Rattle.trib_sink.specs.Rows.{row_cycles}
+use Rattle.trib_sink.specs.Steps.Rows.{with_frame, after_frame}
 use Rattle.trib_sink.specs.Sink.{Sink, IsSink, StandsAfter}
 use Rattle.trib_sink.proofs.LineRows.{frame_asked}
 use Rattle.trib_sink.proofs.Frames.{frame_taken}

@@ -1,9 +1,10 @@
--- What a sink extracted and did not emit, and what it emitted last.
+-- API: what a sink extracted and did not emit, and what it emitted last.
 use Rattle.std.specs.Prelude.{◌≡◌, ℕ, ◌+◌, ◌*◌, ◌≤◌, List}
 use Rattle.otn_base.specs.declared.limits.TheConstants.{GROUPS, MOST_SLOTS}
 
--- for so many slots: the number by which a turn's groups are data, how many groups of the turn were asked, the bytes that
--- earlier turns left, those that this turn extracted, and, until its first frame is taken, those that the last turn emitted
+-- for so many slots: the number by which a turn's groups are data, how many groups of the turn were asked, the bytes
+-- that earlier turns left, those that this turn extracted, and, until its first frame is taken, those that the last
+-- turn emitted
 pub record Extraction : Type 0 where
   pub slots : ℕ
   pub number : ℕ
@@ -12,8 +13,9 @@ pub record Extraction : Type 0 where
   pub fresh : List ℕ
   pub emitted : List ℕ
 
--- The pending bytes stand in one buffer between two places, those of this turn at the front of another one, up to an end; there
--- too those that the last turn emitted, between two places. Each buffer has room for a multiframe of them, and a group more.
+-- The pending bytes stand in one buffer between two places, those of this turn at the front of another one, up to an
+-- end; there too those that the last turn emitted, between two places. Each buffer has room for a multiframe of them,
+-- and a group more.
 pub record HasRoom (slots number asked first last kept end from past fresh : ℕ) : Type 0 where
   pub few : slots ≤ MOST_SLOTS
   pub number_high : number ≤ GROUPS

@@ -4,3 +4,4 @@ pub mod Following
 pub mod Watching
 pub mod Sink
 pub mod Pairs
+pub mod Steps

@@ -1,7 +1,5 @@
--- The pair of numbers that a sink last took.
-use Rattle.std.specs.Prelude.{ℕ, List, [], ◌∷◌, Option, Some, None}
-use Rattle.tributary_model.specs.declared.turns.Standing.{Standing}
-use Rattle.tributary_model.specs.declared.turns.Standing.TheVariants.{Waiting, Down, Up}
+-- API: the pair of numbers that a sink last took.
+use Rattle.std.specs.Prelude.{ℕ, List, ◌∷◌, Option, Some, None}
 use Rattle.tributary_model.specs.Places.{Tributary, View}
 use Rattle.tributary_model.specs.Stretches.{Member, Part, WaitingTurn, DownTurn, StretchTurn, EndingTurn, course}
 
@@ -18,13 +16,7 @@ pair_of (DownTurn ∷ parts) = None
 pair_of (StretchTurn stretch ∷ parts) = last_pair stretch
 pair_of (EndingTurn stretch ∷ parts) = None
 
--- G.709 Annex D: Cm and CnD of the last of the turns of these views, where a stretch goes on with it; of a damaged message those that its stretch
--- had before it
+-- G.709 Annex D: Cm and CnD of the last of the turns of these views, where a stretch goes on with it; of a damaged
+-- message those that its stretch had before it
 abbrev pub pair_after : Tributary → List (Option View) → Option (ℕ × ℕ)
 pair_after own past = pair_of (course own past)
-
--- the same, by how the sink stands
-abbrev pub pair_of_standing : Standing → Option (ℕ × ℕ)
-pair_of_standing (Waiting n) = None
-pair_of_standing Down = None
-pair_of_standing (Up said) = Some (said.number, said.rest)

@@ -1,4 +1,4 @@
--- A sink after some turns, and within one.
+-- API: a sink after some turns, and within one.
 use Rattle.std.specs.Prelude.{◌≡◌, ℕ, ◌*◌, ◌-◌, ◌≤◌, List, Bool, if◌then◌else◌, Option, Some, None, length, slice_get}
 use Rattle.std.specs.List.{flat_map}
 use Rattle.otn_base.specs.LineSlots.{LineSlots, slots_of}
@@ -12,8 +12,8 @@ use Rattle.trib_sink.specs.Following.{Following, Keeps, IsAt}
 use Rattle.trib_sink.specs.Rows.{row_cycles}
 use Rattle.trib_sink.specs.Watching.{Watched, AreOfSlots}
 
--- what is seen of a sink: its slots and port, how it follows them, the watches over MSI bytes, and how many frames of this turn
--- it has taken, with their message and MSI bytes
+-- what is seen of a sink: its slots and port, how it follows them, the watches over MSI bytes, and how many frames of
+-- this turn it has taken, with their message and MSI bytes
 pub record Sink : Type 0 where
   pub slots : LineSlots
   pub port : ℕ
@@ -23,8 +23,8 @@ pub record Sink : Type 0 where
   pub message : List ℕ
   pub msi : List (ℕ × ℕ)
 
--- what holds of every sink: its slots rise, its port is one of its line, and it has taken no more frames than a multiframe of the line has, with
--- all groups of each
+-- what holds of every sink: its slots rise, its port is one of its line, and it has taken no more frames than a
+-- multiframe of the line has, with all groups of each
 pub record IsSink (s : Sink) : Type 0 where
   pub list : IsSlotList (slots_of s.slots.kind) s.slots.list
   pub port_low : 1 ≤ s.port
@@ -36,8 +36,8 @@ pub record IsSink (s : Sink) : Type 0 where
   pub msi_few : length s.msi ≤ s.taken
   pub msi_slots : AreOfSlots s.msi
 
--- The sink is one of this tributary. These are the views of the turns that ended since it was new or restarted, the last first,
--- and these the frames of the turn after them that it has taken.
+-- The sink is one of this tributary. These are the views of the turns that ended since it was new or restarted, the
+-- last first, and these the frames of the turn after them that it has taken.
 pub record StandsAfter (own : Tributary) (past : List (Option View)) (frames : List Taken) (s : Sink) : Type 0 where
   pub own_is : own ≡ tributary_of s.slots s.port
   pub slots : IsSlotList own.line_slots own.slots
@@ -45,15 +45,18 @@ pub record StandsAfter (own : Tributary) (past : List (Option View)) (frames : L
   pub at : IsAt (machine_after own past) s.following
   pub watched : Watched own.port (λ k. came k past) s.watches
   pub taken : s.taken ≡ length frames
-  pub fresh : s.following.extraction.fresh ≡ data_bytes (number_of s.following.standing) (flat_map (λ t. frame_groups own t.frame) frames)
+  pub fresh : s.following.extraction.fresh
+      ≡ data_bytes (number_of s.following.standing) (flat_map (λ t. frame_groups own t.frame) frames)
   pub number : s.following.extraction.number ≡ number_of s.following.standing
   pub message : greatest own.slots ≤ length frames → s.message ≡ message_in (slice_get frames (greatest own.slots - 1))
   pub msi : s.msi ≡ flat_map (msi_in own) frames
 
--- This holds of every tributary, past and frames after which the sink stands (StandsAfter). `new` and `restart` give such ones, and each
--- call takes them to the next.
-abbrev pub AfterAnyTurns : Sink → ((own : Tributary) → (past : List (Option View)) → (frames : List Taken) → Type 0) → Type 0
-AfterAnyTurns sink Holds = (own : Tributary) (past : List (Option View)) (frames : List Taken) → StandsAfter own past frames sink → Holds own past frames
+-- This holds of every tributary, past and frames after which the sink stands (StandsAfter). `new` and `restart` give
+-- such ones, and each call takes them to the next.
+abbrev pub AfterAnyTurns : Sink → ((own : Tributary) → (past : List (Option View)) → (frames : List Taken) → Type 0)
+    → Type 0
+AfterAnyTurns sink Holds = (own : Tributary) (past : List (Option View)) (frames : List Taken)
+    → StandsAfter own past frames sink → Holds own past frames
 
 -- the view of a turn in which these frames were taken: none where it has no multiframe (whole is false)
 abbrev pub ended_view : Tributary → (whole : Bool) → List Taken → Option View

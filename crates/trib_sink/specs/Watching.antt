@@ -1,4 +1,4 @@
--- The watches over the slots of a line.
+-- API: the watches over the slots of a line.
 use Rattle.std.specs.Prelude.{ℕ, ◌-◌, ◌≤◌, List, All, slice_index_or}
 use Rattle.otn_base.specs.declared.limits.TheConstants.{MOST_SLOTS}
 use Rattle.msi_table.specs.Marks.{Watch, HasTaken}

@@ -5,7 +5,8 @@ ghost use Rattle.gmp_rule.specs.DataRule.{is_data_at};
 ghost use Rattle.odtu_columns.specs.Payload.{payload_group, run_groups};
 ghost use Rattle.otn_base.specs.LineSlots.{slots_of};
 ghost use Rattle.otn_base.specs.declared.limits.TheConstants.{GROUPS, LINE_COLUMNS, PAYLOAD_COLUMNS};
-ghost use Rattle.trib_sink.specs.Rows.{row_cycles, row_data};
+ghost use Rattle.trib_sink.specs.Rows.{row_cycles};
+ghost use Rattle.trib_sink.specs.Steps.Rows.{row_data};
 
 use gmp_rule::Runner;
 use odtu_columns::TakeFrame;
@@ -42,7 +43,9 @@ pub(crate) fn take_row<F: TakeFrame>(
     requires room { at + length slots.now.list * row_cycles slots.now.kind ≤ length into.old }
     requires asked { runner.old.asked + row_cycles slots.now.kind ≤ GROUPS }
     ensures count { result ≤ at + length slots.now.list * row_cycles slots.now.kind }
-    ensures bytes { take result into.new ≡ take at into.old ++ row_data (slots_of slots.now.kind) runner.old.number runner.old.asked (payload_row_of LINE_COLUMNS row (F.bytes frame.now)) slots.now.list (row_cycles slots.now.kind) }
+    ensures bytes { take result into.new ≡ take at into.old
+        ++ row_data (slots_of slots.now.kind) runner.old.number runner.old.asked
+        (payload_row_of LINE_COLUMNS row (F.bytes frame.now)) slots.now.list (row_cycles slots.now.kind) }
     ensures runner { runner.new ≡ record runner.old { asked = runner.old.asked + row_cycles slots.now.kind } }
 {
     let groups = groups_of_row(slots);
@@ -73,7 +76,10 @@ fn take_cycle<F: TakeFrame>(
     requires room { at + length slots.now.list ≤ length into.old }
     requires asked { runner.old.asked < GROUPS }
     ensures end { result ≤ at + length slots.now.list }
-    ensures bytes { take result into.new ≡ take at into.old ++ (if is_data_at runner.old.number (runner.old.asked + 1) then payload_group (slots_of slots.now.kind) (payload_row_of LINE_COLUMNS row (F.bytes frame.now)) slots.now.list cycle else []) }
+    ensures bytes { take result into.new ≡ take at into.old
+        ++ (if is_data_at runner.old.number (runner.old.asked + 1)
+        then payload_group (slots_of slots.now.kind)
+        (payload_row_of LINE_COLUMNS row (F.bytes frame.now)) slots.now.list cycle else []) }
     ensures runner { runner.new ≡ record runner.old { asked = runner.old.asked + 1 } }
 {
     if runner.next() {
@@ -97,7 +103,9 @@ fn put_cycle<F: TakeFrame>(
     requires cycle { cycle < row_cycles slots.now.kind }
     requires room { at + length slots.now.list ≤ length into.old }
     ensures end { result ≡ at + length slots.now.list }
-    ensures bytes { take result into.new ≡ take at into.old ++ payload_group (slots_of slots.now.kind) (payload_row_of LINE_COLUMNS row (F.bytes frame.now)) slots.now.list cycle }
+    ensures bytes { take result into.new ≡ take at into.old
+        ++ payload_group (slots_of slots.now.kind)
+        (payload_row_of LINE_COLUMNS row (F.bytes frame.now)) slots.now.list cycle }
 {
     let end = at + slots.count() as usize;
     frame.take_group(row, cycle, slots, &mut into[at..end]);
@@ -120,7 +128,9 @@ fn put_cycles<F: TakeFrame>(
     requires cycles { first + count ≤ row_cycles slots.now.kind }
     requires room { at + length slots.now.list * count ≤ length into.old }
     ensures end { result ≡ at + length slots.now.list * count }
-    ensures bytes { take result into.new ≡ take at into.old ++ run_groups (slots_of slots.now.kind) (payload_row_of LINE_COLUMNS row (F.bytes frame.now)) slots.now.list first count }
+    ensures bytes { take result into.new ≡ take at into.old
+        ++ run_groups (slots_of slots.now.kind)
+        (payload_row_of LINE_COLUMNS row (F.bytes frame.now)) slots.now.list first count }
 {
     if count <= FEW_CYCLES {
         return put_few(frame, row, first, count, slots, into, at);
@@ -145,7 +155,9 @@ fn put_few<F: TakeFrame>(
     requires cycles { first + count ≤ row_cycles slots.now.kind }
     requires room { at + length slots.now.list * count ≤ length into.old }
     ensures end { result ≡ at + length slots.now.list * count }
-    ensures bytes { take result into.new ≡ take at into.old ++ run_groups (slots_of slots.now.kind) (payload_row_of LINE_COLUMNS row (F.bytes frame.now)) slots.now.list first count }
+    ensures bytes { take result into.new ≡ take at into.old
+        ++ run_groups (slots_of slots.now.kind)
+        (payload_row_of LINE_COLUMNS row (F.bytes frame.now)) slots.now.list first count }
 {
     let mut end = at;
     for i in 0..count {

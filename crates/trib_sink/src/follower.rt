@@ -7,8 +7,10 @@ ghost use Rattle.tributary_model.specs.declared.turns.Standing.TheVariants.{Wait
 ghost use Rattle.tributary_model.specs.Emission.{stream_bytes};
 ghost use Rattle.tributary_model.specs.Messages.{hears_message};
 ghost use Rattle.tributary_model.specs.Machine.{Machine, start, opened, waits_on, went_on, down_gives, up_gives, former_of, number_of, after_heard, gives_heard};
-ghost use Rattle.trib_sink.specs.Following.{Keeps, FitsStanding, FitsDue, FitsFirst, FitsNext, IsSmallHearing, IsAt, IsBetween, kept_after, most_of};
-ghost use Rattle.trib_sink.specs.Rows.{row_cycles, after_frame};
+ghost use Rattle.trib_sink.specs.Following.{Keeps, FitsStanding, FitsDue, IsAt, most_of};
+ghost use Rattle.trib_sink.specs.Steps.Following.{FitsFirst, FitsNext, IsSmallHearing, IsBetween, kept_after};
+ghost use Rattle.trib_sink.specs.Rows.{row_cycles};
+ghost use Rattle.trib_sink.specs.Steps.Rows.{after_frame};
 
 use crate::hear::hear_message;
 use crate::payload::Payload;
@@ -87,7 +89,10 @@ impl Follower {
     pub(crate) fn take_frame<F: TakeFrame>(&mut self, frame: &F, slots: &Slots)
         requires count { length slots.now.list ≡ self.old.extraction.slots }
         requires asked { self.old.extraction.asked + 4 * row_cycles slots.now.kind ≤ GROUPS }
-        ensures { self.new ≡ record self.old { extraction = after_frame slots.now (F.bytes frame.now) self.old.extraction } }
+        ensures { self.new ≡ record self.old {
+          extraction = after_frame slots.now
+              (F.bytes frame.now) self.old.extraction;
+        } }
     {
         self.payload.take_frame(frame, slots);
     }
@@ -106,9 +111,14 @@ impl Follower {
     /// (`standing`, where 0 is any place).
     pub(crate) fn pass(&mut self, heard: Option<Hearing>)
         requires small { IsSmallHearing self.old.extraction.slots heard }
-        ensures standing { self.new.standing ≡ (after_heard self.old.extraction.slots heard self.old.extraction.fresh (record { standing = self.old.standing; pending = self.old.extraction.pending; place = 0 })).standing }
-        ensures at { (s : Machine) → IsAt s self.old → IsAt (after_heard self.old.extraction.slots heard self.old.extraction.fresh s) self.new }
-        ensures bytes { (s : Machine) → IsAt s self.old → self.new.extraction.emitted ≡ gives_heard self.old.extraction.slots (signal_byte Ais) heard self.old.extraction.fresh s }
+        ensures standing { self.new.standing
+            ≡ (after_heard self.old.extraction.slots heard self.old.extraction.fresh
+            (record { standing = self.old.standing; pending = self.old.extraction.pending; place = 0 })).standing }
+        ensures at { (s : Machine) → IsAt s self.old
+            → IsAt (after_heard self.old.extraction.slots heard self.old.extraction.fresh s) self.new }
+        ensures bytes { (s : Machine) → IsAt s self.old
+            → self.new.extraction.emitted
+            ≡ gives_heard self.old.extraction.slots (signal_byte Ais) heard self.old.extraction.fresh s }
         ensures most { length self.new.extraction.emitted ≤ most_of self.old.extraction.slots }
         ensures between { IsBetween self.old self.new }
     {
@@ -126,8 +136,8 @@ impl Follower {
         self.payload.emitted()
     }
 
-    /// Hands out what the last turn emitted, before a frame is taken: in the buffer with which this one, of as many bytes, changes
-    /// places, from where to where the answer says.
+    /// Hands out what the last turn emitted, before a frame is taken: in the buffer with which this one, of as many
+    /// bytes, changes places, from where to where the answer says.
     pub(crate) fn hand_over(&mut self, buffer: &mut Vec<u8>) -> Range<usize>
         requires room { vec_len buffer.old ≡ self.old.extraction.slots * (GROUPS + 1) }
         requires fresh { self.old.extraction.fresh ≡ [] }
@@ -174,9 +184,17 @@ impl Follower {
     fn from_down(&mut self, first: Option<Said>)
         requires standing { self.old.standing ≡ StandingDown }
         requires first { FitsFirst self.old.extraction.slots first }
-        ensures standing { self.new.standing ≡ (opened first (record { standing = StandingDown; pending = []; place = 0 })).standing }
-        ensures at { (s : Machine) → IsAt s self.old → IsAt (opened first (record { standing = StandingDown; pending = []; place = s.place + self.old.extraction.slots * NOMINAL })) self.new }
-        ensures bytes { (s : Machine) → IsAt s self.old → self.new.extraction.emitted ≡ down_gives first (stream_bytes (signal_byte Ais) s.place (self.old.extraction.slots * NOMINAL)) }
+        ensures standing { self.new.standing
+            ≡ (opened first (record { standing = StandingDown; pending = []; place = 0 })).standing }
+        ensures at { (s : Machine) → IsAt s self.old
+            → IsAt (opened first (record {
+              standing = StandingDown;
+              pending = [];
+              place = s.place + self.old.extraction.slots * NOMINAL;
+            })) self.new }
+        ensures bytes { (s : Machine) → IsAt s self.old
+            → self.new.extraction.emitted
+            ≡ down_gives first (stream_bytes (signal_byte Ais) s.place (self.old.extraction.slots * NOMINAL)) }
         ensures most { length self.new.extraction.emitted ≤ most_of self.old.extraction.slots }
         ensures between { IsBetween self.old self.new }
     {
@@ -191,8 +209,15 @@ impl Follower {
     fn give_ais(&mut self)
         requires standing { self.old.standing ≡ StandingDown }
         ensures standing { self.new.standing ≡ StandingDown }
-        ensures at { (s : Machine) → IsAt s self.old → IsAt (record { standing = StandingDown; pending = []; place = s.place + self.old.extraction.slots * NOMINAL }) self.new }
-        ensures bytes { (s : Machine) → IsAt s self.old → self.new.extraction.emitted ≡ stream_bytes (signal_byte Ais) s.place (self.old.extraction.slots * NOMINAL) }
+        ensures at { (s : Machine) → IsAt s self.old
+            → IsAt (record {
+              standing = StandingDown;
+              pending = [];
+              place = s.place + self.old.extraction.slots * NOMINAL;
+            }) self.new }
+        ensures bytes { (s : Machine) → IsAt s self.old
+            → self.new.extraction.emitted
+            ≡ stream_bytes (signal_byte Ais) s.place (self.old.extraction.slots * NOMINAL) }
         ensures most { length self.new.extraction.emitted ≤ most_of self.old.extraction.slots }
         ensures between { IsBetween self.old self.new }
     {
@@ -204,9 +229,12 @@ impl Follower {
         requires standing { self.old.standing ≡ Up said }
         requires fits { FitsStanding self.old.extraction.slots self.old.extraction.pending self.old.standing }
         requires next { FitsNext self.old.extraction.slots next said.rest }
-        ensures standing { self.new.standing ≡ (went_on next said self.old.extraction.pending self.old.extraction.fresh).standing }
-        ensures at { (s : Machine) → IsAt s self.old → IsAt (went_on next said s.pending self.old.extraction.fresh) self.new }
-        ensures bytes { (s : Machine) → IsAt s self.old → self.new.extraction.emitted ≡ up_gives next said s.pending self.old.extraction.fresh }
+        ensures standing { self.new.standing
+            ≡ (went_on next said self.old.extraction.pending self.old.extraction.fresh).standing }
+        ensures at { (s : Machine) → IsAt s self.old
+            → IsAt (went_on next said s.pending self.old.extraction.fresh) self.new }
+        ensures bytes { (s : Machine) → IsAt s self.old
+            → self.new.extraction.emitted ≡ up_gives next said s.pending self.old.extraction.fresh }
         ensures most { length self.new.extraction.emitted ≤ most_of self.old.extraction.slots }
         ensures between { IsBetween self.old self.new }
     {
@@ -223,9 +251,12 @@ impl Follower {
     fn go_first(&mut self, next: Said)
         requires pending { self.old.extraction.pending ≡ [] }
         requires next { (next.number ≤ GROUPS) × (next.rest < self.old.extraction.slots) }
-        requires left { FitsDue self.old.extraction.slots (self.old.extraction.pending ++ self.old.extraction.fresh) next.due }
+        requires left { FitsDue self.old.extraction.slots
+            (self.old.extraction.pending ++ self.old.extraction.fresh) next.due }
         ensures standing { self.new.standing ≡ Up next }
-        ensures at { (s : Machine) → IsAt s self.old → IsAt (record { standing = Up next; pending = s.pending ++ self.old.extraction.fresh; place = 0 }) self.new }
+        ensures at { (s : Machine) → IsAt s self.old
+            → IsAt (record { standing = Up next; pending = s.pending ++ self.old.extraction.fresh; place = 0 })
+            self.new }
         ensures between { IsBetween self.old self.new }
         ensures bytes { self.new.extraction.emitted ≡ [] }
     {
@@ -240,8 +271,10 @@ impl Follower {
         requires left { FitsDue self.old.extraction.slots (drop due self.old.extraction.fresh) next.due }
         requires due { due < self.old.extraction.slots }
         ensures standing { self.new.standing ≡ Up next }
-        ensures at { (s : Machine) → IsAt s self.old → IsAt (record { standing = Up next; pending = drop due self.old.extraction.fresh; place = 0 }) self.new }
-        ensures bytes { self.new.extraction.emitted ≡ self.old.extraction.pending ++ take due self.old.extraction.fresh }
+        ensures at { (s : Machine) → IsAt s self.old
+            → IsAt (record { standing = Up next; pending = drop due self.old.extraction.fresh; place = 0 }) self.new }
+        ensures bytes { self.new.extraction.emitted ≡ self.old.extraction.pending
+            ++ take due self.old.extraction.fresh }
         ensures most { length self.new.extraction.emitted ≤ most_of self.old.extraction.slots }
         ensures between { IsBetween self.old self.new }
     {
@@ -253,7 +286,8 @@ impl Follower {
     // The ending turn emits all pending bytes.
     fn end(&mut self)
         ensures standing { self.new.standing ≡ StandingDown }
-        ensures at { (s : Machine) → IsAt s self.old → IsAt (record { standing = StandingDown; pending = []; place = 0 }) self.new }
+        ensures at { (s : Machine) → IsAt s self.old
+            → IsAt (record { standing = StandingDown; pending = []; place = 0 }) self.new }
         ensures bytes { self.new.extraction.emitted ≡ self.old.extraction.pending }
         ensures most { length self.new.extraction.emitted ≤ most_of self.old.extraction.slots }
         ensures between { IsBetween self.old self.new }
@@ -267,7 +301,8 @@ impl Follower {
     fn stand_anew(&mut self, standing: Standing)
         requires { FitsStanding self.old.extraction.slots [] standing }
         ensures standing { self.new.standing ≡ standing }
-        ensures at { (s : Machine) → IsAt s self.old → IsAt (record { standing = standing; pending = []; place = 0 }) self.new }
+        ensures at { (s : Machine) → IsAt s self.old
+            → IsAt (record { standing = standing; pending = []; place = 0 }) self.new }
         ensures between { IsBetween self.old self.new }
         ensures bytes { self.new.extraction.emitted ≡ [] }
     {

@@ -1,7 +1,7 @@
 // Hears the six bytes of a message.
 ghost use Rattle.std.specs.Prelude.{◌≡◌};
 ghost use Rattle.tributary_model.specs.Messages.{hears_message};
-ghost use Rattle.trib_sink.specs.Following.{kept_after};
+ghost use Rattle.trib_sink.specs.Steps.Following.{kept_after};
 
 use cnd_codec::hear_d;
 use jc_codec::{Heard, Listener};

@@ -6,7 +6,8 @@ ghost use Rattle.maintenance_signals.specs.Given.{HasGiven};
 ghost use Rattle.maintenance_signals.specs.Stream.{signal_bytes};
 ghost use Rattle.otn_base.specs.LineSlots.{slots_of};
 ghost use Rattle.otn_base.specs.declared.limits.TheConstants.{GROUPS, LINE_COLUMNS, MOST_SLOTS, NOMINAL};
-ghost use Rattle.trib_sink.specs.Rows.{row_cycles, row_data, with_rows, after_frame};
+ghost use Rattle.trib_sink.specs.Rows.{row_cycles};
+ghost use Rattle.trib_sink.specs.Steps.Rows.{row_data, with_rows, after_frame};
 
 use crate::extract;
 use gmp_rule::Runner;
@@ -51,7 +52,14 @@ impl Payload {
     /// Nothing extracted, for so many slots. Takes all memory that it will ever need.
     pub(crate) fn new(alloc: Global, slots: usize) -> Result<Self, Memory>
         requires { slots ≤ MOST_SLOTS }
-        ensures { IfOk result (λ p. p ≡ record { slots = slots; number = 0; asked = 0; pending = []; fresh = []; emitted = [] }) }
+        ensures { IfOk result (λ p. p ≡ record {
+          slots = slots;
+          number = 0;
+          asked = 0;
+          pending = [];
+          fresh = [];
+          emitted = [];
+        }) }
     {
         let kept = room(alloc, slots * (GROUPS + 1))?;
         let fresh = room(alloc, slots * (GROUPS + 1))?;
@@ -92,7 +100,12 @@ impl Payload {
         requires high { row ≤ 3 }
         requires count { length slots.now.list ≡ self.old.slots }
         requires asked { self.old.asked + 2 * row_cycles slots.now.kind ≤ GROUPS }
-        ensures { self.new ≡ record self.old { asked = self.old.asked + row_cycles slots.now.kind + row_cycles slots.now.kind; fresh = with_rows self.old.fresh self.old.number self.old.asked slots.now (F.bytes frame.now) row; emitted = [] } }
+        ensures { self.new ≡ record self.old {
+          asked =
+              self.old.asked + row_cycles slots.now.kind + row_cycles slots.now.kind;
+          fresh = with_rows self.old.fresh self.old.number self.old.asked slots.now (F.bytes frame.now) row;
+          emitted = [];
+        } }
     {
         self.take_row(frame, row, slots);
         self.take_row(frame, row + 1, slots);
@@ -104,7 +117,12 @@ impl Payload {
         requires high { row ≤ 4 }
         requires count { length slots.now.list ≡ self.old.slots }
         requires asked { self.old.asked + row_cycles slots.now.kind ≤ GROUPS }
-        ensures { self.new ≡ record self.old { asked = self.old.asked + row_cycles slots.now.kind; fresh = self.old.fresh ++ row_data (slots_of slots.now.kind) self.old.number self.old.asked (payload_row_of LINE_COLUMNS row (F.bytes frame.now)) slots.now.list (row_cycles slots.now.kind); emitted = [] } }
+        ensures { self.new ≡ record self.old {
+          asked = self.old.asked + row_cycles slots.now.kind;
+          fresh = self.old.fresh ++ row_data (slots_of slots.now.kind) self.old.number self.old.asked
+              (payload_row_of LINE_COLUMNS row (F.bytes frame.now)) slots.now.list (row_cycles slots.now.kind);
+          emitted = [];
+        } }
     {
         self.end = extract::take_row(
             &mut self.runner,
@@ -135,7 +153,13 @@ impl Payload {
     pub(crate) fn keep_all(&mut self, number: u16)
         requires number { number ≤ GROUPS }
         requires first { self.old.pending ≡ [] }
-        ensures { self.new ≡ record self.old { number = number; asked = 0; pending = self.old.pending ++ self.old.fresh; fresh = []; emitted = [] } }
+        ensures { self.new ≡ record self.old {
+          number = number;
+          asked = 0;
+          pending = self.old.pending ++ self.old.fresh;
+          fresh = [];
+          emitted = [];
+        } }
     {
         mem::swap(&mut self.kept, &mut self.fresh);
         self.first = 0;
@@ -151,7 +175,13 @@ impl Payload {
     pub(crate) fn give_due(&mut self, due: u16, number: u16)
         requires number { number ≤ GROUPS }
         requires due { due ≤ self.old.slots }
-        ensures state { self.new ≡ record self.old { number = number; asked = 0; pending = drop due self.old.fresh; fresh = []; emitted = self.old.pending ++ take due self.old.fresh } }
+        ensures state { self.new ≡ record self.old {
+          number = number;
+          asked = 0;
+          pending = drop due self.old.fresh;
+          fresh = [];
+          emitted = self.old.pending ++ take due self.old.fresh;
+        } }
         ensures most { length self.new.emitted ≤ self.old.slots * GROUPS + due }
     {
         let due = self.end.min(due as usize);
@@ -168,7 +198,13 @@ impl Payload {
     /// Emits all pending bytes and drops those of this turn.
     #[tactic(auto, using(crate::proofs::Emitted::between))]
     pub(crate) fn give_pending(&mut self)
-        ensures state { self.new ≡ record self.old { number = 0; asked = 0; pending = []; fresh = []; emitted = self.old.pending } }
+        ensures state { self.new ≡ record self.old {
+          number = 0;
+          asked = 0;
+          pending = [];
+          fresh = [];
+          emitted = self.old.pending;
+        } }
         ensures most { length self.new.emitted ≤ self.old.slots * GROUPS }
     {
         mem::swap(&mut self.kept, &mut self.fresh);
@@ -182,9 +218,17 @@ impl Payload {
 
     /// Emits the next bytes of a signal's stream, 15,168 a slot, and drops all others.
     pub(crate) fn give_signal(&mut self, stream: &mut SignalBytes)
-        ensures state { self.new ≡ record self.old { number = 0; asked = 0; pending = []; fresh = []; emitted = self.new.emitted } }
-        ensures bytes { (signal : Signal) (given : ℕ) → HasGiven signal given stream.old → self.new.emitted ≡ signal_bytes signal given (self.old.slots * NOMINAL) }
-        ensures given { (signal : Signal) (given : ℕ) → HasGiven signal given stream.old → HasGiven signal (given + self.old.slots * NOMINAL) stream.new }
+        ensures state { self.new ≡ record self.old {
+          number = 0;
+          asked = 0;
+          pending = [];
+          fresh = [];
+          emitted = self.new.emitted;
+        } }
+        ensures bytes { (signal : Signal) (given : ℕ) → HasGiven signal given stream.old
+            → self.new.emitted ≡ signal_bytes signal given (self.old.slots * NOMINAL) }
+        ensures given { (signal : Signal) (given : ℕ) → HasGiven signal given stream.old
+            → HasGiven signal (given + self.old.slots * NOMINAL) stream.new }
         ensures most { length self.new.emitted ≤ self.old.slots * NOMINAL }
     {
         let count = self.slots * NOMINAL;
@@ -204,8 +248,8 @@ impl Payload {
         &self.fresh[self.from..self.past]
     }
 
-    /// Hands out what the last turn emitted, before a frame is taken: the buffer in which it stands changes places with this one, of
-    /// as many bytes, and the answer is where it stands there.
+    /// Hands out what the last turn emitted, before a frame is taken: the buffer in which it stands changes places with
+    /// this one, of as many bytes, and the answer is where it stands there.
     pub(crate) fn hand_over(&mut self, buffer: &mut Vec<u8>) -> Range<usize>
         requires room { vec_len buffer.old ≡ self.old.slots * (GROUPS + 1) }
         requires fresh { self.old.fresh ≡ [] }
@@ -245,8 +289,10 @@ fn copy_to(bytes: &[u8], into: &mut [u8], at: usize) -> usize
 // The next bytes of a signal's stream, so many, to the front of a slice.
 fn next_front(stream: &mut SignalBytes, into: &mut [u8], count: usize)
     requires { count ≤ length into.old }
-    ensures bytes { (signal : Signal) (given : ℕ) → HasGiven signal given stream.old → take count into.new ≡ signal_bytes signal given count }
-    ensures given { (signal : Signal) (given : ℕ) → HasGiven signal given stream.old → HasGiven signal (given + count) stream.new }
+    ensures bytes { (signal : Signal) (given : ℕ) → HasGiven signal given stream.old
+        → take count into.new ≡ signal_bytes signal given count }
+    ensures given { (signal : Signal) (given : ℕ) → HasGiven signal given stream.old
+        → HasGiven signal (given + count) stream.new }
     ensures size { length into.new ≡ length into.old }
 {
     stream.next(&mut into[..count]);

@@ -1,7 +1,8 @@
 // What a message says to a sink, in the first turn of a stretch and in a later one.
 ghost use Rattle.std.specs.Prelude.{◌≡◌, ℕ};
 ghost use Rattle.tributary_model.specs.Machine.{begun, gone_on};
-ghost use Rattle.trib_sink.specs.Following.{IsSmallHearing, IsSmallSaid, FitsFirst, FitsNext};
+ghost use Rattle.trib_sink.specs.Following.{IsSmallSaid};
+ghost use Rattle.trib_sink.specs.Steps.Following.{IsSmallHearing, FitsFirst, FitsNext};
 
 use tributary_model::{Hearing, Said};
 
@@ -26,7 +27,8 @@ pub(crate) fn begun(heard: Option<Hearing>) -> Option<Said>
 /// a turn in which nothing is heard.
 pub(crate) fn gone_on(said: Said, heard: Option<Hearing>) -> Option<Said>
     ensures said { result ≡ gone_on heard said }
-    ensures small { (slots : ℕ) → IsSmallHearing slots heard → IsSmallSaid slots said → FitsNext slots result said.rest }
+    ensures small { (slots : ℕ) → IsSmallHearing slots heard → IsSmallSaid slots said
+        → FitsNext slots result said.rest }
 {
     match heard {
         None => None,

@@ -9,7 +9,8 @@ ghost use Rattle.tributary_model.specs.Stretches.{state_after};
 ghost use Rattle.tributary_model.specs.Emission.{emission};
 ghost use Rattle.tributary_model.specs.Machine.{state_of_standing};
 ghost use Rattle.trib_sink.specs.Following.{most_of};
-ghost use Rattle.trib_sink.specs.Pairs.{pair_after, pair_of_standing};
+ghost use Rattle.trib_sink.specs.Pairs.{pair_after};
+ghost use Rattle.trib_sink.specs.Steps.Pairs.{pair_of_standing};
 
 use crate::arrivals::{message_so_far, note_msi};
 use crate::follower::Follower;
@@ -122,7 +123,9 @@ impl TribSink {
     pub fn take_frame<F: TakeFrame>(&mut self, n: u8, frame: &F, expected: u8)
         requires number { n < slots_of self.old.slots.kind }
         requires taken { n ≡ self.old.taken }
-        ensures stands { AfterAnyTurns self.old (λ own past frames. StandsAfter own past (frames ++ record { frame = F.bytes frame.now; expected = expected } ∷ []) self.new) }
+        ensures stands { AfterAnyTurns self.old
+            (λ own past frames. StandsAfter own past
+            (frames ++ record { frame = F.bytes frame.now; expected = expected } ∷ []) self.new) }
         ensures taken { self.new.taken ≡ self.old.taken + 1 }
         ensures slots { self.new.slots ≡ self.old.slots }
         ensures port { self.new.port ≡ self.old.port }
@@ -133,15 +136,19 @@ impl TribSink {
         self.taken += 1;
     }
 
-    /// Ends a turn: `whole` says that it has a multiframe, all of whose frames were taken. `into` has at
-    /// its front the bytes that the turn emits, and the answer is how many they are: at most 15,232 groups
-    /// and a part of one. What stands behind them in `into` stays. In a turn without a multiframe no byte that was taken counts.
+    /// Ends a turn: `whole` says that it has a multiframe, all of whose frames were taken. `into` has at its front the
+    /// bytes that the turn emits, and the answer is how many they are: at most 15,232 groups and a part of one. What
+    /// stands behind them in `into` stays. In a turn without a multiframe no byte that was taken counts.
     pub fn end_turn(&mut self, whole: bool, into: &mut [u8]) -> usize
         requires whole { IsTrue whole → self.old.taken ≡ slots_of self.old.slots.kind }
         requires room { length self.old.slots.list * (GROUPS + 1) ≤ length into.old }
-        ensures stands { AfterAnyTurns self.old (λ own past frames. StandsAfter own (ended_view own whole frames ∷ past) [] self.new) }
-        ensures bytes { AfterAnyTurns self.old (λ own past frames. into.new ≡ emission own (signal_byte Ais) past (ended_view own whole frames) ++ drop result into.old) }
-        ensures count { AfterAnyTurns self.old (λ own past frames. result ≡ length (emission own (signal_byte Ais) past (ended_view own whole frames))) }
+        ensures stands { AfterAnyTurns self.old
+            (λ own past frames. StandsAfter own (ended_view own whole frames ∷ past) [] self.new) }
+        ensures bytes { AfterAnyTurns self.old
+            (λ own past frames. into.new ≡ emission own (signal_byte Ais) past (ended_view own whole frames)
+            ++ drop result into.old) }
+        ensures count { AfterAnyTurns self.old
+            (λ own past frames. result ≡ length (emission own (signal_byte Ais) past (ended_view own whole frames))) }
         ensures within { result ≤ length into.old }
         ensures most { result ≤ most_of (length self.old.slots.list) }
         ensures taken { self.new.taken ≡ 0 }
@@ -158,8 +165,11 @@ impl TribSink {
     pub fn hand_over(&mut self, whole: bool, buffer: &mut Vec<u8>) -> Range<usize>
         requires whole { IsTrue whole → self.old.taken ≡ slots_of self.old.slots.kind }
         requires room { vec_len buffer.old ≡ length self.old.slots.list * (GROUPS + 1) }
-        ensures stands { AfterAnyTurns self.old (λ own past frames. StandsAfter own (ended_view own whole frames ∷ past) [] self.new) }
-        ensures bytes { AfterAnyTurns self.old (λ own past frames. slice_range buffer.new.items result.start result.end ≡ emission own (signal_byte Ais) past (ended_view own whole frames)) }
+        ensures stands { AfterAnyTurns self.old
+            (λ own past frames. StandsAfter own (ended_view own whole frames ∷ past) [] self.new) }
+        ensures bytes { AfterAnyTurns self.old
+            (λ own past frames. slice_range buffer.new.items result.start result.end
+            ≡ emission own (signal_byte Ais) past (ended_view own whole frames)) }
         ensures in_order { result.start ≤ result.end }
         ensures within { result.end ≤ vec_len buffer.new }
         ensures most { result.end - result.start ≤ most_of (length self.old.slots.list) }
@@ -175,8 +185,11 @@ impl TribSink {
     // Ends a turn; what it emits is kept until a frame is taken.
     fn pass_turn(&mut self, whole: bool)
         requires whole { IsTrue whole → self.old.taken ≡ slots_of self.old.slots.kind }
-        ensures stands { AfterAnyTurns self.old (λ own past frames. StandsAfter own (ended_view own whole frames ∷ past) [] self.new) }
-        ensures bytes { AfterAnyTurns self.old (λ own past frames. self.new.following.extraction.emitted ≡ emission own (signal_byte Ais) past (ended_view own whole frames)) }
+        ensures stands { AfterAnyTurns self.old
+            (λ own past frames. StandsAfter own (ended_view own whole frames ∷ past) [] self.new) }
+        ensures bytes { AfterAnyTurns self.old
+            (λ own past frames. self.new.following.extraction.emitted
+            ≡ emission own (signal_byte Ais) past (ended_view own whole frames)) }
         ensures most { length self.new.following.extraction.emitted ≤ most_of (length self.old.slots.list) }
         ensures fresh { self.new.following.extraction.fresh ≡ [] }
         ensures taken { self.new.taken ≡ 0 }

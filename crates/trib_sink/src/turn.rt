@@ -6,7 +6,8 @@ ghost use Rattle.msi_table.specs.Marks.{is_marked};
 ghost use Rattle.tributary_model.specs.Messages.{hears_message};
 ghost use Rattle.tributary_model.specs.Stretches.{bytes_of};
 ghost use Rattle.tributary_model.specs.Machine.{former_of};
-ghost use Rattle.trib_sink.specs.Following.{Keeps, IsSmallHearing, listener_after};
+ghost use Rattle.trib_sink.specs.Following.{Keeps};
+ghost use Rattle.trib_sink.specs.Steps.Following.{IsSmallHearing, listener_after};
 ghost use Rattle.trib_sink.specs.Watching.{Watched, AreOfSlots};
 
 use crate::follower::Follower;
@@ -30,7 +31,8 @@ pub(crate) fn hear_turn(
     requires came { AreOfSlots came.now }
     requires keeps { Keeps follower.old.standing follower.old.listener }
     ensures missed { whole ≡ false → (result ≡ None) × (watches.new ≡ watches.old) }
-    ensures watched { whole ≡ true → (port : ℕ) (taken : ℕ → List ℕ) → Watched port taken watches.old → Watched port (λ k. taken k ++ bytes_of k came.now) watches.new }
+    ensures watched { whole ≡ true → (port : ℕ) (taken : ℕ → List ℕ) → Watched port taken watches.old
+        → Watched port (λ k. taken k ++ bytes_of k came.now) watches.new }
     ensures heard { whole ≡ true → (port : ℕ) (taken : ℕ → List ℕ) → Watched port taken watches.old
         → result ≡ (if list_any (λ k. is_marked port (taken k ++ bytes_of k came.now)) slots.now.list then None
         else Some (hears_message (former_of follower.old.standing) follower.old.extraction.slots message)) }

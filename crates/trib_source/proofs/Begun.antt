@@ -108,7 +108,8 @@ sent_last p b n e =
     ∙ sum_by_push (λ k. k) p b
     ∙ ap (λ xs. sum xs + b) (sym (take_all n p (omega arith)))
 
--- the whole groups that a turn completes, by the bytes over of the turn before it alone: so its number fits where this does
+-- the whole groups that a turn completes, by the bytes over of the turn before it alone: so its number fits where this
+-- does
 pub next_number : (m a b : ℕ) → 0 < m → (a % m + b) / m ≡ (a + b) / m - a / m
 next_number m a b h =
     let split : m * (a / m) + a % m ≡ a = div-add-mod a m in

@@ -20,7 +20,8 @@ use Rattle.tributary_model.proofs.OnLine.{evenly}
 use Rattle.tributary_model.proofs.Views.{own_column}
 use Rattle.tributary_model.proofs.PutPlaces.{place_of_slot}
 use Rattle.trib_source.specs.Backlog.{BacklogView}
-use Rattle.trib_source.specs.Rows.{groups_in_row, data_bytes, byte_laid, RowsWerePut}
+use Rattle.trib_source.specs.Rows.{groups_in_row}
+use Rattle.trib_source.specs.Steps.Rows.{data_bytes, byte_laid, RowsWerePut}
 use Rattle.trib_source.specs.Source.{Source, IsSource, AreLeft, StandsAfter, said_number}
 use Rattle.trib_source.proofs.Counts.{count_low}
 use Rattle.trib_source.proofs.Laid.{bytes_grow}

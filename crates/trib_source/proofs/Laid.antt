@@ -3,7 +3,7 @@ use Rattle.std.proofs.Common.{◌≡◌, ◌⊎◌, inl, inr, ℕ, ◌+◌, ◌*
 use Rattle.std.proofs.lemmas.Bool.{lt-ltb}
 use Rattle.std.proofs.Math.Nat.{mul-le-mul_left}
 use Rattle.gmp_rule.specs.DataRule.{IsData, is_data_at, data_count}
-use Rattle.trib_source.specs.Rows.{data_bytes, byte_laid}
+use Rattle.trib_source.specs.Steps.Rows.{data_bytes, byte_laid}
 use Rattle.trib_source.proofs.Counts.{data_run, counts_grow}
 
 -- the bytes of the data groups, as they grow

@@ -7,7 +7,7 @@ use Rattle.otn_base.specs.SlotList.{IsSlotList}
 use Rattle.gmp_rule.specs.DataRule.{IsData, is_data_at, data_count}
 use Rattle.odtu_columns.specs.Put.{slot_place, RowWasPut}
 use Rattle.trib_source.specs.Backlog.{BacklogView}
-use Rattle.trib_source.specs.Rows.{data_bytes, byte_laid, AreEnough, RowsWerePut}
+use Rattle.trib_source.specs.Steps.Rows.{data_bytes, byte_laid, AreEnough, RowsWerePut}
 use Rattle.trib_source.proofs.Counts.{count_low, data_next}
 use Rattle.trib_source.proofs.Laid.{bytes_grow}
 

@@ -1,3 +1,4 @@
 pub mod Backlog
 pub mod Rows
 pub mod Source
+pub mod Steps

@@ -1,4 +1,4 @@
--- A source after some turns, and within one.
+-- API: a source after some turns, and within one.
 use Rattle.std.specs.Prelude.{◌≡◌, ℕ, ◌+◌, ◌-◌, ◌*◌, ◌/◌, ◌%◌, ◌<◌, ◌≤◌, List, Option, Some, None, length, drop}
 use Rattle.std.specs.Option.{ForSome}
 use Rattle.std.specs.List.{concat}
@@ -12,9 +12,9 @@ use Rattle.tributary_model.specs.Puts.{lengths_of, message_put}
 use Rattle.trib_source.specs.Backlog.{BacklogView}
 use Rattle.trib_source.specs.Rows.{groups_in_row}
 
--- what is seen of a source: its slots; the number that the message of the last turn says, where there was a turn; by which number the
--- groups of that turn are data, and how many of them were put; the bytes that are left; the bytes over of the last turn, and its message;
--- and how many of its frames were filled
+-- what is seen of a source: its slots; the number that the message of the last turn says, where there was a turn; by
+-- which number the groups of that turn are data, and how many of them were put; the bytes that are left; the bytes over
+-- of the last turn, and its message; and how many of its frames were filled
 pub record Source : Type 0 where
   pub slots : LineSlots
   pub said : Option ℕ
@@ -34,8 +34,8 @@ abbrev pub said_number : Option ℕ → ℕ
 said_number None = 0
 said_number (Some n) = n
 
--- What is left of the bytes once so many groups of a turn were put, where its data groups, c of them, take the bytes from the whole group
--- q of m bytes on.
+-- What is left of the bytes once so many groups of a turn were put, where its data groups, c of them, take the bytes
+-- from the whole group q of m bytes on.
 abbrev pub AreLeft : (m c q : ℕ) → (bytes : List ℕ) → (asked : ℕ) → (left : List ℕ) → Type 0
 AreLeft m c q bytes asked left = left ≡ drop (m * (q + data_count c asked)) bytes
 
@@ -43,8 +43,9 @@ AreLeft m c q bytes asked left = left ≡ drop (m * (q + data_count c asked)) by
 abbrev pub groups_in_frames : (line_slots frames : ℕ) → ℕ
 groups_in_frames line_slots frames = ROWS * groups_in_row line_slots * frames
 
--- What holds of every source: its slots rise; there is room for the bytes of as many, and of those that the next turn keeps fewer than a
--- group's stand before the newest turn's; there is room for so many bytes in which rows are laid out; and the number of its groups is kept.
+-- What holds of every source: its slots rise; there is room for the bytes of as many, and of those that the next turn
+-- keeps fewer than a group's stand before the newest turn's; there is room for so many bytes in which rows are laid
+-- out; and the number of its groups is kept.
 pub record IsSource (s : Source) (backlog : BacklogView) (scratch kept : ℕ) : Type 0 where
   pub list : IsSlotList (slots_of s.slots.kind) s.slots.list
   pub said_high : ForSome s.said (λ n. n ≤ GROUPS)
@@ -52,15 +53,16 @@ pub record IsSource (s : Source) (backlog : BacklogView) (scratch kept : ℕ) : 
   pub filled_high : s.filled ≤ slots_of s.slots.kind
   pub asked_is : s.asked ≡ groups_in_frames (slots_of s.slots.kind) s.filled
   pub rest_high : s.rest < slots_in s
-  pub left_is : length s.left + slots_in s * data_count s.number s.asked ≡ slots_in s * s.number + (slots_in s * said_number s.said + s.rest)
+  pub left_is : length s.left + slots_in s * data_count s.number s.asked
+      ≡ slots_in s * s.number + (slots_in s * said_number s.said + s.rest)
   pub slots_are : backlog.slots ≡ slots_in s
   pub newest_low : backlog.newest ≤ slots_in s * said_number s.said + s.rest
   pub newest_high : slots_in s * said_number s.said + s.rest < backlog.newest + slots_in s
   pub scratch_is : scratch ≡ 2 * (slots_in s * (ROWS * groups_in_row (slots_of s.slots.kind)))
   pub kept_is : kept ≡ s.number
 
--- The source is one of this tributary, whatever its port is. These are the bytes of its turns since it was new or restarted, and so many
--- frames of the last of them were filled.
+-- The source is one of this tributary, whatever its port is. These are the bytes of its turns since it was new or
+-- restarted, and so many frames of the last of them were filled.
 pub record StandsAfter (own : Tributary) (turns : List (List ℕ)) (filled : ℕ) (s : Source) : Type 0 where
   pub own_is : own ≡ tributary_of s.slots own.port
   pub slots : IsSlotList own.line_slots own.slots
@@ -68,5 +70,6 @@ pub record StandsAfter (own : Tributary) (turns : List (List ℕ)) (filled : ℕ
   pub said : s.said ≡ former_of (length own.slots) (lengths_of turns) (length turns)
   pub number : s.number ≡ number_before (length own.slots) (lengths_of turns) (length turns - 1)
   pub rest : s.rest ≡ sent (lengths_of turns) (length turns) % length own.slots
-  pub left : AreLeft (length own.slots) s.number (sent (lengths_of turns) (length turns - 1 - 1) / length own.slots) (concat turns) s.asked s.left
+  pub left : AreLeft (length own.slots) s.number (sent (lengths_of turns) (length turns - 1 - 1) / length own.slots)
+      (concat turns) s.asked s.left
   pub message : 0 < length turns → s.message ≡ message_put (length own.slots) turns (length turns - 1)

@@ -13,9 +13,9 @@ use std::marker::Model;
 use std::mem;
 use std::ops::Range;
 
-/// The bytes that were not put, in the order in which they came: the bytes over, fewer than a group has; those of the turn whose groups
-/// are put now; and those of the newest turn, whose groups are put in the next one. Those of a turn stay in the buffer in which
-/// they came.
+/// The bytes that were not put, in the order in which they came: the bytes over, fewer than a group has; those of the
+/// turn whose groups are put now; and those of the newest turn, whose groups are put in the next one. Those of a turn
+/// stay in the buffer in which they came.
 #[derive(Drop)]
 pub(crate) struct Backlog {
     over: HeapCircularBuffer<u8>,
@@ -60,8 +60,8 @@ impl Backlog {
         self.coming.clear();
     }
 
-    /// Begins the turn in which the groups of the newest one's bytes are put: keeps the last `keep` bytes, which are those of the
-    /// newest turn and fewer than a group's before them.
+    /// Begins the turn in which the groups of the newest one's bytes are put: keeps the last `keep` bytes, which are
+    /// those of the newest turn and fewer than a group's before them.
     pub(crate) fn pass(&mut self, keep: usize)
         requires newest { self.old.newest ≤ keep }
         requires few { keep ≤ self.old.newest + self.old.slots }
@@ -82,14 +82,18 @@ impl Backlog {
         self.coming.hold(bytes);
     }
 
-    /// Takes the bytes of a new turn that stand in this range of the buffer, without a copy: keeps the buffer, and gives one of
-    /// its own for it, whose bytes were put.
+    /// Takes the bytes of a new turn that stand in this range of the buffer, without a copy: keeps the buffer, and
+    /// gives one of its own for it, whose bytes were put.
     pub(crate) fn take_over(&mut self, buffer: &mut Vec<u8>, bytes: Range<usize>)
         requires newest { self.old.newest ≡ 0 }
         requires room { vec_len buffer.old ≡ self.old.slots * (GROUPS + 1) }
         requires in_order { bytes.start ≤ bytes.end }
         requires within { bytes.end ≤ vec_len buffer.old }
-        ensures state { self.new ≡ record self.old { items = self.old.items ++ slice_range buffer.old.items bytes.start bytes.end; newest = length (slice_range buffer.old.items bytes.start bytes.end) } }
+        ensures state { self.new ≡ record self.old {
+          items = self.old.items
+              ++ slice_range buffer.old.items bytes.start bytes.end;
+          newest = length (slice_range buffer.old.items bytes.start bytes.end);
+        } }
         ensures room_stays { vec_len buffer.new ≡ vec_len buffer.old }
     {
         self.coming.exchange(buffer, bytes);
@@ -130,7 +134,8 @@ impl Backlog {
     }
 }
 
-// Moves the first `count` of the bytes over to the front of these, or all where they are fewer, and says how many they were.
+// Moves the first `count` of the bytes over to the front of these, or all where they are fewer, and says how many they
+// were.
 fn read_over(over: &mut HeapCircularBuffer<u8>, into: &mut [u8], count: usize) -> usize
     requires room { count ≤ length into.old }
     ensures count { result ≡ min count (length over.old.items) }

@@ -7,8 +7,8 @@ use std::marker::Model;
 use std::mem;
 use std::ops::Range;
 
-/// What was not put of the bytes that a turn brought, in a buffer, from `first` to `last`. It is seen as the list of them, beside
-/// the room.
+/// What was not put of the bytes that a turn brought, in a buffer, from `first` to `last`. It is seen as the list of
+/// them, beside the room.
 #[derive(Drop)]
 pub(crate) struct Brought {
     buffer: Vec<u8>,
@@ -83,7 +83,10 @@ impl Brought {
     pub(crate) fn exchange(&mut self, buffer: &mut Vec<u8>, bytes: Range<usize>)
         requires in_order { bytes.start ≤ bytes.end }
         requires within { bytes.end ≤ vec_len buffer.old }
-        ensures state { self.new ≡ record { bytes = slice_range buffer.old.items bytes.start bytes.end; room = vec_len buffer.old } }
+        ensures state { self.new ≡ record {
+          bytes = slice_range buffer.old.items bytes.start bytes.end;
+          room = vec_len buffer.old;
+        } }
         ensures room { vec_len buffer.new ≡ self.old.room }
     {
         mem::swap(&mut self.buffer, buffer);

@@ -2,7 +2,7 @@
 ghost use Rattle.std.specs.Prelude.{◌≡◌, ◌+◌, ◌*◌, ◌-◌, ◌<◌, ◌≤◌, ℕ, if◌then◌else◌, length, slice_index};
 ghost use Rattle.gmp_rule.specs.DataRule.{is_data_at, data_count};
 ghost use Rattle.otn_base.specs.declared.limits.TheConstants.{GROUPS};
-ghost use Rattle.trib_source.specs.Rows.{data_bytes, byte_laid};
+ghost use Rattle.trib_source.specs.Steps.Rows.{data_bytes, byte_laid};
 
 use gmp_rule::Runner;
 use std::mem;
@@ -24,7 +24,8 @@ pub(crate) fn lay_groups(
     requires asked { runner.old.asked + cycles ≤ GROUPS }
     requires fresh { length fresh.now ≡ data_bytes m runner.old.number runner.old.asked cycles }
     requires size { length into.old ≡ m * cycles }
-    ensures bytes { (x i : ℕ) → x < cycles → i < m → slice_index into.new (m * x + i) ≡ byte_laid m runner.old.number runner.old.asked fresh.now x i }
+    ensures bytes { (x i : ℕ) → x < cycles → i < m
+        → slice_index into.new (m * x + i) ≡ byte_laid m runner.old.number runner.old.asked fresh.now x i }
     ensures runner { runner.new ≡ record runner.old { asked = runner.old.asked + cycles } }
 {
     if runs {
@@ -46,8 +47,8 @@ pub(crate) fn lay_groups(
     }
 }
 
-// Lays them out one by one, where all is 0 so far. The runner is taken out of its place for that, so that the loop keeps it in
-// registers.
+// Lays them out one by one, where all is 0 so far. The runner is taken out of its place for that, so that the loop
+// keeps it in registers.
 #[inline(always)]
 fn lay_each(runner: &mut Runner, fresh: &[u8], m: usize, cycles: usize, into: &mut [u8])
     requires some { 1 ≤ m }
@@ -56,7 +57,8 @@ fn lay_each(runner: &mut Runner, fresh: &[u8], m: usize, cycles: usize, into: &m
     requires fresh { length fresh.now ≡ data_bytes m runner.old.number runner.old.asked cycles }
     requires size { length into.old ≡ m * cycles }
     requires clear { (n : ℕ) → slice_index into.old n ≡ 0 }
-    ensures bytes { (x i : ℕ) → x < cycles → i < m → slice_index into.new (m * x + i) ≡ byte_laid m runner.old.number runner.old.asked fresh.now x i }
+    ensures bytes { (x i : ℕ) → x < cycles → i < m
+        → slice_index into.new (m * x + i) ≡ byte_laid m runner.old.number runner.old.asked fresh.now x i }
     ensures runner { runner.new ≡ record runner.old { asked = runner.old.asked + cycles } }
 {
     let mut own = mem::replace(runner, Runner::start(0));
@@ -74,7 +76,8 @@ fn lay_runs(runner: &mut Runner, fresh: &[u8], m: usize, cycles: usize, into: &m
     requires asked { runner.old.asked + cycles ≤ GROUPS }
     requires fresh { length fresh.now ≡ data_bytes m runner.old.number runner.old.asked cycles }
     requires size { length into.old ≡ m * cycles }
-    ensures bytes { (x i : ℕ) → x < cycles → i < m → slice_index into.new (m * x + i) ≡ byte_laid m runner.old.number runner.old.asked fresh.now x i }
+    ensures bytes { (x i : ℕ) → x < cycles → i < m
+        → slice_index into.new (m * x + i) ≡ byte_laid m runner.old.number runner.old.asked fresh.now x i }
     ensures runner { runner.new ≡ record runner.old { asked = runner.old.asked + cycles } }
 {
     let mut from = 0usize;
@@ -102,9 +105,13 @@ fn lay_next(
 ) -> usize
     requires asked { runner.old.asked < GROUPS }
     requires room { at + m ≤ length into.old }
-    requires enough { from + m * data_count runner.old.number (runner.old.asked + 1) ≤ length fresh.now + m * data_count runner.old.number runner.old.asked }
-    ensures from { result + m * data_count runner.old.number runner.old.asked ≡ from + m * data_count runner.old.number (runner.old.asked + 1) }
-    ensures bytes { (i : ℕ) → i < m → slice_index into.new (at + i) ≡ (if is_data_at runner.old.number (runner.old.asked + 1) then slice_index fresh.now (from + i) else slice_index into.old (at + i)) }
+    requires enough { from + m * data_count runner.old.number
+        (runner.old.asked + 1) ≤ length fresh.now + m * data_count runner.old.number runner.old.asked }
+    ensures from { result + m * data_count runner.old.number runner.old.asked
+        ≡ from + m * data_count runner.old.number (runner.old.asked + 1) }
+    ensures bytes { (i : ℕ) → i < m → slice_index into.new (at + i)
+        ≡ (if is_data_at runner.old.number (runner.old.asked + 1) then slice_index fresh.now (from + i)
+        else slice_index into.old (at + i)) }
     ensures front { (n : ℕ) → n < at → slice_index into.new n ≡ slice_index into.old n }
     ensures behind { (n : ℕ) → at + m ≤ n → slice_index into.new n ≡ slice_index into.old n }
     ensures runner { runner.new ≡ record runner.old { asked = runner.old.asked + 1 } }

@@ -32,8 +32,10 @@ pub(crate) fn say_turn(former: Option<u16>, number: u16, rest: u16) -> [u8; 6]
 pub(crate) fn put_own_message<F: FillFrame>(slots: &Slots, n: u8, message: [u8; 6], frame: &mut F)
     requires { n < slots_of slots.now.kind }
     ensures greatest { n + 1 ≡ greatest slots.now.list → message_of (F.bytes frame.new) ≡ message }
-    ensures other { Contains slots.now.list (n + 1) → n + 1 ≢ greatest slots.now.list → message_of (F.bytes frame.new) ≡ 0 ∷ 0 ∷ 0 ∷ 0 ∷ 0 ∷ 0 ∷ [] }
-    ensures kept { (place : ℕ) → (Contains slots.now.list (n + 1) → (row column : ℕ) → 1 ≤ row → row ≤ 3 → 15 ≤ column → column ≤ 16 → place ≡ place_of LINE_COLUMNS row column → ⊥)
+    ensures other { Contains slots.now.list (n + 1) → n + 1 ≢ greatest slots.now.list
+        → message_of (F.bytes frame.new) ≡ 0 ∷ 0 ∷ 0 ∷ 0 ∷ 0 ∷ 0 ∷ [] }
+    ensures kept { (place : ℕ) → (Contains slots.now.list (n + 1) → (row column : ℕ) → 1 ≤ row → row ≤ 3 → 15 ≤ column
+        → column ≤ 16 → place ≡ place_of LINE_COLUMNS row column → ⊥)
         → slice_index (F.bytes frame.new) place ≡ slice_index (F.bytes frame.old) place }
 {
     if n + 1 == slots.last() {

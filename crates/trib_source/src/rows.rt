@@ -3,7 +3,8 @@ ghost use Rattle.std.specs.Prelude.{◌≡◌, ℕ, ◌+◌, ◌*◌, ◌<◌, �
 ghost use Rattle.otn_base.specs.declared.limits.TheConstants.{GROUPS, ROWS};
 ghost use Rattle.otn_base.specs.LineSlots.{slots_of};
 ghost use Rattle.gmp_rule.specs.DataRule.{data_count};
-ghost use Rattle.trib_source.specs.Rows.{groups_in_row, data_bytes, byte_laid, AreEnough, RowsWerePut};
+ghost use Rattle.trib_source.specs.Rows.{groups_in_row};
+ghost use Rattle.trib_source.specs.Steps.Rows.{data_bytes, byte_laid, AreEnough, RowsWerePut};
 ghost use Rattle.trib_source.specs.Source.{groups_in_frames};
 
 use crate::backlog::Backlog;
@@ -38,11 +39,21 @@ pub(crate) fn put_rows<F: FillFrame>(
     requires most { number ≤ GROUPS }
     requires asked { asked ≡ runner.old.asked }
     requires high { asked + ROWS * groups_in_row (slots_of slots.now.kind) ≤ GROUPS }
-    requires scratch { length scratch.old ≡ 2 * (length slots.now.list * (ROWS * groups_in_row (slots_of slots.now.kind))) }
+    requires scratch { length scratch.old
+        ≡ 2 * (length slots.now.list * (ROWS * groups_in_row (slots_of slots.now.kind))) }
     requires enough { AreEnough (length slots.now.list) number runner.old.asked backlog.old }
-    ensures rows { RowsWerePut (slots_of slots.now.kind) slots.now.list (byte_laid (length slots.now.list) number runner.old.asked backlog.old.items) ROWS (F.bytes frame.old) (F.bytes frame.new) }
-    ensures backlog { backlog.new ≡ record backlog.old { items = drop (data_bytes (length slots.now.list) number runner.old.asked (ROWS * groups_in_row (slots_of slots.now.kind))) backlog.old.items } }
-    ensures runner { runner.new ≡ record runner.old { asked = runner.old.asked + ROWS * groups_in_row (slots_of slots.now.kind) } }
+    ensures rows { RowsWerePut (slots_of slots.now.kind) slots.now.list
+        (byte_laid (length slots.now.list) number runner.old.asked backlog.old.items) ROWS (F.bytes frame.old)
+        (F.bytes frame.new) }
+    ensures backlog { backlog.new ≡ record backlog.old {
+      items = drop
+          (data_bytes (length slots.now.list) number runner.old.asked (ROWS * groups_in_row (slots_of slots.now.kind)))
+          backlog.old.items;
+    } }
+    ensures runner { runner.new ≡ record runner.old {
+      asked = runner.old.asked + ROWS * groups_in_row
+          (slots_of slots.now.kind);
+    } }
 {
     let m = slots.count() as usize;
     let cycles = ALL * cycles_in_row(slots.kind());
@@ -51,8 +62,8 @@ pub(crate) fn put_rows<F: FillFrame>(
     fill_rows(slots, laid, frame);
 }
 
-// Lays out the next `cycles` groups, behind `asked`, of `m` bytes each, and moves the bytes of the data groups among them out of
-// the backlog: where they do not stand together there, through `fresh`, which has room for them.
+// Lays out the next `cycles` groups, behind `asked`, of `m` bytes each, and moves the bytes of the data groups among
+// them out of the backlog: where they do not stand together there, through `fresh`, which has room for them.
 fn lay_front(
     runner: &mut Runner,
     backlog: &mut Backlog,
@@ -71,8 +82,12 @@ fn lay_front(
     requires fresh { length fresh.old ≡ m * cycles }
     requires laid { length laid.old ≡ m * cycles }
     requires enough { AreEnough m number asked backlog.old }
-    ensures laid { (x i : ℕ) → x < cycles → i < m → slice_index laid.new (m * x + i) ≡ byte_laid m number asked backlog.old.items x i }
-    ensures backlog { backlog.new ≡ record backlog.old { items = drop (data_bytes m number asked cycles) backlog.old.items } }
+    ensures laid { (x i : ℕ) → x < cycles → i < m
+        → slice_index laid.new (m * x + i) ≡ byte_laid m number asked backlog.old.items x i }
+    ensures backlog { backlog.new ≡ record backlog.old {
+      items = drop
+          (data_bytes m number asked cycles) backlog.old.items;
+    } }
     ensures runner { runner.new ≡ record runner.old { asked = runner.old.asked + cycles } }
 {
     let count = m * data_between(number, asked, cycles) as usize;
@@ -90,7 +105,8 @@ fn lay_front(
 // Fills the rows of a frame with the groups that are laid out for them.
 fn fill_rows<F: FillFrame>(slots: &Slots, laid: &[u8], frame: &mut F)
     requires laid { length laid.now ≡ length slots.now.list * (ROWS * groups_in_row (slots_of slots.now.kind)) }
-    ensures { RowsWerePut (slots_of slots.now.kind) slots.now.list (λ x i. slice_index laid.now (length slots.now.list * x + i)) ROWS (F.bytes frame.old) (F.bytes frame.new) }
+    ensures { RowsWerePut (slots_of slots.now.kind) slots.now.list
+        (λ x i. slice_index laid.now (length slots.now.list * x + i)) ROWS (F.bytes frame.old) (F.bytes frame.new) }
 {
     let row = slots.count() as usize * cycles_in_row(slots.kind()) as usize;
     frame.fill_row_groups(1, slots, &laid[..row]);

@@ -114,7 +114,8 @@ impl TribSource {
     /// 15,232: those of what a sink of as many slots emits are (`most_groups`).
     pub fn begin_turn(&mut self, bytes: &[u8])
         requires fits { (self.old.rest + length bytes.now) / length self.old.slots.list ≤ GROUPS }
-        ensures stands { (own : Tributary) (turns : List (List ℕ)) (filled : ℕ) → StandsAfter own turns filled self.old → StandsAfter own (turns ++ bytes.now ∷ []) 0 self.new }
+        ensures stands { (own : Tributary) (turns : List (List ℕ)) (filled : ℕ) → StandsAfter own turns filled self.old
+            → StandsAfter own (turns ++ bytes.now ∷ []) 0 self.new }
         ensures begun { IsSome self.new.said }
         ensures rest { self.new.rest ≡ (self.old.rest + length bytes.now) % length self.old.slots.list }
         ensures filled { self.new.filled ≡ 0 }
@@ -135,16 +136,20 @@ impl TribSource {
         self.filled = 0;
     }
 
-    /// Begins a turn as `begin_turn` does, without a copy: it takes the bytes of the buffer in this range. The source keeps the buffer, of
-    /// exactly 15,233 bytes a slot, as its own are, and gives one of those in exchange, whose bytes are of no account.
+    /// Begins a turn as `begin_turn` does, without a copy: it takes the bytes of the buffer in this range. The source
+    /// keeps the buffer, of exactly 15,233 bytes a slot, as its own are, and gives one of those in exchange, whose
+    /// bytes are of no account.
     pub fn take_over(&mut self, buffer: &mut Vec<u8>, bytes: Range<usize>)
         requires in_order { bytes.start ≤ bytes.end }
         requires within { bytes.end ≤ vec_len buffer.old }
         requires room { vec_len buffer.old ≡ length self.old.slots.list * (GROUPS + 1) }
-        requires fits { (self.old.rest + length (slice_range buffer.old.items bytes.start bytes.end)) / length self.old.slots.list ≤ GROUPS }
-        ensures stands { (own : Tributary) (turns : List (List ℕ)) (filled : ℕ) → StandsAfter own turns filled self.old → StandsAfter own (turns ++ slice_range buffer.old.items bytes.start bytes.end ∷ []) 0 self.new }
+        requires fits { (self.old.rest + length (slice_range buffer.old.items bytes.start bytes.end)) / length
+            self.old.slots.list ≤ GROUPS }
+        ensures stands { (own : Tributary) (turns : List (List ℕ)) (filled : ℕ) → StandsAfter own turns filled self.old
+            → StandsAfter own (turns ++ slice_range buffer.old.items bytes.start bytes.end ∷ []) 0 self.new }
         ensures begun { IsSome self.new.said }
-        ensures rest { self.new.rest ≡ (self.old.rest + length (slice_range buffer.old.items bytes.start bytes.end)) % length self.old.slots.list }
+        ensures rest { self.new.rest ≡ (self.old.rest + length
+            (slice_range buffer.old.items bytes.start bytes.end)) % length self.old.slots.list }
         ensures filled { self.new.filled ≡ 0 }
         ensures slots { self.new.slots ≡ self.old.slots }
         ensures room_stays { vec_len buffer.new ≡ vec_len buffer.old }
@@ -174,18 +179,21 @@ impl TribSource {
         m * (GROUPS + 1) - 1 - self.rest as usize
     }
 
-    /// Puts the turn's groups and message into its frame `n`, from 0 and below the number of the line's
-    /// slots, where `n` frames of it were filled: the groups into the payload columns of the slots; the message into the
-    /// frame of the greatest slot, and bytes 0 into the same places of the frames of the others. Every other byte stays: `put`
+    /// Puts the turn's groups and message into its frame `n`, from 0 and below the number of the line's slots, where
+    /// `n` frames of it were filled: the groups into the payload columns of the slots; the message into the frame of
+    /// the greatest slot, and bytes 0 into the same places of the frames of the others. Every other byte stays: `put`
     /// says so after known turns, `kept` of any source.
     pub fn fill<F: FillFrame>(&mut self, n: u8, frame: &mut F)
         requires number { n < slots_of self.old.slots.kind }
         requires filled { n ≡ self.old.filled }
         requires begun { IsSome self.old.said }
-        ensures put { (own : Tributary) (turns : List (List ℕ)) → StandsAfter own turns n self.old → WasPut own turns (length turns - 1) n (F.bytes frame.old) (F.bytes frame.new) }
-        ensures kept { (port row column : ℕ) → 1 ≤ row → row ≤ ROWS → 1 ≤ column → column ≤ LINE_COLUMNS → (IsSourcePlace (tributary_of self.old.slots port) n row column → ⊥)
+        ensures put { (own : Tributary) (turns : List (List ℕ)) → StandsAfter own turns n self.old
+            → WasPut own turns (length turns - 1) n (F.bytes frame.old) (F.bytes frame.new) }
+        ensures kept { (port row column : ℕ) → 1 ≤ row → row ≤ ROWS → 1 ≤ column → column ≤ LINE_COLUMNS
+            → (IsSourcePlace (tributary_of self.old.slots port) n row column → ⊥)
             → byte_at (F.bytes frame.new) row column ≡ byte_at (F.bytes frame.old) row column }
-        ensures stands { (own : Tributary) (turns : List (List ℕ)) → StandsAfter own turns n self.old → StandsAfter own turns (n + 1) self.new }
+        ensures stands { (own : Tributary) (turns : List (List ℕ)) → StandsAfter own turns n self.old
+            → StandsAfter own turns (n + 1) self.new }
         ensures begun { IsSome self.new.said }
         ensures filled { self.new.filled ≡ self.old.filled + 1 }
         ensures rest { self.new.rest ≡ self.old.rest }
@@ -214,8 +222,8 @@ fn to_keep(m: usize, said: Option<u16>, rest: u16) -> usize
     m * number_of(said) as usize + rest as usize
 }
 
-// Begins the groups of a turn that brings so many bytes, for `m` slots: the groups that were said are put, and those that its bytes
-// complete, with the bytes over, are said. Answers the message that says them.
+// Begins the groups of a turn that brings so many bytes, for `m` slots: the groups that were said are put, and those
+// that its bytes complete, with the bytes over, are said. Answers the message that says them.
 fn begin_groups(
     m: usize,
     count: usize,

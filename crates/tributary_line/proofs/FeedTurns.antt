@@ -12,7 +12,8 @@ use Rattle.tributary_model.specs.Places.{Tributary}
 use Rattle.tributary_model.specs.Puts.{IsPut, IsSourcePlace}
 use Rattle.trib_source.specs.Source.{Source, StandsAfter}
 use Rattle.tributary_line.specs.TributaryFile.{AreItsPorts, IsTributaryFrame, AreTributaryFrames}
-use Rattle.tributary_line.specs.FeedTurn.{FeedView, FeedStands, FeedIn, IsFilled}
+use Rattle.tributary_line.specs.FeedTurn.{FeedView, FeedStands}
+use Rattle.tributary_line.specs.Steps.FeedTurn.{FeedIn, IsFilled}
 
 -- what a line has made does not speak of the frame to come
 made_on : {b : ℕ} {form : LineForm} {first now : OutView} {puts : List FramePut} {line : LineOutView} (frame : List ℕ) → LineMade b form first now puts line

@@ -12,7 +12,8 @@ use Rattle.tributary_model.specs.Places.{Tributary, Taken, View}
 use Rattle.trib_sink.specs.Sink.{Sink, StandsAfter}
 use Rattle.device_model.specs.LineViews.{views_until}
 use Rattle.device_model.specs.TurnFrames.{member_of, frames_in}
-use Rattle.tributary_line.specs.TapTurn.{TapView, TapStands, TapMoves}
+use Rattle.tributary_line.specs.TapTurn.{TapView, TapStands}
+use Rattle.tributary_line.specs.Steps.TapTurn.{TapMoves}
 
 frames_more : (given : List ℕ) (t k : ℕ)
     → frames_in 8 given t (k + 1) ≡ frames_in 8 given t k ++ member_of given (in_hand 8 (mfas_of given) (line_state 8 (mfas_of given) t) (k + 1))

@@ -15,7 +15,8 @@ use Rattle.tributary_model.specs.Emission.{emission}
 use Rattle.device_model.proofs.TurnFrames.{frames_none, turn_frames}
 use Rattle.device_model.specs.LineViews.{view_at, views_until, emitted_at}
 use Rattle.device_model.specs.TurnFrames.{frames_in}
-use Rattle.tributary_line.specs.TapTurn.{TapView, TapStands, TapMoves, TurnMoves}
+use Rattle.tributary_line.specs.TapTurn.{TapView, TapStands, TurnMoves}
+use Rattle.tributary_line.specs.Steps.TapTurn.{TapMoves}
 
 -- nothing went by
 pub moves_none : (own : Tributary) (first now : InView) (taken : List ℕ) (t : ℕ) (tap : TapView) → TapStands own first now taken t tap → TapMoves own first now taken t tap tap

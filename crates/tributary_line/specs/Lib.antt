@@ -3,3 +3,4 @@ pub mod TributaryFile
 pub mod FeedTurn
 pub mod Laws
 pub mod Settling
+pub mod Steps

@@ -1,4 +1,4 @@
--- How a command over lines ends.
+-- API: how a command over lines ends.
 use Rattle.std.specs.Prelude.{Bool, true, false}
 use Rattle.otn_ports.specs.Views.{State, Empty, Live, Dead}
 use Rattle.otn_ports.specs.declared.ended.Ended.{Ended}

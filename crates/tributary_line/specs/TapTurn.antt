@@ -1,4 +1,4 @@
--- A sink on a line, within a turn and between turns.
+-- API: a sink on a line, within a turn and between turns.
 use Rattle.std.specs.Prelude.{◌≡◌, ℕ, ◌+◌, false, List, ◌++◌}
 use Rattle.otn_base.specs.declared.limits.TheConstants.{OTU2_SLOTS}
 use Rattle.otn_base.specs.declared.line_kind.LineKind.TheVariants.{Otu2}
@@ -18,20 +18,16 @@ pub record TapView : Type 0 where
   pub line : LineView
   pub sink : Sink
 
--- The sink stands in turn t + 1 of its line, of whose place these bytes were taken: whatever else may come, it has seen the turns
--- before, and of this one the frames that its pieces took.
+-- The sink stands in turn t + 1 of its line, of whose place these bytes were taken: whatever else may come, it has seen
+-- the turns before, and of this one the frames that its pieces took.
 pub record TapStands (own : Tributary) (first now : InView) (taken : List ℕ) (t : ℕ) (tap : TapView) : Type 0 where
   pub size : own.line_slots ≡ OTU2_SLOTS
   pub line : LineStands plain_otu2 first now taken t tap.line
-  pub sink : (given : List ℕ) → MayBe false tap.line.reader.ending taken given → StandsAfter own (views_until own given t) (frames_in OTU2_SLOTS given t tap.line.pieces) tap.sink
+  pub sink : (given : List ℕ) → MayBe false tap.line.reader.ending taken given
+      → StandsAfter own (views_until own given t) (frames_in OTU2_SLOTS given t tap.line.pieces) tap.sink
 
--- some pieces of a turn went by
-pub record TapMoves (own : Tributary) (first now : InView) (taken : List ℕ) (t : ℕ) (old new : TapView) : Type 0 where
-  pub came : List ℕ
-  pub stands : TapStands own first now (taken ++ came) t new
-  pub earlier : (given : List ℕ) → MayBe false new.line.reader.ending (taken ++ came) given → MayBe false old.line.reader.ending taken given
-
--- the line is an OTU2 line, the sink one of such a line, and as many frames were taken by it as the line's turn has come to
+-- the line is an OTU2 line, the sink one of such a line, and as many frames were taken by it as the line's turn has
+-- come to
 pub record IsInStep (n : ℕ) (tap : TapView) : Type 0 where
   pub line : tap.line.kind ≡ Otu2
   pub sink : tap.sink.slots.kind ≡ Otu2
@@ -44,9 +40,13 @@ pub record IsBetweenTurns (tap : TapView) : Type 0 where
   pub step : IsInStep 0 tap
 
 -- turn t + 1 went by, and emitted these bytes
-pub record TurnMoves (own : Tributary) (first now : InView) (taken : List ℕ) (t : ℕ) (old new : TapView) (emitted : List ℕ) : Type 0 where
+pub record TurnMoves (own : Tributary) (first now : InView) (taken : List ℕ) (t : ℕ) (old new : TapView)
+    (emitted : List ℕ) : Type 0 where
   pub came : List ℕ
   pub stands : TapStands own first now (taken ++ came) (t + 1) new
-  pub earlier : (given : List ℕ) → MayBe false new.line.reader.ending (taken ++ came) given → MayBe false old.line.reader.ending taken given
-  pub emits : (given : List ℕ) → MayBe false new.line.reader.ending (taken ++ came) given → emitted ≡ emitted_at own given t
-  pub ended : (given : List ℕ) → MayBe false new.line.reader.ending (taken ++ came) given → new.line.ended ≡ has_ended (line_state OTU2_SLOTS (mfas_of given) (t + 1))
+  pub earlier : (given : List ℕ) → MayBe false new.line.reader.ending (taken ++ came) given
+      → MayBe false old.line.reader.ending taken given
+  pub emits : (given : List ℕ) → MayBe false new.line.reader.ending (taken ++ came) given
+      → emitted ≡ emitted_at own given t
+  pub ended : (given : List ℕ) → MayBe false new.line.reader.ending (taken ++ came) given
+      → new.line.ended ≡ has_ended (line_state OTU2_SLOTS (mfas_of given) (t + 1))

@@ -38,13 +38,14 @@ impl Model for Feed {
 ghost use Rattle.tributary_line.specs.FeedTurn.{FeedStands, Completes};
 
 impl Feed {
-    /// A source of these slots and this tributary port, 1 to 8, on line output 0, before the line's first turn. Takes all memory that
-    /// it will ever need; answers `Memory` where there is none.
+    /// A source of these slots and this tributary port, 1 to 8, on line output 0, before the line's first turn. Takes
+    /// all memory that it will ever need; answers `Memory` where there is none.
     pub fn new(alloc: Global, port: u8, slots: &Slots) -> Result<Feed, Memory>
         requires low { 1 ≤ port }
         requires high { port ≤ OTU2_SLOTS }
         requires plain { slots.now.kind ≡ LineKind.Otu2 }
-        ensures stands { IfOk result (λ feed. (first : OutView) → FeedStands (tributary_of slots.now port) first first [] feed) }
+        ensures stands { IfOk result (λ feed. (first : OutView)
+            → FeedStands (tributary_of slots.now port) first first [] feed) }
         ensures slots { IfOk result (λ feed. feed.source.slots ≡ slots.now) }
     {
         let line = LineOut::new(alloc, 0, LineKind::Otu2, false)?;
@@ -59,9 +60,9 @@ impl Feed {
         })
     }
 
-    /// Does a turn, which takes the bytes of the buffer in this range: writes the eight frames of its multiframe. Of more bytes than complete
-    /// 15,232 groups it takes the first. The source keeps the buffer, of 15,233 bytes a slot, and gives one of its own in
-    /// exchange, whose bytes are of no account.
+    /// Does a turn, which takes the bytes of the buffer in this range: writes the eight frames of its multiframe. Of
+    /// more bytes than complete 15,232 groups it takes the first. The source keeps the buffer, of 15,233 bytes a slot,
+    /// and gives one of its own in exchange, whose bytes are of no account.
     pub fn turn<K: Sink>(
         &mut self,
         buffer: &mut Vec<u8>,
@@ -72,9 +73,11 @@ impl Feed {
         requires within { bytes.end ≤ vec_len buffer.old }
         requires room { vec_len buffer.old ≡ length self.old.source.slots.list * (GROUPS + 1) }
         requires plain { self.old.source.slots.kind ≡ LineKind.Otu2 }
-        ensures stands { (own : Tributary) (first : OutView) (turns : List (List ℕ)) → FeedStands own first (out_view K.Sink place.old) turns self.old
+        ensures stands { (own : Tributary) (first : OutView) (turns : List (List ℕ))
+            → FeedStands own first (out_view K.Sink place.old) turns self.old
             → Completes own turns (slice_range buffer.old.items bytes.start bytes.end)
-            → FeedStands own first (out_view K.Sink place.new) (turns ++ slice_range buffer.old.items bytes.start bytes.end ∷ []) self.new }
+            → FeedStands own first (out_view K.Sink place.new)
+            (turns ++ slice_range buffer.old.items bytes.start bytes.end ∷ []) self.new }
         ensures slots { self.new.source.slots ≡ self.old.source.slots }
         ensures room_stays { vec_len buffer.new ≡ vec_len buffer.old }
         ensures gained { (went : List ℕ) × Gained (out_view K.Sink place.old) went (out_view K.Sink place.new) }
@@ -86,14 +89,15 @@ impl Feed {
     }
 }
 
-ghost use Rattle.tributary_line.specs.FeedTurn.{FeedIn, IsBegun, IsFilled};
+ghost use Rattle.tributary_line.specs.Steps.FeedTurn.{FeedIn, IsBegun, IsFilled};
 
 impl Feed {
     // Writes frame `n`, from 0, of a turn.
     fn put_frame<K: Sink>(&mut self, n: u8, place: &mut OutPlaceOf<K>)
         requires number { n < OTU2_SLOTS }
         requires begun { IsBegun n self.old.source }
-        ensures stands { (own : Tributary) (first : OutView) (turns : List (List ℕ)) → FeedIn own first (out_view K.Sink place.old) turns n self.old
+        ensures stands { (own : Tributary) (first : OutView) (turns : List (List ℕ))
+            → FeedIn own first (out_view K.Sink place.old) turns n self.old
             → FeedIn own first (out_view K.Sink place.new) turns (n + 1) self.new }
         ensures begun { IsBegun (n + 1) self.new.source }
         ensures slots { self.new.source.slots ≡ self.old.source.slots }
@@ -105,13 +109,15 @@ impl Feed {
     }
 }
 
-// A turn of the source, which takes the first bytes of the buffer in this range: those that complete at most 15,232 groups.
+// A turn of the source, which takes the first bytes of the buffer in this range: those that complete at most 15,232
+// groups.
 fn take_bytes(source: &mut TribSource, buffer: &mut Vec<u8>, bytes: Range<usize>)
     requires in_order { bytes.start ≤ bytes.end }
     requires within { bytes.end ≤ vec_len buffer.old }
     requires room { vec_len buffer.old ≡ length source.old.slots.list * (GROUPS + 1) }
     requires plain { source.old.slots.kind ≡ LineKind.Otu2 }
-    ensures stands { (own : Tributary) (turns : List (List ℕ)) (filled : ℕ) → SourceStands own turns filled source.old → Completes own turns (slice_range buffer.old.items bytes.start bytes.end)
+    ensures stands { (own : Tributary) (turns : List (List ℕ)) (filled : ℕ) → SourceStands own turns filled source.old
+        → Completes own turns (slice_range buffer.old.items bytes.start bytes.end)
         → SourceStands own (turns ++ slice_range buffer.old.items bytes.start bytes.end ∷ []) 0 source.new }
     ensures begun { IsBegun 0 source.new }
     ensures slots { source.new.slots ≡ source.old.slots }
@@ -127,7 +133,8 @@ fn fill_line(source: &mut TribSource, n: u8, line: &mut LineOut)
     requires begun { IsBegun n source.old }
     ensures filled { IsFilled n source.old line.new.frame }
     ensures line { line.new ≡ record line.old { frame = line.new.frame } }
-    ensures stands { (own : Tributary) (turns : List (List ℕ)) → SourceStands own turns n source.old → SourceStands own turns (n + 1) source.new }
+    ensures stands { (own : Tributary) (turns : List (List ℕ)) → SourceStands own turns n source.old
+        → SourceStands own turns (n + 1) source.new }
     ensures begun { IsBegun (n + 1) source.new }
     ensures slots { source.new.slots ≡ source.old.slots }
 {
@@ -140,7 +147,8 @@ fn fill_blank(source: &mut TribSource, n: u8, frame: &mut Frame<LINE_COLUMNS>)
     requires begun { IsBegun n source.old }
     requires blank { (place : ℕ) → slice_index frame.old place ≡ 0 }
     ensures filled { IsFilled n source.old frame.new }
-    ensures stands { (own : Tributary) (turns : List (List ℕ)) → SourceStands own turns n source.old → SourceStands own turns (n + 1) source.new }
+    ensures stands { (own : Tributary) (turns : List (List ℕ)) → SourceStands own turns n source.old
+        → SourceStands own turns (n + 1) source.new }
     ensures begun { IsBegun (n + 1) source.new }
     ensures slots { source.new.slots ≡ source.old.slots }
 {

@@ -27,7 +27,8 @@ pub struct Tap {
     sink: TribSink,
 }
 
-ghost use Rattle.tributary_line.specs.TapTurn.{TapStands, TapMoves, TurnMoves, IsInStep, IsBetweenTurns};
+ghost use Rattle.tributary_line.specs.TapTurn.{TapStands, TurnMoves, IsInStep, IsBetweenTurns};
+ghost use Rattle.tributary_line.specs.Steps.TapTurn.{TapMoves};
 
 impl Model for Tap {
     ghost use Rattle.tributary_line.specs.TapTurn.{TapView};
@@ -38,13 +39,14 @@ impl Model for Tap {
 }
 
 impl Tap {
-    /// A sink of these slots and this tributary port, 1 to 8, before the line's first turn. Takes all memory that it will
-    /// ever need; answers `Memory` where there is none.
+    /// A sink of these slots and this tributary port, 1 to 8, before the line's first turn. Takes all memory that it
+    /// will ever need; answers `Memory` where there is none.
     pub fn new(alloc: Global, port: u8, slots: &Slots) -> Result<Tap, Memory>
         requires low { 1 ≤ port }
         requires high { port ≤ OTU2_SLOTS }
         requires plain { slots.now.kind ≡ LineKind.Otu2 }
-        ensures stands { IfOk result (λ tap. (first : InView) → TapStands (tributary_of slots.now port) first first [] 0 tap) }
+        ensures stands { IfOk result (λ tap. (first : InView)
+            → TapStands (tributary_of slots.now port) first first [] 0 tap) }
         ensures between { IfOk result IsBetweenTurns }
         ensures slots { IfOk result (λ tap. tap.sink.slots ≡ slots.now) }
     {
@@ -58,8 +60,10 @@ impl Tap {
     pub fn turn<I: Source>(&mut self, place: &mut InPlaceOf<I>, room: &mut Vec<u8>) -> Range<usize>
         requires between { IsBetweenTurns self.old }
         requires room { vec_len room.old ≡ length self.old.sink.slots.list * (GROUPS + 1) }
-        ensures moves { (own : Tributary) (first : InView) (taken : List ℕ) (t : ℕ) → TapStands own first (in_view I.Source place.old) taken t self.old
-            → TurnMoves own first (in_view I.Source place.new) taken t self.old self.new (slice_range room.new.items result.start result.end) }
+        ensures moves { (own : Tributary) (first : InView) (taken : List ℕ) (t : ℕ)
+            → TapStands own first (in_view I.Source place.old) taken t self.old
+            → TurnMoves own first (in_view I.Source place.new) taken t self.old self.new
+            (slice_range room.new.items result.start result.end) }
         ensures in_order { result.start ≤ result.end }
         ensures within { result.end ≤ vec_len room.new }
         ensures room_stays { vec_len room.new ≡ vec_len room.old }
@@ -74,7 +78,8 @@ impl Tap {
     // The eight pieces of a turn.
     fn take_frames<I: Source>(&mut self, place: &mut InPlaceOf<I>)
         requires between { IsBetweenTurns self.old }
-        ensures moves { (own : Tributary) (first : InView) (taken : List ℕ) (t : ℕ) → TapStands own first (in_view I.Source place.old) taken t self.old
+        ensures moves { (own : Tributary) (first : InView) (taken : List ℕ) (t : ℕ)
+            → TapStands own first (in_view I.Source place.old) taken t self.old
             → TapMoves own first (in_view I.Source place.new) taken t self.old self.new }
         ensures pieces { self.new.line.pieces ≡ OTU2_SLOTS }
         ensures step { IsInStep self.new.sink.taken self.new }
@@ -90,7 +95,8 @@ impl Tap {
     fn take_piece<I: Source>(&mut self, place: &mut InPlaceOf<I>, frames: u8) -> u8
         requires pieces { self.old.line.pieces < OTU2_SLOTS }
         requires step { IsInStep frames self.old }
-        ensures moves { (own : Tributary) (first : InView) (taken : List ℕ) (t : ℕ) → TapStands own first (in_view I.Source place.old) taken t self.old
+        ensures moves { (own : Tributary) (first : InView) (taken : List ℕ) (t : ℕ)
+            → TapStands own first (in_view I.Source place.old) taken t self.old
             → TapMoves own first (in_view I.Source place.new) taken t self.old self.new }
         ensures pieces { self.new.line.pieces ≡ self.old.line.pieces + 1 }
         ensures step { IsInStep result self.new }
@@ -106,15 +112,19 @@ impl Tap {
 
     /// How the sink stands after the turns that it has seen whole.
     pub fn state(&self) -> SinkState
-        ensures { (own : Tributary) (first now : InView) (taken : List ℕ) (t : ℕ) → TapStands own first now taken t self.now
-            → (given : List ℕ) → MayBe false self.now.line.reader.ending taken given → result ≡ state_after own (views_until own given t) }
+        ensures { (own : Tributary) (first now : InView) (taken : List ℕ) (t : ℕ)
+            → TapStands own first now taken t self.now
+            → (given : List ℕ) → MayBe false self.now.line.reader.ending taken given
+            → result ≡ state_after own (views_until own given t) }
     {
         self.sink.state()
     }
 
-    /// After the last turn: asks the place for one byte more, where the end of the line was not seen, and says whether it came.
+    /// After the last turn: asks the place for one byte more, where the end of the line was not seen, and says whether
+    /// it came.
     pub fn ask_more<I: Source>(&self, place: &mut InPlaceOf<I>) -> bool
-        ensures { ByteAnswer (not (is_seen self.now.line.reader.ending)) (in_view I.Source place.old) (in_view I.Source place.new) result }
+        ensures { ByteAnswer (not (is_seen self.now.line.reader.ending)) (in_view I.Source place.old)
+            (in_view I.Source place.new) result }
     {
         if self.line.end_seen() {
             return false;

@@ -57,7 +57,8 @@ fn take_turn(tap: &mut Tap, place: &mut InPlaceOf<MemSource>, room: &mut Vec<u8>
     emitted.end - emitted.start
 }
 
-// What a sink of that line comes to: how it stands before its turns and after them, how many bytes each emits, and whether more came.
+// What a sink of that line comes to: how it stands before its turns and after them, how many bytes each emits, and
+// whether more came.
 fn taken(
     alloc: Global,
     slots: &Slots,

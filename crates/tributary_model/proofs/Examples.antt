@@ -128,8 +128,8 @@ msi_slots : (map (λ (x : ℕ × ℕ). x.0) (flat_map (msi_in three_slots) (map 
 unfolding empty_frame three_slots
 msi_slots = (refl, refl, refl)
 
--- Why the numbers are to be steady: of 4, 1 and 4 bytes the third turn emits 3 and not 4, since the second one completes no group
--- with the fourth byte.
+-- Why the numbers are to be steady: of 4, 1 and 4 bytes the third turn emits 3 and not 4, since the second one
+-- completes no group with the fourth byte.
 unsteady_pairs : map {B = ℕ × ℕ} (λ t. (number_in 3 (4 ∷ 1 ∷ 4 ∷ []) t, rest_in 3 (4 ∷ 1 ∷ 4 ∷ []) t)) (range_with_len 0 3) ≡ (1, 1) ∷ (0, 2) ∷ (2, 0) ∷ []
 unsteady_pairs = refl
 

@@ -1,4 +1,5 @@
--- A pair that is heard is one of a multiframe: the number at most that of the groups, the remainder below that of the slots.
+-- A pair that is heard is one of a multiframe: the number at most that of the groups, the remainder below that of the
+-- slots.
 use Rattle.std.proofs.Common.{◌≡◌, ℕ, ◌<◌, ◌≤◌, List, Bool, true, false, cond, Option, Some, None, refl, arith}
 use Rattle.std.specs.Prelude.{nat_lt, ◌&&◌}
 use Rattle.std.proofs.lemmas.Bool.Decides.{nat_tests}

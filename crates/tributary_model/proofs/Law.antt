@@ -177,14 +177,16 @@ emitted_in m (DownTurn ∷ parts) = 0
 emitted_in m (StretchTurn stretch ∷ parts) = emitted_total m stretch
 emitted_in m (EndingTurn stretch ∷ parts) = 0
 
--- what one turn owes: the machine's bytes and its next state are those of the course, and few bytes come, which complete few groups
+-- what one turn owes: the machine's bytes and its next state are those of the course, and few bytes come, which
+-- complete few groups
 pub record Follows (m : ℕ) (ais : ℕ → ℕ) (marked : Bool) (view : Option View) (parts : List Part) (part : Part) : Type 0 where
   pub bytes : gives m ais marked view (machine_of m parts) ≡ emits m ais parts part
   pub next : after m marked view (machine_of m parts) ≡ machine_of m (part ∷ parts)
   pub sound : SoundCourse m (part ∷ parts)
   pub few : length (emits m ais parts part) + 1 ≤ m * 15232 + m
   pub amount : length (emits m ais parts part) ≡ amount_of m part
-  -- from some whole groups on, the bytes of the turn end at whole groups of which there are at most 15,232 more, and what the stretch has beyond them
+  -- from some whole groups on, the bytes of the turn end at whole groups of which there are at most 15,232 more, and
+  -- what the stretch has beyond them
   pub groups : (q : ℕ) × ((emitted_in m parts + length (emits m ais parts part) ≡ m * q + emitted_in m (part ∷ parts)) × (emitted_in m parts + length (emits m ais parts part) < m * (emitted_in m parts / m + 15232) + m))
 
 -- ---- a turn in no stretch

@@ -1,4 +1,5 @@
--- What was heard in a turn of a stretch shows in no emission, and in no later turn but by the count of damaged messages.
+-- What was heard in a turn of a stretch shows in no emission, and in no later turn but by the count of damaged
+-- messages.
 use Rattle.std.proofs.Common.{◌≡◌, ℕ, suc, ◌+◌, ◌*◌, List, [], ◌∷◌, ◌++◌, length, Bool, true, false, cond, Option, Some, None, refl, ap, ◌∙◌, sym}
 use Rattle.std.specs.Prelude.{nat_lt, not, ◌&&◌, max, min}
 use Rattle.std.specs.List.{list_any, slice_range}

@@ -70,7 +70,8 @@ emitted_later : (m : ℕ) (next last before : Member) (rest : List Member)
 unfolding emitted_total
 emitted_later m next last before rest = refl
 
--- from the third turn on, a turn brings what is emitted up to all that was extracted before it and the remainder of two turns ago
+-- from the third turn on, a turn brings what is emitted up to all that was extracted before it and the remainder of two
+-- turns ago
 emitted_is : (m : ℕ) (next last before : Member) (rest : List Member) → emitted_total m (last ∷ before ∷ rest) ≤ extracted_total m (last ∷ before ∷ rest)
     → emitted_total m (next ∷ last ∷ before ∷ rest) ≡ extracted_total m (last ∷ before ∷ rest) + min before.rest (m * last.number)
 emitted_is m next last before rest h =

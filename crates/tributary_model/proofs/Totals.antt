@@ -22,7 +22,8 @@ sent_up p i j h =
 
 -- ---- whole groups and what is left
 
--- with a bytes up to one turn, b up to the next and c up to the one after: what is pending and the front of what is extracted
+-- with a bytes up to one turn, b up to the next and c up to the one after: what is pending and the front of what is
+-- extracted
 pub emitted_pieces : (xs : List ℕ) (m a b c : ℕ) → a ≤ m * (b / m) → b ≤ m * (c / m)
     → slice_range xs a (m * (b / m)) ++ take (b % m) (slice_range xs (m * (b / m)) (m * (c / m))) ≡ slice_range xs a b
 emitted_pieces xs m a b c h k =
@@ -64,7 +65,8 @@ steady_reaches m p i h s l = subst (λ n. sent p i ≤ m * (n / m)) (sym (sent_n
 pub sent_front : (p : List ℕ) (n i : ℕ) → i ≤ n → sent (take n p) i ≡ sent p i
 sent_front p n i h = ap sum (take-take i n p h)
 
--- the whole groups of a turn and those before it hold all bytes of the turns before it, as long as the numbers are steady
+-- the whole groups of a turn and those before it hold all bytes of the turns before it, as long as the numbers are
+-- steady
 pub steady_front_reaches : (m : ℕ) (p : List ℕ) (n i : ℕ) → 0 < m → n ≤ length p → IsSteady m (take n p) → i < n → sent p i ≤ m * (sent p (suc i) / m)
 steady_front_reaches m p n i h k s l =
     let long : length (take n p) ≡ n = length-take-le n p k in

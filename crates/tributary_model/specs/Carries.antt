@@ -1,6 +1,6 @@
--- What it is that a tributary carries a client's bytes. p lists how many bytes each turn of a sender brings, the first turn first: its
--- numbers. C(t) and D(t), which its messages say, follow from them.
--- Turns count from 0 here: turn t is a line's turn t + 1.
+-- Believed: what it is that a tributary carries a client's bytes. p lists how many bytes each turn of a sender brings,
+-- the first turn first: its numbers. C(t) and D(t), which its messages say, follow from them. Turns count from 0 here:
+-- turn t is a line's turn t + 1.
 use Rattle.std.specs.Prelude.{◌≡◌, ◌⊎◌, ℕ, zero, suc, ◌+◌, ◌*◌, ◌/◌, ◌%◌, ◌-◌, ◌≤◌, List, [], ◌∷◌, ◌++◌, All, Option, Some, None, length, take, drop, map, sum, slice_get}
 use Rattle.otn_base.specs.declared.limits.TheConstants.{GROUPS}
 use Rattle.gmp_rule.specs.DataRule.{IsData}
@@ -9,7 +9,8 @@ use Rattle.jc_codec.specs.Message.{says}
 use Rattle.cnd_codec.specs.Remainder.{says_rest}
 use Rattle.tributary_model.specs.Places.{Tributary, View}
 
--- how many bytes the first t turns bring: A(t) of docs/FORMATS.md, where turns count from 1; A(t - 1) where they count from 0, as here
+-- how many bytes the first t turns bring: A(t) of docs/FORMATS.md, where turns count from 1; A(t - 1) where they count
+-- from 0, as here
 abbrev pub sent : List ℕ → (t : ℕ) → ℕ
 sent p t = sum (take t p)
 
@@ -35,8 +36,9 @@ former_of m p (suc t) = Some (number_in m p t)
 abbrev pub cleared : List ℕ → List ℕ
 cleared bytes = take 3 bytes ++ map (λ b. b % 32) (drop 3 bytes)
 
--- Group j, where it is data at the number of the turn before, is the m bytes of the list that stand after the whole groups of the turns
--- up to two before, and after the data groups before it. Of the groups 1 to j, j * c / GROUPS are data (data_groups of gmp_rule).
+-- Group j, where it is data at the number of the turn before, is the m bytes of the list that stand after the whole
+-- groups of the turns up to two before, and after the data groups before it. Of the groups 1 to j, j * c / GROUPS are
+-- data (data_groups of gmp_rule).
 abbrev pub CarriesGroups : (m : ℕ) → (bytes p : List ℕ) → (t : ℕ) → List (List ℕ) → Type 0
 CarriesGroups m bytes p t groups =
     let c = number_before m p t in
@@ -45,12 +47,13 @@ CarriesGroups m bytes p t groups =
 
 -- the view of turn t, from 0, of a sender that takes the bytes by the numbers of p
 pub record CarriesTurn (own : Tributary) (bytes p : List ℕ) (t : ℕ) (view : View) : Type 0 where
-  pub message : cleared view.message ≡ says (former_of (length own.slots) p t) (number_in (length own.slots) p t) ++ says_rest (rest_in (length own.slots) p t)
+  pub message : cleared view.message ≡ says (former_of (length own.slots) p t) (number_in (length own.slots) p t)
+      ++ says_rest (rest_in (length own.slots) p t)
   pub msi : All (λ x. x.1 ≡ msi_byte own.port) view.msi
   pub groups : CarriesGroups (length own.slots) bytes p t view.groups
 
--- The views of a line's turns carry the bytes by the numbers of p from turn b to turn u, where the sender began with turn s.
--- C of each of these turns fits a multiframe: it brings no more groups than one has.
+-- The views of a line's turns carry the bytes by the numbers of p from turn b to turn u, where the sender began with
+-- turn s. C of each of these turns fits a multiframe: it brings no more groups than one has.
 pub record Carries (own : Tributary) (bytes p : List ℕ) (views : ℕ → Option View) (s b u : ℕ) : Type 0 where
   pub order : s ≤ b
   pub numbers : u + 1 - s ≤ length p

@@ -1,4 +1,4 @@
--- What one damaged message does to a sink that is Up: it is as if the pair before it were said again.
+-- Believed: what one damaged message does to a sink that is Up: it is as if the pair before it were said again.
 use Rattle.std.specs.Prelude.{◌≡◌, ℕ, List, [], ◌∷◌, ◌++◌, Bool, false, ◌&&◌, Option, Some, None, length}
 use Rattle.tributary_model.specs.declared.turns.Hearing.TheVariants.{Damaged, Pair}
 use Rattle.tributary_model.specs.declared.turns.SinkState.{SinkState}
@@ -27,7 +27,8 @@ is_third own None (StretchTurn (last ∷ before) ∷ parts) = false
 is_third own (Some view) (StretchTurn (last ∷ before) ∷ parts) =
     two_damaged (last ∷ before) && is_damaged (hears_message (Some last.number) (length own.slots) view.message)
 
--- no stretch has a third damaged message in a row in any of these turns, the last first; outside a stretch damaged ones do not count
+-- no stretch has a third damaged message in a row in any of these turns, the last first; outside a stretch damaged ones
+-- do not count
 abbrev pub NeverThree : Tributary → List (Option View) → Type 0
 NeverThree own [] = Unit {0}
 NeverThree own (view ∷ past) = (is_third own view (course own past) ≡ false) × NeverThree own past
@@ -42,14 +43,17 @@ abbrev pub states : Tributary → List (Option View) → List SinkState
 states own [] = []
 states own (view ∷ past) = state_after own (view ∷ past) ∷ states own past
 
--- Two lists of views that differ in the message of one turn alone, before which the sink is Up. In the first list it is damaged, in
--- the second it gives the pair of the turn before; and in neither are three messages in a row damaged. Then every emission and every
--- state is equal for both.
+-- Two lists of views that differ in the message of one turn alone, before which the sink is Up. In the first list it is
+-- damaged, in the second it gives the pair of the turn before; and in neither are three messages in a row damaged. Then
+-- every emission and every state is equal for both.
 abbrev pub IsAsIfRepeated : Type 0
-IsAsIfRepeated = (own : Tributary) (ais : ℕ → ℕ) (past later : List (Option View)) (view : View) (said : List ℕ) (number rest : ℕ) (equal : Bool)
+IsAsIfRepeated = (own : Tributary) (ais : ℕ → ℕ) (past later : List (Option View)) (view : View) (said : List ℕ)
+    (number rest : ℕ) (equal : Bool)
     → pair_had (course own past) ≡ Some (number, rest)
     → hears_message (Some number) (length own.slots) view.message ≡ Damaged
     → hears_message (Some number) (length own.slots) said ≡ Pair number rest equal
-    → NeverThree own (later ++ Some view ∷ past) → NeverThree own (later ++ Some (record view { message = said }) ∷ past)
-    → (emissions own ais (later ++ Some view ∷ past) ≡ emissions own ais (later ++ Some (record view { message = said }) ∷ past))
+    → NeverThree own (later ++ Some view ∷ past)
+    → NeverThree own (later ++ Some (record view { message = said }) ∷ past)
+    → (emissions own ais (later ++ Some view ∷ past)
+    ≡ emissions own ais (later ++ Some (record view { message = said }) ∷ past))
     × (states own (later ++ Some view ∷ past) ≡ states own (later ++ Some (record view { message = said }) ∷ past))

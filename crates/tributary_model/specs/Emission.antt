@@ -1,6 +1,6 @@
--- What a sink emits in each turn, by totals over its stretch. A stretch lists its turns with the last first; turn a is its first.
--- C and D are the pair of a turn, Cm and CnD, and M (m) is how many slots the tributary has. A total counts bytes from the start of a
--- stretch. Read from the end: emission, emits, emits_in and emits_at_end.
+-- Believed: what a sink emits in each turn, by totals over its stretch. A stretch lists its turns with the last first;
+-- turn a is its first. C and D are the pair of a turn, Cm and CnD, and M (m) is how many slots the tributary has. A
+-- total counts bytes from the start of a stretch. Read from the end: emission, emits, emits_in and emits_at_end.
 use Rattle.std.specs.Prelude.{ℕ, suc, ◌+◌, ◌*◌, max, min, List, [], ◌∷◌, ◌++◌, if◌then◌else◌, Option, length, map, ◌-◌}
 use Rattle.std.specs.List.{flat_map, enumerate_from, range_with_len, slice_range}
 use Rattle.otn_base.specs.declared.limits.TheConstants.{NOMINAL}
@@ -35,17 +35,20 @@ due_total m (first ∷ []) = 0
 due_total m (second ∷ first ∷ []) = 0
 due_total m (turn ∷ before ∷ two_before ∷ earlier) = m * numbers_sum (two_before ∷ earlier) + two_before.rest
 
--- E(t) = max (E(t - 1), min (X(t), Due(t))), and 0 at the first turn: how many bytes are emitted up to the end of the last turn
+-- E(t) = max (E(t - 1), min (X(t), Due(t))), and 0 at the first turn: how many bytes are emitted up to the end of the
+-- last turn
 unfoldable pub emitted_total : (m : ℕ) → List Member → ℕ
 emitted_total m [] = 0
 emitted_total m (first ∷ []) = 0
 emitted_total m (turn ∷ before ∷ earlier) =
-    max (emitted_total m (before ∷ earlier)) (min (extracted_total m (turn ∷ before ∷ earlier)) (due_total m (turn ∷ before ∷ earlier)))
+    max (emitted_total m (before ∷ earlier))
+    (min (extracted_total m (turn ∷ before ∷ earlier)) (due_total m (turn ∷ before ∷ earlier)))
 
 -- a turn of a stretch emits Ext from E(t - 1) to E(t), and the one that began it nothing
 abbrev pub emits_in : (m : ℕ) → List Member → List ℕ
 emits_in m [] = []
-emits_in m (turn ∷ earlier) = slice_range (extracted (turn ∷ earlier)) (emitted_total m earlier) (emitted_total m (turn ∷ earlier))
+emits_in m (turn ∷ earlier) = slice_range (extracted (turn ∷ earlier)) (emitted_total m earlier)
+    (emitted_total m (turn ∷ earlier))
 
 -- its ending turn e emits Ext from E(e - 1) to X(e - 1)
 abbrev pub emits_at_end : (m : ℕ) → List Member → List ℕ
@@ -63,8 +66,8 @@ down_run (EndingTurn stretch ∷ parts) = 0
 unfoldable pub stream_bytes : (ℕ → ℕ) → (place n : ℕ) → List ℕ
 stream_bytes stream place n = map stream (range_with_len place n)
 
--- what a turn emits after these, where a Down turn emits the next bytes of a stream: the d-th of a run of them those from
--- (d - 1) * M * NOMINAL on, M * NOMINAL in number
+-- what a turn emits after these, where a Down turn emits the next bytes of a stream: the d-th of a run of them those
+-- from (d - 1) * M * NOMINAL on, M * NOMINAL in number
 abbrev pub emits : (m : ℕ) → (ais : ℕ → ℕ) → List Part → Part → List ℕ
 emits m ais parts WaitingTurn = []
 emits m ais parts DownTurn = stream_bytes ais (down_run parts * (m * NOMINAL)) (m * NOMINAL)

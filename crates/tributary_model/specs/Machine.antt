@@ -1,6 +1,6 @@
--- The sink without totals. Where Emission counts the bytes of a stretch from its start, this keeps what its stretch said last, the bytes
--- that it has not emitted, and its place in the AIS stream. Read from the end: machine_after is what it keeps, gives what it emits; Laws
--- says that this is the emission.
+-- API: the sink without totals. Where Emission counts the bytes of a stretch from its start, this keeps what its
+-- stretch said last, the bytes that it has not emitted, and its place in the AIS stream. Read from the end:
+-- machine_after is what it keeps, gives what it emits; Laws says that this is the emission.
 use Rattle.std.specs.Prelude.{ℕ, ◌+◌, ◌*◌, nat_le, List, [], ◌∷◌, ◌++◌, Bool, true, false, if◌then◌else◌, Option, Some, None, length, take, drop}
 use Rattle.otn_base.specs.declared.limits.TheConstants.{NOMINAL}
 use Rattle.tributary_model.specs.declared.turns.Hearing.{Hearing}
@@ -15,7 +15,8 @@ use Rattle.tributary_model.specs.Messages.{hears_message}
 use Rattle.tributary_model.specs.Stretches.{groups_of, any_marked}
 use Rattle.tributary_model.specs.Emission.{data_bytes, stream_bytes}
 
--- what it keeps between two turns: how it stands, the bytes extracted and not yet emitted, and its place in the AIS stream
+-- what it keeps between two turns: how it stands, the bytes extracted and not yet emitted, and its place in the AIS
+-- stream
 pub record Machine : Type 0 where
   pub standing : Standing
   pub pending : List ℕ
@@ -57,7 +58,8 @@ begun (Some heard) = first_said heard
 
 -- what is said in the next turn, where the stretch goes on
 abbrev pub next_said : Said → Hearing → Option Said
-next_said said (Pair number rest equal) = Some (record { number = number; rest = rest; damaged = 0; due = Some said.rest })
+next_said said (Pair number rest equal) = Some
+    (record { number = number; rest = rest; damaged = 0; due = Some said.rest })
 next_said said Lost = None
 next_said said Damaged =
     if nat_le 2 said.damaged then None
@@ -68,35 +70,43 @@ abbrev pub gone_on : Option Hearing → Said → Option Said
 gone_on None said = None
 gone_on (Some heard) said = next_said said heard
 
--- the first turn after the one that began a stretch emits nothing, and each later one all that is pending and as many of the
--- bytes that it extracts as the remainder of two turns ago
+-- the first turn after the one that began a stretch emits nothing, and each later one all that is pending and as many
+-- of the bytes that it extracts as the remainder of two turns ago
 abbrev pub given_of : Option ℕ → (pending fresh : List ℕ) → List ℕ
 given_of None pending fresh = []
 given_of (Some due) pending fresh = pending ++ take due fresh
 
--- what is pending after such a turn: all, where it emitted nothing, else the bytes that it extracted beyond those it emitted
+-- what is pending after such a turn: all, where it emitted nothing, else the bytes that it extracted beyond those it
+-- emitted
 abbrev pub kept_of : Option ℕ → (pending fresh : List ℕ) → List ℕ
 kept_of None pending fresh = pending ++ fresh
 kept_of (Some due) pending fresh = drop due fresh
 
 -- a turn in which no stretch begins, after n such turns: still Waiting, or Down from the third one on
 abbrev pub waits_on : ℕ → Machine
-waits_on n = if nat_le 2 n then record { standing = Down; pending = []; place = 0 } else record { standing = Waiting (n + 1); pending = []; place = 0 }
+waits_on n = if nat_le 2 n then record { standing = Down; pending = []; place = 0 }
+    else record { standing = Waiting (n + 1); pending = []; place = 0 }
 
 -- the machine after a turn that continues no stretch: Up where it begins one with what was said, else the other machine
 abbrev pub opened : Option Said → Machine → Machine
 opened (Some said) other = record { standing = Up said; pending = []; place = 0 }
 opened None other = other
 
--- the machine after a turn before which it was Up: Up with what is said next and what is pending, or Down where the stretch ended
+-- the machine after a turn before which it was Up: Up with what is said next and what is pending, or Down where the
+-- stretch ended
 abbrev pub went_on : Option Said → Said → (pending fresh : List ℕ) → Machine
-went_on (Some next) said pending fresh = record { standing = Up next; pending = kept_of said.due pending fresh; place = 0 }
+went_on (Some next) said pending fresh = record {
+  standing = Up next;
+  pending = kept_of said.due pending fresh;
+  place = 0;
+}
 went_on None said pending fresh = record { standing = Down; pending = []; place = 0 }
 
 -- the machine after a turn in which this was heard, and these bytes extracted
 abbrev pub after_standing : (m : ℕ) → Option Hearing → (fresh : List ℕ) → Machine → Standing → Machine
 after_standing m heard fresh s (Waiting n) = opened (begun heard) (waits_on n)
-after_standing m heard fresh s Down = opened (begun heard) (record { standing = Down; pending = []; place = s.place + m * NOMINAL })
+after_standing m heard fresh s Down = opened (begun heard)
+    (record { standing = Down; pending = []; place = s.place + m * NOMINAL })
 after_standing m heard fresh s (Up said) = went_on (gone_on heard said) said s.pending fresh
 
 -- the same, by how the machine itself stands
@@ -108,12 +118,14 @@ abbrev pub down_gives : Option Said → List ℕ → List ℕ
 down_gives (Some said) signal = []
 down_gives None signal = signal
 
--- what a turn after one that was Up emits: where the stretch goes on as `given_of` says, where it ended all that was pending
+-- what a turn after one that was Up emits: where the stretch goes on as `given_of` says, where it ended all that was
+-- pending
 abbrev pub up_gives : Option Said → Said → (pending fresh : List ℕ) → List ℕ
 up_gives (Some next) said pending fresh = given_of said.due pending fresh
 up_gives None said pending fresh = pending
 
--- what a turn emits of a machine that stands so: nothing while Waiting; Down as `down_gives` says of the AIS stream; Up as `up_gives` says
+-- what a turn emits of a machine that stands so: nothing while Waiting; Down as `down_gives` says of the AIS stream; Up
+-- as `up_gives` says
 abbrev pub gives_standing : (m : ℕ) → (ais : ℕ → ℕ) → Option Hearing → (fresh : List ℕ) → Machine → Standing → List ℕ
 gives_standing m ais heard fresh s (Waiting n) = []
 gives_standing m ais heard fresh s Down = down_gives (begun heard) (stream_bytes ais s.place (m * NOMINAL))
@@ -125,11 +137,13 @@ gives_heard m ais heard fresh s = gives_standing m ais heard fresh s s.standing
 
 -- the machine after a turn with this view
 abbrev pub after : (m : ℕ) → (marked : Bool) → Option View → Machine → Machine
-after m marked view s = after_heard m (heard_in (former_of s.standing) m marked view) (data_bytes (number_of s.standing) (groups_of view)) s
+after m marked view s = after_heard m (heard_in (former_of s.standing) m marked view)
+    (data_bytes (number_of s.standing) (groups_of view)) s
 
 -- what the machine emits in a turn with this view
 abbrev pub gives : (m : ℕ) → (ais : ℕ → ℕ) → (marked : Bool) → Option View → Machine → List ℕ
-gives m ais marked view s = gives_heard m ais (heard_in (former_of s.standing) m marked view) (data_bytes (number_of s.standing) (groups_of view)) s
+gives m ais marked view s = gives_heard m ais (heard_in (former_of s.standing) m marked view)
+    (data_bytes (number_of s.standing) (groups_of view)) s
 
 -- the machine after these turns, the last first
 unfoldable pub machine_after : Tributary → List (Option View) → Machine

@@ -1,4 +1,4 @@
--- How the six bytes of a message are heard.
+-- Believed: how the six bytes of a message are heard.
 use Rattle.std.specs.Prelude.{ℕ, List, Option, Some, None, slice_index}
 use Rattle.jc_codec.specs.declared.listener.Heard.{Heard}
 use Rattle.jc_codec.specs.declared.listener.Heard.TheVariants.{Accepted, Damaged as DamagedNumber, BaseLost}

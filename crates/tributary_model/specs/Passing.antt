@@ -1,4 +1,4 @@
--- What a node passes on: a sender that takes in each turn what a sink emitted in the turn before.
+-- API: what a node passes on: a sender that takes in each turn what a sink emitted in the turn before.
 use Rattle.std.specs.Prelude.{◌≡◌, ℕ, zero, suc, ◌+◌, ◌-◌, ◌*◌, ◌/◌, ◌<◌, ◌≤◌, List, [], ◌∷◌, ◌++◌, Option, Some, length, take}
 use Rattle.tributary_model.specs.declared.turns.SinkState.TheVariants.{Down}
 use Rattle.tributary_model.specs.Places.{Tributary, View, IsWholeTurn}
@@ -20,37 +20,46 @@ lengths_back (last ∷ before) = lengths_back before ++ length last ∷ []
 -- The first n turns of a sink whose views carry the bytes emit a front of these, without gap or repetition.
 abbrev pub JoinsToWhatIsCarried : Type 0
 JoinsToWhatIsCarried = (own : Tributary) (ais : ℕ → ℕ) (bytes p : List ℕ) (views : ℕ → Option View) (s u n : ℕ)
-    → Arrives own bytes p views s s s u → s + n ≤ u + 1 → joined_back (emissions own ais (past_of views s n)) ≡ take (sent p (n - 2)) bytes
+    → Arrives own bytes p views s s s u → s + n ≤ u + 1
+    → joined_back (emissions own ais (past_of views s n)) ≡ take (sent p (n - 2)) bytes
 
 -- With the turn after which it is Down, it has emitted the whole groups that came.
 abbrev pub JoinsToWholeGroups : Type 0
-JoinsToWholeGroups = (own : Tributary) (ais : ℕ → ℕ) (bytes p : List ℕ) (views : ℕ → Option View) (s u : ℕ) (view : Option View)
-    → Arrives own bytes p views s s s u → s ≤ u → IsWholeTurn (length own.slots) view → state_after own (view ∷ past_of views s (u + 1 - s)) ≡ Down
-    → joined_back (emissions own ais (view ∷ past_of views s (u + 1 - s))) ≡ take (length own.slots * (sent p (u - s) / length own.slots)) bytes
+JoinsToWholeGroups = (own : Tributary) (ais : ℕ → ℕ) (bytes p : List ℕ) (views : ℕ → Option View) (s u : ℕ)
+    (view : Option View)
+    → Arrives own bytes p views s s s u → s ≤ u → IsWholeTurn (length own.slots) view
+    → state_after own (view ∷ past_of views s (u + 1 - s)) ≡ Down
+    → joined_back (emissions own ais (view ∷ past_of views s (u + 1 - s)))
+    ≡ take (length own.slots * (sent p (u - s) / length own.slots)) bytes
 
 -- Each turn emits as many as the sender took two turns before, the first two none.
 abbrev pub EmitsAsMany : Type 0
 EmitsAsMany = (own : Tributary) (ais : ℕ → ℕ) (bytes p : List ℕ) (views : ℕ → Option View) (s u n : ℕ)
-    → Arrives own bytes p views s s s u → s + n ≤ u + 1 → lengths_back (emissions own ais (past_of views s n)) ≡ take n (0 ∷ 0 ∷ p)
+    → Arrives own bytes p views s s s u → s + n ≤ u + 1
+    → lengths_back (emissions own ais (past_of views s n)) ≡ take n (0 ∷ 0 ∷ p)
 
--- A turn of a sender speaks of no byte that it takes later, and of no later number: where it carries fronts of both, it carries all.
+-- A turn of a sender speaks of no byte that it takes later, and of no later number: where it carries fronts of both, it
+-- carries all.
 abbrev pub CarriesAllByFronts : Type 0
 CarriesAllByFronts = (own : Tributary) (bytes p : List ℕ) (k n t : ℕ) (view : View)
-    → 0 < length own.slots → sent p t ≤ k → t < n → CarriesTurn own (take k bytes) (take n p) t view → CarriesTurn own bytes p t view
+    → 0 < length own.slots → sent p t ≤ k → t < n → CarriesTurn own (take k bytes) (take n p) t view
+    → CarriesTurn own bytes p t view
 
--- In each turn from s to u these views of another tributary carry what the sink emitted in the turns from s on, each turn's in
--- the turn after it, so nothing in turn s.
+-- In each turn from s to u these views of another tributary carry what the sink emitted in the turns from s on, each
+-- turn's in the turn after it, so nothing in turn s.
 pub record SendsOn (own next : Tributary) (ais : ℕ → ℕ) (views others : ℕ → Option View) (s u : ℕ) : Type 0 where
   pub slots : length next.slots ≡ length own.slots
   pub whole : (t : ℕ) → s ≤ t → t ≤ u → IsWholeTurn (length next.slots) (others t)
   pub each : (t : ℕ) → s ≤ t → t ≤ u → (view : View)
       × ((others t ≡ Some view)
-      × CarriesTurn next (joined_back (emissions own ais (past_of views s (t - s)))) (0 ∷ lengths_back (emissions own ais (past_of views s (t - s)))) (t - s) view)
+      × CarriesTurn next (joined_back (emissions own ais (past_of views s (t - s))))
+      (0 ∷ lengths_back (emissions own ais (past_of views s (t - s)))) (t - s) view)
 
 -- Then they carry what the sink's own views carry, three turns later.
 abbrev pub PassesOn : Type 0
 PassesOn = (own next : Tributary) (ais : ℕ → ℕ) (bytes p : List ℕ) (views others : ℕ → Option View) (s u w : ℕ)
-    → Arrives own bytes p views s s s u → w ≤ u → SendsOn own next ais views others s w → Arrives next bytes (0 ∷ 0 ∷ 0 ∷ p) others s s s w
+    → Arrives own bytes p views s s s u → w ≤ u → SendsOn own next ais views others s w
+    → Arrives next bytes (0 ∷ 0 ∷ 0 ∷ p) others s s s w
 
 -- The pairs C and D that they say are the sender's, three turns later.
 abbrev pub SaysThreeLater : Type 0
@@ -71,7 +80,8 @@ pub record Leg : Type 0 where
 -- each leg sends on what comes by the one before, and stops no later
 abbrev pub IsChain : (ais : ℕ → ℕ) → (s : ℕ) → Leg → List Leg → Type 0
 IsChain ais s leg [] = Unit {0}
-IsChain ais s leg (next ∷ legs) = (next.stop ≤ leg.stop) × SendsOn leg.own next.own ais leg.views next.views s next.stop × IsChain ais s next legs
+IsChain ais s leg (next ∷ legs) = (next.stop ≤ leg.stop) × SendsOn leg.own next.own ais leg.views next.views s next.stop
+    × IsChain ais s next legs
 
 -- the last leg of a chain
 abbrev pub last_of : Leg → List Leg → Leg
@@ -82,4 +92,5 @@ last_of leg (next ∷ legs) = last_of next legs
 abbrev pub CarriesToTheEnd : Type 0
 CarriesToTheEnd = (ais : ℕ → ℕ) (bytes p : List ℕ) (s : ℕ) (leg : Leg) (legs : List Leg)
     → Arrives leg.own bytes p leg.views s s s leg.stop → IsChain ais s leg legs
-    → Arrives (last_of leg legs).own bytes (later (length legs) p) (last_of leg legs).views s s s (last_of leg legs).stop
+    → Arrives (last_of leg legs).own bytes (later (length legs) p) (last_of leg legs).views s s s
+    (last_of leg legs).stop

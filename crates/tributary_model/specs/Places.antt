@@ -1,4 +1,4 @@
--- The own places of a tributary in a multiframe of its line, and what stands there.
+-- Believed: the own places of a tributary in a multiframe of its line, and what stands there.
 use Rattle.std.specs.Prelude.{◌≡◌, ◌⊎◌, ℕ, ◌+◌, ◌/◌, ◌-◌, ◌≤◌, ◌==◌, max, List, [], ◌∷◌, if◌then◌else◌, Option, Some, None, slice_index, slice_get, map, option_map, length, All}
 use Rattle.std.specs.List.{flat_map, range_with_len, Contains}
 use Rattle.otn_base.specs.declared.limits.TheConstants.{GROUPS, LAST_PAYLOAD_COLUMN, LINE_COLUMNS, PAYLOAD_COLUMNS}
@@ -8,7 +8,8 @@ use Rattle.odtu_columns.specs.Columns.{slot_of}
 use Rattle.odtu_columns.specs.Groups.{group_at}
 use Rattle.odtu_columns.specs.Message.{message_of}
 
--- A tributary of a line: how many slots the line has, which of them are its own, rising, and its tributary port, from 1.
+-- A tributary of a line: how many slots the line has, which of them are its own, rising, and its tributary port, from
+-- 1.
 pub record Tributary : Type 0 where
   pub line_slots : ℕ
   pub slots : List ℕ
@@ -18,7 +19,8 @@ pub record Tributary : Type 0 where
 abbrev pub tributary_of : LineSlots → (port : ℕ) → Tributary
 tributary_of slots port = record { line_slots = slots_of slots.kind; slots = slots.list; port = port }
 
--- G.709 clause 11.1: the byte in a row and a column, both from 1, of a frame of an OTU2 or an OTU3 of 4 rows of 4,080 columns
+-- G.709 clause 11.1: the byte in a row and a column, both from 1, of a frame of an OTU2 or an OTU3 of 4 rows of 4,080
+-- columns
 abbrev pub byte_at : List ℕ → (row column : ℕ) → ℕ
 byte_at frame row column = slice_index frame (place_of LINE_COLUMNS row column)
 
@@ -53,13 +55,15 @@ pub record IsOwnMsi (own : Tributary) (expected row column : ℕ) : Type 0 where
 
 -- a place of frame n that is the tributary's own: of the payload, of the message, or of the MSI
 abbrev pub IsOwn : Tributary → (n expected row column : ℕ) → Type 0
-IsOwn own n expected row column = IsOwnPayload own row column ⊎ IsOwnMessage own n row column ⊎ IsOwnMsi own expected row column
+IsOwn own n expected row column = IsOwnPayload own row column ⊎ IsOwnMessage own n row column
+    ⊎ IsOwnMsi own expected row column
 
 -- ---- what stands there
 
 -- the groups of a row: its 3,808 payload columns in cycles
 unfoldable pub row_groups : Tributary → List ℕ → (row : ℕ) → List (List ℕ)
-row_groups own frame row = map (λ cycle. group_at own.line_slots own.slots row cycle frame) (range_with_len 0 (PAYLOAD_COLUMNS / own.line_slots))
+row_groups own frame row = map (λ cycle. group_at own.line_slots own.slots row cycle frame)
+    (range_with_len 0 (PAYLOAD_COLUMNS / own.line_slots))
 
 -- the groups of a frame, row by row
 unfoldable pub frame_groups : Tributary → List ℕ → List (List ℕ)
@@ -78,8 +82,8 @@ msi_at slots expected frame = flat_map (λ k. if expected == 1 + k then (k, byte
 abbrev pub msi_in : Tributary → Taken → List (ℕ × ℕ)
 msi_in own t = msi_at own.slots t.expected t.frame
 
--- The view of a turn with a multiframe, which has as many frames as the line has slots: its groups, the first being group 1, the
--- message, and the MSI bytes that came, each with its slot.
+-- The view of a turn with a multiframe, which has as many frames as the line has slots: its groups, the first being
+-- group 1, the message, and the MSI bytes that came, each with its slot.
 pub record View : Type 0 where
   pub groups : List (List ℕ)
   pub message : List ℕ
@@ -102,7 +106,8 @@ pub record IsWhole (m : ℕ) (view : View) : Type 0 where
   pub many : length view.groups ≡ GROUPS
   pub each : All (λ g. length g ≡ m) view.groups
 
--- So is a turn, if it has a multiframe. One that has none shows nothing and meets this too: whole is of the groups here, not of the turn.
+-- So is a turn, if it has a multiframe. One that has none shows nothing and meets this too: whole is of the groups
+-- here, not of the turn.
 abbrev pub IsWholeTurn : (m : ℕ) → Option View → Type 0
 IsWholeTurn m None = Unit {0}
 IsWholeTurn m (Some view) = IsWhole m view

@@ -1,5 +1,6 @@
--- What the source of a tributary puts into the multiframes of its line. Its turns are the lists of bytes that it took, the first
--- turn since it began first (a sink's past has the last first). Their numbers t count from 0, and A(t) is how many bytes the turns up to t have.
+-- Believed: what the source of a tributary puts into the multiframes of its line. Its turns are the lists of bytes that
+-- it took, the first turn since it began first (a sink's past has the last first). Their numbers t count from 0, and
+-- A(t) is how many bytes the turns up to t have.
 use Rattle.std.specs.Prelude.{◌≡◌, ◌≢◌, ◌⊎◌, ℕ, suc, ◌+◌, ◌*◌, ◌/◌, ◌-◌, ◌≤◌, ◌==◌, List, [], ◌∷◌, ◌++◌, if◌then◌else◌, length, take, drop, map, replicate, slice_index}
 use Rattle.std.specs.List.{concat, Contains}
 use Rattle.otn_base.specs.declared.limits.TheConstants.{LINE_COLUMNS, PAYLOAD_COLUMNS}
@@ -16,10 +17,12 @@ lengths_of turns = map length turns
 
 -- ---- by groups
 
--- Group j where the number is c and the data groups take the bytes from the whole group q of m bytes on, in order: where it is data,
--- the m bytes behind those of the data groups before it; else it is stuff, of bytes 0 (G.709 Annex D).
+-- Group j where the number is c and the data groups take the bytes from the whole group q of m bytes on, in order:
+-- where it is data, the m bytes behind those of the data groups before it; else it is stuff, of bytes 0 (G.709 Annex
+-- D).
 abbrev pub group_from : (m c q : ℕ) → (bytes : List ℕ) → (j : ℕ) → List ℕ
-group_from m c q bytes j = if is_data_at c j then take m (drop (m * (q + data_count c (j - 1))) bytes) else replicate m 0
+group_from m c q bytes j = if is_data_at c j then take m (drop (m * (q + data_count c (j - 1))) bytes)
+    else replicate m 0
 
 -- Group j of turn t: data by C(t - 1), from byte m * (A(t - 2) / m) on.
 unfoldable pub group_put : (m : ℕ) → (turns : List (List ℕ)) → (t j : ℕ) → List ℕ
@@ -40,8 +43,8 @@ abbrev pub place_among : List ℕ → (slot : ℕ) → ℕ
 place_among [] slot = 0
 place_among (k ∷ slots) slot = if k == slot then 0 else suc (place_among slots slot)
 
--- The group that has a byte in a payload column: on a line of so many slots a row has 3808 / slots groups, and they are counted from 1
--- on from row to row and from frame to frame.
+-- The group that has a byte in a payload column: on a line of so many slots a row has 3808 / slots groups, and they are
+-- counted from 1 on from row to row and from frame to frame.
 abbrev pub group_at_place : (line_slots n row column : ℕ) → ℕ
 group_at_place line_slots n row column =
     let cycles = PAYLOAD_COLUMNS / line_slots in
@@ -50,11 +53,14 @@ group_at_place line_slots n row column =
 -- the byte in a payload column of an own slot: that of the slot in the column's group
 abbrev pub payload_put : Tributary → (turns : List (List ℕ)) → (t n row column : ℕ) → ℕ
 payload_put own turns t n row column =
-    slice_index (group_put (length own.slots) turns t (group_at_place own.line_slots n row column)) (place_among own.slots (slot_of own.line_slots column))
+    slice_index (group_put (length own.slots) turns t (group_at_place own.line_slots n row column))
+    (place_among own.slots (slot_of own.line_slots column))
 
--- the byte in row 1 to 3 of columns 16, JC1 to JC3, and 15, JC4 to JC6, in the frame of the greatest slot (G.709 clause 19.4)
+-- the byte in row 1 to 3 of columns 16, JC1 to JC3, and 15, JC4 to JC6, in the frame of the greatest slot (G.709 clause
+-- 19.4)
 abbrev pub message_byte_put : Tributary → (turns : List (List ℕ)) → (t row column : ℕ) → ℕ
-message_byte_put own turns t row column = slice_index (message_put (length own.slots) turns t) (3 * (16 - column) + (row - 1))
+message_byte_put own turns t row column = slice_index (message_put (length own.slots) turns t)
+    (3 * (16 - column) + (row - 1))
 
 -- the same places in the frames of the other slots
 pub record IsOtherMessage (own : Tributary) (n row column : ℕ) : Type 0 where
@@ -65,16 +71,20 @@ pub record IsOtherMessage (own : Tributary) (n row column : ℕ) : Type 0 where
 
 -- A frame has in its own places what the source puts in turn t, and 0 in the message bytes of the other slots.
 pub record IsPut (own : Tributary) (turns : List (List ℕ)) (t n : ℕ) (frame : List ℕ) : Type 0 where
-  pub payload : (row column : ℕ) → IsOwnPayload own row column → byte_at frame row column ≡ payload_put own turns t n row column
-  pub message : (row column : ℕ) → IsOwnMessage own n row column → byte_at frame row column ≡ message_byte_put own turns t row column
+  pub payload : (row column : ℕ) → IsOwnPayload own row column
+      → byte_at frame row column ≡ payload_put own turns t n row column
+  pub message : (row column : ℕ) → IsOwnMessage own n row column
+      → byte_at frame row column ≡ message_byte_put own turns t row column
   pub others : (row column : ℕ) → IsOtherMessage own n row column → byte_at frame row column ≡ 0
 
 -- the places that a source writes
 abbrev pub IsSourcePlace : Tributary → (n row column : ℕ) → Type 0
-IsSourcePlace own n row column = IsOwnPayload own row column ⊎ IsOwnMessage own n row column ⊎ IsOtherMessage own n row column
+IsSourcePlace own n row column = IsOwnPayload own row column ⊎ IsOwnMessage own n row column
+    ⊎ IsOtherMessage own n row column
 
 -- What the source puts was put into a frame, in which every other byte is as it was.
 pub record WasPut (own : Tributary) (turns : List (List ℕ)) (t n : ℕ) (before now : List ℕ) : Type 0 where
   pub put : IsPut own turns t n now
-  pub kept : (row column : ℕ) → 1 ≤ row → row ≤ 4 → 1 ≤ column → column ≤ LINE_COLUMNS → (IsSourcePlace own n row column → ⊥)
+  pub kept : (row column : ℕ) → 1 ≤ row → row ≤ 4 → 1 ≤ column → column ≤ LINE_COLUMNS
+      → (IsSourcePlace own n row column → ⊥)
       → byte_at now row column ≡ byte_at before row column

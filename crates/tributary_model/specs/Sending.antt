@@ -1,4 +1,4 @@
--- What a source puts carries its bytes.
+-- API: what a source puts carries its bytes.
 use Rattle.std.specs.Prelude.{◌≡◌, ℕ, ◌+◌, ◌-◌, ◌≤◌, List, [], ◌∷◌, Option, Some, length, take, reverse, slice_get}
 use Rattle.std.specs.List.{concat, Contains}
 use Rattle.otn_base.specs.declared.limits.TheConstants.{GROUPS, MOST_SLOTS}
@@ -20,7 +20,8 @@ pub record IsSent (own : Tributary) : Type 0 where
 pub record ShowsTurn (own : Tributary) (turns : List (List ℕ)) (t : ℕ) (frames : List Taken) : Type 0 where
   pub many : length frames ≡ own.line_slots
   pub put : (n : ℕ) (f : Taken) → slice_get frames n ≡ Some f → IsPut own turns t n f.frame
-  pub msi : (n : ℕ) (f : Taken) → slice_get frames n ≡ Some f → (row column : ℕ) → IsOwnMsi own f.expected row column → byte_at f.frame row column ≡ msi_byte own.port
+  pub msi : (n : ℕ) (f : Taken) → slice_get frames n ≡ Some f → (row column : ℕ) → IsOwnMsi own f.expected row column
+      → byte_at f.frame row column ≡ msi_byte own.port
 
 -- Their view carries the bytes of the turns, whatever else stands in them.
 abbrev pub CarriesWhatIsPut : Type 0
@@ -28,13 +29,14 @@ CarriesWhatIsPut = (own : Tributary) (turns : List (List ℕ)) (t : ℕ) (frames
     → IsSent own → number_before (length own.slots) (lengths_of turns) t ≤ GROUPS → ShowsTurn own turns t frames
     → CarriesTurn own (concat turns) (lengths_of turns) t (view_of own frames)
 
--- In each turn from s to u of a line the frames have what a source puts that began with turn s, by the turns that it had until then.
--- Each number fits a multiframe.
+-- In each turn from s to u of a line the frames have what a source puts that began with turn s, by the turns that it
+-- had until then. Each number fits a multiframe.
 pub record Sends (own : Tributary) (turns : List (List ℕ)) (frames : ℕ → Option (List Taken)) (s u : ℕ) : Type 0 where
   pub own_is : IsSent own
   pub enough : u + 1 - s ≤ length turns
   pub fits : (i : ℕ) → s + i ≤ u → number_in (length own.slots) (lengths_of turns) i ≤ GROUPS
-  pub each : (t : ℕ) → s ≤ t → t ≤ u → (multiframe : List Taken) × ((frames t ≡ Some multiframe) × ShowsTurn own (take (t + 1 - s) turns) (t - s) multiframe)
+  pub each : (t : ℕ) → s ≤ t → t ≤ u → (multiframe : List Taken)
+      × ((frames t ≡ Some multiframe) × ShowsTurn own (take (t + 1 - s) turns) (t - s) multiframe)
 
 -- The line carries the bytes of all turns.
 abbrev pub CarriesAllThatIsPut : Type 0
@@ -47,18 +49,21 @@ ArrivesAsItIsPut = (own : Tributary) (turns : List (List ℕ)) (frames : ℕ →
     → Sends own turns frames s u → IsSteady (length own.slots) (take (u + 1 - s) (lengths_of turns))
     → Arrives own (concat turns) (lengths_of turns) (λ t. turn_view own (frames t)) s s s u
 
--- the turns of a source that takes in each turn what was emitted in the turn before, and nothing in its first; the emissions are listed
--- with the last first
+-- the turns of a source that takes in each turn what was emitted in the turn before, and nothing in its first; the
+-- emissions are listed with the last first
 abbrev pub turns_of : List (List ℕ) → List (List ℕ)
 turns_of emitted = [] ∷ reverse emitted
 
--- A source that takes in each turn what a sink of as many slots emitted in the turn before sends it on. Its numbers fit of themselves.
+-- A source that takes in each turn what a sink of as many slots emitted in the turn before sends it on. Its numbers fit
+-- of themselves.
 abbrev pub SendsOnWhatIsPut : Type 0
-SendsOnWhatIsPut = (own next : Tributary) (ais : ℕ → ℕ) (views : ℕ → Option View) (frames : ℕ → Option (List Taken)) (s u : ℕ)
+SendsOnWhatIsPut = (own next : Tributary) (ais : ℕ → ℕ) (views : ℕ → Option View) (frames : ℕ → Option (List Taken))
+    (s u : ℕ)
     → IsSent next → length next.slots ≡ length own.slots
     → ((t : ℕ) → s ≤ t → t ≤ u → IsWholeTurn (length own.slots) (views t))
     → ((t : ℕ) → s ≤ t → t ≤ u → (multiframe : List Taken)
-    × ((frames t ≡ Some multiframe) × ShowsTurn next (turns_of (emissions own ais (past_of views s (t - s)))) (t - s) multiframe))
+    × ((frames t ≡ Some multiframe) × ShowsTurn next (turns_of (emissions own ais (past_of views s (t - s))))
+    (t - s) multiframe))
     → SendsOn own next ais views (λ t. turn_view next (frames t)) s u
 
 -- ---- several sources of a line
@@ -66,7 +71,8 @@ SendsOnWhatIsPut = (own next : Tributary) (ais : ℕ → ℕ) (views : ℕ → O
 -- What a source put stays where its places keep their bytes.
 abbrev pub StaysWhereKept : Type 0
 StaysWhereKept = (own : Tributary) (turns : List (List ℕ)) (t n : ℕ) (before now : List ℕ)
-    → IsPut own turns t n before → ((row column : ℕ) → IsSourcePlace own n row column → byte_at now row column ≡ byte_at before row column) → IsPut own turns t n now
+    → IsPut own turns t n before → ((row column : ℕ) → IsSourcePlace own n row column
+    → byte_at now row column ≡ byte_at before row column) → IsPut own turns t n now
 
 -- two tributaries of a line that have no slot in common
 pub record StandApart (own other : Tributary) : Type 0 where
@@ -76,4 +82,5 @@ pub record StandApart (own other : Tributary) : Type 0 where
 -- Their sources write into no common place: what one puts into a frame stays when the other puts its own there.
 abbrev pub StaysApart : Type 0
 StaysApart = (own other : Tributary) (turns others : List (List ℕ)) (t u n : ℕ) (before now : List ℕ)
-    → IsTributary own → IsTributary other → StandApart own other → IsPut own turns t n before → WasPut other others u n before now → IsPut own turns t n now
+    → IsTributary own → IsTributary other → StandApart own other → IsPut own turns t n before
+    → WasPut other others u n before now → IsPut own turns t n now

@@ -1,5 +1,5 @@
--- The stretches in which a sink follows its tributary. Turns are listed with the last first: a past is the views of all turns
--- since the sink began, its course. Read from the end: course, next_part, fit and goes_on.
+-- Believed: the stretches in which a sink follows its tributary. Turns are listed with the last first: a past is the
+-- views of all turns since the sink began, its course. Read from the end: course, next_part, fit and goes_on.
 use Rattle.std.specs.Prelude.{ℕ, ◌==◌, nat_lt, List, [], ◌∷◌, ◌++◌, Bool, true, false, not, ◌&&◌, if◌then◌else◌, Option, Some, None, length, map, filter}
 use Rattle.std.specs.List.{list_any}
 use Rattle.msi_table.specs.Marks.{is_marked}
@@ -44,9 +44,9 @@ pub record Member : Type 0 where
   pub rest : ℕ
   pub groups : List (List ℕ)
 
--- What a turn is: in no stretch, Waiting or Down; or in a stretch, whose turns so far are listed with this one first; or the
--- ending turn of a stretch, whose turns before this one are listed. The word is of what the turn emits: after the third Waiting
--- turn, and after an ending one, the sink is Down.
+-- What a turn is: in no stretch, Waiting or Down; or in a stretch, whose turns so far are listed with this one first;
+-- or the ending turn of a stretch, whose turns before this one are listed. The word is of what the turn emits: after
+-- the third Waiting turn, and after an ending one, the sink is Down.
 pub data Part : Type 0 where
   WaitingTurn : Part
   DownTurn : Part
@@ -55,13 +55,14 @@ pub data Part : Type 0 where
 
 -- a message that begins a stretch: a pair with equal indicators
 abbrev pub fit_pair : View → Hearing → Option Member
-fit_pair view (Pair number rest true) = Some (record { heard = Pair number rest true; number = number; rest = rest; groups = view.groups })
+fit_pair view (Pair number rest true) = Some
+    (record { heard = Pair number rest true; number = number; rest = rest; groups = view.groups })
 fit_pair view (Pair number rest false) = None
 fit_pair view Damaged = None
 fit_pair view Lost = None
 
--- A turn as the first of a stretch, where it is fit: it has a multiframe, no own slot is marked, and its message, heard after no
--- number, is a pair with equal indicators.
+-- A turn as the first of a stretch, where it is fit: it has a multiframe, no own slot is marked, and its message, heard
+-- after no number, is a pair with equal indicators.
 abbrev pub fit : Tributary → (marked : Bool) → Option View → Option Member
 fit own true view = None
 fit own false None = None
@@ -79,22 +80,25 @@ two_damaged [] = false
 two_damaged (last ∷ []) = false
 two_damaged (last ∷ before ∷ earlier) = is_damaged last.heard && is_damaged before.heard
 
--- the next turn of a stretch by what was heard: with that pair, or with the last pair again where the message is damaged; none where it is
--- lost, or damaged after two damaged ones
+-- the next turn of a stretch by what was heard: with that pair, or with the last pair again where the message is
+-- damaged; none where it is lost, or damaged after two damaged ones
 abbrev pub goes_on_with : View → (two : Bool) → (last : Member) → Hearing → Option Member
-goes_on_with view two last (Pair number rest equal) = Some (record { heard = Pair number rest equal; number = number; rest = rest; groups = view.groups })
+goes_on_with view two last (Pair number rest equal) = Some
+    (record { heard = Pair number rest equal; number = number; rest = rest; groups = view.groups })
 goes_on_with view true last Damaged = None
-goes_on_with view false last Damaged = Some (record { heard = Damaged; number = last.number; rest = last.rest; groups = view.groups })
+goes_on_with view false last Damaged = Some
+    (record { heard = Damaged; number = last.number; rest = last.rest; groups = view.groups })
 goes_on_with view two last Lost = None
 
--- The next turn of a stretch, its message heard after the last number. The stretch ends where there is none: where the turn has no
--- multiframe, an own slot is marked, or goes_on_with gives none.
+-- The next turn of a stretch, its message heard after the last number. The stretch ends where there is none: where the
+-- turn has no multiframe, an own slot is marked, or goes_on_with gives none.
 abbrev pub goes_on : Tributary → (marked : Bool) → Option View → List Member → Option Member
 goes_on own true view stretch = None
 goes_on own false None stretch = None
 goes_on own false (Some view) [] = None
 goes_on own false (Some view) (last ∷ before) =
-    goes_on_with view (two_damaged (last ∷ before)) last (hears_message (Some last.number) (length own.slots) view.message)
+    goes_on_with view (two_damaged (last ∷ before)) last
+    (hears_message (Some last.number) (length own.slots) view.message)
 
 -- whether a turn is of a stretch, or ends one
 abbrev pub is_of_stretch : Part → Bool
@@ -103,7 +107,8 @@ is_of_stretch DownTurn = false
 is_of_stretch (StretchTurn stretch) = true
 is_of_stretch (EndingTurn stretch) = true
 
--- a turn that is in no stretch and begins none: Waiting where no stretch began before it and it is one of the first three, else Down
+-- a turn that is in no stretch and begins none: Waiting where no stretch began before it and it is one of the first
+-- three, else Down
 abbrev pub idle : List Part → Part
 idle parts = if nat_lt (length parts) 3 && not (list_any is_of_stretch parts) then WaitingTurn else DownTurn
 
@@ -128,9 +133,11 @@ next_part own marked view (StretchTurn stretch ∷ parts) = continues stretch (g
 -- The course of a sink: what each of its turns is, the last first.
 unfoldable pub course : Tributary → List (Option View) → List Part
 course own [] = []
-course own (view ∷ past) = let before = course own past in next_part own (any_marked own (view ∷ past)) view before ∷ before
+course own (view ∷ past) = let before = course own past in next_part own (any_marked own (view ∷ past)) view before
+    ∷ before
 
--- how the sink stands after these turns: Up within a stretch, Waiting after no turn, one or two where no stretch began, else Down
+-- how the sink stands after these turns: Up within a stretch, Waiting after no turn, one or two where no stretch began,
+-- else Down
 abbrev pub state_of : List Part → SinkState
 state_of [] = Waiting
 state_of (StretchTurn stretch ∷ parts) = Up

@@ -4,8 +4,8 @@ ghost use Rattle.tributary_model.specs.Carriage.{EmitsWhatIsCarried, IsUpWhileCa
 ghost use Rattle.tributary_model.specs.Damage.{IsAsIfRepeated};
 ghost use Rattle.tributary_model.specs.Passing.{JoinsToWhatIsCarried, JoinsToWholeGroups, EmitsAsMany, CarriesAllByFronts, PassesOn, SaysThreeLater, CarriesToTheEnd};
 
-/// One damaged message, while the sink is Up and where no three in a row are damaged, is as the pair of the turn before,
-/// said again: every emission and every state is the same.
+/// One damaged message, while the sink is Up and where no three in a row are damaged, is as the pair of the turn
+/// before, said again: every emission and every state is the same.
 pub fn one_damaged_message()
     ensures { IsAsIfRepeated }
 {}
@@ -28,10 +28,10 @@ pub fn healing()
     ensures state { IsUpAfterDamage }
 {}
 
-/// What a sink emits of bytes that all turns carry (as in `intact_carriage`), joined, is a front of them: in each turn as many
-/// as the sender took two turns before, and the whole groups that came once it is Down. A sender that carries what it took so far carries what it takes in all. Where a
-/// sender takes on what the sink emits, each turn's in the turn after it, its turns carry the same bytes
-/// three turns later, and say the same pairs.
+/// What a sink emits of bytes that all turns carry (as in `intact_carriage`), joined, is a front of them: in each turn
+/// as many as the sender took two turns before, and the whole groups that came once it is Down. A sender that carries
+/// what it took so far carries what it takes in all. Where a sender takes on what the sink emits, each turn's in the
+/// turn after it, its turns carry the same bytes three turns later, and say the same pairs.
 pub fn passing_on()
     ensures joined { JoinsToWhatIsCarried }
     ensures ended { JoinsToWholeGroups }

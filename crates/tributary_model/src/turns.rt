@@ -31,7 +31,8 @@ pub struct Said {
     pub rest: u16,
     /// How many damaged messages in a row the stretch ends with.
     pub damaged: u8,
-    /// The remainder of the turn before the last, where that is of the stretch: so many bytes of the next turn are due in it.
+    /// The remainder of the turn before the last, where that is of the stretch: so many bytes of the next turn are due
+    /// in it.
     pub due: Option<u16>,
 }
 

@@ -85,7 +85,8 @@ fn write_message(frame: &mut Frame<4080>, message: [u8; 6]) {
     frame.set(3, 15, message[5]);
 }
 
-// The message of turn `t` of an ODU0 at its nominal rate: the first says the number, each later one that it is the same.
+// The message of turn `t` of an ODU0 at its nominal rate: the first says the number, each later one that it is the
+// same.
 fn message_of(turn: Turn, t: u8) -> [u8; 6] {
     match turn {
         Turn::Damaged => [0xED, 0x00, 0x38, 0, 0, 0],

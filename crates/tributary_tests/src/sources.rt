@@ -371,8 +371,8 @@ fn put_alike(
     alike
 }
 
-// The turn, counted from 1, in which a source that is handed the buffers of its turns puts another frame than one that is given
-// their bytes, or 0 where there is none. The bytes of a turn stand in the buffer from its number on.
+// The turn, counted from 1, in which a source that is handed the buffers of its turns puts another frame than one that
+// is given their bytes, or 0 where there is none. The bytes of a turn stand in the buffer from its number on.
 fn first_unlike(
     given: &mut TribSource,
     handed: &mut TribSource,

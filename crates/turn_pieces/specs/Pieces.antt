@@ -1,4 +1,4 @@
--- The pieces of a turn: how many each port has in it, and how many of them are done.
+-- API: the pieces of a turn: how many each port has in it, and how many of them are done.
 use Rattle.std.specs.Prelude.{◌≡◌, ◌<◌, ◌+◌, ◌-◌, ℕ, zero, suc, Bool, true, ◌&&◌, nat_lt, List, get_or, set, length}
 use Rattle.otn_base.specs.declared.kind.PortName.{PortName}
 use Rattle.multiframe.specs.LineTurns.{one_if}

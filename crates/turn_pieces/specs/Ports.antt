@@ -1,4 +1,4 @@
--- The ports of a device by number: lines in, lines out, clients in, clients out.
+-- API: the ports of a device by number: lines in, lines out, clients in, clients out.
 use Rattle.std.specs.Prelude.{ℕ, ◌+◌, ◌*◌, ◌-◌, if◌then◌else◌, nat_lt}
 use Rattle.otn_base.specs.declared.kind.PortName.{PortName}
 use Rattle.otn_base.specs.declared.kind.PortName.TheVariants.{LineIn, LineOut, ClientIn, ClientOut}
@@ -30,4 +30,5 @@ abbrev pub port_at : ℕ → PortName
 port_at i =
     if nat_lt i first_line_out
     then LineIn i
-    else (if nat_lt i first_client_in then LineOut (i - first_line_out) else (if nat_lt i first_client_out then ClientIn (i - first_client_in) else ClientOut (i - first_client_out)))
+    else (if nat_lt i first_client_in then LineOut (i - first_line_out)
+    else (if nat_lt i first_client_out then ClientIn (i - first_client_in) else ClientOut (i - first_client_out)))

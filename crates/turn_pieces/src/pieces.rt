@@ -129,7 +129,8 @@ impl Pieces {
 // How many pieces each port has in a turn of the plan.
 fn all_wants(alloc: Global, plan: &Plan) -> Result<Vec<u8>, Memory>
     ensures len { IfOk result (λ wants. vec_len wants ≡ port_count) }
-    ensures each { IfOk result (λ wants. (i : ℕ) → i < port_count → get_or wants.items i 0 ≡ pieces_of plan.now (port_at i)) }
+    ensures each { IfOk result (λ wants. (i : ℕ) → i < port_count
+        → get_or wants.items i 0 ≡ pieces_of plan.now (port_at i)) }
 {
     let mut wants = Vec::new(alloc);
     for i in 0..PORTS as u8 {

@@ -79,7 +79,8 @@ pub fn has_number(list: &[u8], number: u8) -> bool
     false
 }
 
-/// How many pieces the port has in a turn of the plan: 8 or 32 for a line, 1 for a client, none where no connection uses it.
+/// How many pieces the port has in a turn of the plan: 8 or 32 for a line, 1 for a client, none where no connection
+/// uses it.
 #[tactic(auto, unfolding(device_model::specs::Moments::pieces_of))]
 pub(crate) fn pieces_of(plan: &Plan, name: PortName) -> u8
     ensures { result ≡ pieces_of plan.now name }

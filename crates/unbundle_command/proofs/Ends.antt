@@ -17,8 +17,9 @@ use Rattle.device_model.proofs.SettledLines.{may_at_end, end_of_line, line_left}
 use Rattle.tributary_line.specs.Settling.{ended_by}
 use Rattle.tributary_line.proofs.Endings.{EndsAs, ends_by}
 use Rattle.unbundle_command.specs.Unbundled.{emitted_before, arrived_before, report_text}
-use Rattle.unbundle_command.specs.Receiving.{ChannelView, OutputsView, NoneHeld, OutputsStand, OnlyClientsOut}
-use Rattle.unbundle_command.specs.Unbundling.{TurnsGone, IsReady, IsDeadAt, DeadChannel, HasDead}
+use Rattle.unbundle_command.specs.Receiving.{ChannelView, OutputsView}
+use Rattle.unbundle_command.specs.Steps.Receiving.{NoneHeld, OutputsStand, OnlyClientsOut}
+use Rattle.unbundle_command.specs.Steps.Unbundling.{TurnsGone, IsReady, IsDeadAt, DeadChannel, HasDead}
 use Rattle.unbundle_command.specs.UnbundleLeft.{HasMore, IsCut, OutputsSent, written_by, UnbundleRan}
 use Rattle.otn_ports.specs.declared.ended.Ended.{Ended}
 use Rattle.otn_ports.specs.declared.ended.Ended.TheVariants.{ReportFault}

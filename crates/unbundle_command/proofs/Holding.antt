@@ -18,7 +18,8 @@ use Rattle.packet_text.specs.PacketText.{packet_line, hex_text}
 use Rattle.gfp_linear.specs.ChannelArrivals.{ChannelArrival, PacketOn, LossOn}
 use Rattle.gfp_linear.specs.Laws.{packet_on, packets_on}
 use Rattle.unbundle_command.specs.Unbundled.{is_loss_on, is_of_other}
-use Rattle.unbundle_command.specs.Receiving.{ChannelView, no_channel, LinesHeld, ChannelStands, OutputsView, channel_at, ChannelsStand, NoneHeld, OutputsStand, OnlyClientsOut}
+use Rattle.unbundle_command.specs.Receiving.{ChannelView, OutputsView}
+use Rattle.unbundle_command.specs.Steps.Receiving.{no_channel, LinesHeld, ChannelStands, channel_at, ChannelsStand, NoneHeld, OutputsStand, OnlyClientsOut}
 
 -- ---- the lines of one channel
 

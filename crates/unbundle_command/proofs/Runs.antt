@@ -15,7 +15,8 @@ use Rattle.odu_client.specs.Aligner.{AlignerState, HasAligned, news, AlignsBy}
 use Rattle.odu_client.specs.declared.aligned.Aligned.{Aligned}
 use Rattle.otn_ports.specs.Views.{BaysView}
 use Rattle.unbundle_command.specs.Unbundled.{client_arrivals}
-use Rattle.unbundle_command.specs.Receiving.{OutputsView, OutputsStand, last_run, RunRead, AllRead, HoldsAfter}
+use Rattle.unbundle_command.specs.Receiving.{OutputsView}
+use Rattle.unbundle_command.specs.Steps.Receiving.{OutputsStand, last_run, RunRead, AllRead, HoldsAfter}
 
 -- all runs but the last
 abbrev pub front_runs : List (List ℕ) → List (List ℕ)

@@ -4,7 +4,8 @@ use Rattle.otn_base.specs.declared.limits.TheConstants.{CLIENTS}
 use Rattle.otn_ports.specs.Views.{BaysView}
 use Rattle.gfp_linear.specs.ChannelArrivals.{ChannelArrival}
 use Rattle.unbundle_command.specs.Unbundled.{is_loss_on, is_of_other, packet_count, loss_count, other_count, channel_line, channel_lines, other_text, report_text}
-use Rattle.unbundle_command.specs.Receiving.{ChannelView, OutputsView, channel_at, OutputsStand}
+use Rattle.unbundle_command.specs.Receiving.{ChannelView, OutputsView}
+use Rattle.unbundle_command.specs.Steps.Receiving.{channel_at, OutputsStand}
 use Rattle.unbundle_command.proofs.Few.{packets_few, filter_few, told_exactly}
 use Rattle.unbundle_command.proofs.Turns.{flat_more}
 

@@ -13,8 +13,10 @@ use Rattle.odu_client.specs.Aligner.{AlignerState, HasAligned}
 use Rattle.odu_client.specs.View.{aligner_state}
 use Rattle.odu_client.specs.declared.aligner.ClientAligner.{ClientAligner}
 use Rattle.unbundle_command.specs.Unbundled.{first_slot, emitted_before}
-use Rattle.unbundle_command.specs.Receiving.{OutputsView, ChannelStands, channel_at, OutputsStand, HoldsAfter, OnlyClientsOut}
-use Rattle.unbundle_command.specs.Unbundling.{Stands, TurnGone, TurnsGone, OnlyUnbundled}
+use Rattle.unbundle_command.specs.Receiving.{OutputsView}
+use Rattle.unbundle_command.specs.Steps.Receiving.{ChannelStands, channel_at, OutputsStand, HoldsAfter, OnlyClientsOut}
+use Rattle.unbundle_command.specs.Unbundling.{OnlyUnbundled}
+use Rattle.unbundle_command.specs.Steps.Unbundling.{Stands, TurnGone, TurnsGone}
 use Rattle.unbundle_command.specs.declared.unbundling.Unbundling.{Unbundling}
 use Rattle.unbundle_command.proofs.Runs.{holds_none}
 

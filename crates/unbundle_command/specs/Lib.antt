@@ -3,3 +3,4 @@ pub mod Receiving
 pub mod Unbundling
 pub mod UnbundleLeft
 pub mod Laws
+pub mod Steps

@@ -1,4 +1,4 @@
--- What the command leaves, from its places and the report as they were first to how they are last.
+-- Believed: what the command leaves, from its places and the report as they were first to how they are last.
 use Rattle.std.specs.Prelude.{◌≡◌, ◌≢◌, ◌⊎◌, ◌↔◌, ◌<◌, ℕ, suc, min, Bool, List, [], length}
 use Rattle.otn_base.specs.declared.limits.TheConstants.{CLIENTS}
 use Rattle.otn_ports.specs.PortViews.{SinkView, SinkWrites}
@@ -34,7 +34,8 @@ IsCut came last = ((line_in_at last 0).state ≡ Dead) ⊎ IsOutputDead came las
 -- To the client output of each channel the text of the packets that arrived on it was due; where none did it is as it
 -- was.
 pub record OutputsSent (came : List ChannelArrival) (first last : BaysView) : Type 0 where
-  pub sent : (cid : ℕ) → cid < CLIENTS → IsSent (client_out_at first cid) (hex_text (packets_on cid came)) (client_out_at last cid)
+  pub sent : (cid : ℕ) → cid < CLIENTS → IsSent (client_out_at first cid) (hex_text (packets_on cid came))
+      (client_out_at last cid)
   pub quiet : (cid : ℕ) → cid < CLIENTS → packets_on cid came ≡ [] → client_out_at last cid ≡ client_out_at first cid
 
 -- the report was written whole, unless it failed
@@ -47,7 +48,8 @@ written_by Cut = written.Whole
 
 -- With these bytes of the line, and where these arrived on channels: what went to the client outputs and the report,
 -- how much was taken of the line, and how the command ended.
-pub record UnbundleOf (turns : ℕ) (given taken : List ℕ) (came : List ChannelArrival) (first last : BaysView) (was is : SinkView) (ended : Ended) : Type 0 where
+pub record UnbundleOf (turns : ℕ) (given taken : List ℕ) (came : List ChannelArrival) (first last : BaysView)
+    (was is : SinkView) (ended : Ended) : Type 0 where
   pub outputs : OutputsSent came first last
   pub report : SinkWrites (written_by ended) was (report_text came) is
   pub took : length taken ≡ min (length given) (suc (line_taken plain_otu2 given turns 0))
@@ -59,4 +61,5 @@ pub record UnbundleRan (turns : ℕ) (first last : BaysView) (was is : SinkView)
   pub taken : List ℕ
   pub more : Bool
   pub line : InputLeft (line_in_at first 0) (line_in_at last 0) taken more
-  pub left : (given : List ℕ) → MayHave more taken given → UnbundleOf turns given taken (arrived_before given turns) first last was is ended
+  pub left : (given : List ℕ) → MayHave more taken given
+      → UnbundleOf turns given taken (arrived_before given turns) first last was is ended

@@ -1,5 +1,5 @@
--- What is taken apart of a line: the channels of an ODU0 in its tributary slot 1. Given is all bytes of the line; turns
--- count from 0 here: turn t is the line's turn t + 1.
+-- Believed: what is taken apart of a line: the channels of an ODU0 in its tributary slot 1. Given is all bytes of the
+-- line; turns count from 0 here: turn t is the line's turn t + 1.
 use Rattle.std.specs.Prelude.{ℕ, ◌==◌, nat_lt, nat_le, ◌||◌, Bool, false, if◌then◌else◌, List, [], ◌∷◌, ◌++◌, length, codes}
 use Rattle.std.specs.Fmt.{decimal}
 use Rattle.std.specs.List.{filter, flat_map, range_with_len}
@@ -56,7 +56,8 @@ other_count came = length (filter is_of_other came)
 
 -- the line of a channel with so many packets and losses
 unfoldable pub channel_text : (cid packets losses : ℕ) → List ℕ
-channel_text cid packets losses = line_of (codes "channel " ∷ decimal cid ∷ codes " packets " ∷ decimal packets ∷ codes " losses " ∷ decimal losses ∷ [])
+channel_text cid packets losses = line_of
+    (codes "channel " ∷ decimal cid ∷ codes " packets " ∷ decimal packets ∷ codes " losses " ∷ decimal losses ∷ [])
 
 -- where something arrived on it
 abbrev pub channel_line : (cid packets losses : ℕ) → List ℕ
@@ -64,7 +65,8 @@ channel_line cid packets losses = if nat_lt 0 packets || nat_lt 0 losses then ch
 
 -- the lines of the first channels, so many
 abbrev pub channel_lines : List ChannelArrival → (count : ℕ) → List ℕ
-channel_lines came count = flat_map (λ cid. channel_line cid (packet_count cid came) (loss_count cid came)) (range_with_len 0 count)
+channel_lines came count = flat_map (λ cid. channel_line cid (packet_count cid came) (loss_count cid came))
+    (range_with_len 0 count)
 
 -- the line of the other channels
 unfoldable pub other_text : (count : ℕ) → List ℕ

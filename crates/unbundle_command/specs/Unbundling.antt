@@ -1,37 +1,6 @@
--- The command within its turns: a sink, and what becomes of the bytes that it emits.
-use Rattle.std.specs.Prelude.{◌≡◌, ◌≢◌, ◌⊎◌, ◌<◌, ◌≤◌, ◌+◌, ◌*◌, ℕ, suc, false, List, [], ◌∷◌, ◌++◌, length}
-use Rattle.otn_base.specs.declared.limits.TheConstants.{CLIENTS, GROUPS}
-use Rattle.otn_base.specs.declared.line_kind.LineKind.TheVariants.{Otu2}
-use Rattle.otn_ports.specs.Views.{Dead, BaysView, line_in_at, client_out_at}
-use Rattle.line_side.specs.MayBe.{MayBe}
-use Rattle.tributary_line.specs.TapTurn.{TapStands, IsBetweenTurns}
-use Rattle.odu_client.specs.View.{aligner_state}
-use Rattle.unbundle_command.specs.Unbundled.{first_slot, emitted_before}
-use Rattle.unbundle_command.specs.Receiving.{ChannelView, channel_at, HoldsAfter}
-use Rattle.unbundle_command.specs.declared.unbundling.Unbundling.{Unbundling}
-
--- The sink has seen t turns of the line, of which these bytes were taken: whatever else may come, all that it emitted
--- was read. In a turn it emits 15,233 bytes at most.
-pub record Stands (first now : BaysView) (taken : List ℕ) (t : ℕ) (parts : Unbundling) : Type 0 where
-  pub tap : TapStands first_slot (line_in_at first 0) (line_in_at now 0) taken t parts.tap
-  pub holds : (given : List ℕ) → MayBe false parts.tap.line.reader.ending taken given
-      → HoldsAfter first now (emitted_before given t) (aligner_state parts.aligner) parts.reader parts.outputs
-  pub few : (given : List ℕ) → MayBe false parts.tap.line.reader.ending taken given → length (emitted_before given t) ≤ (GROUPS + 1) * t
-
--- turn t + 1, with the bytes that were taken in it
-pub record TurnGone (first now : BaysView) (taken : List ℕ) (t : ℕ) (parts : Unbundling) : Type 0 where
-  pub came : List ℕ
-  pub stands : Stands first now (taken ++ came) (suc t) parts
-
--- the first t turns went by, in which these bytes were taken
-pub record TurnsGone (first now : BaysView) (t : ℕ) (parts : Unbundling) : Type 0 where
-  pub taken : List ℕ
-  pub stands : Stands first now taken t parts
-
--- the sink stands between turns, and is one of slot 1
-pub record IsReady (parts : Unbundling) : Type 0 where
-  pub between : IsBetweenTurns parts.tap
-  pub slots : parts.tap.sink.slots ≡ record { kind = Otu2; list = 1 ∷ [] }
+-- Believed: the command within its turns: a sink, and what becomes of the bytes that it emits.
+use Rattle.std.specs.Prelude.{◌≡◌, ◌≢◌, ℕ}
+use Rattle.otn_ports.specs.Views.{BaysView, line_in_at}
 
 -- all places but line input 0 and the client outputs are as they were
 pub record OnlyUnbundled (first now : BaysView) : Type 0 where
@@ -40,18 +9,3 @@ pub record OnlyUnbundled (first now : BaysView) : Type 0 where
   pub client_in : now.client_in ≡ first.client_in
 
 -- ---- the end
-
--- a packet arrived on the channel of this CID, and its client output is dead
-pub record IsDeadAt (cid : ℕ) (channels : List ChannelView) (last : BaysView) : Type 0 where
-  pub arrived : 0 < (channel_at channels cid).packets
-  pub dead : (client_out_at last cid).state ≡ Dead
-
--- that is so of one of the first channels, so many
-pub record DeadChannel (count : ℕ) (channels : List ChannelView) (last : BaysView) : Type 0 where
-  pub cid : ℕ
-  pub low : cid < count
-  pub at : IsDeadAt cid channels last
-
--- the line is dead, or the client output of a channel of which a packet arrived
-abbrev pub HasDead : List ChannelView → BaysView → Type 0
-HasDead channels last = ((line_in_at last 0).state ≡ Dead) ⊎ DeadChannel CLIENTS channels last

@@ -42,7 +42,7 @@ impl Model for Channel {
 }
 
 impl Channel {
-    ghost use Rattle.unbundle_command.specs.Receiving.{no_channel, LinesHeld};
+    ghost use Rattle.unbundle_command.specs.Steps.Receiving.{no_channel, LinesHeld};
 
     /// No line, and nothing that arrived. All memory is taken here.
     pub(crate) fn new(alloc: Global) -> Result<Channel, Memory>
@@ -78,7 +78,8 @@ impl Channel {
         place: &mut OutPlaceOf<K>,
     )
         requires fits { length packet.now ≤ MOST_DELIVERED }
-        ensures lines { (first : OutView) (packets : List (List ℕ)) → LinesHeld first (out_view K.Sink place.old) packets self.old.text
+        ensures lines { (first : OutView) (packets : List (List ℕ))
+            → LinesHeld first (out_view K.Sink place.old) packets self.old.text
             → LinesHeld first (out_view K.Sink place.new) (packets ++ packet.now ∷ []) self.new.text }
         ensures packets { self.new.packets ≡ min (self.old.packets + 1) (2 ^ 64 - 1) }
         ensures losses { self.new.losses ≡ self.old.losses }
@@ -99,7 +100,8 @@ impl Channel {
     /// All lines leave.
     pub(crate) fn flush<K: Sink>(&mut self, place: &mut OutPlaceOf<K>)
         ensures none { self.new.text ≡ [] }
-        ensures lines { (first : OutView) (packets : List (List ℕ)) → LinesHeld first (out_view K.Sink place.old) packets self.old.text
+        ensures lines { (first : OutView) (packets : List (List ℕ))
+            → LinesHeld first (out_view K.Sink place.old) packets self.old.text
             → LinesHeld first (out_view K.Sink place.new) packets self.new.text }
         ensures packets { self.new.packets ≡ self.old.packets }
         ensures losses { self.new.losses ≡ self.old.losses }
@@ -112,7 +114,8 @@ impl Channel {
     fn make_room<K: Sink>(&mut self, packet: &[u8], place: &mut OutPlaceOf<K>)
         requires fits { length packet.now ≤ MOST_DELIVERED }
         ensures room { length self.new.text + (2 * length packet.now + 1) ≤ ROOM }
-        ensures lines { (first : OutView) (packets : List (List ℕ)) → LinesHeld first (out_view K.Sink place.old) packets self.old.text
+        ensures lines { (first : OutView) (packets : List (List ℕ))
+            → LinesHeld first (out_view K.Sink place.old) packets self.old.text
             → LinesHeld first (out_view K.Sink place.new) packets self.new.text }
         ensures packets { self.new.packets ≡ self.old.packets }
         ensures losses { self.new.losses ≡ self.old.losses }

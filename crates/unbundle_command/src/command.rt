@@ -5,7 +5,8 @@ ghost use Rattle.otn_ports.specs.Bytes.{HasFailed};
 ghost use Rattle.otn_ports.specs.PortViews.{sink_view};
 ghost use Rattle.otn_ports.specs.Racks.{bays_view};
 ghost use Rattle.otn_ports.specs.Views.{BaysView};
-ghost use Rattle.unbundle_command.specs.Unbundling.{IsReady, OnlyUnbundled, TurnsGone};
+ghost use Rattle.unbundle_command.specs.Unbundling.{OnlyUnbundled};
+ghost use Rattle.unbundle_command.specs.Steps.Unbundling.{IsReady, TurnsGone};
 ghost use Rattle.unbundle_command.specs.UnbundleLeft.{UnbundleRan};
 
 use crate::settling::settle;
@@ -28,7 +29,8 @@ pub fn unbundle<I: Source, O: Sink, K: Sink>(
 ) -> Ended
     requires turns { turns ≤ MOST_TURNS }
     ensures memory { result ≡ Ended.Memory → (bays.new ≡ bays.old) × (report.new ≡ report.old) }
-    ensures ran { result ≢ Ended.Memory → UnbundleRan turns (bays_view I.Source O.Sink bays.old) (bays_view I.Source O.Sink bays.new)
+    ensures ran { result ≢ Ended.Memory → UnbundleRan turns (bays_view I.Source O.Sink bays.old)
+        (bays_view I.Source O.Sink bays.new)
         (sink_view K.Sink report.old) (sink_view K.Sink report.new) result }
 
     // the report's count of faults rose or stands at its end where its write failed, and else it is as it was; all
@@ -63,7 +65,8 @@ fn run_turns<I: Source, O: Sink>(
 )
     requires ready { IsReady parts.old }
     requires room { vec_len room.old ≡ GROUPS + 1 }
-    ensures gone { (first : BaysView) → TurnsGone first (bays_view I.Source O.Sink bays.old) 0 parts.old → TurnsGone first (bays_view I.Source O.Sink bays.new) turns parts.new }
+    ensures gone { (first : BaysView) → TurnsGone first (bays_view I.Source O.Sink bays.old) 0 parts.old
+        → TurnsGone first (bays_view I.Source O.Sink bays.new) turns parts.new }
     ensures ready { IsReady parts.new }
     ensures alone { OnlyUnbundled (bays_view I.Source O.Sink bays.old) (bays_view I.Source O.Sink bays.new) }
 {

@@ -1,5 +1,5 @@
-//! The channels of a line, taken apart (G.7041 clause 6.1.2.1.3.2): the packets of the linear GFP frames that an ODU0 in
-//! tributary slot 1 has go to the client outputs of their channels.
+//! The channels of a line, taken apart (G.7041 clause 6.1.2.1.3.2): the packets of the linear GFP frames that an ODU0
+//! in tributary slot 1 has go to the client outputs of their channels.
 //!
 //! - `command`: `unbundle`, the command over the places of a device.
 //! - `unbundling`: its turns: a sink of the line, and what becomes of the bytes that it emits.

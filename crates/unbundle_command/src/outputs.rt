@@ -4,7 +4,7 @@ ghost use Rattle.otn_base.specs.declared.limits.TheConstants.{CLIENTS, MOST_DELI
 ghost use Rattle.otn_ports.specs.Racks.{bays_view};
 ghost use Rattle.otn_ports.specs.Views.{BaysView};
 ghost use Rattle.gfp_linear.specs.ChannelArrivals.{ChannelArrival, PacketOn, LossOn, IsSized, seen};
-ghost use Rattle.unbundle_command.specs.Receiving.{no_channel, ChannelsStand, OnlyClientsOut};
+ghost use Rattle.unbundle_command.specs.Steps.Receiving.{no_channel, ChannelsStand, OnlyClientsOut};
 
 use crate::channel::Channel;
 use gfp_linear::Arrival;
@@ -36,7 +36,7 @@ impl Model for Outputs {
 }
 
 impl Outputs {
-    ghost use Rattle.unbundle_command.specs.Receiving.{channel_at, OutputsStand, NoneHeld};
+    ghost use Rattle.unbundle_command.specs.Steps.Receiving.{channel_at, OutputsStand, NoneHeld};
 
     /// Nothing has arrived. All memory is taken here.
     pub(crate) fn new(alloc: Global) -> Result<Outputs, Memory>
@@ -67,7 +67,8 @@ impl Outputs {
     /// This arrived: the line of a packet is due to its channel's client output.
     pub(crate) fn take<I: Source, O: Sink>(&mut self, arrival: Arrival<'_>, bays: &mut Rack<I, O>)
         requires sized { IsSized (seen arrival) }
-        ensures stands { (first : BaysView) (came : List ChannelArrival) → OutputsStand first (bays_view I.Source O.Sink bays.old) came self.old
+        ensures stands { (first : BaysView) (came : List ChannelArrival)
+            → OutputsStand first (bays_view I.Source O.Sink bays.old) came self.old
             → OutputsStand first (bays_view I.Source O.Sink bays.new) (came ++ seen arrival.entry ∷ []) self.new }
         ensures alone { OnlyClientsOut (bays_view I.Source O.Sink bays.old) (bays_view I.Source O.Sink bays.new) }
     {
@@ -79,7 +80,8 @@ impl Outputs {
 
     fn take_packet<I: Source, O: Sink>(&mut self, cid: u8, packet: &[u8], bays: &mut Rack<I, O>)
         requires fits { length packet.now ≤ MOST_DELIVERED }
-        ensures stands { (first : BaysView) (came : List ChannelArrival) → OutputsStand first (bays_view I.Source O.Sink bays.old) came self.old
+        ensures stands { (first : BaysView) (came : List ChannelArrival)
+            → OutputsStand first (bays_view I.Source O.Sink bays.old) came self.old
             → OutputsStand first (bays_view I.Source O.Sink bays.new) (came ++ PacketOn cid packet.now ∷ []) self.new }
         ensures alone { OnlyClientsOut (bays_view I.Source O.Sink bays.old) (bays_view I.Source O.Sink bays.new) }
     {
@@ -91,7 +93,8 @@ impl Outputs {
     }
 
     fn take_loss(&mut self, cid: u8)
-        ensures { (first now : BaysView) (came : List ChannelArrival) → OutputsStand first now came self.old → OutputsStand first now (came ++ LossOn cid ∷ []) self.new }
+        ensures { (first now : BaysView) (came : List ChannelArrival) → OutputsStand first now came self.old
+            → OutputsStand first now (came ++ LossOn cid ∷ []) self.new }
     {
         if !has_output(cid) {
             self.count_other();
@@ -109,7 +112,8 @@ impl Outputs {
 
     /// All lines leave.
     pub(crate) fn flush<I: Source, O: Sink>(&mut self, bays: &mut Rack<I, O>)
-        ensures stands { (first : BaysView) (came : List ChannelArrival) → OutputsStand first (bays_view I.Source O.Sink bays.old) came self.old
+        ensures stands { (first : BaysView) (came : List ChannelArrival)
+            → OutputsStand first (bays_view I.Source O.Sink bays.old) came self.old
             → OutputsStand first (bays_view I.Source O.Sink bays.new) came self.new }
         ensures none { NoneHeld CLIENTS self.new.channels }
         ensures alone { OnlyClientsOut (bays_view I.Source O.Sink bays.old) (bays_view I.Source O.Sink bays.new) }
@@ -148,8 +152,10 @@ fn put_packet<I: Source, O: Sink>(
     requires low { cid < CLIENTS }
     requires fits { length packet.now ≤ MOST_DELIVERED }
     ensures many { vec_len channels.new ≡ CLIENTS }
-    ensures stands { (first : BaysView) (came : List ChannelArrival) → ChannelsStand first (bays_view I.Source O.Sink bays.old) came channels.old.items
-        → ChannelsStand first (bays_view I.Source O.Sink bays.new) (came ++ PacketOn cid packet.now ∷ []) channels.new.items }
+    ensures stands { (first : BaysView) (came : List ChannelArrival)
+        → ChannelsStand first (bays_view I.Source O.Sink bays.old) came channels.old.items
+        → ChannelsStand first (bays_view I.Source O.Sink bays.new)
+        (came ++ PacketOn cid packet.now ∷ []) channels.new.items }
     ensures alone { OnlyClientsOut (bays_view I.Source O.Sink bays.old) (bays_view I.Source O.Sink bays.new) }
 {
     channels[cid as usize].take(packet, digits, bays.client_out_mut(cid));
@@ -160,18 +166,21 @@ fn put_loss(channels: &mut Vec<Channel>, cid: u8)
     requires many { vec_len channels.old ≡ CLIENTS }
     requires low { cid < CLIENTS }
     ensures many { vec_len channels.new ≡ CLIENTS }
-    ensures stands { (first now : BaysView) (came : List ChannelArrival) → ChannelsStand first now came channels.old.items → ChannelsStand first now (came ++ LossOn cid ∷ []) channels.new.items }
+    ensures stands { (first now : BaysView) (came : List ChannelArrival)
+        → ChannelsStand first now came channels.old.items
+        → ChannelsStand first now (came ++ LossOn cid ∷ []) channels.new.items }
 {
     channels[cid as usize].lose();
 }
 
-ghost use Rattle.unbundle_command.specs.Receiving.{NoneHeld};
+ghost use Rattle.unbundle_command.specs.Steps.Receiving.{NoneHeld};
 
 // All lines of all channels leave.
 fn flush_all<I: Source, O: Sink>(channels: &mut Vec<Channel>, bays: &mut Rack<I, O>)
     requires many { vec_len channels.old ≡ CLIENTS }
     ensures many { vec_len channels.new ≡ CLIENTS }
-    ensures stands { (first : BaysView) (came : List ChannelArrival) → ChannelsStand first (bays_view I.Source O.Sink bays.old) came channels.old.items
+    ensures stands { (first : BaysView) (came : List ChannelArrival)
+        → ChannelsStand first (bays_view I.Source O.Sink bays.old) came channels.old.items
         → ChannelsStand first (bays_view I.Source O.Sink bays.new) came channels.new.items }
     ensures none { NoneHeld CLIENTS channels.new.items }
     ensures alone { OnlyClientsOut (bays_view I.Source O.Sink bays.old) (bays_view I.Source O.Sink bays.new) }
@@ -186,7 +195,8 @@ fn flush_one<I: Source, O: Sink>(channels: &mut Vec<Channel>, cid: u8, bays: &mu
     requires many { vec_len channels.old ≡ CLIENTS }
     requires low { cid < CLIENTS }
     ensures many { vec_len channels.new ≡ CLIENTS }
-    ensures stands { (first : BaysView) (came : List ChannelArrival) → ChannelsStand first (bays_view I.Source O.Sink bays.old) came channels.old.items
+    ensures stands { (first : BaysView) (came : List ChannelArrival)
+        → ChannelsStand first (bays_view I.Source O.Sink bays.old) came channels.old.items
         → ChannelsStand first (bays_view I.Source O.Sink bays.new) came channels.new.items }
     ensures none { NoneHeld cid channels.old.items → NoneHeld (cid + 1) channels.new.items }
     ensures alone { OnlyClientsOut (bays_view I.Source O.Sink bays.old) (bays_view I.Source O.Sink bays.new) }

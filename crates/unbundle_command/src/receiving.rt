@@ -6,7 +6,7 @@ ghost use Rattle.odu_client.specs.View.{aligner_state};
 ghost use Rattle.otn_ports.specs.Racks.{bays_view};
 ghost use Rattle.otn_ports.specs.Views.{BaysView};
 ghost use Rattle.gfp_linear.specs.ChannelArrivals.{ChannelArrival};
-ghost use Rattle.unbundle_command.specs.Receiving.{RunRead, AllRead, HoldsAfter, OnlyClientsOut};
+ghost use Rattle.unbundle_command.specs.Steps.Receiving.{RunRead, AllRead, HoldsAfter, OnlyClientsOut};
 
 use crate::outputs::Outputs;
 use frame_geometry::Frame;
@@ -24,8 +24,10 @@ pub(crate) fn take_all<I: Source, O: Sink>(
     outputs: &mut Outputs,
     bays: &mut Rack<I, O>,
 )
-    ensures holds { (first : BaysView) (taken : List ℕ) → HoldsAfter first (bays_view I.Source O.Sink bays.old) taken (aligner_state aligner.old) reader.old outputs.old
-        → HoldsAfter first (bays_view I.Source O.Sink bays.new) (taken ++ bytes.now) (aligner_state aligner.new) reader.new outputs.new }
+    ensures holds { (first : BaysView) (taken : List ℕ)
+        → HoldsAfter first (bays_view I.Source O.Sink bays.old) taken (aligner_state aligner.old) reader.old outputs.old
+        → HoldsAfter first (bays_view I.Source O.Sink bays.new) (taken ++ bytes.now)
+        (aligner_state aligner.new) reader.new outputs.new }
     ensures alone { OnlyClientsOut (bays_view I.Source O.Sink bays.old) (bays_view I.Source O.Sink bays.new) }
 {
     let mut done = 0;
@@ -44,8 +46,10 @@ fn take_some<I: Source, O: Sink>(
 ) -> usize
     ensures within { result ≤ length bytes.now }
     ensures some { 1 ≤ length bytes.now → 1 ≤ result }
-    ensures holds { (first : BaysView) (taken : List ℕ) → HoldsAfter first (bays_view I.Source O.Sink bays.old) taken (aligner_state aligner.old) reader.old outputs.old
-        → HoldsAfter first (bays_view I.Source O.Sink bays.new) (taken ++ take result bytes.now) (aligner_state aligner.new) reader.new outputs.new }
+    ensures holds { (first : BaysView) (taken : List ℕ)
+        → HoldsAfter first (bays_view I.Source O.Sink bays.old) taken (aligner_state aligner.old) reader.old outputs.old
+        → HoldsAfter first (bays_view I.Source O.Sink bays.new) (taken ++ take result bytes.now)
+        (aligner_state aligner.new) reader.new outputs.new }
     ensures alone { OnlyClientsOut (bays_view I.Source O.Sink bays.old) (bays_view I.Source O.Sink bays.new) }
 {
     let (aligned, count) = aligner.take_some(bytes);
@@ -61,7 +65,8 @@ fn hand_on<I: Source, O: Sink>(
     outputs: &mut Outputs,
     bays: &mut Rack<I, O>,
 )
-    ensures read { (first : BaysView) (came : List Arrival) → AllRead first (bays_view I.Source O.Sink bays.old) came reader.old outputs.old
+    ensures read { (first : BaysView) (came : List Arrival)
+        → AllRead first (bays_view I.Source O.Sink bays.old) came reader.old outputs.old
         → AllRead first (bays_view I.Source O.Sink bays.new) (came ++ news aligned frame.now) reader.new outputs.new }
     ensures alone { OnlyClientsOut (bays_view I.Source O.Sink bays.old) (bays_view I.Source O.Sink bays.new) }
 {
@@ -79,8 +84,10 @@ fn read_frame<I: Source, O: Sink>(
     outputs: &mut Outputs,
     bays: &mut Rack<I, O>,
 )
-    ensures read { (first : BaysView) (earlier : List ChannelArrival) (taken : List ℕ) → RunRead first (bays_view I.Source O.Sink bays.old) earlier taken reader.old outputs.old
-        → RunRead first (bays_view I.Source O.Sink bays.new) earlier (taken ++ payload_of frame.now) reader.new outputs.new }
+    ensures read { (first : BaysView) (earlier : List ChannelArrival) (taken : List ℕ)
+        → RunRead first (bays_view I.Source O.Sink bays.old) earlier taken reader.old outputs.old
+        → RunRead first (bays_view I.Source O.Sink bays.new) earlier
+        (taken ++ payload_of frame.now) reader.new outputs.new }
     ensures alone { OnlyClientsOut (bays_view I.Source O.Sink bays.old) (bays_view I.Source O.Sink bays.new) }
 {
     read_bytes(frame.payload_row(1), reader, outputs, bays);
@@ -96,7 +103,8 @@ fn read_bytes<I: Source, O: Sink>(
     outputs: &mut Outputs,
     bays: &mut Rack<I, O>,
 )
-    ensures read { (first : BaysView) (earlier : List ChannelArrival) (taken : List ℕ) → RunRead first (bays_view I.Source O.Sink bays.old) earlier taken reader.old outputs.old
+    ensures read { (first : BaysView) (earlier : List ChannelArrival) (taken : List ℕ)
+        → RunRead first (bays_view I.Source O.Sink bays.old) earlier taken reader.old outputs.old
         → RunRead first (bays_view I.Source O.Sink bays.new) earlier (taken ++ bytes.now) reader.new outputs.new }
     ensures alone { OnlyClientsOut (bays_view I.Source O.Sink bays.old) (bays_view I.Source O.Sink bays.new) }
 {
@@ -115,8 +123,10 @@ fn read_some<I: Source, O: Sink>(
 ) -> usize
     ensures within { result ≤ length bytes.now }
     ensures some { 1 ≤ length bytes.now → 1 ≤ result }
-    ensures read { (first : BaysView) (earlier : List ChannelArrival) (taken : List ℕ) → RunRead first (bays_view I.Source O.Sink bays.old) earlier taken reader.old outputs.old
-        → RunRead first (bays_view I.Source O.Sink bays.new) earlier (taken ++ take result bytes.now) reader.new outputs.new }
+    ensures read { (first : BaysView) (earlier : List ChannelArrival) (taken : List ℕ)
+        → RunRead first (bays_view I.Source O.Sink bays.old) earlier taken reader.old outputs.old
+        → RunRead first (bays_view I.Source O.Sink bays.new) earlier
+        (taken ++ take result bytes.now) reader.new outputs.new }
     ensures alone { OnlyClientsOut (bays_view I.Source O.Sink bays.old) (bays_view I.Source O.Sink bays.new) }
 {
     match reader.take_some(bytes) {

@@ -7,7 +7,7 @@ ghost use Rattle.otn_ports.specs.Bytes.{HasFailed};
 ghost use Rattle.otn_ports.specs.PortViews.{sink_view, SinkWrites};
 ghost use Rattle.otn_ports.specs.Views.{BaysView};
 ghost use Rattle.gfp_linear.specs.ChannelArrivals.{ChannelArrival};
-ghost use Rattle.unbundle_command.specs.Receiving.{OutputsStand};
+ghost use Rattle.unbundle_command.specs.Steps.Receiving.{OutputsStand};
 ghost use Rattle.unbundle_command.specs.Unbundled.{channel_line, channel_lines, channel_text, report_text};
 
 use crate::channel::Channel;
@@ -22,7 +22,8 @@ const REPORT_BYTES: usize = 2048;
 
 /// Writes the report on what arrived.
 pub(crate) fn write_report<K: Sink>(outputs: &Outputs, report: &mut K) -> Written
-    ensures told { (first now : BaysView) (came : List ChannelArrival) → OutputsStand first now came outputs.now → length came ≤ 2 ^ 64 - 1
+    ensures told { (first now : BaysView) (came : List ChannelArrival) → OutputsStand first now came outputs.now
+        → length came ≤ 2 ^ 64 - 1
         → SinkWrites result (sink_view K.Sink report.old) (report_text came) (sink_view K.Sink report.new) }
     ensures cause { result ≡ Written.Lost → HasFailed (K.faults report.old) (K.faults report.new) }
     ensures well { result ≢ Written.Lost → K.faults report.new ≡ K.faults report.old }
@@ -35,7 +36,8 @@ pub(crate) fn write_report<K: Sink>(outputs: &Outputs, report: &mut K) -> Writte
 // Puts it into the empty text.
 fn put_report(text: &mut ArrayString<REPORT_BYTES>, outputs: &Outputs)
     requires empty { text.old.bytes ≡ [] }
-    ensures { (first now : BaysView) (came : List ChannelArrival) → OutputsStand first now came outputs.now → length came ≤ 2 ^ 64 - 1 → text.new.bytes ≡ report_text came }
+    ensures { (first now : BaysView) (came : List ChannelArrival) → OutputsStand first now came outputs.now
+        → length came ≤ 2 ^ 64 - 1 → text.new.bytes ≡ report_text came }
 {
     put_channels(text, outputs);
     put_number(text, "other ", outputs.other());
@@ -45,7 +47,8 @@ fn put_report(text: &mut ArrayString<REPORT_BYTES>, outputs: &Outputs)
 // The lines of the channels with a client output.
 fn put_channels(text: &mut ArrayString<REPORT_BYTES>, outputs: &Outputs)
     requires room { array_string_len text.old + 1104 ≤ 2048 }
-    ensures text { (first now : BaysView) (came : List ChannelArrival) → OutputsStand first now came outputs.now → length came ≤ 2 ^ 64 - 1
+    ensures text { (first now : BaysView) (came : List ChannelArrival) → OutputsStand first now came outputs.now
+        → length came ≤ 2 ^ 64 - 1
         → text.new.bytes ≡ text.old.bytes ++ channel_lines came CLIENTS }
     ensures most { array_string_len text.new ≤ array_string_len text.old + 1104 }
 {

@@ -5,8 +5,9 @@ ghost use Rattle.otn_ports.specs.PortViews.{sink_view};
 ghost use Rattle.otn_ports.specs.Bytes.{HasFailed};
 ghost use Rattle.otn_ports.specs.Racks.{bays_view};
 ghost use Rattle.otn_ports.specs.Views.{BaysView, Dead, client_out_at};
-ghost use Rattle.unbundle_command.specs.Receiving.{channel_at};
-ghost use Rattle.unbundle_command.specs.Unbundling.{OnlyUnbundled, TurnsGone, IsReady, DeadChannel, HasDead, IsDeadAt};
+ghost use Rattle.unbundle_command.specs.Steps.Receiving.{channel_at};
+ghost use Rattle.unbundle_command.specs.Unbundling.{OnlyUnbundled};
+ghost use Rattle.unbundle_command.specs.Steps.Unbundling.{TurnsGone, IsReady, DeadChannel, HasDead, IsDeadAt};
 ghost use Rattle.unbundle_command.specs.UnbundleLeft.{UnbundleRan};
 
 use crate::outputs::Outputs;
@@ -24,8 +25,10 @@ pub(crate) fn settle<I: Source, O: Sink, K: Sink>(
     report: &mut K,
 ) -> Ended
     requires ready { IsReady parts.old }
-    ensures ran { (first : BaysView) (turns : ℕ) → turns ≤ MOST_TURNS → TurnsGone first (bays_view I.Source O.Sink bays.old) turns parts.old
-        → UnbundleRan turns first (bays_view I.Source O.Sink bays.new) (sink_view K.Sink report.old) (sink_view K.Sink report.new) result }
+    ensures ran { (first : BaysView) (turns : ℕ) → turns ≤ MOST_TURNS
+        → TurnsGone first (bays_view I.Source O.Sink bays.old) turns parts.old
+        → UnbundleRan turns first (bays_view I.Source O.Sink bays.new) (sink_view K.Sink report.old)
+        (sink_view K.Sink report.new) result }
     ensures some { result ≢ Ended.Memory }
     ensures cause { result ≡ Ended.ReportFault → HasFailed (K.faults report.old) (K.faults report.new) }
     ensures well { result ≢ Ended.ReportFault → K.faults report.new ≡ K.faults report.old }

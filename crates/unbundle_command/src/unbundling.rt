@@ -23,7 +23,8 @@ pub(crate) struct Unbundling {
     pub(crate) outputs: Outputs,
 }
 
-ghost use Rattle.unbundle_command.specs.Unbundling.{IsReady, OnlyUnbundled, Stands, TurnGone, TurnsGone};
+ghost use Rattle.unbundle_command.specs.Unbundling.{OnlyUnbundled};
+ghost use Rattle.unbundle_command.specs.Steps.Unbundling.{IsReady, Stands, TurnGone, TurnsGone};
 
 impl Unbundling {
     /// The parts before the first turn. Takes all memory that they will ever need; answers `Memory` where there is
@@ -49,7 +50,8 @@ impl Unbundling {
     pub(crate) fn turn<I: Source, O: Sink>(&mut self, room: &mut Vec<u8>, bays: &mut Rack<I, O>)
         requires ready { IsReady self.old }
         requires room { vec_len room.old ≡ GROUPS + 1 }
-        ensures gone { (first : BaysView) (taken : List ℕ) (t : ℕ) → Stands first (bays_view I.Source O.Sink bays.old) taken t self.old
+        ensures gone { (first : BaysView) (taken : List ℕ) (t : ℕ)
+            → Stands first (bays_view I.Source O.Sink bays.old) taken t self.old
             → TurnGone first (bays_view I.Source O.Sink bays.new) taken t self.new }
         ensures ready { IsReady self.new }
         ensures room_stays { vec_len room.new ≡ vec_len room.old }

@@ -3,7 +3,8 @@ ghost use Rattle.std.specs.Prelude.{◌≡◌};
 ghost use Rattle.toml.specs.View.{view};
 ghost use Rattle.plan_file.specs.Entry.{from_seen, to_seen};
 ghost use Rattle.plan_file.specs.Table.{line_at, client_at, form_at};
-ghost use Rattle.plan_file.specs.Seen.{end_in, numbers_in};
+ghost use Rattle.plan_file.specs.Seen.{numbers_in};
+ghost use Rattle.plan_file.specs.Steps.Seen.{end_in};
 
 use crate::connection::{FromEnd, ToEnd};
 use maintenance_signals::Signal;

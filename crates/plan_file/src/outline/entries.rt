@@ -1,6 +1,6 @@
 // The connections as the rules see them.
 ghost use Rattle.std.specs.Prelude.{◌≡◌, ◌<◌, Some, length, slice_get};
-ghost use Rattle.plan_file.specs.Seen.{entries_in, entry_in};
+ghost use Rattle.plan_file.specs.Steps.Seen.{entries_in, entry_in};
 
 use crate::connection::Connection;
 use crate::outline::entry::Entry;

@@ -5,7 +5,8 @@ ghost use Rattle.toml.specs.View.{view};
 ghost use Rattle.plan_table.specs.Ends.{end_at};
 ghost use Rattle.plan_file.specs.Entry.{slots_between};
 ghost use Rattle.plan_file.specs.Table.{number_or, end_of};
-ghost use Rattle.plan_file.specs.Seen.{end_in, entry_in, numbers_in, pace_in, top_in};
+ghost use Rattle.plan_file.specs.Seen.{numbers_in, pace_in};
+ghost use Rattle.plan_file.specs.Steps.Seen.{end_in, entry_in, top_in};
 
 use crate::connection::Connection;
 use crate::outline::end::End;
@@ -60,7 +61,8 @@ impl<'a> Entry<'a> {
 
     /// The pace. None where it is the nominal one.
     pub(crate) fn pace(&self) -> Option<Numbers<'a>>
-        ensures { pace_in result (slots_between (entry_in self.now).from (entry_in self.now).to) ≡ (entry_in self.now).pace }
+        ensures { pace_in result (slots_between (entry_in self.now).from (entry_in self.now).to)
+            ≡ (entry_in self.now).pace }
     {
         match *self {
             Entry::Read(table, _) => pace_at(table),

@@ -3,7 +3,7 @@ ghost use Rattle.std.specs.Prelude.{◌≡◌};
 ghost use Rattle.toml.specs.View.{table_view};
 ghost use Rattle.plan_file.specs.Entry.{top_seen};
 ghost use Rattle.plan_file.specs.Table.{top_at};
-ghost use Rattle.plan_file.specs.Seen.{top_in};
+ghost use Rattle.plan_file.specs.Steps.Seen.{top_in};
 
 use crate::plan::Plan;
 use plan_table::{Numbers, number_or, numbers_at, top_value};

@@ -3,7 +3,7 @@ ghost use Rattle.std.specs.Prelude.{◌≡◌};
 ghost use Rattle.toml.specs.View.{table_view};
 ghost use Rattle.plan_file.specs.Entry.{outline};
 ghost use Rattle.plan_file.specs.Table.{outline_at};
-ghost use Rattle.plan_file.specs.Seen.{outline_in};
+ghost use Rattle.plan_file.specs.Steps.Seen.{outline_in};
 
 use crate::outline::entries::Entries;
 use crate::outline::top::Top;

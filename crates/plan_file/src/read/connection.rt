@@ -3,8 +3,8 @@ ghost use Rattle.std.specs.Prelude.{◌≡◌, ◌≤◌, IfOk, IsTrue, map};
 ghost use Rattle.std.specs.List.{list_all};
 ghost use Rattle.plan_file.specs.Entry.{connection_of, from_of, to_of, natural, slots_between};
 ghost use Rattle.plan_file.specs.Rules.{is_within};
-ghost use Rattle.plan_file.specs.Seen.{end_in, entry_in};
-ghost use Rattle.plan_file.specs.Sound.{IsSound, is_sound, is_no_signal};
+ghost use Rattle.plan_file.specs.Steps.Seen.{end_in, entry_in};
+ghost use Rattle.plan_file.specs.Steps.Sound.{IsSound, is_sound, is_no_signal};
 ghost use Rattle.plan_file.specs.Table.{nominal};
 ghost use Rattle.otn_base.specs.declared.limits.TheConstants.{MOST_SLOTS};
 

@@ -4,8 +4,8 @@ ghost use Rattle.toml.specs.View.{table_view};
 ghost use Rattle.plan_file.specs.Answer.{accepted_or};
 ghost use Rattle.plan_file.specs.Entry.{connection_of, plan_of};
 ghost use Rattle.plan_file.specs.Refusal.{fault_of, table_refusal};
-ghost use Rattle.plan_file.specs.Seen.{entries_in, outline_in, top_in};
-ghost use Rattle.plan_file.specs.Sound.{AreSound, IsSoundOutline, IsSoundTop};
+ghost use Rattle.plan_file.specs.Steps.Seen.{entries_in, outline_in, top_in};
+ghost use Rattle.plan_file.specs.Steps.Sound.{AreSound, IsSoundOutline, IsSoundTop};
 ghost use Rattle.plan_file.specs.Table.{outline_at};
 
 use crate::connection::Connection;
@@ -23,7 +23,8 @@ use toml::Table;
 
 /// The plan that the table says, or the first rule that it breaks.
 pub(crate) fn plan(alloc: Global, top: &Table) -> Result<Plan, NoPlan>
-    ensures { result ≢ Err NoPlan.Memory → result ≡ accepted_or (plan_of (outline_at (table_view top.now))) (table_refusal (table_view top.now)) }
+    ensures { result ≢ Err NoPlan.Memory → result
+        ≡ accepted_or (plan_of (outline_at (table_view top.now))) (table_refusal (table_view top.now)) }
 {
     match table_fault(top) {
         Some((rule, place)) => Err(NoPlan::Refused(rule, place as u64)),
@@ -33,7 +34,8 @@ pub(crate) fn plan(alloc: Global, top: &Table) -> Result<Plan, NoPlan>
 
 // The plan that the values of the table say, or the first rule that they break.
 fn plan_of_values(alloc: Global, top: &Table) -> Result<Plan, NoPlan>
-    ensures { result ≢ Err NoPlan.Memory → result ≡ accepted_or (plan_of (outline_at (table_view top.now))) (fault_of (outline_at (table_view top.now))) }
+    ensures { result ≢ Err NoPlan.Memory → result
+        ≡ accepted_or (plan_of (outline_at (table_view top.now))) (fault_of (outline_at (table_view top.now))) }
 {
     let outline = Outline::of_table(top);
     match rules::fault(&outline) {

@@ -3,7 +3,7 @@ ghost use Rattle.std.specs.Prelude.{◌≡◌, ◌≤◌, ◌++◌, IfSome, leng
 ghost use Rattle.plan_file.specs.Answer.{fault_of};
 ghost use Rattle.plan_file.specs.Places.{first, first_broken, later_places, places};
 ghost use Rattle.plan_file.specs.PlanRules.{breaks_alone, breaks_whole, clashes, plan_places};
-ghost use Rattle.plan_file.specs.Seen.{entries_in, outline_in, top_in};
+ghost use Rattle.plan_file.specs.Steps.Seen.{entries_in, outline_in, top_in};
 
 use crate::error::PlanError;
 use crate::outline::{Entries, Outline, Top};
@@ -66,7 +66,8 @@ fn place_of(rule: PlanError, outline: &Outline) -> Option<usize>
 // The first place where a connection breaks the rule, alone or with one before it.
 #[tactic(auto, using(crate::proofs::Places::first_of_both))]
 fn place_in(rule: PlanError, top: &Top, entries: &Entries) -> Option<usize>
-    ensures place { result ≡ first (places (breaks_alone rule (top_in top.now)) (entries_in entries.now) ++ later_places (clashes rule) (entries_in entries.now)) }
+    ensures place { result ≡ first (places (breaks_alone rule (top_in top.now)) (entries_in entries.now)
+        ++ later_places (clashes rule) (entries_in entries.now)) }
     ensures within { IfSome result (λ place. place ≤ length (entries_in entries.now)) }
 {
     match first_place(rule, top, entries) {

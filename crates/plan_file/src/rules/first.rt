@@ -3,7 +3,7 @@ ghost use Rattle.std.specs.Prelude.{◌≡◌, ◌+◌, ◌≤◌, IfSome, take,
 ghost use Rattle.std.specs.List.{list_any};
 ghost use Rattle.plan_file.specs.PlanRules.{breaks_alone, clashes};
 ghost use Rattle.plan_file.specs.Places.{first, places, later_places};
-ghost use Rattle.plan_file.specs.Seen.{entries_in, entry_in, top_in};
+ghost use Rattle.plan_file.specs.Steps.Seen.{entries_in, entry_in, top_in};
 
 use crate::error::PlanError;
 use crate::outline::{Entries, Entry, Top};
@@ -46,7 +46,8 @@ pub(crate) fn first_clash(rule: PlanError, entries: &Entries) -> Option<usize>
 #[tactic(auto, using(crate::proofs::Steps::anys, crate::proofs::Steps::slice_get_front, crate::proofs::Steps::length_front))]
 fn clashes_before(rule: PlanError, entries: &Entries, count: usize, later: &Entry) -> bool
     requires { count ≤ length (entries_in entries.now) }
-    ensures { result ≡ list_any (λ earlier. clashes rule earlier (entry_in later.now)) (take count (entries_in entries.now)) }
+    ensures { result ≡ list_any (λ earlier. clashes rule earlier (entry_in later.now))
+        (take count (entries_in entries.now)) }
 {
     for i in 0..count {
         if clashes(rule, &entries.at(i), later) {

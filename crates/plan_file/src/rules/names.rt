@@ -1,7 +1,7 @@
 // The rule on names and traces.
 ghost use Rattle.std.specs.Prelude.{◌≡◌};
 ghost use Rattle.plan_file.specs.Rules.{breaks_name};
-ghost use Rattle.plan_file.specs.Seen.{entry_in};
+ghost use Rattle.plan_file.specs.Steps.Seen.{entry_in};
 
 use crate::outline::Entry;
 use plan_table::{is_name, is_sapi};

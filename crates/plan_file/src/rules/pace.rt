@@ -2,7 +2,7 @@
 ghost use Rattle.std.specs.Prelude.{◌≡◌};
 ghost use Rattle.plan_file.specs.Entry.{slot_count, slots_between};
 ghost use Rattle.plan_file.specs.Rules.{breaks_pace};
-ghost use Rattle.plan_file.specs.Seen.{end_in, entry_in};
+ghost use Rattle.plan_file.specs.Steps.Seen.{end_in, entry_in};
 
 use crate::outline::{End, Entry};
 use crate::rules::places::is_line;

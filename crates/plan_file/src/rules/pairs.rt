@@ -1,7 +1,7 @@
 // The rules on two connections.
 ghost use Rattle.std.specs.Prelude.{◌≡◌};
 ghost use Rattle.plan_file.specs.Rules.{have_one_name, meet, share_slot, share_port, share_client, have_one_slot, have_one_port, have_one_client};
-ghost use Rattle.plan_file.specs.Seen.{end_in, entry_in};
+ghost use Rattle.plan_file.specs.Steps.Seen.{end_in, entry_in};
 
 use crate::outline::{End, Entry};
 use plan_table::have_common;

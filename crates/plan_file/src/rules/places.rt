@@ -2,7 +2,8 @@
 ghost use Rattle.std.specs.Prelude.{◌≡◌};
 ghost use Rattle.plan_file.specs.Entry.{is_line, is_client};
 ghost use Rattle.plan_file.specs.Rules.{breaks_lines, is_placed, breaks_place};
-ghost use Rattle.plan_file.specs.Seen.{end_in, entry_in, numbers_in, top_in};
+ghost use Rattle.plan_file.specs.Seen.{numbers_in};
+ghost use Rattle.plan_file.specs.Steps.Seen.{end_in, entry_in, top_in};
 
 use crate::outline::{End, Entry, Top};
 use otn_base::limits::{CLIENTS, LINES};

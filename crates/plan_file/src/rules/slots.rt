@@ -1,7 +1,8 @@
 // The rule on slots.
 ghost use Rattle.std.specs.Prelude.{◌≡◌};
 ghost use Rattle.plan_file.specs.Rules.{is_same_kind, suits, has_slots, has_equal_counts, breaks_slots};
-ghost use Rattle.plan_file.specs.Seen.{end_in, entry_in, numbers_in, top_in};
+ghost use Rattle.plan_file.specs.Seen.{numbers_in};
+ghost use Rattle.plan_file.specs.Steps.Seen.{end_in, entry_in, top_in};
 
 use crate::outline::{End, Entry, Top};
 use otn_base::{Kind, LineKind};

@@ -1,7 +1,7 @@
 // The rule on spans.
 ghost use Rattle.std.specs.Prelude.{◌≡◌};
 ghost use Rattle.plan_file.specs.Rules.{is_span, can_retire, breaks_span};
-ghost use Rattle.plan_file.specs.Seen.{entry_in};
+ghost use Rattle.plan_file.specs.Steps.Seen.{entry_in};
 
 use crate::outline::Entry;
 use crate::rules::places::is_client;

@@ -4,7 +4,7 @@ ghost use Rattle.std.specs.Option.{option_map_or};
 ghost use Rattle.toml.specs.View.{table_view, view};
 ghost use Rattle.plan_table.specs.Ends.{end_at};
 ghost use Rattle.plan_table.specs.Keys.{top_keys, end_keys, form_keys, keys_from, keys_of_connection, is_second_version, has_unknown_top_key, end_has_other, has_unknown_key};
-ghost use Rattle.plan_table.specs.KeyList.{keys_in};
+ghost use Rattle.plan_table.specs.Steps.KeyList.{keys_in};
 ghost use Rattle.plan_table.specs.Seen.{table_end_in};
 
 use crate::ends::{Form, Side, TableEnd, end_at, is_table};

@@ -2,7 +2,7 @@
 ghost use Rattle.std.specs.Prelude.{◌≡◌, false};
 ghost use Rattle.toml.specs.View.{table_view, view};
 ghost use Rattle.plan_table.specs.Keys.{lists, knows_all, has_other, top_keys, line_list_keys, connection_keys};
-ghost use Rattle.plan_table.specs.KeyList.{keys_in};
+ghost use Rattle.plan_table.specs.Steps.KeyList.{keys_in};
 
 use toml::{Table, Value};
 

@@ -2,7 +2,8 @@
 ghost use Rattle.std.specs.Prelude.{◌≡◌};
 ghost use Rattle.toml.specs.View.{items_view, table_view, view};
 ghost use Rattle.plan_table.specs.Ends.{is_table};
-ghost use Rattle.plan_table.specs.Kinds.{is_number, is_number_list, is_table_list, is_either, is_version, is_wanted, each_item, each_at, top_each_at};
+ghost use Rattle.plan_table.specs.Kinds.{is_number, is_number_list, is_table_list, is_either, is_version, each_item, each_at, top_each_at};
+ghost use Rattle.plan_table.specs.Steps.Kinds.{is_wanted};
 
 use crate::keys::{is_this_number, top_value};
 use toml::{Table, Value};

@@ -2,7 +2,8 @@
 use crate::{Choice, Selector, Side, SwitchCause};
 use tributary_model::SinkState;
 
-// How the working line's sink stands and how many bytes it emits, the same of protection; and the side, what is skipped and the cause.
+// How the working line's sink stands and how many bytes it emits, the same of protection; and the side, what is skipped
+// and the cause.
 #[derive(Drop)]
 struct Row(
     SinkState,

@@ -26,7 +26,8 @@ fn put(line: &mut [u8], place: usize, byte: u8) {
     }
 }
 
-// A line of 20 turns from MFAS 0 with port 1 on slot 3, each payload byte of turn t being t. JC3 is wrong in so many turns from the tenth on.
+// A line of 20 turns from MFAS 0 with port 1 on slot 3, each payload byte of turn t being t. JC3 is wrong in so many
+// turns from the tenth on.
 fn line_of(alloc: Global, damaged: usize) -> Result<Vec<u8>, Memory> {
     let mut line = vec![in alloc; 0u8; TURNS * 8 * LINE_FRAME_BYTES]?;
     for (i, byte) in line.iter_mut().enumerate() {
@@ -72,7 +73,8 @@ fn number<P: Drop>(place: &InPlaceOf<P>) -> u64 {
     }
 }
 
-// What a run came to: how it ended, what it reported, how many bytes it took of each line, how many it wrote and their check.
+// What a run came to: how it ended, what it reported, how many bytes it took of each line, how many it wrote and their
+// check.
 #[derive(Drop)]
 struct Outcome {
     ended: Ended,

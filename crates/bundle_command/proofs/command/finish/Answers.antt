@@ -2,8 +2,8 @@ use Rattle.std.proofs.Common.{◌≡◌, ◌<◌, ℕ, inl, inr, refl, rules, su
 use Rattle.otn_ports.specs.PortViews.{SinkWrites, sink_view}
 use Rattle.otn_ports.specs.Racks.{bays_view}
 use Rattle.otn_ports.specs.declared.drain.Written.TheVariants as written
-use Rattle.bundle_command.specs.Channels.{HasChannel}
-use Rattle.bundle_command.specs.Settled.{lines_of}
+use Rattle.bundle_command.specs.Steps.Channels.{HasChannel}
+use Rattle.bundle_command.specs.Steps.Settled.{lines_of}
 use Rattle.bundle_command.specs.declared.channel.Channel.{Channel}
 use Rattle.bundle_command.proofs.Turning.{finishes, settled_places}
 use Rattle.bundle_command.proofs.command.finish.Goals as goal

@@ -1,5 +1,5 @@
 use Rattle.std.proofs.Common.{◌≡◌, ◌<◌, ℕ}
-use Rattle.bundle_command.specs.Channels.{HasChannel}
+use Rattle.bundle_command.specs.Steps.Channels.{HasChannel}
 use Rattle.bundle_command.specs.declared.channel.Channel.{Channel}
 use Rattle.bundle_command.specs.declared.channel.Standing.TheVariants.{Ended}
 use Rattle.bundle_command.proofs.settling.are_ended.Given as goal

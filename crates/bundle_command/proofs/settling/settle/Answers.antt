@@ -1,6 +1,6 @@
 use Rattle.std.proofs.Common.{◌≡◌, ◌∙◌, length, refl, sym, subst, add-one, arith, rules}
 use Rattle.otn_ports.specs.Racks.{bays_view}
-use Rattle.bundle_command.specs.Settled.{IsSettled}
+use Rattle.bundle_command.specs.Steps.Settled.{IsSettled}
 use Rattle.bundle_command.proofs.AtEnd.{none_settled, place_low, settles}
 use Rattle.bundle_command.proofs.Given.{only_none, only_twice}
 use Rattle.bundle_command.proofs.settling.settle.Goals as goal

@@ -1,9 +1,9 @@
 use Rattle.std.proofs.Common.{◌≡◌, ℕ, List, vec_len}
 use Rattle.otn_ports.specs.Racks.{bays_view}
 use Rattle.otn_ports.specs.Views.{BaysView}
-use Rattle.bundle_command.specs.Channels.{WeavingStands}
-use Rattle.bundle_command.specs.Framed.{OnlyInputs}
-use Rattle.bundle_command.specs.Settled.{IsSettled}
+use Rattle.bundle_command.specs.Steps.Channels.{WeavingStands}
+use Rattle.bundle_command.specs.Steps.Framed.{OnlyInputs}
+use Rattle.bundle_command.specs.Steps.Settled.{IsSettled}
 use Rattle.bundle_command.proofs.settling.settle.Given as goal
 
 abbrev pub invariant-loop-i : goal.invariant-loop-i

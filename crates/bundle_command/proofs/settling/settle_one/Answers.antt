@@ -1,6 +1,6 @@
 use Rattle.std.proofs.Common.{◌≡◌, ◌∙◌, ◌<◌, length, rules, refl, subst, sym}
 use Rattle.std.proofs.lemmas.Option.{same_Some, slice_get_read}
-use Rattle.bundle_command.specs.Channels.{HasChannel}
+use Rattle.bundle_command.specs.Steps.Channels.{HasChannel}
 use Rattle.bundle_command.proofs.Places.{settled_at}
 use Rattle.bundle_command.proofs.settling.settle_one.Goals as goal
 

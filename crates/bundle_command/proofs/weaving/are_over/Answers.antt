@@ -1,5 +1,5 @@
 use Rattle.std.proofs.Common.{◌≡◌, arith, rules, true}
-use Rattle.bundle_command.specs.Channels.{is_over}
+use Rattle.bundle_command.specs.Steps.Channels.{is_over}
 use Rattle.bundle_command.proofs.Idles.{all_over}
 use Rattle.bundle_command.proofs.Lists.{known_item, one_more}
 use Rattle.bundle_command.proofs.weaving.are_over.Goals as goal

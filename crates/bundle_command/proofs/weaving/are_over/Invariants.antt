@@ -1,5 +1,5 @@
 use Rattle.std.proofs.Common.{◌≡◌, ◌<◌, ℕ, true}
-use Rattle.bundle_command.specs.Channels.{HasChannel, is_over}
+use Rattle.bundle_command.specs.Steps.Channels.{HasChannel, is_over}
 use Rattle.bundle_command.specs.declared.channel.Channel.{Channel}
 use Rattle.bundle_command.proofs.weaving.are_over.Given as goal
 

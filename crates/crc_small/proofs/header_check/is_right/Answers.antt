@@ -1,5 +1,5 @@
 use Rattle.std.proofs.Common.{◌∙◌, ap, arith, bit_and, ◌/◌, ◌^◌}
-use Rattle.crc_small.specs.Shifted.{after_byte}
+use Rattle.crc_small.specs.Steps.Shifted.{after_byte}
 use Rattle.crc_small.proofs.Header.{right_iff}
 use Rattle.crc_small.proofs.header_check.is_right.Goals as goal
 

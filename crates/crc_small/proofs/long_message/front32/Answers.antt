@@ -1,7 +1,7 @@
 use Rattle.std.proofs.Common.{◌≡◌, ◌+◌, slice_index, ap, ◌∙◌, sym, subst, arith}
 use Rattle.crc_small.specs.declared.long_message.Window.{Window}
-use Rattle.crc_small.specs.Folding.{after_some, pending}
-use Rattle.crc_small.specs.Window.{IsWindow, window_byte}
+use Rattle.crc_small.specs.Steps.Folding.{after_some, pending}
+use Rattle.crc_small.specs.Steps.Window.{IsWindow, window_byte}
 use Rattle.crc_small.proofs.Folding.{some_split}
 use Rattle.crc_small.proofs.Vectors.{pushed_window, fold_step}
 use Rattle.crc_small.proofs.long_message.front32.Goals as goal

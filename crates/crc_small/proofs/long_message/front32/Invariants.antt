@@ -1,6 +1,6 @@
 use Rattle.std.proofs.Common.{◌≡◌, ◌-◌, ◌+◌, ◌≤◌, length, slice_index}
-use Rattle.crc_small.specs.Folding.{after_some, pending}
-use Rattle.crc_small.specs.Window.{IsWindow, window_byte}
+use Rattle.crc_small.specs.Steps.Folding.{after_some, pending}
+use Rattle.crc_small.specs.Steps.Window.{IsWindow, window_byte}
 use Rattle.crc_small.proofs.long_message.front32.Given as goal
 
 abbrev pub invariant-loop-at : goal.invariant-loop-at

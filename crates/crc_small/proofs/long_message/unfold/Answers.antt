@@ -1,8 +1,8 @@
 use Rattle.std.proofs.Common.{◌≡◌, ℕ, ◌+◌, ◌*◌, ◌^◌, ◌<◌, slice_index, ap, ◌∙◌, sym, subst, arith}
 use Rattle.std.specs.Int.Bits.{xor_zero_l}
 use Rattle.crc_small.specs.declared.long_message.Window.{Window}
-use Rattle.crc_small.specs.Folding.{after_some, pending}
-use Rattle.crc_small.specs.Window.{IsWindow, window_byte}
+use Rattle.crc_small.specs.Steps.Folding.{after_some, pending}
+use Rattle.crc_small.specs.Steps.Window.{IsWindow, window_byte}
 use Rattle.crc_small.proofs.Folding.{some-lt}
 use Rattle.crc_small.proofs.Words.{both}
 use Rattle.crc_small.proofs.Vectors.{IsEmptied, emptied_none, emptied_on, emptied_all, zeros_pushed, unfold_step}

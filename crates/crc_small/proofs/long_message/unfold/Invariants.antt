@@ -1,6 +1,6 @@
 use Rattle.std.proofs.Common.{◌≡◌, ◌+◌, ◌*◌, ◌^◌, ◌<◌, bit_xor, slice_index}
-use Rattle.crc_small.specs.Folding.{after_some, pending}
-use Rattle.crc_small.specs.Window.{IsWindow, window_byte}
+use Rattle.crc_small.specs.Steps.Folding.{after_some, pending}
+use Rattle.crc_small.specs.Steps.Window.{IsWindow, window_byte}
 use Rattle.crc_small.proofs.Vectors.{IsEmptied}
 use Rattle.crc_small.proofs.long_message.unfold.Given as goal
 

@@ -1,6 +1,6 @@
 use Rattle.std.proofs.Common.{ℕ}
-use Rattle.crc_small.specs.Shifted.{after_word}
-use Rattle.crc_small.specs.Folding.{after_some}
+use Rattle.crc_small.specs.Steps.Shifted.{after_word}
+use Rattle.crc_small.specs.Steps.Folding.{after_some}
 use Rattle.crc_small.proofs.steps.sixteen32.Goals as goal
 
 abbrev after : ℕ → ℕ → ℕ

@@ -1,7 +1,7 @@
 use Rattle.std.proofs.Common.{◌≤◌, ◌++◌, ◌-◌, ℕ, List, length, take}
 use Rattle.otn_ports.specs.OutPlace.{out_view}
 use Rattle.otn_ports.specs.Views.{OutView}
-use Rattle.cross_matrix.specs.Receiving.{RunRead}
+use Rattle.cross_matrix.specs.Steps.Receiving.{RunRead}
 use Rattle.cross_matrix.proofs.receiver.read_bytes.Given as goal
 
 abbrev pub invariant-loop-done : goal.invariant-loop-done

@@ -1,6 +1,7 @@
 use Rattle.std.proofs.Common.{sym, subst}
 use Rattle.otn_ports.specs.InPlace.{in_view}
-use Rattle.cross_matrix.specs.Parts.{ClientInStands, TextTook}
+use Rattle.cross_matrix.specs.Parts.{ClientInStands}
+use Rattle.cross_matrix.specs.Steps.Parts.{TextTook}
 use Rattle.cross_matrix.specs.declared.taking.TakingPart.TheVariants as taking
 use Rattle.cross_matrix.proofs.PartMoves.{text_took}
 use Rattle.cross_matrix.proofs.taking.take_text.Goals as goal

@@ -1,5 +1,5 @@
 use Rattle.std.proofs.Common.{ℕ, ◌<◌, ◌^◌, take, false}
-use Rattle.gfp_frames.specs.Reader.{GoesOver, hunts_after}
+use Rattle.gfp_frames.specs.Steps.Reader.{GoesOver, hunts_after}
 use Rattle.gfp_frames.proofs.reader.hunted.Given as goal
 
 abbrev pub invariant-loop-i : goal.invariant-loop-i

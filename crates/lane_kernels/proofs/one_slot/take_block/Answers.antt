@@ -1,5 +1,5 @@
 use Rattle.std.proofs.Common.{ℕ, ◌+◌, ◌*◌}
-use Rattle.lane_kernels.specs.Blocks.{bytes_from}
+use Rattle.lane_kernels.specs.Steps.Blocks.{bytes_from}
 use Rattle.lane_kernels.proofs.Takes.{block_below, block_here}
 use Rattle.lane_kernels.proofs.one_slot.take_block.Goals as goal
 

@@ -1,5 +1,5 @@
 use Rattle.std.proofs.Common.{ℕ, ◌+◌, ◌*◌}
-use Rattle.lane_kernels.specs.Blocks.{bytes_from}
+use Rattle.lane_kernels.specs.Steps.Blocks.{bytes_from}
 use Rattle.lane_kernels.proofs.Puts.{bytes-here, bytes-other}
 use Rattle.lane_kernels.proofs.turn.block_apart.Goals as goal
 

@@ -9,7 +9,7 @@ use Rattle.frame_geometry.specs.Loans.{after_loan-whole}
 use Rattle.line_commands.proofs.SlotSteps.{live_of, step_written}
 use Rattle.otn_ports.specs.PortViews.{sink_view}
 use Rattle.command_base.specs.Ends.{ReportAfter}
-use Rattle.line_commands.specs.SlotRuns.{SlotStep}
+use Rattle.line_commands.specs.Steps.SlotRuns.{SlotStep}
 use Rattle.line_commands.proofs.slot.write_frame.Goals as goal
 
 pub returns-in-Full-clause-step : goal.returns-in-Full-clause-step

@@ -1,7 +1,7 @@
 use Rattle.std.proofs.Common.{◌≡◌, rules, subst, flat_map}
 use Rattle.otn_ports.specs.PortViews.{SinkWrites, sink_view}
 use Rattle.otn_ports.specs.declared.drain.Written.TheVariants as written
-use Rattle.line_view.specs.ViewRuns.{lines_of}
+use Rattle.line_view.specs.Steps.ViewRuns.{lines_of}
 use Rattle.line_view.specs.ViewText.{turn_line, tributary_line}
 use Rattle.line_view.specs.declared.watched.Watched.{Watched}
 use Rattle.line_view.proofs.Texts.{writes_twice, part_of_more}

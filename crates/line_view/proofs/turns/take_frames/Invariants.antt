@@ -2,7 +2,7 @@ use Rattle.std.proofs.Common.{◌≡◌, ℕ, List}
 use Rattle.otn_ports.specs.InPlace.{in_view}
 use Rattle.otn_ports.specs.Views.{InView}
 use Rattle.line_side.specs.LineForm.{LineForm}
-use Rattle.line_view.specs.Viewing.{ViewStands, ViewMoves}
+use Rattle.line_view.specs.Steps.Viewing.{ViewStands, ViewMoves}
 use Rattle.line_view.proofs.turns.take_frames.Given as goal
 
 -- the pieces so far

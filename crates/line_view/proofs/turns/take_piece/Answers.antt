@@ -3,7 +3,7 @@ use Rattle.otn_base.specs.LineSlots.{slots_of}
 use Rattle.otn_ports.specs.InPlace.{in_view}
 use Rattle.line_side.specs.LineStands.{frames_taken}
 use Rattle.multiframe.specs.LineTurns.{one_if}
-use Rattle.line_view.specs.Watching.{EachWatched, TookFrame}
+use Rattle.line_view.specs.Steps.Watching.{EachWatched, TookFrame}
 use Rattle.line_view.proofs.Pieces.{piece_none, piece_frame}
 use Rattle.line_view.proofs.turns.take_piece.Goals as goal
 

@@ -1,7 +1,7 @@
 use Rattle.std.proofs.Common.{◌≡◌, ◌+◌, rules, subst}
 use Rattle.otn_ports.specs.PortViews.{SinkWrites, sink_view}
 use Rattle.otn_ports.specs.declared.drain.Written.TheVariants as written
-use Rattle.line_view.specs.ViewRuns.{lines_of}
+use Rattle.line_view.specs.Steps.ViewRuns.{lines_of}
 use Rattle.line_view.proofs.viewing.write_turn.Goals as goal
 
 pub returns-then-eq-clause-run : goal.returns-then-eq-clause-run

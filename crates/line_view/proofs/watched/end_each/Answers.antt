@@ -1,5 +1,5 @@
 use Rattle.std.proofs.Common.{◌≡◌, ◌<◌, ◌≤◌, ◌++◌, ◌∙◌, length, take, drop, subst, sym, arith, rules}
-use Rattle.line_view.specs.Watching.{EachWatched, EndedTurn}
+use Rattle.line_view.specs.Steps.Watching.{EachWatched, EndedTurn}
 use Rattle.line_view.proofs.Steps.{one_gone, all_gone, put_back}
 use Rattle.line_view.proofs.watched.end_each.Goals as goal
 

@@ -1,5 +1,5 @@
 use Rattle.std.proofs.Common.{◌≡◌, length}
-use Rattle.line_view.specs.Watching.{EndedTurn}
+use Rattle.line_view.specs.Steps.Watching.{EndedTurn}
 use Rattle.line_view.proofs.Steps.{Gone}
 use Rattle.line_view.proofs.watched.end_each.Given as goal
 

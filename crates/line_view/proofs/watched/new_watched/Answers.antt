@@ -1,7 +1,7 @@
 use Rattle.std.proofs.Common.{◌≡◌, ◌∙◌, Some, slice_get, length, sym, subst, arith}
 use Rattle.std.proofs.lemmas.Grind.{common_steps}
 use Rattle.std.proofs.lemmas.Option.{same_Some}
-use Rattle.line_view.specs.Watching.{IsNew}
+use Rattle.line_view.specs.Steps.Watching.{IsNew}
 use Rattle.line_view.specs.declared.shown.Shown.{Shown}
 use Rattle.line_view.proofs.Steps.{each_more}
 use Rattle.line_view.proofs.Texts.{known_item}

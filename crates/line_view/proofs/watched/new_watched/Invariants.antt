@@ -1,5 +1,5 @@
 use Rattle.std.proofs.Common.{◌≡◌, ℕ, Some, slice_get, vec_len}
-use Rattle.line_view.specs.Watching.{IsNew}
+use Rattle.line_view.specs.Steps.Watching.{IsNew}
 use Rattle.line_view.specs.declared.shown.Shown.{Shown}
 use Rattle.line_view.specs.declared.watched.Watched.{Watched}
 use Rattle.line_view.proofs.watched.new_watched.Given as goal

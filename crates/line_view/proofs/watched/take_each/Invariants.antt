@@ -1,4 +1,4 @@
-use Rattle.line_view.specs.Watching.{TookFrame}
+use Rattle.line_view.specs.Steps.Watching.{TookFrame}
 use Rattle.line_view.proofs.Steps.{Gone}
 use Rattle.line_view.proofs.watched.take_each.Given as goal
 

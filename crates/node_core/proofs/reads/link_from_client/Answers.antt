@@ -1,5 +1,5 @@
 use Rattle.std.proofs.Common.{◌∙◌, Some, sym, subst, arith}
-use Rattle.node_links.specs.LinkMoves.{FirstOf}
+use Rattle.node_links.specs.Steps.LinkMoves.{FirstOf}
 use Rattle.node_links.specs.Moves.{has_client_in}
 use Rattle.node_links.proofs.LinkFinds.{found_here, none_next, none_at_all}
 use Rattle.node_core.proofs.reads.link_from_client.Goals as goal

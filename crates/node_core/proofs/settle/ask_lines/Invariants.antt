@@ -1,5 +1,5 @@
 use Rattle.otn_ports.specs.Racks.{bays_view}
-use Rattle.node_core.specs.Asking.{LinesAnswer}
+use Rattle.node_core.specs.Steps.Asking.{LinesAnswer}
 use Rattle.node_core.proofs.settle.ask_lines.Given as goal
 
 -- so many lines were asked

@@ -1,5 +1,5 @@
 use Rattle.std.proofs.Common.{◌≡◌, ◌<◌, ℕ, true, Some, slice_get}
-use Rattle.node_core.specs.Asking.{SaysSpent}
+use Rattle.node_core.specs.Steps.Asking.{SaysSpent}
 use Rattle.node_links.specs.declared.link.Link.{Link}
 use Rattle.node_links.specs.declared.link.Origin.TheVariants as origin
 use Rattle.node_core.proofs.settle.has_open.Given as goal

@@ -1,7 +1,7 @@
 use Rattle.std.proofs.Common.{◌≡◌, List, Some, length, slice_get, refl, subst}
 use Rattle.std.proofs.lemmas.Option.{slice_get_read}
 use Rattle.otn_ports.specs.InPlace.{in_view}
-use Rattle.node_links.specs.LinkMoves.{FirstOf}
+use Rattle.node_links.specs.Steps.LinkMoves.{FirstOf}
 use Rattle.node_links.specs.Moves.{takes_client}
 use Rattle.node_links.specs.declared.link.Link.{Link}
 use Rattle.node_links.proofs.ClientPieces.{one_takes}

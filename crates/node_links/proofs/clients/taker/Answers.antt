@@ -1,5 +1,5 @@
 use Rattle.std.proofs.Common.{◌∙◌, Some, sym, subst, arith}
-use Rattle.node_links.specs.LinkMoves.{FirstOf}
+use Rattle.node_links.specs.Steps.LinkMoves.{FirstOf}
 use Rattle.node_links.specs.Moves.{takes_client}
 use Rattle.node_links.proofs.LinkFinds.{found_here, none_next, none_at_all}
 use Rattle.node_links.proofs.clients.taker.Goals as goal

@@ -1,5 +1,5 @@
 use Rattle.std.proofs.Common.{List, ℕ, subst, sym}
-use Rattle.node_links.specs.LineFrames.{PutsOwn, LinkByLink}
+use Rattle.node_links.specs.Steps.LineFrames.{PutsOwn, LinkByLink}
 use Rattle.node_links.specs.Moves.{gives_line}
 use Rattle.node_links.proofs.lines_out.fill_by_slots.Goals as goal
 

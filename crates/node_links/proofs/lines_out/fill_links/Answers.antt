@@ -1,5 +1,5 @@
 use Rattle.std.proofs.Common.{◌≡◌, ◌<◌, ◌≤◌, ◌++◌, ℕ, List, length, take, drop, subst, sym, arith, rules}
-use Rattle.node_links.specs.LineFrames.{PutsOwn}
+use Rattle.node_links.specs.Steps.LineFrames.{PutsOwn}
 use Rattle.node_links.specs.Moves.{EachLink, GaveFrame, gives_line}
 use Rattle.node_links.specs.declared.link.Link.{Link}
 use Rattle.node_links.proofs.LinkSteps.{step_more, one_gone, all_gone, as_it_was, put_back}

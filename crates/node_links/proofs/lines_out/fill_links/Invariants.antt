@@ -1,5 +1,5 @@
 use Rattle.std.proofs.Common.{ℕ, List, drop}
-use Rattle.node_links.specs.LineFrames.{PutsOwn, LinkByLink}
+use Rattle.node_links.specs.Steps.LineFrames.{PutsOwn, LinkByLink}
 use Rattle.node_links.specs.Moves.{GaveFrame, gives_line}
 use Rattle.node_links.proofs.LinkSteps.{Gone}
 use Rattle.node_links.proofs.lines_out.fill_links.Given as goal

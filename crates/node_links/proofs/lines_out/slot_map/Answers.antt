@@ -1,6 +1,6 @@
 use Rattle.std.proofs.Common.{◌≡◌, ◌+◌, ◌-◌, ℕ, List, subst, arith}
 use Rattle.std.specs.Prelude.{slice_index}
-use Rattle.node_links.specs.LineFrames.{AllotsOwn}
+use Rattle.node_links.specs.Steps.LineFrames.{AllotsOwn}
 use Rattle.node_links.specs.Moves.{gives_line}
 use Rattle.node_links.specs.declared.link.Link.{Link}
 use Rattle.node_links.proofs.LinkSteps.{step_more, step_none}

@@ -1,6 +1,6 @@
 use Rattle.std.proofs.Common.{◌≡◌, ℕ, List, length, drop}
 use Rattle.otn_base.specs.LineSlots.{slots_of}
-use Rattle.node_links.specs.LineFrames.{AllotsOwn, LinkByLink, FromBlank}
+use Rattle.node_links.specs.Steps.LineFrames.{AllotsOwn, LinkByLink, FromBlank}
 use Rattle.node_links.specs.Moves.{gives_line}
 use Rattle.node_links.proofs.lines_out.slot_map.Given as goal
 

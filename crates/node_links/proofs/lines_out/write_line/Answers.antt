@@ -3,7 +3,7 @@ use Rattle.otn_base.specs.LineSlots.{slots_of}
 use Rattle.line_side.specs.LineForm.{LineForm}
 use Rattle.otn_ports.specs.OutPlace.{out_view}
 use Rattle.line_side.specs.LineOutput.{FramePut, LineMade, LineOutView}
-use Rattle.node_links.specs.LineFrames.{AllotsOwn, FromBlank}
+use Rattle.node_links.specs.Steps.LineFrames.{AllotsOwn, FromBlank}
 use Rattle.node_links.specs.Moves.{gives_line}
 use Rattle.node_links.proofs.LineFrames.{frame_due, made_on}
 use Rattle.node_links.proofs.lines_out.write_line.Goals as goal

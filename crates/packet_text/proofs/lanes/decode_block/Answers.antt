@@ -1,6 +1,6 @@
 use Rattle.std.proofs.Common.{◌*◌}
 use Rattle.std.proofs.lemmas.Simd.{get_or-put_chunk_below}
-use Rattle.packet_text.specs.DigitMarks.{bytes_from}
+use Rattle.packet_text.specs.Steps.DigitMarks.{bytes_from}
 use Rattle.packet_text.proofs.DigitLanes.{marks_at, first_marks, second_marks, block_here, block_none}
 use Rattle.packet_text.proofs.lanes.decode_block.Goals as goal
 

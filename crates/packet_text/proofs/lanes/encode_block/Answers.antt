@@ -1,4 +1,4 @@
-use Rattle.packet_text.specs.DigitMarks.{bytes_from}
+use Rattle.packet_text.specs.Steps.DigitMarks.{bytes_from}
 use Rattle.packet_text.proofs.ByteBlocks.{high, low, high_digits, low_digits, block_put}
 use Rattle.packet_text.proofs.lanes.encode_block.Goals as goal
 

@@ -1,5 +1,5 @@
 use Rattle.std.proofs.Common.{◌≢◌, sym, ◌∙◌, arith}
-use Rattle.packet_text.specs.Carrying.{lf_bits}
+use Rattle.packet_text.specs.Steps.Carrying.{lf_bits}
 use Rattle.packet_text.proofs.LineFeeds.{none_in_whole, lowest_found, prefix_clean, prefix_stops}
 use Rattle.packet_text.proofs.line_feed.clean_bytes.Goals as goal
 

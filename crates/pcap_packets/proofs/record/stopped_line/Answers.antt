@@ -1,6 +1,6 @@
 use Rattle.std.proofs.Common.{◌+◌, ◌-◌, ◌/◌, ◌∙◌, ℕ, List, ap}
 use Rattle.pcap_packets.specs.Written.{digits_in_front}
-use Rattle.pcap_packets.specs.Gathering.{IsCut}
+use Rattle.pcap_packets.specs.Steps.Gathering.{IsCut}
 use Rattle.pcap_packets.proofs.ManyLines.{Within, rest_all, within_start, next_room, walk_on, walk_end}
 use Rattle.pcap_packets.proofs.record.stopped_line.Goals as goal
 

@@ -1,6 +1,6 @@
 use Rattle.std.proofs.Common.{◌≡◌, ◌<◌, ◌≤◌, ◌+◌, ℕ, List, length, drop}
 use Rattle.pcap_packets.specs.Written.{digits_in_front}
-use Rattle.pcap_packets.specs.Gathering.{IsCut}
+use Rattle.pcap_packets.specs.Steps.Gathering.{IsCut}
 use Rattle.pcap_packets.proofs.ManyLines.{Within}
 use Rattle.pcap_packets.proofs.record.stopped_line.Given as goal
 

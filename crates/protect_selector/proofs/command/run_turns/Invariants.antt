@@ -3,7 +3,8 @@ use Rattle.otn_ports.specs.PortViews.{sink_view}
 use Rattle.otn_ports.specs.Racks.{bays_view}
 use Rattle.tributary_model.specs.Laws.{IsTributary}
 use Rattle.tributary_model.specs.Places.{Tributary}
-use Rattle.protect_selector.specs.Protecting.{AreReady, OnlyProtected, TurnsGone, ends_of}
+use Rattle.protect_selector.specs.Protecting.{OnlyProtected, ends_of}
+use Rattle.protect_selector.specs.Steps.Protecting.{AreReady, TurnsGone}
 use Rattle.protect_selector.proofs.command.run_turns.Given as goal
 
 -- the turns so far

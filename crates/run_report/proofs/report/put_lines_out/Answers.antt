@@ -3,7 +3,7 @@ use Rattle.otn_base.specs.declared.kind.PortName.TheVariants as port
 use Rattle.otn_ports.specs.Racks.{bays_view}
 use Rattle.device_model.specs.Moments.{uses}
 use Rattle.device_model.specs.RunNumbers.{numbers_of_run}
-use Rattle.run_report.specs.RunReport.{line_out_of}
+use Rattle.run_report.specs.Steps.RunReport.{line_out_of}
 use Rattle.run_report.proofs.RunReports.{used_more}
 use Rattle.run_report.proofs.report.put_lines_out.Goals as goal
 

@@ -1,5 +1,5 @@
 use Rattle.std.proofs.Common.{◌<◌, ◌+◌, length, take, get_or, ap, sym, ◌∙◌, arith}
-use Rattle.trial_command.specs.TrialReport.{lines_in}
+use Rattle.trial_command.specs.Steps.TrialReport.{lines_in}
 use Rattle.trial_command.proofs.TrialReport.{feed_few, lines_none, lines_next}
 use Rattle.trial_command.proofs.lines.count_lines.Goals as goal
 

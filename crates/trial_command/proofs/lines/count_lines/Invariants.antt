@@ -1,5 +1,5 @@
 use Rattle.std.proofs.Common.{◌≡◌, ◌≤◌, take}
-use Rattle.trial_command.specs.TrialReport.{lines_in}
+use Rattle.trial_command.specs.Steps.TrialReport.{lines_in}
 use Rattle.trial_command.proofs.lines.count_lines.Given as goal
 
 abbrev pub invariant-loop-i : goal.invariant-loop-i

@@ -1,5 +1,5 @@
 use Rattle.std.specs.Prelude.{string_bytes}
-use Rattle.trial_command.specs.TrialRuns.{ClientsTold}
+use Rattle.trial_command.specs.Steps.TrialRuns.{ClientsTold}
 use Rattle.trial_command.proofs.TrialPlaces.{text_sink, view}
 use Rattle.trial_command.proofs.trial.lines_of_clients.Given as goal
 

@@ -1,7 +1,7 @@
 use Rattle.std.proofs.Common.{◌≡◌, ◌+◌, ◌-◌, ◌*◌, ◌≤◌, ◌++◌, length, take}
 use Rattle.frame_geometry.specs.Places.{payload_row_of}
 use Rattle.otn_base.specs.LineSlots.{slots_of}
-use Rattle.trib_sink.specs.Rows.{row_data}
+use Rattle.trib_sink.specs.Steps.Rows.{row_data}
 use Rattle.trib_sink.proofs.extract.take_row.Given as goal
 
 abbrev pub invariant-loop-cycle : goal.invariant-loop-cycle

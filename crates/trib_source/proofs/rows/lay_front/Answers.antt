@@ -2,7 +2,7 @@ use Rattle.std.proofs.Common.{◌≡◌, ℕ, ◌+◌, ◌*◌, ◌<◌, ◌≤�
 use Rattle.std.proofs.lemmas.List.{get_or-take, length-take-le}
 use Rattle.std.proofs.Math.Nat.{mul-le-mul_left}
 use Rattle.gmp_rule.specs.DataRule.{Progress}
-use Rattle.trib_source.specs.Rows.{data_bytes, byte_laid}
+use Rattle.trib_source.specs.Steps.Rows.{data_bytes, byte_laid}
 use Rattle.trib_source.proofs.RowsPut.{front_byte, front_is, taken_is, taken_enough}
 use Rattle.trib_source.proofs.rows.lay_front.Goals as goal
 

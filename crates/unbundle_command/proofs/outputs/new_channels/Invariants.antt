@@ -1,5 +1,5 @@
 use Rattle.std.proofs.Common.{◌≡◌, replicate}
-use Rattle.unbundle_command.specs.Receiving.{no_channel}
+use Rattle.unbundle_command.specs.Steps.Receiving.{no_channel}
 use Rattle.unbundle_command.proofs.outputs.new_channels.Given as goal
 
 abbrev pub invariant-loop : goal.invariant-loop

@@ -2,7 +2,7 @@ use Rattle.std.proofs.Common.{◌≤◌, ◌++◌, ◌-◌, ℕ, List, length, t
 use Rattle.otn_ports.specs.Racks.{bays_view}
 use Rattle.otn_ports.specs.Views.{BaysView}
 use Rattle.gfp_linear.specs.ChannelArrivals.{ChannelArrival}
-use Rattle.unbundle_command.specs.Receiving.{RunRead, OnlyClientsOut}
+use Rattle.unbundle_command.specs.Steps.Receiving.{RunRead, OnlyClientsOut}
 use Rattle.unbundle_command.proofs.receiving.read_bytes.Given as goal
 
 abbrev pub invariant-loop-done : goal.invariant-loop-done

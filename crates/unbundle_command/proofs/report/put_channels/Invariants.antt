@@ -2,7 +2,7 @@ use Rattle.std.proofs.Common.{◌≡◌, ◌≤◌, ◌+◌, ◌-◌, ◌*◌, �
 use Rattle.arrayvec.specs.ArrayString.{array_string_len}
 use Rattle.otn_ports.specs.Views.{BaysView}
 use Rattle.gfp_linear.specs.ChannelArrivals.{ChannelArrival}
-use Rattle.unbundle_command.specs.Receiving.{OutputsStand}
+use Rattle.unbundle_command.specs.Steps.Receiving.{OutputsStand}
 use Rattle.unbundle_command.specs.Unbundled.{channel_lines}
 use Rattle.unbundle_command.proofs.report.put_channels.Given as goal
 

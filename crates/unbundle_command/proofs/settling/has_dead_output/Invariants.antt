@@ -1,5 +1,5 @@
 use Rattle.otn_ports.specs.Racks.{bays_view}
-use Rattle.unbundle_command.specs.Unbundling.{DeadChannel}
+use Rattle.unbundle_command.specs.Steps.Unbundling.{DeadChannel}
 use Rattle.unbundle_command.proofs.settling.has_dead_output.Given as goal
 
 -- none of the channels so far

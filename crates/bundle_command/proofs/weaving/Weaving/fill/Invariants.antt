@@ -1,8 +1,8 @@
 use Rattle.std.proofs.Common.{◌≡◌, ◌≤◌, ◌-◌, ◌++◌, ℕ, List, length, take}
 use Rattle.otn_ports.specs.Racks.{bays_view}
 use Rattle.otn_ports.specs.Views.{BaysView}
-use Rattle.bundle_command.specs.Channels.{IsReady, WeavingStands}
-use Rattle.bundle_command.specs.Framed.{OnlyInputs}
+use Rattle.bundle_command.specs.Steps.Channels.{IsReady, WeavingStands}
+use Rattle.bundle_command.specs.Steps.Framed.{OnlyInputs}
 use Rattle.bundle_command.proofs.weaving.Weaving.fill.Given as goal
 
 abbrev pub invariant-loop-done : goal.invariant-loop-done

@@ -3,7 +3,7 @@ use Rattle.frame_geometry.specs.Places.{payload_row_of}
 use Rattle.odu_client.proofs.PayloadRows.{rows_done, rows_size}
 use Rattle.odu_client.specs.AlignedRuns.{payload_of}
 use Rattle.otn_ports.specs.Racks.{bays_view}
-use Rattle.bundle_command.specs.Channels.{WeavingStands}
+use Rattle.bundle_command.specs.Steps.Channels.{WeavingStands}
 use Rattle.bundle_command.proofs.Given.{four_rows, only_twice}
 use Rattle.bundle_command.proofs.weaving.Weaving.fill_payload.Goals as goal
 

@@ -1,7 +1,7 @@
 use Rattle.std.proofs.Common.{sym, ap, ◌∙◌, ◌++◌, length, subst}
 use Rattle.odu_client.proofs.PayloadRows.{loan_back, loan_stays}
 use Rattle.otn_ports.specs.Racks.{bays_view}
-use Rattle.bundle_command.specs.Channels.{WeavingStands}
+use Rattle.bundle_command.specs.Steps.Channels.{WeavingStands}
 use Rattle.bundle_command.proofs.weaving.Weaving.fill_row.Goals as goal
 
 pub returns-clause-size : goal.returns-clause-size

@@ -1,7 +1,7 @@
 use Rattle.std.proofs.Common.{refl}
-use Rattle.crc_small.specs.Shifted.{take_in, after_byte}
+use Rattle.crc_small.specs.Steps.Shifted.{take_in, after_byte}
 use Rattle.crc_small.specs.LongDivision.{low_bits}
-use Rattle.crc_small.specs.Folding.{after_some, sum_at, pending}
+use Rattle.crc_small.specs.Steps.Folding.{after_some, sum_at, pending}
 use Rattle.crc_small.proofs.long_message.Window.start.Goals as goal
 
 pub returns-clause-ones : goal.returns-clause-ones

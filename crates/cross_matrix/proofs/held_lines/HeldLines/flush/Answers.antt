@@ -6,7 +6,8 @@ use Rattle.otn_ports.specs.Views.{Live}
 use Rattle.otn_ports.specs.Writes.{IsWriting}
 use Rattle.otn_ports.specs.declared.drain.Written.TheVariants as written
 use Rattle.device_model.specs.Numbers.{whole_lines}
-use Rattle.cross_matrix.specs.Receiving.{HeldView, LinesHeld}
+use Rattle.cross_matrix.specs.Receiving.{HeldView}
+use Rattle.cross_matrix.specs.Steps.Receiving.{LinesHeld}
 use Rattle.cross_matrix.proofs.LineCounts.{flushed, front_of_front, went_within}
 use Rattle.cross_matrix.proofs.held_lines.HeldLines.flush.Goals as goal
 

@@ -1,6 +1,7 @@
 use Rattle.std.proofs.Common.{◌≡◌, ◌≤◌, [], ◌∷◌, ◌++◌, true, false, length, ap, sym, subst, refl, ◌∙◌, arith}
 use Rattle.gfp_frames.specs.CoreHeader.{header_in, right_pli, near_pli}
-use Rattle.gfp_frames.specs.Reader.{ReaderState, may_want, Goes}
+use Rattle.gfp_frames.specs.Reader.{ReaderState, may_want}
+use Rattle.gfp_frames.specs.Steps.Reader.{Goes}
 use Rattle.gfp_frames.proofs.Reading.{goes_kept, goes_in_hunt, goes_in_presync, goes_in_sync, goes_past_presync, goes_past_area, held_size, full_size, four_in_hunt, four_in_presync, four_in_sync, big_in_area, at_most, area_length}
 use Rattle.gfp_frames.proofs.reader.GfpReader.advance.Goals as goal
 

@@ -1,6 +1,6 @@
 use Rattle.std.proofs.Common.{◌+◌, ◌-◌, ◌<◌, ◌≤◌, take, drop, length, false, subst, Bool, arith, length-drop}
 use Rattle.std.proofs.lemmas.List.{take_rest}
-use Rattle.gfp_frames.specs.Reader.{GoesOver}
+use Rattle.gfp_frames.specs.Steps.Reader.{GoesOver}
 use Rattle.gfp_frames.proofs.Over.{over_part, over_byte, over_kept_part}
 use Rattle.gfp_frames.proofs.reader.GfpReader.advance_over.Goals as goal
 

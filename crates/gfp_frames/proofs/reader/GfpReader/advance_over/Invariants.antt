@@ -1,5 +1,5 @@
 use Rattle.std.proofs.Common.{◌-◌, ◌≤◌, length, take, false}
-use Rattle.gfp_frames.specs.Reader.{GoesOver}
+use Rattle.gfp_frames.specs.Steps.Reader.{GoesOver}
 use Rattle.gfp_frames.proofs.reader.GfpReader.advance_over.Given as goal
 
 abbrev pub invariant-loop-at : goal.invariant-loop-at

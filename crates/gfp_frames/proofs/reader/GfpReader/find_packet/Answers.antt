@@ -1,6 +1,6 @@
 use Rattle.std.proofs.Common.{◌≡◌, ◌-◌, Bool, true, false, None, refl, subst, sym, ◌∙◌, length, take, drop}
 use Rattle.gfp_frames.specs.Area.{packet_in}
-use Rattle.gfp_frames.specs.Reader.{GoesOver}
+use Rattle.gfp_frames.specs.Steps.Reader.{GoesOver}
 use Rattle.gfp_frames.proofs.Packets.{to_part, before_part, some_news, none_there, part_within}
 use Rattle.gfp_frames.proofs.reader.GfpReader.find_packet.Goals as goal
 

@@ -1,5 +1,5 @@
 use Rattle.std.proofs.Common.{◌-◌, ◌≤◌, length, take, None}
-use Rattle.gfp_frames.specs.Reader.{GoesTo, NoneBefore}
+use Rattle.gfp_frames.specs.Steps.Reader.{GoesTo, NoneBefore}
 use Rattle.gfp_frames.proofs.reader.GfpReader.find_packet.Given as goal
 
 abbrev pub invariant-loop-at : goal.invariant-loop-at

@@ -1,5 +1,5 @@
 use Rattle.std.proofs.Common.{Bool, false, None, refl, subst}
-use Rattle.gfp_frames.specs.Reader.{Goes}
+use Rattle.gfp_frames.specs.Steps.Reader.{Goes}
 use Rattle.gfp_frames.proofs.Packets.{to_byte, some_news}
 use Rattle.gfp_frames.proofs.reader.GfpReader.find_packet_at.Goals as goal
 

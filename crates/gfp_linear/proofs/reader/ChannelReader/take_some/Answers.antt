@@ -1,7 +1,8 @@
 use Rattle.std.proofs.Common.{◌≡◌, ◌∙◌, List, ℕ, ◌++◌, ap, refl, sym, subst, take}
 use Rattle.std.specs.Prelude.{option_map, option_to_list}
 use Rattle.gfp_frames.specs.Reader.{ReaderState, HasRead}
-use Rattle.gfp_linear.specs.ChannelArrivals.{arrival_in, channel_arrivals, found_in, seen}
+use Rattle.gfp_linear.specs.ChannelArrivals.{arrival_in, channel_arrivals, seen}
+use Rattle.gfp_linear.specs.Steps.ChannelArrivals.{found_in}
 use Rattle.gfp_linear.proofs.Arrived.{some_seen, sized}
 use Rattle.gfp_linear.proofs.reader.ChannelReader.take_some.Goals as goal
 

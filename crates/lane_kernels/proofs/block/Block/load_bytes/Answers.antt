@@ -1,5 +1,5 @@
 use Rattle.std.proofs.Common.{◌≡◌, ◌+◌, ◌*◌, arith}
-use Rattle.lane_kernels.specs.Blocks.{by_bytes}
+use Rattle.lane_kernels.specs.Steps.Blocks.{by_bytes}
 use Rattle.lane_kernels.proofs.block.Block.load_bytes.Goals as goal
 
 pub returns : goal.returns

@@ -1,5 +1,5 @@
 use Rattle.std.proofs.Common.{◌≡◌, ◌+◌, ◌*◌, arith}
-use Rattle.lane_kernels.specs.Blocks.{by_groups}
+use Rattle.lane_kernels.specs.Steps.Blocks.{by_groups}
 use Rattle.lane_kernels.proofs.block.Block.load_groups.Goals as goal
 
 pub returns : goal.returns

@@ -1,6 +1,6 @@
 use Rattle.std.proofs.Common.{◌≡◌, ◌+◌, ◌*◌, arith, ap}
 use Rattle.lane_kernels.specs.declared.block.Block.{Block}
-use Rattle.lane_kernels.specs.Blocks.{by_bytes, puts}
+use Rattle.lane_kernels.specs.Steps.Blocks.{by_bytes, puts}
 use Rattle.lane_kernels.proofs.block.Block.store_bytes.Goals as goal
 
 pub returns : goal.returns

@@ -1,6 +1,6 @@
 use Rattle.std.proofs.Common.{◌≡◌, ◌+◌, ◌*◌, arith, ap}
 use Rattle.lane_kernels.specs.declared.block.Block.{Block}
-use Rattle.lane_kernels.specs.Blocks.{by_groups, puts}
+use Rattle.lane_kernels.specs.Steps.Blocks.{by_groups, puts}
 use Rattle.lane_kernels.proofs.block.Block.store_groups.Goals as goal
 
 pub returns : goal.returns

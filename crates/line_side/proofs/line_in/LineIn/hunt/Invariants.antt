@@ -1,6 +1,6 @@
 use Rattle.otn_base.specs.LineSlots.{slots_of}
 use Rattle.otn_ports.specs.InPlace.{in_view}
-use Rattle.line_side.specs.Reader.{AsksNoMore}
+use Rattle.line_side.specs.Steps.Reader.{AsksNoMore}
 use Rattle.line_side.proofs.Hunting.{HuntsOn}
 use Rattle.line_side.proofs.line_in.LineIn.hunt.Given as goal
 

@@ -1,5 +1,6 @@
 use Rattle.std.proofs.Common.{ap, ◌∙◌, refl}
-use Rattle.line_side.specs.Reader.{ReaderView, ending_after, left_after}
+use Rattle.line_side.specs.Reader.{ReaderView}
+use Rattle.line_side.specs.Steps.Reader.{ending_after, left_after}
 use Rattle.line_side.proofs.Steps.{look_over, look_by, not_open, is_opened}
 use Rattle.line_side.proofs.reader.LineReader.look_ahead.Goals as goal
 

@@ -1,5 +1,6 @@
 use Rattle.std.proofs.Common.{ap, ◌∙◌, refl, ◌+◌}
-use Rattle.line_side.specs.Reader.{ReaderView, ending_after, left_after}
+use Rattle.line_side.specs.Reader.{ReaderView}
+use Rattle.line_side.specs.Steps.Reader.{ending_after, left_after}
 use Rattle.otn_base.specs.Counts.{saturated}
 use Rattle.line_side.proofs.Steps.{advance_over, advance_short, advance_whole, same_view, not_open, is_opened, not_full, is_full}
 use Rattle.line_side.proofs.reader.LineReader.read_next.Goals as goal

@@ -1,6 +1,6 @@
 use Rattle.std.proofs.Common.{◌≡◌, List, false, Some, None, length, slice_get, refl, subst}
 use Rattle.std.proofs.lemmas.Option.{slice_get_read}
-use Rattle.node_links.specs.LinkMoves.{FirstOf}
+use Rattle.node_links.specs.Steps.LinkMoves.{FirstOf}
 use Rattle.node_links.specs.Moves.{has_client_in}
 use Rattle.node_moments.specs.NodeView.{NodeView}
 use Rattle.node_core.specs.Settling.{IsClientInCount}

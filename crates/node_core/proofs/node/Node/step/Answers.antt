@@ -7,7 +7,7 @@ use Rattle.otn_ports.specs.Racks.{bays_view, with_line_in, with_line_out, with_c
 use Rattle.otn_ports.proofs.BaysLaws.{line_in_seen, line_in_set, only_line_in, line_out_seen, line_out_set, only_line_out, client_in_seen, client_in_set, only_client_in, client_out_seen, client_out_set, only_client_out}
 use Rattle.otn_ports.proofs.PlacesLaws.{only_line_in_port, only_line_out_port, only_client_in_port, only_client_out_port}
 use Rattle.node_moments.specs.NodeView.{is_ready}
-use Rattle.node_moments.specs.NodeMoves.{LineInMove, LineOutMove, ClientInMove, ClientOutMove}
+use Rattle.node_moments.specs.Steps.NodeMoves.{LineInMove, LineOutMove, ClientInMove, ClientOutMove}
 use Rattle.node_moments.proofs.LineInMoves.{line_in_moves}
 use Rattle.node_moments.proofs.LineOutMoves.{line_out_moves}
 use Rattle.node_moments.proofs.ClientInMoves.{client_in_moves}

@@ -1,7 +1,7 @@
 use Rattle.std.proofs.Common.{◌≡◌, true, refl, sym, subst}
 use Rattle.otn_base.specs.declared.kind.PortName.TheVariants as port
 use Rattle.otn_ports.specs.InPlace.{in_view}
-use Rattle.node_moments.specs.NodeMoves.{ClientInMove}
+use Rattle.node_moments.specs.Steps.NodeMoves.{ClientInMove}
 use Rattle.node_moments.specs.NodeView.{NodeView, is_ready}
 use Rattle.node_moments.proofs.Later.{ready_open}
 use Rattle.node_moments.proofs.StepsKept.{client_kept}

@@ -3,7 +3,7 @@ use Rattle.std.proofs.lemmas.Option.{slice_get_read}
 use Rattle.otn_base.specs.declared.kind.PortName.TheVariants as port
 use Rattle.otn_ports.specs.InPlace.{in_view}
 use Rattle.line_side.specs.LineStands.{LineView}
-use Rattle.node_moments.specs.NodeMoves.{LineInMove}
+use Rattle.node_moments.specs.Steps.NodeMoves.{LineInMove}
 use Rattle.node_moments.specs.NodeView.{NodeView, is_ready}
 use Rattle.node_moments.proofs.Later.{ready_open}
 use Rattle.node_moments.proofs.Parts.{ready}

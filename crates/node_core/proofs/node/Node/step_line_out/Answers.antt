@@ -4,7 +4,7 @@ use Rattle.otn_base.specs.declared.kind.PortName.TheVariants as port
 use Rattle.otn_ports.specs.OutPlace.{out_view}
 use Rattle.node_links.specs.LineFrames.{FrameWritten}
 use Rattle.line_side.specs.LineOutput.{LineOutView}
-use Rattle.node_moments.specs.NodeMoves.{LineOutMove}
+use Rattle.node_moments.specs.Steps.NodeMoves.{LineOutMove}
 use Rattle.node_moments.specs.NodeView.{NodeView, is_ready, done_at}
 use Rattle.node_moments.proofs.Later.{ready_open}
 use Rattle.node_moments.proofs.Parts.{ready}

@@ -4,7 +4,7 @@ use Rattle.otn_ports.specs.Views.{InView}
 use Rattle.packet_text.specs.LinesStand.{lines_view}
 use Rattle.packet_text.specs.declared.line.Line.TheVariants.{Packet}
 use Rattle.odu_client.specs.Framing.{ClientStands}
-use Rattle.odu_client.specs.FramerSteps.{Makes}
+use Rattle.odu_client.specs.Steps.FramerSteps.{Makes}
 use Rattle.odu_client.proofs.framer.ClientFramer.fill.Given as goal
 
 abbrev pub invariant-loop-done : goal.invariant-loop-done

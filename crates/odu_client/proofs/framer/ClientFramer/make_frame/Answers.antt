@@ -3,7 +3,7 @@ use Rattle.otn_ports.specs.InPlace.{in_view}
 use Rattle.packet_text.specs.LinesStand.{lines_view}
 use Rattle.odu_client.specs.AlignedRuns.{payload_of}
 use Rattle.odu_client.specs.Framing.{FramerState}
-use Rattle.odu_client.specs.FramerSteps.{FramedSome, Makes}
+use Rattle.odu_client.specs.Steps.FramerSteps.{FramedSome, Makes}
 use Rattle.odu_client.proofs.Framing.{makes_frame, some_left}
 use Rattle.odu_client.proofs.framer.ClientFramer.make_frame.Goals as goal
 

@@ -3,7 +3,8 @@ use Rattle.otn_ports.specs.InPlace.{in_view}
 use Rattle.otn_ports.specs.Views.{InView}
 use Rattle.packet_text.specs.LinesStand.{lines_view}
 use Rattle.packet_text.specs.declared.line.Line.TheVariants.{Packet}
-use Rattle.odu_client.specs.Framing.{StreamMade, TextStands, StreamGoes}
+use Rattle.odu_client.specs.Framing.{StreamMade, TextStands}
+use Rattle.odu_client.specs.Steps.Framing.{StreamGoes}
 use Rattle.odu_client.proofs.packet_stream.PacketStream.fill.Given as goal
 
 abbrev pub invariant-loop-done : goal.invariant-loop-done

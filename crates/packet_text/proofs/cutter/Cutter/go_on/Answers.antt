@@ -1,6 +1,6 @@
 use Rattle.std.proofs.Common.{◌≡◌, ◌≤◌, ◌+◌, ◌-◌, take, drop, length, arith, length-drop}
 use Rattle.std.proofs.lemmas.List.{length-take-le}
-use Rattle.packet_text.specs.Carrying.{Carried, NoneCarried}
+use Rattle.packet_text.specs.Steps.Carrying.{Carried, NoneCarried}
 use Rattle.packet_text.proofs.Cuts.{by_some, by_none, hand_after, hand_none}
 use Rattle.packet_text.proofs.cutter.Cutter.go_on.Goals as goal
 

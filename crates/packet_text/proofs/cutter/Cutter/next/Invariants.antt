@@ -1,6 +1,7 @@
 use Rattle.std.proofs.Common.{◌≡◌, ◌≤◌, true, length}
 use Rattle.otn_ports.specs.InPlace.{in_view}
-use Rattle.packet_text.specs.Cutting.{cut_view, at_line, CutsSome, blocks_left}
+use Rattle.packet_text.specs.Cutting.{cut_view}
+use Rattle.packet_text.specs.Steps.Cutting.{at_line, CutsSome, blocks_left}
 use Rattle.packet_text.specs.declared.cutter.Cut.TheVariants.{More}
 use Rattle.packet_text.proofs.cutter.Cutter.next.Given as goal
 

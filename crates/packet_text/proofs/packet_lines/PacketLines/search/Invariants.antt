@@ -1,7 +1,7 @@
 use Rattle.std.proofs.Common.{◌≡◌, ◌-◌, ℕ, List, true}
 use Rattle.otn_ports.specs.InPlace.{in_view}
 use Rattle.packet_text.specs.LinesStand.{lines_view, GoesOn}
-use Rattle.packet_text.specs.Finding.{Finds}
+use Rattle.packet_text.specs.Steps.Finding.{Finds}
 use Rattle.packet_text.specs.declared.found.Found.TheVariants.{Empty}
 use Rattle.packet_text.proofs.packet_lines.PacketLines.search.Given as goal
 

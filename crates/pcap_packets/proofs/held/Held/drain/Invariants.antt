@@ -1,6 +1,6 @@
 use Rattle.std.proofs.Common.{◌≡◌, length}
 use Rattle.pcap_packets.specs.HeldBytes.{held}
-use Rattle.pcap_packets.specs.Writing.{Went}
+use Rattle.pcap_packets.specs.Steps.Writing.{Went}
 use Rattle.pcap_packets.proofs.held.Held.drain.Given as goal
 
 abbrev pub invariant-loop-sink : goal.invariant-loop-sink

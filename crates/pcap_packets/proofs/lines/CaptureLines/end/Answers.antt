@@ -1,6 +1,6 @@
 use Rattle.std.proofs.Common.{◌≡◌, true}
 use Rattle.pcap_packets.specs.HeldBytes.{held}
-use Rattle.pcap_packets.specs.Captures.{is_waiting}
+use Rattle.pcap_packets.specs.Steps.Captures.{is_waiting}
 use Rattle.pcap_packets.specs.declared.lines.Stage.TheVariants.{Start}
 use Rattle.pcap_packets.proofs.Fronts.{ends_at_start}
 use Rattle.pcap_packets.proofs.lines.CaptureLines.end.Goals as goal

@@ -1,6 +1,6 @@
 use Rattle.std.proofs.Common.{◌≡◌, ◌≢◌, sym, [], true, refl}
 use Rattle.pcap_packets.specs.HeldBytes.{held}
-use Rattle.pcap_packets.specs.Captures.{is_waiting}
+use Rattle.pcap_packets.specs.Steps.Captures.{is_waiting}
 use Rattle.pcap_packets.specs.declared.lines.Stage.TheVariants.{Records}
 use Rattle.pcap_packets.proofs.Fronts.{ends_in_record, ends_well}
 use Rattle.pcap_packets.proofs.lines.CaptureLines.end_records.Goals as goal

@@ -1,6 +1,7 @@
 use Rattle.std.proofs.Common.{◌≡◌}
 use Rattle.std.specs.Option.{option_map}
-use Rattle.pcap_packets.specs.Captures.{lines_left, bytes_left}
+use Rattle.pcap_packets.specs.Captures.{lines_left}
+use Rattle.pcap_packets.specs.Steps.Captures.{bytes_left}
 use Rattle.pcap_packets.proofs.lines.CaptureLines.ready.Given as goal
 
 abbrev pub invariant-loop-self : goal.invariant-loop-self

@@ -1,6 +1,6 @@
 use Rattle.std.proofs.Common.{◌∙◌, ◌++◌, ap, arith}
 use Rattle.pcap_packets.specs.HeldBytes.{held}
-use Rattle.pcap_packets.specs.Captures.{stages_left}
+use Rattle.pcap_packets.specs.Steps.Captures.{stages_left}
 use Rattle.pcap_packets.proofs.Fronts.{header_made}
 use Rattle.pcap_packets.proofs.lines.CaptureLines.start_records.Goals as goal
 

@@ -1,6 +1,6 @@
 use Rattle.std.proofs.Common.{◌≡◌, ◌≤◌, ◌+◌, ◌-◌, [], length, take}
 use Rattle.pcap_packets.specs.HeldBytes.{held}
-use Rattle.pcap_packets.specs.Gathering.{Gathered}
+use Rattle.pcap_packets.specs.Steps.Gathering.{Gathered}
 use Rattle.pcap_packets.proofs.record.LineRecord.gather.Given as goal
 
 abbrev pub invariant-loop-more : goal.invariant-loop-more

@@ -1,7 +1,7 @@
 use Rattle.std.proofs.Common.{◌≡◌, ◌+◌, ◌-◌, ◌∙◌, arith, sym, ap, length, take, drop}
 use Rattle.pcap_packets.specs.HeldBytes.{held}
 use Rattle.pcap_packets.specs.Written.{packet_of, record_of}
-use Rattle.pcap_packets.specs.Gathering.{is_whole_line}
+use Rattle.pcap_packets.specs.Steps.Gathering.{is_whole_line}
 use Rattle.pcap_packets.proofs.ManyLines.{in_hand, part_went, rest_some}
 use Rattle.pcap_packets.proofs.record.LineRecord.stop.Goals as goal
 

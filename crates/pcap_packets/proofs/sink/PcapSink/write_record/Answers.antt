@@ -1,6 +1,6 @@
 use Rattle.std.proofs.Common.{[]}
 use Rattle.pcap_packets.specs.HeldBytes.{held}
-use Rattle.pcap_packets.specs.Writing.{Went}
+use Rattle.pcap_packets.specs.Steps.Writing.{Went}
 use Rattle.pcap_packets.proofs.Standing.{stand_either, got_whole, got_part, line_of_record, record_fits}
 use Rattle.pcap_packets.proofs.sink.PcapSink.write_record.Goals as goal
 

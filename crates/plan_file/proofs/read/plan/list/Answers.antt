@@ -1,6 +1,6 @@
 use Rattle.std.proofs.Common.{◌≡◌}
 use Rattle.plan_file.specs.Entry.{connection_of}
-use Rattle.plan_file.specs.Seen.{entries_in, entry_in}
+use Rattle.plan_file.specs.Steps.Seen.{entries_in, entry_in}
 use Rattle.plan_file.proofs.Filled.{filled_more}
 use Rattle.plan_file.proofs.read.plan.list.Goals as goal
 

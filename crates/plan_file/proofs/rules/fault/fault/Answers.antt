@@ -1,5 +1,5 @@
 use Rattle.std.proofs.Common.{◌∙◌, sym}
-use Rattle.plan_file.specs.Seen.{outline_in}
+use Rattle.plan_file.specs.Steps.Seen.{outline_in}
 use Rattle.plan_file.proofs.Faults.{fault_of_within, fault_of_many, few_entries}
 use Rattle.plan_file.proofs.rules.fault.fault.Goals as goal
 

@@ -1,7 +1,7 @@
 use Rattle.std.proofs.Common.{◌≡◌, drop}
 use Rattle.plan_file.specs.PlanRules.{plan_places}
 use Rattle.plan_file.specs.Places.{first_broken}
-use Rattle.plan_file.specs.Seen.{outline_in}
+use Rattle.plan_file.specs.Steps.Seen.{outline_in}
 use Rattle.plan_file.proofs.rules.fault.first_of.Given as goal
 
 abbrev pub invariant-loop-rule : goal.invariant-loop-rule

@@ -1,6 +1,6 @@
 use Rattle.std.proofs.Common.{◌∙◌, sym, take, arith}
 use Rattle.plan_file.specs.PlanRules.{clashes}
-use Rattle.plan_file.specs.Seen.{entries_in, entry_in}
+use Rattle.plan_file.specs.Steps.Seen.{entries_in, entry_in}
 use Rattle.plan_file.proofs.Steps.{any_go, any_stop, slice_get_front}
 use Rattle.plan_file.proofs.rules.first.clashes_before.Goals as goal
 

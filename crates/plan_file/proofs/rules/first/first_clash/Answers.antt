@@ -1,7 +1,7 @@
 use Rattle.std.proofs.Common.{◌∙◌, sym, ap}
 use Rattle.plan_file.specs.PlanRules.{clashes}
 use Rattle.plan_file.specs.Places.{first}
-use Rattle.plan_file.specs.Seen.{entries_in, entry_in}
+use Rattle.plan_file.specs.Steps.Seen.{entries_in, entry_in}
 use Rattle.plan_file.proofs.Steps.{later_go, later_stop}
 use Rattle.plan_file.proofs.rules.first.first_clash.Goals as goal
 

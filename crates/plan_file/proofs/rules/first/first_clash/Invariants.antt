@@ -1,7 +1,7 @@
 use Rattle.std.proofs.Common.{◌≡◌, drop, take}
 use Rattle.plan_file.specs.PlanRules.{clashes}
 use Rattle.plan_file.specs.Places.{places_after, later_places}
-use Rattle.plan_file.specs.Seen.{entries_in}
+use Rattle.plan_file.specs.Steps.Seen.{entries_in}
 use Rattle.plan_file.proofs.rules.first.first_clash.Given as goal
 
 abbrev pub invariant-loop-i : goal.invariant-loop-i

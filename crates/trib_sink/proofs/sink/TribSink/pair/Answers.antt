@@ -1,5 +1,5 @@
 use Rattle.std.proofs.Common.{◌∙◌, ap}
-use Rattle.trib_sink.specs.Pairs.{pair_of_standing}
+use Rattle.trib_sink.specs.Steps.Pairs.{pair_of_standing}
 use Rattle.trib_sink.specs.Sink.{Sink}
 use Rattle.trib_sink.proofs.Pairing.{pair_now}
 use Rattle.trib_sink.proofs.sink.TribSink.pair.Goals as goal

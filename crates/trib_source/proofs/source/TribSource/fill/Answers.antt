@@ -3,7 +3,8 @@ use Rattle.std.proofs.Common.{◌<◌, ◌*◌, sym, subst, refl, length}
 use Rattle.otn_base.specs.LineSlots.{slots_of}
 use Rattle.tributary_model.specs.Places.{tributary_of}
 use Rattle.tributary_model.specs.Puts.{IsSourcePlace}
-use Rattle.trib_source.specs.Rows.{groups_in_row, byte_laid, RowsWerePut}
+use Rattle.trib_source.specs.Rows.{groups_in_row}
+use Rattle.trib_source.specs.Steps.Rows.{byte_laid, RowsWerePut}
 use Rattle.trib_source.specs.Source.{Source, IsSource, StandsAfter}
 use Rattle.trib_source.proofs.Filled.{FramePut, own_frame, frame_kept, stands_filled, is_filled, left_put}
 use Rattle.trib_source.proofs.source.TribSource.fill.Goals as goal

@@ -1,7 +1,8 @@
 use Rattle.std.proofs.Common.{◌≡◌, ◌∙◌, ◌++◌, [], ◌∷◌, sym, subst, slice_range, arith}
 use Rattle.otn_ports.proofs.GivenLaws.{gained_twice}
 use Rattle.otn_ports.specs.OutPlace.{out_view}
-use Rattle.tributary_line.specs.FeedTurn.{FeedStands, FeedIn}
+use Rattle.tributary_line.specs.FeedTurn.{FeedStands}
+use Rattle.tributary_line.specs.Steps.FeedTurn.{FeedIn}
 use Rattle.tributary_line.proofs.FeedTurns.{begins_turn, ends_turn}
 use Rattle.tributary_line.proofs.feed.Feed.turn.Goals as goal
 

@@ -3,7 +3,7 @@ use Rattle.otn_ports.specs.Given.{Gained}
 use Rattle.otn_ports.specs.OutPlace.{out_view}
 use Rattle.otn_ports.specs.Views.{OutView}
 use Rattle.tributary_model.specs.Places.{Tributary}
-use Rattle.tributary_line.specs.FeedTurn.{FeedIn, IsBegun}
+use Rattle.tributary_line.specs.Steps.FeedTurn.{FeedIn, IsBegun}
 use Rattle.tributary_line.proofs.feed.Feed.turn.Given as goal
 
 -- the frames so far

@@ -2,7 +2,8 @@ use Rattle.std.proofs.Common.{◌≡◌, ℕ, List}
 use Rattle.otn_ports.specs.InPlace.{in_view}
 use Rattle.otn_ports.specs.Views.{InView}
 use Rattle.tributary_model.specs.Places.{Tributary}
-use Rattle.tributary_line.specs.TapTurn.{TapStands, TapMoves, IsInStep}
+use Rattle.tributary_line.specs.TapTurn.{TapStands, IsInStep}
+use Rattle.tributary_line.specs.Steps.TapTurn.{TapMoves}
 use Rattle.tributary_line.proofs.tap.Tap.take_frames.Given as goal
 
 -- the pieces so far

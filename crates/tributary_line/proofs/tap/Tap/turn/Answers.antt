@@ -2,7 +2,8 @@ use Rattle.std.proofs.Common.{◌++◌, ◌∙◌, ap, sym, subst}
 use Rattle.std.specs.Prelude.{slice_range}
 use Rattle.otn_ports.specs.InPlace.{in_view}
 use Rattle.line_side.specs.LineForm.{plain_otu2}
-use Rattle.tributary_line.specs.TapTurn.{TapView, TapMoves}
+use Rattle.tributary_line.specs.TapTurn.{TapView}
+use Rattle.tributary_line.specs.Steps.TapTurn.{TapMoves}
 use Rattle.tributary_line.proofs.TapTurns.{turn_ends}
 use Rattle.tributary_line.proofs.tap.Tap.turn.Goals as goal
 

@@ -1,5 +1,5 @@
 use Rattle.toml.specs.View.{table_view}
-use Rattle.plan_file.specs.Seen.{top_in}
+use Rattle.plan_file.specs.Steps.Seen.{top_in}
 use Rattle.plan_file.proofs.Sounds.{table_seen}
 use Rattle.plan_file.proofs.outline.whole.Outline.of_table.Goals as goal
 

@@ -1,7 +1,7 @@
 use Rattle.std.proofs.Common.{◌≡◌}
 use Rattle.toml.specs.View.{members_view}
 use Rattle.plan_table.specs.Keys.{knows_all}
-use Rattle.plan_table.specs.KeyList.{keys_in}
+use Rattle.plan_table.specs.Steps.KeyList.{keys_in}
 use Rattle.plan_table.proofs.keys.list.KeyList.knows_all.Given as goal
 
 abbrev pub invariant-loop-key : goal.invariant-loop-key

@@ -1,0 +1,5 @@
+-- What private contracts alone cite: the steps of functions. No promise stands on them.
+pub mod Receiving
+pub mod Parts
+pub mod Pipes
+pub mod InTurn

@@ -1,0 +1,21 @@
+-- Steps of `ask_for_more`: asking a line for one byte more.
+use Rattle.std.specs.Prelude.{◌≡◌, ℕ, List, [], length}
+use Rattle.otn_ports.specs.Given.{Gave}
+use Rattle.otn_ports.specs.Reads.{HasEnded}
+use Rattle.otn_ports.specs.Views.{InView, Dead}
+use Rattle.otn_ports.specs.declared.ended.Ended.{Ended}
+use Rattle.otn_ports.specs.declared.ended.Ended.TheVariants.{Done, Unfinished, Cut, ReportFault, Memory}
+
+-- the answer to one byte more
+abbrev pub ByteEnds : Ended → (taken : List ℕ) → (first now : InView) → Type 0
+ByteEnds Unfinished taken first now = (length taken ≡ 1) × (now.state ≡ first.state)
+ByteEnds Done taken first now = (taken ≡ []) × (now.state ≡ first.state) × HasEnded now.left now.ended
+ByteEnds Cut taken first now = (taken ≡ []) × (now.state ≡ Dead)
+ByteEnds ReportFault taken first now = ⊥
+ByteEnds Memory taken first now = ⊥
+
+-- a line that was asked for one byte more
+pub record ByteRun (first now : InView) (ended : Ended) : Type 0 where
+  pub taken : List ℕ
+  pub gave : Gave first taken now
+  pub ends : ByteEnds ended taken first now

@@ -1,0 +1,62 @@
+-- Steps of `finish`, `answer` and others: what private contracts alone cite, beside the definitions of `ViewRuns`.
+use Rattle.std.specs.Prelude.{◌≡◌, ◌≢◌, ◌<◌, ◌⊎◌, ◌+◌, ℕ, Bool, true, false, List, ◌++◌, length, flat_map}
+use Rattle.otn_ports.specs.Given.{Gave}
+use Rattle.otn_ports.specs.PortViews.{SinkView, SinkWrites}
+use Rattle.otn_ports.specs.Reads.{HasEnded}
+use Rattle.otn_ports.specs.Views.{InView, Dead}
+use Rattle.otn_ports.specs.declared.drain.Written.TheVariants as written
+use Rattle.otn_ports.specs.declared.ended.Ended.{Ended}
+use Rattle.otn_ports.specs.declared.ended.Ended.TheVariants.{Done, Unfinished, Cut, ReportFault, Memory}
+use Rattle.line_side.specs.LineForm.{LineForm}
+use Rattle.line_side.specs.LineStands.{LineView}
+use Rattle.line_side.specs.declared.ending.Ending.TheVariants.{Seen}
+use Rattle.line_view.specs.ViewText.{end_line, turn_line, tributary_line}
+use Rattle.line_view.specs.Steps.Viewing.{TurnMoves}
+use Rattle.line_view.specs.declared.told.TurnSeen.{TurnSeen}
+use Rattle.line_view.specs.declared.viewing.After.{After}
+use Rattle.line_view.specs.declared.viewing.After.TheVariants as next
+use Rattle.line_view.specs.declared.watched.Watched.{Watched}
+use Rattle.line_view.specs.ViewRuns.{written_of}
+
+-- the lines of a turn: its own, and one of each tributary
+unfoldable pub lines_of : (number : ℕ) → TurnSeen → List Watched → List ℕ
+lines_of number seen watched = turn_line number seen
+    ++ flat_map (λ one. tributary_line one.port one.sink.slots.list one.told) watched
+
+-- what a turn wrote of its lines
+abbrev pub TurnWrote : After → (ended : Bool) → (old new : SinkView) → (lines : List ℕ) → Type 0
+TurnWrote next.NextTurn ended old new lines = SinkWrites written.Whole old lines new × (ended ≡ false)
+TurnWrote next.LineEnded ended old new lines = SinkWrites written.Whole old lines new × (ended ≡ true)
+TurnWrote next.ReportFailed ended old new lines = SinkWrites written.Lost old lines new
+
+-- turn t + 1, from the line and the report as they were to how they are
+pub record TurnRun (form : LineForm) (first now : InView) (taken : List ℕ) (t : ℕ) (line later : LineView)
+    (olds news : List Watched) (old new : SinkView) (answer : After)
+    : Type 0 where
+  pub seen : TurnSeen
+  pub moves : TurnMoves form first now taken t line later olds news seen
+  pub wrote : TurnWrote answer seen.ended old new (lines_of (t + 1) seen news)
+
+-- how a view ends after its last turn: by the rest where the end was seen, else by one byte more, unless a write failed
+abbrev pub AnswerEnds : Ended → (line : LineView) → (came : List ℕ) → (was now : InView) → Type 0
+AnswerEnds Done line came was now =
+    (now.state ≢ Dead) × (came ≡ []) × (((line.reader.ending ≡ Seen) × (line.reader.rest ≡ 0) × (now ≡ was))
+    ⊎ ((line.reader.ending ≢ Seen) × HasEnded now.left now.ended))
+AnswerEnds Unfinished line came was now =
+    (now.state ≢ Dead) × (((line.reader.ending ≡ Seen) × (0 < line.reader.rest) × (came ≡ []) × (now ≡ was))
+    ⊎ ((line.reader.ending ≢ Seen) × (length came ≡ 1)))
+AnswerEnds Cut line came was now = (now.state ≡ Dead) × (came ≡ []) × ((now ≡ was) ⊎ (line.reader.ending ≢ Seen))
+AnswerEnds ReportFault line came was now = (came ≡ []) × (now ≡ was)
+AnswerEnds Memory line came was now = ⊥
+
+-- how a view ends: the bytes that came after the last turn, one at most, and the answer
+pub record AnswerRun (line : LineView) (was now : InView) (ended : Ended) : Type 0 where
+  pub came : List ℕ
+  pub gave : Gave was came now
+  pub ends : AnswerEnds ended line came was now
+
+-- the same, with the last line of the text
+pub record FinishRun (turns : ℕ) (line : LineView) (was now : InView) (old new : SinkView)
+    (ended : Ended) : Type 0 where
+  pub answer : AnswerRun line was now ended
+  pub wrote : SinkWrites (written_of ended) old (end_line turns line.reader.rest) new

@@ -1,0 +1,57 @@
+-- Steps of `new`, `new_watched` and others: what private contracts alone cite, beside the definitions of `Watching`.
+use Rattle.std.specs.Prelude.{◌≡◌, ◌<◌, ◌+◌, ℕ, List, ◌∷◌, ◌++◌, Bool, IsTrue, Option, Some, length, slice_get}
+use Rattle.otn_base.specs.LineSlots.{slots_of}
+use Rattle.tributary_model.specs.Places.{Tributary, Taken, View, tributary_of}
+use Rattle.trib_sink.specs.Sink.{StandsAfter, ended_view}
+use Rattle.line_view.specs.ViewText.{told_of}
+use Rattle.line_view.specs.declared.shown.Shown.{Shown}
+use Rattle.line_view.specs.declared.watched.Watched.{Watched}
+use Rattle.line_view.specs.Watching.{asked_of}
+
+-- the tributary that is watched
+abbrev pub own_of : Watched → Tributary
+own_of one = tributary_of one.sink.slots one.sink.port
+
+-- it is watched from before the line's first turn on
+pub record IsNew (shown : Shown) (one : Watched) : Type 0 where
+  pub own : own_of one ≡ asked_of shown
+  pub port : one.port ≡ one.sink.port
+  pub stands : StandsAfter (own_of one) [] [] one.sink
+  pub taken : one.sink.taken ≡ 0
+  pub kind : one.sink.slots.kind ≡ shown.slots.kind
+
+-- the same tributary is watched
+pub record IsSame (old new : Watched) : Type 0 where
+  pub slots : new.sink.slots ≡ old.sink.slots
+  pub sink_port : new.sink.port ≡ old.sink.port
+  pub port : new.port ≡ old.port
+
+-- its sink took a frame, where the turn has not all of its frames
+pub record TookFrame (taken : Taken) (old new : Watched) : Type 0 where
+  pub same : IsSame old new
+  pub count : old.sink.taken < slots_of old.sink.slots.kind → new.sink.taken ≡ old.sink.taken + 1
+  pub stands : old.sink.taken < slots_of old.sink.slots.kind
+      → (own : Tributary) (past : List (Option View)) (frames : List Taken) → StandsAfter own past frames old.sink
+      → StandsAfter own past (frames ++ taken ∷ []) new.sink
+
+-- its sink ended a turn that has its multiframe or not, and this is what the turn says
+pub record EndedTurn (whole : Bool) (old new : Watched) : Type 0 where
+  pub same : IsSame old new
+  pub count : new.sink.taken ≡ 0
+  pub stands : (IsTrue whole → old.sink.taken ≡ slots_of old.sink.slots.kind)
+      → (own : Tributary) (past : List (Option View)) (frames : List Taken) → StandsAfter own past frames old.sink
+      → StandsAfter own (ended_view own whole frames ∷ past) [] new.sink
+  pub told : (IsTrue whole → old.sink.taken ≡ slots_of old.sink.slots.kind)
+      → (own : Tributary) (past : List (Option View)) (frames : List Taken) → StandsAfter own past frames old.sink
+      → new.told ≡ told_of own past (ended_view own whole frames)
+
+-- each of them went from what it was to what it is in this way
+pub record EachWatched (Goes : Watched → Watched → Type 0) (olds news : List Watched) : Type 0 where
+  pub count : length news ≡ length olds
+  pub each : (i : ℕ) (old new : Watched) → slice_get olds i ≡ Some old → slice_get news i ≡ Some new → Goes old new
+
+-- they are watched on a line of this kind, each of those asked for by its number
+pub record AreNew (shown : List Shown) (watched : List Watched) : Type 0 where
+  pub count : length watched ≡ length shown
+  pub each : (i : ℕ) (one : Watched) → slice_get watched i ≡ Some one → (asked : Shown) → slice_get shown i ≡ Some asked
+      → IsNew asked one

@@ -1,0 +1,76 @@
+-- Steps of `link_from_client`, `link_to_client` and others: what a connection of a node does in a turn, and at its end.
+use Rattle.std.specs.Prelude.{◌≡◌, ◌<◌, ◌+◌, ℕ, suc, Bool, true, false, List, [], length, Option, Some, None, slice_get}
+use Rattle.otn_base.specs.LineSlots.{LineSlots, slots_of}
+use Rattle.otn_ports.specs.Views.{InView, OutView}
+use Rattle.maintenance_signals.specs.declared.signal.Signal.{Signal}
+use Rattle.plan_file.specs.declared.connection.Connection.{Connection}
+use Rattle.plan_file.specs.declared.connection.FromEnd.TheVariants as from_end
+use Rattle.trib_sink.specs.Sink.{ended_view}
+use Rattle.tributary_model.specs.Places.{Taken, View, tributary_of}
+use Rattle.device_model.specs.Entries.{first_turn, own_turn}
+use Rattle.device_model.specs.Through.{OwnInput, of_line}
+use Rattle.cross_matrix.specs.Parts.{IsOfClient, IsToClient, ClientInStands, ClientOutStands}
+use Rattle.cross_matrix.specs.Pipes.{PipeView, IsPipeOf, PipeStands, ClientTook}
+use Rattle.node_links.specs.Links.{IsLinkOf, SameEntry, is_on}
+use Rattle.node_links.specs.declared.link.Link.{Link}
+use Rattle.node_links.specs.declared.link.Origin.{Origin}
+use Rattle.node_links.specs.declared.link.Origin.TheVariants as origin
+
+-- a connection that is active in turn past + 1 takes from its client what the turn brings
+pub record TookText (past : ℕ) (old : Link) (was : InView) (new : Link) (is : InView) : Type 0 where
+  pub same : SameEntry old new
+  pub giving : new.pipe.giving ≡ old.pipe.giving
+  pub took : is_on past old ≡ true → (x : Connection) (first : InView) (taken : List ℕ) → IsLinkOf x old
+      → ClientInStands x first was taken (own_turn x past) old.pipe.taking
+      → ClientTook x first is taken (own_turn x past) old.pipe new.pipe
+
+-- a connection gives its client what the turn brings it
+pub record GaveText (old : Link) (was : OutView) (new : Link) (is : OutView) : Type 0 where
+  pub same : SameEntry old new
+  pub taking : new.pipe.taking ≡ old.pipe.taking
+  pub stands : (x : Connection) (input : OwnInput) (j filled : ℕ) (frames : List Taken) (ended : Bool)
+      → PipeStands x input j frames ended filled old.pipe → PipeStands x input j frames ended filled new.pipe
+  pub gave : (x : Connection) (input : OwnInput) (first : OutView) (j filled : ℕ) (frames : List Taken) (ended : Bool)
+      → PipeStands x input j frames ended filled old.pipe
+      → ClientOutStands x input first was j old.pipe.giving → ClientOutStands x input first is (suc j) new.pipe.giving
+
+-- the turn of the line of a pipe ends, where the connection comes from one
+pub record EndsFrames (from : Origin) (whole : Bool) (old new : PipeView) : Type 0 where
+  pub entry : (x : Connection) → IsPipeOf x old → IsPipeOf x new
+  pub giving : new.giving ≡ old.giving
+  pub line : (line : ℕ) → from ≡ origin.Line line
+      → (x : Connection) (a number : ℕ) (slots : LineSlots) (shows : ℕ → Option View) (j filled : ℕ)
+      (frames : List Taken)
+      → x.from ≡ from_end.Line a number slots → (whole ≡ true → length frames ≡ slots_of slots.kind)
+      → PipeStands x (of_line shows) j frames false filled old
+      → ended_view (tributary_of slots number) whole frames ≡ shows (first_turn x + j)
+      → PipeStands x (of_line shows) j [] true filled new
+  pub client : (n : ℕ) → from ≡ origin.Client n → new ≡ old
+  pub signal : from ≡ origin.Signal → new ≡ old
+
+-- turn past + 1 of the pipe of a connection ends
+pub record EndsPipe (past : ℕ) (from : Origin) (whole : Bool) (old new : PipeView) : Type 0 where
+  pub entry : (x : Connection) → IsPipeOf x old → IsPipeOf x new
+  pub line : (line : ℕ) → from ≡ origin.Line line
+      → (x : Connection) (a number : ℕ) (slots : LineSlots) (shows : ℕ → Option View) (j filled : ℕ)
+      (frames : List Taken) → past + 1 ≡ x.start + j
+      → x.from ≡ from_end.Line a number slots → (whole ≡ true → length frames ≡ slots_of slots.kind)
+      → ended_view (tributary_of slots number) whole frames ≡ shows (first_turn x + j)
+      → PipeStands x (of_line shows) j frames false filled old → PipeStands x (of_line shows) (suc j) [] false 0 new
+  pub client : (n : ℕ) → from ≡ origin.Client n → (x : Connection) (m j filled : ℕ) (input : OwnInput)
+      → past + 1 ≡ x.start + j → x.from ≡ from_end.Client m
+      → PipeStands x input j [] true filled old → PipeStands x input (suc j) [] false 0 new
+  pub signal : from ≡ origin.Signal → (x : Connection) (signal : Signal) (j filled : ℕ) (input : OwnInput)
+      → past + 1 ≡ x.start + j → x.from ≡ from_end.Signal signal
+      → PipeStands x input j [] false filled old → PipeStands x input (suc j) [] false 0 new
+  pub text : (n : ℕ) → from ≡ origin.Client n → IsOfClient old.taking → new.taking ≡ old.taking
+  pub receiver : IsToClient old.giving → new.giving ≡ old.giving
+
+-- of some connections, one that meets the test, or none does
+abbrev pub first_of : (test : Link → Bool) → List Link → Option ℕ → Type 0
+first_of test links (Some i) = (i < length links) × ((link : Link) → slice_get links i ≡ Some link → test link ≡ true)
+first_of test links None = (i : ℕ) (link : Link) → slice_get links i ≡ Some link → test link ≡ false
+
+-- the same as a record
+pub record FirstOf (test : Link → Bool) (links : List Link) (found : Option ℕ) : Type 0 where
+  pub is : first_of test links found

@@ -1,0 +1,28 @@
+-- Steps of `have_frame`, `make_frame` and others: what private contracts alone cite, beside the definitions of
+-- `FramerSteps`.
+use Rattle.std.specs.Prelude.{◌≡◌, ℕ, List, ◌++◌}
+use Rattle.otn_ports.specs.Views.{InView}
+use Rattle.packet_text.specs.LinesStand.{LinesView, MayBe}
+use Rattle.odu_client.specs.Framing.{FramerState, TextStands, Framed}
+
+-- a framer that has made frames, of which these bytes are gone
+pub record FramedSome (first now : InView) (taken gone : List ℕ) (lines : LinesView)
+    (framer : FramerState) : Type 0 where
+  pub packets : List (List ℕ)
+  pub given : List ℕ
+  pub count : ℕ
+  pub text : TextStands first now taken packets lines framer.stream
+  pub framed : Framed packets given count gone framer
+
+-- a call in which the text may have gone on
+pub record Makes (first now : InView) (taken gone : List ℕ) (old new : LinesView) (was is : FramerState) : Type 0 where
+  pub came : List ℕ
+  pub stands : FramedSome first now (taken ++ came) gone new is
+  pub earlier : (text : List ℕ) → MayBe new (taken ++ came) text → MayBe old taken text
+  pub sapi : is.sapi ≡ was.sapi
+  pub fcs : is.stream.fcs ≡ was.stream.fcs
+
+-- these bytes of the frame in hand were given
+pub record Gives (bytes : List ℕ) (old new : FramerState) : Type 0 where
+  pub bytes_of : old.left ≡ bytes ++ new.left
+  pub same : new ≡ record old { left = new.left }

@@ -1,0 +1,44 @@
+-- Steps of `get_ready`, `fill_payload` and others: what private contracts alone cite, beside the definitions of
+-- `Framing`.
+use Rattle.std.specs.Prelude.{◌≡◌, ◌≢◌, ◌≤◌, ℕ, ◌+◌, Bool, List, ◌∷◌, ◌++◌, length}
+use Rattle.otn_ports.specs.Views.{InView}
+use Rattle.gfp_frames.specs.GfpText.{stream_frames}
+use Rattle.gfp_frames.specs.Maker.{HasMade}
+use Rattle.packet_text.specs.LinesStand.{LinesView, MayBe}
+use Rattle.otn_base.specs.Counts.{saturated}
+use Rattle.packet_text.specs.declared.line.Line.TheVariants.{Packet}
+use Rattle.odu_client.specs.ClientInput.{gfp_length}
+use Rattle.odu_client.specs.Framing.{StreamState, StreamMade, TextStands}
+
+-- the same where the next byte may be that of a packet's frame that is not begun, or of the first idle frame behind the
+-- packets
+pub record StreamReady (packets : List (List ℕ)) (given : List ℕ) (stream : StreamState) : Type 0 where
+  pub idles : ℕ
+  pub made : HasMade (stream_frames packets stream.fcs idles) given stream.maker
+  pub going : stream.answer ≡ Packet → (idles ≡ 0) × (stream.maker.hand ≢ [])
+  pub begun : (before : List (List ℕ)) (last : List ℕ) → packets ≡ before ++ last ∷ []
+      → gfp_length before stream.fcs ≤ length given
+  pub seen : stream.answer ≢ Packet → gfp_length packets stream.fcs ≤ length given
+  pub count : stream.packets ≡ saturated (length packets)
+
+-- what came of the text in a call: it may have gone on, if its lines had not ended
+pub record TextGoes (first now : InView) (taken : List ℕ) (packets : List (List ℕ)) (old new : LinesView) (fcs : Bool)
+    (stream : StreamState) : Type 0 where
+  pub came : List ℕ
+  pub more : List (List ℕ)
+  pub text : TextStands first now (taken ++ came) (packets ++ more) new stream
+  pub earlier : (text : List ℕ) → MayBe new (taken ++ came) text → MayBe old taken text
+  pub still : old.answer ≢ Packet → (more ≡ []) × (new ≡ old)
+  pub same : stream.fcs ≡ fcs
+
+-- so the text goes on, and the stream is ready for its next byte
+pub record GetsReady (first now : InView) (taken given : List ℕ) (packets : List (List ℕ)) (old new : LinesView)
+    (fcs : Bool) (stream : StreamState) : Type 0 where
+  pub goes : TextGoes first now taken packets old new fcs stream
+  pub ready : StreamReady (packets ++ goes.more) given stream
+
+-- so the text goes on, and the stream has given these bytes
+pub record StreamGoes (first now : InView) (taken given : List ℕ) (packets : List (List ℕ)) (old new : LinesView)
+    (fcs : Bool) (stream : StreamState) : Type 0 where
+  pub goes : TextGoes first now taken packets old new fcs stream
+  pub made : StreamMade (packets ++ goes.more) given stream

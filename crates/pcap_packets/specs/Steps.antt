@@ -1,0 +1,4 @@
+-- What private contracts alone cite: the steps of functions. No promise stands on them.
+pub mod Captures
+pub mod Writing
+pub mod Gathering

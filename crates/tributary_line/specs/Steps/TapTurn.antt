@@ -1,0 +1,13 @@
+-- Steps of `take_frames` and `take_piece`: what private contracts alone cite, beside the definitions of `TapTurn`.
+use Rattle.std.specs.Prelude.{ℕ, ◌+◌, false, List, ◌++◌}
+use Rattle.otn_ports.specs.Views.{InView}
+use Rattle.line_side.specs.MayBe.{MayBe}
+use Rattle.tributary_model.specs.Places.{Tributary}
+use Rattle.tributary_line.specs.TapTurn.{TapView, TapStands}
+
+-- some pieces of a turn went by
+pub record TapMoves (own : Tributary) (first now : InView) (taken : List ℕ) (t : ℕ) (old new : TapView) : Type 0 where
+  pub came : List ℕ
+  pub stands : TapStands own first now (taken ++ came) t new
+  pub earlier : (given : List ℕ) → MayBe false new.line.reader.ending (taken ++ came) given
+      → MayBe false old.line.reader.ending taken given
