@@ -1,4 +1,4 @@
--- Steps of `unfold`, `start` and others: bytes of a message that are folded into later ones. x^(8 * 93) is the sum of
+-- Steps of `begin`, `front32` and others: bytes of a message that are folded into later ones. x^(8 * 93) is the sum of
 -- x^(8 * c) for nine numbers c, divided by the generator 04C11DB7: so the remainder stays where a byte is left out and
 -- added to the bytes at nine places behind it.
 use Rattle.std.specs.Prelude.{ℕ, zero, suc, ◌+◌, List, [], ◌∷◌, bit_xor}

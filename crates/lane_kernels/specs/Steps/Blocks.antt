@@ -1,5 +1,5 @@
--- Steps of `every_second`, `every_fourth` and others: blocks of sixteen groups of eight bytes, as eight vectors of
--- sixteen bytes.
+-- Steps of `store_bytes`, `interleave` and others: blocks of sixteen groups of eight bytes, as eight vectors of sixteen
+-- bytes.
 use Rattle.std.specs.Prelude.{ℕ, ◌+◌, ◌*◌, List, [], ◌∷◌, ◌++◌, slice_index}
 use Rattle.std.specs.Simd.Lanes.{pick_l, put_chunk}
 use Rattle.lane_kernels.specs.declared.block.Block.{Block}

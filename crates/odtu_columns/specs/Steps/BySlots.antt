@@ -1,5 +1,5 @@
--- Steps of `join_row`, `clear_beside_payload` and others: what private contracts alone cite, beside the definitions of
--- `BySlots`.
+-- Steps of `clear_beside_payload`, `clear_between_rows` and others: what private contracts alone cite, beside the
+-- definitions of `BySlots`.
 use Rattle.std.specs.Prelude.{◌≡◌, ℕ, ◌+◌, ◌<◌, ◌≤◌, List, length, slice_index}
 use Rattle.frame_geometry.specs.Places.{place_of}
 use Rattle.otn_base.specs.declared.limits.TheConstants.{LINE_COLUMNS, LINE_FRAME_BYTES, PAYLOAD_COLUMNS}

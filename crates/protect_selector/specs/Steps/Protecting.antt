@@ -1,4 +1,4 @@
--- Steps of `turn`, `run_turns` and others: what private contracts alone cite, beside the definitions of `Protecting`.
+-- Steps of `run_turns`, `new` and others: what private contracts alone cite, beside the definitions of `Protecting`.
 use Rattle.std.specs.Prelude.{◌≡◌, ◌<◌, ℕ, suc, Bool, false, not, ◌||◌, List, ◌++◌, length, take}
 use Rattle.otn_base.specs.declared.line_kind.LineKind.TheVariants.{Otu2}
 use Rattle.otn_ports.specs.PortViews.{SinkGot}

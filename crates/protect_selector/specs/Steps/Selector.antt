@@ -1,4 +1,4 @@
--- Steps of `to_skip_in` and `cause_of`: what private contracts alone cite, beside the definitions of `Selector`.
+-- Steps of `cause_of` and `to_skip_in`: what private contracts alone cite, beside the definitions of `Selector`.
 use Rattle.std.specs.Prelude.{ℕ, ◌+◌, ◌-◌, ◌%◌, nat_lt, nat_le, not, ◌&&◌, if◌then◌else◌, Option, Some, None}
 use Rattle.tributary_model.specs.declared.turns.SinkState.{SinkState}
 use Rattle.protect_selector.specs.declared.side.Side.{Side}

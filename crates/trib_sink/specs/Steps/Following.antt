@@ -1,4 +1,5 @@
--- Steps of `from_up`, `gone_on` and others: what private contracts alone cite, beside the definitions of `Following`.
+-- Steps of `from_waiting`, `from_down` and others: what private contracts alone cite, beside the definitions of
+-- `Following`.
 use Rattle.std.specs.Prelude.{◌≡◌, ℕ, ◌<◌, ◌≤◌, Bool, Option, Some, None}
 use Rattle.otn_base.specs.declared.limits.TheConstants.{GROUPS}
 use Rattle.tributary_model.specs.declared.turns.Hearing.{Hearing}

@@ -1,4 +1,4 @@
--- Steps of `has_dead`, `run_turns` and others: what private contracts alone cite, beside the definitions of
+-- Steps of `has_dead`, `has_dead_output` and others: what private contracts alone cite, beside the definitions of
 -- `Unbundling`.
 use Rattle.std.specs.Prelude.{◌≡◌, ◌⊎◌, ◌<◌, ◌≤◌, ◌+◌, ◌*◌, ℕ, suc, false, List, ◌∷◌, ◌++◌, length}
 use Rattle.otn_base.specs.declared.limits.TheConstants.{CLIENTS, GROUPS}
