@@ -1,4 +1,4 @@
--- Steps of `new`, `turn` and others: the command within its turns, and at its end.
+-- Steps of `turn`, `run_turns` and others: the command within its turns, and at its end.
 use Rattle.std.specs.Prelude.{◌≡◌, ◌≢◌, ◌*◌, ◌<◌, ◌≤◌, ◌/◌, ℕ, nat_le, ◌&&◌, ◌||◌, Bool, true, false, List, [], length}
 use Rattle.std.specs.List.{list_all}
 use Rattle.otn_base.specs.declared.limits.TheConstants.{NOMINAL}

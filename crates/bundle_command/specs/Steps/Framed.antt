@@ -1,4 +1,4 @@
--- Steps of `new`, `turn` and others: the client frames that carry the channels, and the turns of the command.
+-- Steps of `fill_front`, `fill` and others: the client frames that carry the channels, and the turns of the command.
 use Rattle.std.specs.Prelude.{◌≡◌, ◌<◌, ◌*◌, ℕ, List, [], ◌++◌, drop, length}
 use Rattle.std.specs.List.{concat}
 use Rattle.otn_base.specs.declared.limits.TheConstants.{CLIENT_FRAME_BYTES, NOMINAL}

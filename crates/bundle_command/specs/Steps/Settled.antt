@@ -1,4 +1,4 @@
--- Steps of `ended`, `has_dead` and others: the command at its end.
+-- Steps of `ended`, `are_ended` and others: the command at its end.
 use Rattle.std.specs.Prelude.{◌≡◌, ◌≢◌, ◌<◌, ◌-◌, ◌&&◌, ◌||◌, ℕ, Bool, true, false, not, List, [], ◌∷◌, ◌++◌, length, nat_le, set}
 use Rattle.otn_ports.specs.Steps.OnePlace.{OnlyClientIn}
 use Rattle.otn_ports.specs.Views.{InView, BaysView, client_in_at, line_out_at}

@@ -1,4 +1,4 @@
--- Steps of `word32`, `four_words32` and others: a register that takes its bits in at the top.
+-- Steps of `begin`, `front32` and others: a register that takes its bits in at the top.
 use Rattle.std.specs.Prelude.{ℕ, suc, ◌*◌, ◌/◌, ◌%◌, ◌^◌, fold, bit_xor}
 use Rattle.crc_small.specs.LongDivision.{bring_down, low_bits}
 

@@ -1,5 +1,4 @@
--- Steps of `gives_text`, `next_filled` and others: what private contracts alone cite, beside the definitions of
--- `InTurn`.
+-- Steps of `may_take`, `takes_text` and others: what private contracts alone cite, beside the definitions of `InTurn`.
 use Rattle.std.specs.Prelude.{ℕ, ◌==◌, Bool, true, false, ◌&&◌, Option, None, Some, nat_lt, is_some}
 use Rattle.otn_base.specs.LineSlots.{slots_of}
 use Rattle.cross_matrix.specs.declared.taking.TakingPart.{TakingPart}

@@ -1,4 +1,4 @@
--- Steps of `take`, `flush` and others: what private contracts alone cite, beside the definitions of `Receiving`.
+-- Steps of `hand_on`, `take_all` and others: what private contracts alone cite, beside the definitions of `Receiving`.
 use Rattle.std.specs.Prelude.{◌≡◌, ℕ, Bool, true, false, List, ◌++◌, length, flat_map}
 use Rattle.otn_ports.specs.Sent.{IsSent}
 use Rattle.otn_ports.specs.Views.{State, Empty, Live, Dead, OutView}

@@ -1,4 +1,4 @@
--- Steps of `put_loss`, `put_idle` and others: what private contracts alone cite, beside the definitions of `Weaver`.
+-- Steps of `put_packet`, `given_by` and others: what private contracts alone cite, beside the definitions of `Weaver`.
 use Rattle.std.specs.Prelude.{ℕ, ◌+◌, ◌-◌, ◌%◌, List, length, map, slice_index, slice_set}
 use Rattle.gfp_frames.specs.CoreHeader.{core_header}
 use Rattle.gfp_frames.specs.Maker.{made_frame}

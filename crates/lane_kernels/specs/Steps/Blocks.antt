@@ -1,4 +1,4 @@
--- Steps of `store_bytes`, `interleave` and others: blocks of sixteen groups of eight bytes, as eight vectors of sixteen
+-- Steps of `load_bytes`, `store_bytes` and others: blocks of sixteen groups of eight bytes, as eight vectors of sixteen
 -- bytes.
 use Rattle.std.specs.Prelude.{ℕ, ◌+◌, ◌*◌, List, [], ◌∷◌, ◌++◌, slice_index}
 use Rattle.std.specs.Simd.Lanes.{pick_l, put_chunk}

@@ -1,4 +1,4 @@
--- Steps of `write_turn` and `answer`: what private contracts alone cite, beside the definitions of `PullRuns`.
+-- Steps of `answer` and `write_turn`: what private contracts alone cite, beside the definitions of `PullRuns`.
 use Rattle.std.specs.Prelude.{◌≡◌, ◌≢◌, ◌<◌, ◌⊎◌, ℕ, Bool, true, false, List, Option, Some, None, length}
 use Rattle.otn_ports.specs.Bytes.{after}
 use Rattle.otn_ports.specs.Given.{Gave}

@@ -1,5 +1,5 @@
--- Steps of `step`, `hunt` and others: what the moves of an input line within a piece do. `size` is the number of frames
--- of a multiframe.
+-- Steps of `close`, `step` and others: what the moves of an input line within a piece do. `size` is the number of
+-- frames of a multiframe.
 use Rattle.std.specs.Prelude.{◌≡◌, ◌<◌, ◌+◌, ◌-◌, min, max, ℕ, Bool, true, false, if◌then◌else◌, List, length, nat_lt, option_map, Some, None, IsSome, slice_index}
 use Rattle.otn_ports.specs.Views.{InView}
 use Rattle.multiframe.specs.LineTurns.{Lock, one_if, looked_ahead, is_start, least_start}

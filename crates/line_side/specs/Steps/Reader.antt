@@ -1,4 +1,4 @@
--- Steps of `begins`, `look_ahead` and others: what private contracts alone cite, beside the definitions of `Reader`.
+-- Steps of `advance`, `read_next` and others: what private contracts alone cite, beside the definitions of `Reader`.
 use Rattle.std.specs.Prelude.{◌≡◌, ◌≢◌, ◌<◌, ◌+◌, max, ℕ, Bool, true, false, List, ◌++◌, length, Option, Some, None}
 use Rattle.otn_base.specs.Counts.{saturated}
 use Rattle.otn_base.specs.declared.limits.TheConstants.{LINE_FRAME_BYTES}

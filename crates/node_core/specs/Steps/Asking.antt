@@ -1,4 +1,4 @@
--- Steps of `has_open`, `has_dead` and others: what private contracts alone cite, beside the definitions of `Asking`.
+-- Steps of `has_dead`, `ask_lines` and others: what private contracts alone cite, beside the definitions of `Asking`.
 use Rattle.std.specs.Prelude.{◌≡◌, ◌<◌, ℕ, Bool, true, false, ◌&&◌, not, nat_lt, List, Some, slice_get}
 use Rattle.otn_base.specs.declared.kind.PortName.{PortName}
 use Rattle.otn_ports.specs.Views.{InView, BaysView}

@@ -1,4 +1,4 @@
--- Steps of `fill_line`, `fill_blank` and others: what private contracts alone cite, beside the definitions of
+-- Steps of `slot_map`, `allot_own` and others: what private contracts alone cite, beside the definitions of
 -- `LineFrames`.
 use Rattle.std.specs.Prelude.{◌≡◌, ◌<◌, ◌≤◌, ℕ, suc, Bool, true, false, List, ◌∷◌, slice_index}
 use Rattle.otn_base.specs.LineSlots.{LineSlots, slots_of}

@@ -1,4 +1,4 @@
--- Steps of `take_client`, `end_frames` and others: what a connection of a node does in a turn, and at its end.
+-- Steps of `end_frames`, `end_pipe` and others: what a connection of a node does in a turn, and at its end.
 use Rattle.std.specs.Prelude.{◌≡◌, ◌<◌, ◌+◌, ℕ, suc, Bool, true, false, List, [], length, Option, Some, None, slice_get}
 use Rattle.otn_base.specs.LineSlots.{LineSlots, slots_of}
 use Rattle.otn_ports.specs.Views.{InView, OutView}

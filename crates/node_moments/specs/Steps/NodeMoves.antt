@@ -1,4 +1,4 @@
--- Steps of `step_line_in`, `step_client_in` and others: what private contracts alone cite, beside the definitions of
+-- Steps of `step_client_in`, `step_client_out` and others: what private contracts alone cite, beside the definitions of
 -- `NodeMoves`.
 use Rattle.std.specs.Prelude.{◌≡◌, ◌≢◌, ℕ, None, slice_get}
 use Rattle.otn_base.specs.declared.kind.PortName.TheVariants as port

@@ -1,4 +1,4 @@
--- Steps of `fill_payload`, `fill_row` and others: what private contracts alone cite, beside the definitions of
+-- Steps of `get_ready`, `fill_payload` and others: what private contracts alone cite, beside the definitions of
 -- `Framing`.
 use Rattle.std.specs.Prelude.{◌≡◌, ◌≢◌, ◌≤◌, ℕ, ◌+◌, Bool, List, ◌∷◌, ◌++◌, length}
 use Rattle.otn_ports.specs.Views.{InView}

@@ -1,4 +1,4 @@
--- Steps of `lf_lanes`, `carry` and others: bytes that go on with a line.
+-- Steps of `carry`, `first_lf` and others: bytes that go on with a line.
 use Rattle.std.specs.Prelude.{◌≡◌, ◌<◌, ◌+◌, ◌==◌, ℕ, false, List, ◌∷◌, ◌++◌, map, length, take, drop, slice_index}
 use Rattle.std.specs.Simd.Lanes.{mask_l}
 use Rattle.packet_text.specs.TextLines.{has_lf}

@@ -1,4 +1,4 @@
--- Steps of `first_pairs`, `later_pairs` and others: what private contracts alone cite, beside the definitions of
+-- Steps of `all_marked`, `decode_block` and others: what private contracts alone cite, beside the definitions of
 -- `DigitMarks`.
 use Rattle.std.specs.Prelude.{ℕ, ◌≡◌, ◌<◌, ◌+◌, ◌*◌, ◌%◌, List, ◌∷◌, Ok, Err, slice_index, bit_and, bit_or}
 use Rattle.hex.specs.Hex.{pair_value}

@@ -1,4 +1,4 @@
--- Steps of `answer_for`, `search` and others: what private contracts alone cite, beside the definitions of `Finding`.
+-- Steps of `judge`, `search` and others: what private contracts alone cite, beside the definitions of `Finding`.
 use Rattle.std.specs.Prelude.{◌≡◌, ◌≢◌, ◌⊎◌, ◌+◌, ℕ, true, false, List, ◌∷◌, ◌++◌, length, Some, None}
 use Rattle.otn_ports.specs.Views.{InView, Live, Dead}
 use Rattle.otn_ports.specs.Given.{Gave}

@@ -1,4 +1,4 @@
--- Steps of `settle`, `start` and others: what private contracts alone cite, beside the definitions of `Captures`.
+-- Steps of `front_of`, `settle` and others: what private contracts alone cite, beside the definitions of `Captures`.
 use Rattle.std.specs.Prelude.{ℕ, ◌+◌, ◌-◌, ◌*◌, ◌≡◌, ◌<◌, ◌≤◌, ◌&&◌, not, nat_lt, Bool, true, false, List, length}
 use Rattle.pcap_packets.specs.CaptureText.{captured, is_whole_record}
 use Rattle.pcap_packets.specs.declared.order.ByteOrder.{ByteOrder}

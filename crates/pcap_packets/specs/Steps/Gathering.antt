@@ -1,4 +1,4 @@
--- Steps of `write_lines`, `stop` and others: lines whose records leave together.
+-- Steps of `write_lines`, `gather` and others: lines whose records leave together.
 use Rattle.std.specs.Prelude.{ℕ, ◌≡◌, ◌<◌, ◌+◌, ◌&&◌, nat_le, Bool, true, List, [], ◌∷◌, ◌++◌, length, take, drop, Option}
 use Rattle.otn_ports.specs.Bytes.{after}
 use Rattle.otn_ports.specs.declared.drain.Written.{Written}

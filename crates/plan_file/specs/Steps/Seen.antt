@@ -1,4 +1,4 @@
--- Steps of `at`, `name` and others: what private contracts alone cite, beside the definitions of `Seen`.
+-- Steps of `of_table`, `of_client` and others: what private contracts alone cite, beside the definitions of `Seen`.
 use Rattle.std.specs.Prelude.{List, map}
 use Rattle.toml.specs.View.{view}
 use Rattle.plan_file.specs.declared.outline.top.Top.{Top as TopView}

@@ -1,4 +1,4 @@
--- Steps of `connection`, `from_end` and others: a connection whose values fit the plan's types.
+-- Steps of `sound_plan`, `made_plan` and others: a connection whose values fit the plan's types.
 use Rattle.std.specs.Prelude.{◌≡◌, ℕ, ◌≤◌, ◌&&◌, IsTrue, Bool, true, false, List, Some, slice_get}
 use Rattle.std.specs.List.{list_all}
 use Rattle.otn_base.specs.LineSlots.{slots_of}

@@ -1,4 +1,4 @@
--- Steps of `put_clients_out`, `put_used_client_out` and others: the lines of the ports in the report of a run.
+-- Steps of `put_clients_in`, `put_used_client_in` and others: the lines of the ports in the report of a run.
 use Rattle.std.specs.Prelude.{ℕ, List}
 use Rattle.otn_base.specs.declared.kind.PortName.TheVariants as port
 use Rattle.otn_ports.specs.Views.{BaysView}

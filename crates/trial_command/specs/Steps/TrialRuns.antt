@@ -1,4 +1,4 @@
--- Steps of `last_run`, `lines_of_clients` and others: what private contracts alone cite, beside the definitions of
+-- Steps of `lines_of_clients`, `first_places` and others: what private contracts alone cite, beside the definitions of
 -- `TrialRuns`.
 use Rattle.std.specs.Prelude.{◌≡◌, ℕ, ◌<◌, List, Some, All, length}
 use Rattle.std.specs.List.{concat}

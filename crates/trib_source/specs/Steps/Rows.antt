@@ -1,4 +1,4 @@
--- Steps of `lay_groups`, `lay_each` and others: what private contracts alone cite, beside the definitions of `Rows`.
+-- Steps of `put_rows`, `lay_front` and others: what private contracts alone cite, beside the definitions of `Rows`.
 use Rattle.std.specs.Prelude.{◌≡◌, ℕ, ◌+◌, ◌-◌, ◌*◌, ◌<◌, ◌≤◌, List, if◌then◌else◌, length, slice_index}
 use Rattle.gmp_rule.specs.DataRule.{is_data_at, data_count}
 use Rattle.odtu_columns.specs.Put.{slot_place}

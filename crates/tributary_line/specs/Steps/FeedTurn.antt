@@ -1,4 +1,4 @@
--- Steps of `put_frame`, `fill_line` and others: what private contracts alone cite, beside the definitions of
+-- Steps of `put_frame`, `take_bytes` and others: what private contracts alone cite, beside the definitions of
 -- `FeedTurn`.
 use Rattle.std.specs.Prelude.{◌≡◌, ℕ, ◌+◌, ◌-◌, ◌*◌, ◌≤◌, List, IsSome, length}
 use Rattle.otn_base.specs.declared.limits.TheConstants.{LINE_COLUMNS, LINE_FRAME_BYTES, OTU2_SLOTS, ROWS}
