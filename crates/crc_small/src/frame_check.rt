@@ -38,7 +38,7 @@ pub fn crc32(bytes: &[u8]) -> u32
 }
 
 // The register after the first bytes, and how many they are: a long message is folded, but for its end.
-#[tactic(auto, unfolding(crate::specs::Folding::after_some))]
+#[tactic(auto, unfolding(crate::specs::Steps::Folding::after_some))]
 fn begin(bytes: &[u8]) -> (u32, usize)
     ensures within { result.1 ≤ length bytes.now }
     ensures register { result.0 ≡ after_some (slice_index bytes.now) 0 result.1 0xFFFFFFFF }

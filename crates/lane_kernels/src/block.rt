@@ -121,7 +121,7 @@ impl Block {
 
     // The vectors of the first half and of the second, byte by byte in turn.
     #[inline(always)]
-    #[tactic(auto, unfolding(crate::specs::Blocks::interleaved))]
+    #[tactic(auto, unfolding(crate::specs::Steps::Blocks::interleaved))]
     fn interleave(self) -> Block
         ensures { result ≡ interleaved self }
     {
