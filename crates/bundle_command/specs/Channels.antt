@@ -1,5 +1,5 @@
 -- API: how the channels stand with their clients' texts.
-use Rattle.std.specs.Prelude.{◌-◌, ℕ, suc, List, ◌∷◌}
+use Rattle.std.specs.Prelude.{◌-◌, ℕ, suc, List, [], ◌∷◌}
 
 -- ---- one channel
 

@@ -1,5 +1,5 @@
 -- API: a client's output: the packets that arrive, written as text.
-use Rattle.std.specs.Prelude.{◌≡◌, ℕ, List, ◌∷◌}
+use Rattle.std.specs.Prelude.{◌≡◌, ℕ, List, [], ◌∷◌}
 use Rattle.otn_ports.specs.Sent.{IsSent}
 use Rattle.otn_ports.specs.Views.{OutView}
 use Rattle.gfp_frames.specs.Reader.{ReaderState, HasRead}

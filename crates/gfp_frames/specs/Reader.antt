@@ -1,5 +1,5 @@
 -- API: a reader of GFP frames, as contracts see it.
-use Rattle.std.specs.Prelude.{◌≡◌, ℕ, ◌==◌, nat_le, ◌&&◌, Bool, if◌then◌else◌, List, ◌∷◌, ◌++◌, drop}
+use Rattle.std.specs.Prelude.{◌≡◌, ℕ, ◌==◌, nat_le, ◌&&◌, Bool, if◌then◌else◌, List, [], ◌∷◌, ◌++◌, drop}
 use Rattle.gfp_frames.specs.Delineation.{whole_area, from_hunt, from_presync, from_sync}
 use Rattle.gfp_frames.specs.Delivered.{plain_areas, areas_in}
 use Rattle.gfp_frames.specs.declared.phase.Phase.{Phase}

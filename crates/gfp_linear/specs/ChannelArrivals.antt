@@ -1,5 +1,5 @@
 -- Believed: what arrives on channels in a list of bytes.
-use Rattle.std.specs.Prelude.{ℕ, ◌≤◌, ◌-◌, ◌==◌, nat_lt, nat_le, ◌&&◌, Bool, true, if◌then◌else◌, List, ◌∷◌, Option, Some, None, length, take, drop, flat_map, option_to_list, slice_index}
+use Rattle.std.specs.Prelude.{ℕ, ◌≤◌, ◌-◌, ◌==◌, nat_lt, nat_le, ◌&&◌, Bool, true, if◌then◌else◌, List, [], ◌∷◌, Option, Some, None, length, take, drop, flat_map, option_to_list, slice_index}
 use Rattle.crc_small.specs.LongDivision.{crc16_of, crc32_of}
 use Rattle.gfp_frames.specs.CoreHeader.{number_of_two}
 use Rattle.gfp_frames.specs.Area.{pti, pfi, exi, upi, thec_is_right, last_four}

@@ -1,5 +1,5 @@
 -- API: a maker of the frames of several channels, as contracts see it.
-use Rattle.std.specs.Prelude.{replicate, ◌≡◌, ℕ, ◌+◌, ◌-◌, ◌<◌, nat_lt, if◌then◌else◌, List, ◌∷◌, ◌++◌, Option, Some, None, length, map, reverse, slice_index}
+use Rattle.std.specs.Prelude.{replicate, ◌≡◌, ℕ, ◌+◌, ◌-◌, ◌<◌, nat_lt, if◌then◌else◌, List, [], ◌∷◌, ◌++◌, Option, Some, None, length, map, reverse, slice_index}
 use Rattle.gfp_frames.specs.Maker.{MakerState, HasMade}
 use Rattle.gfp_linear.specs.Weave.{ChannelText, WovenFrame, IdleFrame, made_of, is_loss_of, last_giver, asked_first, asked_after, next_of, next_frame, weave}
 

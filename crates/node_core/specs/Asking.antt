@@ -1,5 +1,5 @@
 -- API: how the lines of a node are asked for one byte more at its end, and what the end comes to.
-use Rattle.std.specs.Prelude.{◌≡◌, ◌<◌, ◌≤◌, ℕ, Bool, ◌&&◌, not, nat_lt, List, Some, slice_get}
+use Rattle.std.specs.Prelude.{◌≡◌, ◌<◌, ◌≤◌, ℕ, Bool, ◌&&◌, not, nat_lt, List, [], Some, slice_get}
 use Rattle.otn_base.specs.declared.kind.PortName.TheVariants as port
 use Rattle.otn_ports.specs.Views.{BaysView, line_in_at}
 use Rattle.line_side.specs.LineStands.{LineView}

@@ -1,5 +1,5 @@
 -- API: client places that are emptied, one connection after the other.
-use Rattle.std.specs.Prelude.{◌≡◌, ◌+◌, ◌==◌, ◌&&◌, ◌||◌, ℕ, Bool, false, List, ◌∷◌}
+use Rattle.std.specs.Prelude.{◌≡◌, ◌+◌, ◌==◌, ◌&&◌, ◌||◌, ℕ, Bool, false, List, [], ◌∷◌}
 use Rattle.otn_ports.specs.Views.{BaysView, client_in_at, client_out_at}
 use Rattle.device_model.specs.RetiredPlaces.{after_retire, out_after_retire}
 use Rattle.node_links.specs.Moves.{is_from_client, is_to_client}

@@ -1,5 +1,5 @@
 -- API: a line's frame whose payload is kept by the tributary slots of an OTU2, each row for itself.
-use Rattle.std.specs.Prelude.{◌≡◌, ℕ, ◌+◌, ◌-◌, ◌/◌, ◌%◌, ◌<◌, ◌≤◌, Bool, false, ◌&&◌, nat_le, nat_lt, if◌then◌else◌, ◌==◌, List, get_or, map, slice_index}
+use Rattle.std.specs.Prelude.{◌≡◌, ℕ, ◌+◌, ◌-◌, ◌/◌, ◌%◌, ◌<◌, ◌≤◌, Bool, false, ◌&&◌, nat_le, nat_lt, if◌then◌else◌, ◌==◌, List, [], get_or, map, slice_index}
 use Rattle.std.specs.List.{range_with_len}
 use Rattle.frame_geometry.specs.Places.{place_of}
 use Rattle.lane_kernels.specs.SlotPlaces.{slot_bytes}

@@ -1,5 +1,5 @@
 -- API: steps of a framer.
-use Rattle.std.specs.Prelude.{ℕ, Bool, true, List}
+use Rattle.std.specs.Prelude.{ℕ, Bool, true, List, []}
 use Rattle.odu_client.specs.Framing.{FramerState}
 use Rattle.odu_client.specs.PacketStream.{fresh_stream}
 use Rattle.std.specs.Prelude.{None}

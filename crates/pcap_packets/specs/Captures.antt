@@ -1,5 +1,5 @@
 -- API: what is seen of a source over a capture.
-use Rattle.std.specs.Prelude.{ℕ, ◌+◌, Bool, List, ◌++◌, Option}
+use Rattle.std.specs.Prelude.{ℕ, ◌+◌, Bool, List, [], ◌++◌, Option}
 use Rattle.std.specs.Option.{option_map}
 use Rattle.pcap_packets.specs.CaptureText.{records_text, capture_text}
 use Rattle.pcap_packets.specs.HeldBytes.{held}

@@ -1,5 +1,5 @@
 -- API: where a writer of a capture stands.
-use Rattle.std.specs.Prelude.{ℕ, ◌≡◌, ◌^◌, ◌&&◌, not, nat_lt, Bool, true, if◌then◌else◌, List, ◌∷◌, ◌++◌, length, drop}
+use Rattle.std.specs.Prelude.{ℕ, ◌≡◌, ◌^◌, ◌&&◌, not, nat_lt, Bool, true, if◌then◌else◌, List, [], ◌∷◌, ◌++◌, length, drop}
 use Rattle.pcap_packets.specs.Written.{header_written, record_of, is_none, capture_of, packets_written, packet_of}
 
 -- the packet whose record is being written, where a rest of that is left

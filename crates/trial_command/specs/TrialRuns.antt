@@ -1,5 +1,5 @@
 -- Believed: the runs of the trial, over places in memory.
-use Rattle.std.specs.Prelude.{ℕ, ◌*◌, false, true, List, Some}
+use Rattle.std.specs.Prelude.{ℕ, ◌*◌, false, true, List, [], Some}
 use Rattle.otn_ports.specs.Views.{Live, InView, OutView}
 use Rattle.trial_plans.specs.TrialPlans.{trial_turns}
 

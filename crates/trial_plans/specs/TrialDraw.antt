@@ -1,5 +1,5 @@
 -- Believed: the draw of the trial: the packets of its clients, of the words of a generator in their order.
-use Rattle.std.specs.Prelude.{◌≡◌, ℕ, zero, suc, ◌+◌, ◌%◌, List, ◌∷◌, ◌++◌, map}
+use Rattle.std.specs.Prelude.{◌≡◌, ℕ, zero, suc, ◌+◌, ◌%◌, List, [], ◌∷◌, ◌++◌, map}
 use Rattle.std.specs.List.{range_with_len}
 use Rattle.packet_text.specs.PacketText.{hex_text}
 use Rattle.rand_pcg.specs.Lcg.{Lcg}

@@ -1,5 +1,5 @@
 -- API: how a sink follows its tributary.
-use Rattle.std.specs.Prelude.{◌≡◌, ℕ, ◌+◌, ◌*◌, ◌-◌, ◌<◌, ◌≤◌, List, Option, Some, None}
+use Rattle.std.specs.Prelude.{◌≡◌, ℕ, ◌+◌, ◌*◌, ◌-◌, ◌<◌, ◌≤◌, List, [], Option, Some, None}
 use Rattle.otn_base.specs.declared.limits.TheConstants.{GROUPS}
 use Rattle.maintenance_signals.specs.declared.signal.Signal.TheVariants.{Ais}
 use Rattle.maintenance_signals.specs.Given.{StreamPlace, HasGiven}

@@ -1,5 +1,5 @@
 -- API: the data groups of a row, out of its payload columns.
-use Rattle.std.specs.Prelude.{ℕ, ◌+◌, ◌/◌, List, if◌then◌else◌}
+use Rattle.std.specs.Prelude.{ℕ, ◌+◌, ◌/◌, List, [], if◌then◌else◌}
 use Rattle.std.specs.List.{flat_map, enumerate_from}
 use Rattle.otn_base.specs.declared.limits.TheConstants.{PAYLOAD_COLUMNS}
 use Rattle.otn_base.specs.declared.line_kind.LineKind.{LineKind}

@@ -1,5 +1,5 @@
 -- Steps of `next`, `take` and others: what private contracts alone cite, beside the definitions of `Channels`.
-use Rattle.std.specs.Prelude.{◌≡◌, ◌≢◌, ◌⊎◌, ◌<◌, ◌≤◌, ◌*◌, ◌+◌, ◌-◌, ℕ, nat_le, Bool, true, false, if◌then◌else◌, List, ◌∷◌, ◌++◌, Option, Some, None, length, set, slice_get, slice_index, take}
+use Rattle.std.specs.Prelude.{◌≡◌, ◌≢◌, ◌⊎◌, ◌<◌, ◌≤◌, ◌*◌, ◌+◌, ◌-◌, ℕ, nat_le, Bool, true, false, if◌then◌else◌, List, [], ◌∷◌, ◌++◌, Option, Some, None, length, set, slice_get, slice_index, take}
 use Rattle.std.specs.List.{Contains, list_all}
 use Rattle.otn_base.specs.Counts.{saturated}
 use Rattle.otn_ports.specs.Steps.OnePlace.{OnlyClientIn}

@@ -1,5 +1,5 @@
 -- Steps of `hand_on`, `take_all` and others: what private contracts alone cite, beside the definitions of `Receiving`.
-use Rattle.std.specs.Prelude.{◌≡◌, ℕ, Bool, true, false, List, ◌++◌, length, flat_map}
+use Rattle.std.specs.Prelude.{◌≡◌, ℕ, Bool, true, false, List, [], ◌++◌, length, flat_map}
 use Rattle.otn_ports.specs.Sent.{IsSent}
 use Rattle.otn_ports.specs.Views.{State, Empty, Live, Dead, OutView}
 use Rattle.gfp_frames.specs.Delivered.{delivered}

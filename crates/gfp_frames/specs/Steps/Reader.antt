@@ -1,5 +1,5 @@
 -- Steps of `advance`, `advance_over` and others: what private contracts alone cite, beside the definitions of `Reader`.
-use Rattle.std.specs.Prelude.{◌≡◌, ℕ, ◌/◌, ◌%◌, ◌^◌, ◌<◌, nat_lt, Bool, if◌then◌else◌, List, ◌∷◌, ◌++◌, Option, length, take, drop, option_to_list}
+use Rattle.std.specs.Prelude.{◌≡◌, ℕ, ◌/◌, ◌%◌, ◌^◌, ◌<◌, nat_lt, Bool, if◌then◌else◌, List, [], ◌∷◌, ◌++◌, Option, length, take, drop, option_to_list}
 use Rattle.gfp_scrambler.specs.Register.{last_bits, descrambled}
 use Rattle.gfp_frames.specs.Delivered.{packets_in}
 use Rattle.gfp_frames.specs.declared.phase.Phase.{Phase}

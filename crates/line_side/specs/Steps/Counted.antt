@@ -1,5 +1,5 @@
 -- Steps of `take` and `take_ahead`: what private contracts alone cite, beside the definitions of `Counted`.
-use Rattle.std.specs.Prelude.{ℕ, List, ◌∷◌, ◌++◌}
+use Rattle.std.specs.Prelude.{ℕ, List, [], ◌∷◌, ◌++◌}
 use Rattle.line_side.specs.Counted.{Counted, HasCounted}
 
 -- one frame more was taken, whatever was before it

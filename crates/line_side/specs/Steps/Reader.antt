@@ -1,5 +1,5 @@
 -- Steps of `advance`, `read_next` and others: what private contracts alone cite, beside the definitions of `Reader`.
-use Rattle.std.specs.Prelude.{◌≡◌, ◌≢◌, ◌<◌, ◌+◌, max, ℕ, Bool, true, false, List, ◌++◌, length, Option, Some, None}
+use Rattle.std.specs.Prelude.{◌≡◌, ◌≢◌, ◌<◌, ◌+◌, max, ℕ, Bool, true, false, List, [], ◌++◌, length, Option, Some, None}
 use Rattle.otn_base.specs.Counts.{saturated}
 use Rattle.otn_base.specs.declared.limits.TheConstants.{LINE_FRAME_BYTES}
 use Rattle.otn_ports.specs.Views.{InView, Live, Dead}

@@ -1,5 +1,5 @@
 -- Steps of `finish`, `answer` and others: what private contracts alone cite, beside the definitions of `ViewRuns`.
-use Rattle.std.specs.Prelude.{◌≡◌, ◌≢◌, ◌<◌, ◌⊎◌, ◌+◌, ℕ, Bool, true, false, List, ◌++◌, length, flat_map}
+use Rattle.std.specs.Prelude.{◌≡◌, ◌≢◌, ◌<◌, ◌⊎◌, ◌+◌, ℕ, Bool, true, false, List, [], ◌++◌, length, flat_map}
 use Rattle.otn_ports.specs.Given.{Gave}
 use Rattle.otn_ports.specs.PortViews.{SinkView, SinkWrites}
 use Rattle.otn_ports.specs.Reads.{HasEnded}

@@ -1,6 +1,6 @@
 -- Steps of `new_watched`, `take_each` and others: what private contracts alone cite, beside the definitions of
 -- `Watching`.
-use Rattle.std.specs.Prelude.{◌≡◌, ◌<◌, ◌+◌, ℕ, List, ◌∷◌, ◌++◌, Bool, IsTrue, Option, Some, length, slice_get}
+use Rattle.std.specs.Prelude.{◌≡◌, ◌<◌, ◌+◌, ℕ, List, [], ◌∷◌, ◌++◌, Bool, IsTrue, Option, Some, length, slice_get}
 use Rattle.otn_base.specs.LineSlots.{slots_of}
 use Rattle.tributary_model.specs.Places.{Tributary, Taken, View, tributary_of}
 use Rattle.trib_sink.specs.Sink.{StandsAfter, ended_view}

@@ -1,6 +1,6 @@
 -- Steps of `slot_map`, `allot_own` and others: what private contracts alone cite, beside the definitions of
 -- `LineFrames`.
-use Rattle.std.specs.Prelude.{◌≡◌, ◌<◌, ◌≤◌, ℕ, suc, Bool, true, false, List, ◌∷◌, slice_index}
+use Rattle.std.specs.Prelude.{◌≡◌, ◌<◌, ◌≤◌, ℕ, suc, Bool, true, false, List, [], ◌∷◌, slice_index}
 use Rattle.otn_base.specs.LineSlots.{LineSlots, slots_of}
 use Rattle.otn_base.specs.declared.line_kind.LineKind.{LineKind}
 use Rattle.msi_table.specs.Psi.{IsGiven}

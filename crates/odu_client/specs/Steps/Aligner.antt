@@ -1,5 +1,5 @@
 -- Steps of `search` and `go_on`: what private contracts alone cite, beside the definitions of `Aligner`.
-use Rattle.std.specs.Prelude.{◌≡◌, ℕ, List, ◌∷◌, ◌++◌}
+use Rattle.std.specs.Prelude.{◌≡◌, ℕ, List, [], ◌∷◌, ◌++◌}
 use Rattle.odu_client.specs.declared.aligned.Aligned.{Aligned}
 use Rattle.odu_client.specs.Aligner.{AlignerState, to_come, news}
 

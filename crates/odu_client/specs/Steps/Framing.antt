@@ -1,6 +1,6 @@
 -- Steps of `get_ready`, `fill_payload` and others: what private contracts alone cite, beside the definitions of
 -- `Framing`.
-use Rattle.std.specs.Prelude.{◌≡◌, ◌≢◌, ◌≤◌, ℕ, ◌+◌, Bool, List, ◌∷◌, ◌++◌, length}
+use Rattle.std.specs.Prelude.{◌≡◌, ◌≢◌, ◌≤◌, ℕ, ◌+◌, Bool, List, [], ◌∷◌, ◌++◌, length}
 use Rattle.otn_ports.specs.Views.{InView}
 use Rattle.gfp_frames.specs.GfpText.{stream_frames}
 use Rattle.gfp_frames.specs.Maker.{HasMade}

@@ -1,5 +1,5 @@
 -- Steps of `ask`: what private contracts alone cite, beside the definitions of `PacketStream`.
-use Rattle.std.specs.Prelude.{◌≡◌, ◌≢◌, ℕ, ◌+◌, List, ◌∷◌}
+use Rattle.std.specs.Prelude.{◌≡◌, ◌≢◌, ℕ, ◌+◌, List, [], ◌∷◌}
 use Rattle.otn_ports.specs.Views.{InView}
 use Rattle.gfp_frames.specs.Area.{client_area}
 use Rattle.gfp_frames.specs.Maker.{made_frame}

@@ -1,6 +1,6 @@
 -- Steps of `all_marked`, `decode_block` and others: what private contracts alone cite, beside the definitions of
 -- `DigitMarks`.
-use Rattle.std.specs.Prelude.{ℕ, ◌≡◌, ◌<◌, ◌+◌, ◌*◌, ◌%◌, List, ◌∷◌, Ok, Err, slice_index, bit_and, bit_or}
+use Rattle.std.specs.Prelude.{ℕ, ◌≡◌, ◌<◌, ◌+◌, ◌*◌, ◌%◌, List, [], ◌∷◌, Ok, Err, slice_index, bit_and, bit_or}
 use Rattle.hex.specs.Hex.{pair_value}
 use Rattle.hex.specs.declared.error.FromHexError.{FromHexError}
 use Rattle.packet_text.specs.DigitMarks.{mark}

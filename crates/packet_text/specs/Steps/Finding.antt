@@ -1,5 +1,5 @@
 -- Steps of `judge`, `search` and others: what private contracts alone cite, beside the definitions of `Finding`.
-use Rattle.std.specs.Prelude.{◌≡◌, ◌≢◌, ◌⊎◌, ◌+◌, ℕ, true, false, List, ◌∷◌, ◌++◌, length, Some, None}
+use Rattle.std.specs.Prelude.{◌≡◌, ◌≢◌, ◌⊎◌, ◌+◌, ℕ, true, false, List, [], ◌∷◌, ◌++◌, length, Some, None}
 use Rattle.otn_ports.specs.Views.{InView, Live, Dead}
 use Rattle.otn_ports.specs.Given.{Gave}
 use Rattle.otn_ports.specs.Reads.{HasEnded}

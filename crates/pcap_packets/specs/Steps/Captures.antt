@@ -1,5 +1,5 @@
 -- Steps of `front_of`, `settle` and others: what private contracts alone cite, beside the definitions of `Captures`.
-use Rattle.std.specs.Prelude.{ℕ, ◌+◌, ◌-◌, ◌*◌, ◌≡◌, ◌<◌, ◌≤◌, ◌&&◌, not, nat_lt, Bool, true, false, List, length}
+use Rattle.std.specs.Prelude.{ℕ, ◌+◌, ◌-◌, ◌*◌, ◌≡◌, ◌<◌, ◌≤◌, ◌&&◌, not, nat_lt, Bool, true, false, List, [], length}
 use Rattle.pcap_packets.specs.CaptureText.{captured, is_whole_record}
 use Rattle.pcap_packets.specs.declared.order.ByteOrder.{ByteOrder}
 use Rattle.pcap_packets.specs.HeldBytes.{held}

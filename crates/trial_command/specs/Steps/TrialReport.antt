@@ -1,6 +1,6 @@
 -- Steps of `line_of_client`, `count_lines` and others: what private contracts alone cite, beside the definitions of
 -- `TrialReport`.
-use Rattle.std.specs.Prelude.{ℕ, ◌+◌, ◌-◌, ◌/◌, ◌==◌, if◌then◌else◌, List, ◌∷◌, length}
+use Rattle.std.specs.Prelude.{ℕ, ◌+◌, ◌-◌, ◌/◌, ◌==◌, if◌then◌else◌, List, [], ◌∷◌, length}
 use Rattle.trial_command.specs.TrialReport.{client_line}
 
 -- whether a byte ends a line, as a count

@@ -1,6 +1,6 @@
 -- Steps of `from_waiting`, `from_down` and others: what private contracts alone cite, beside the definitions of
 -- `Following`.
-use Rattle.std.specs.Prelude.{◌≡◌, ℕ, ◌<◌, ◌≤◌, Bool, Option, Some, None}
+use Rattle.std.specs.Prelude.{◌≡◌, ℕ, ◌<◌, ◌≤◌, [], Bool, Option, Some, None}
 use Rattle.otn_base.specs.declared.limits.TheConstants.{GROUPS}
 use Rattle.tributary_model.specs.declared.turns.Hearing.{Hearing}
 use Rattle.tributary_model.specs.declared.turns.Hearing.TheVariants.{Damaged, Lost, Pair}

@@ -1,5 +1,5 @@
 -- Steps of `take_frame`, `take_rows` and others: what private contracts alone cite, beside the definitions of `Rows`.
-use Rattle.std.specs.Prelude.{ℕ, ◌+◌, List, ◌++◌, if◌then◌else◌}
+use Rattle.std.specs.Prelude.{ℕ, ◌+◌, List, [], ◌++◌, if◌then◌else◌}
 use Rattle.std.specs.List.{range_with_len, flat_map}
 use Rattle.otn_base.specs.declared.limits.TheConstants.{LINE_COLUMNS}
 use Rattle.otn_base.specs.LineSlots.{LineSlots, slots_of}

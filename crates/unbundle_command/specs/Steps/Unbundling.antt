@@ -1,6 +1,6 @@
 -- Steps of `has_dead`, `has_dead_output` and others: what private contracts alone cite, beside the definitions of
 -- `Unbundling`.
-use Rattle.std.specs.Prelude.{◌≡◌, ◌⊎◌, ◌<◌, ◌≤◌, ◌+◌, ◌*◌, ℕ, suc, false, List, ◌∷◌, ◌++◌, length}
+use Rattle.std.specs.Prelude.{◌≡◌, ◌⊎◌, ◌<◌, ◌≤◌, ◌+◌, ◌*◌, ℕ, suc, false, List, [], ◌∷◌, ◌++◌, length}
 use Rattle.otn_base.specs.declared.limits.TheConstants.{CLIENTS, GROUPS}
 use Rattle.otn_base.specs.declared.line_kind.LineKind.TheVariants.{Otu2}
 use Rattle.otn_ports.specs.Views.{Dead, BaysView, line_in_at, client_out_at}
