@@ -13,8 +13,7 @@ use Rattle.gfp_linear.proofs.Streams.{weave_starts}
 use Rattle.gfp_linear.proofs.Weaving.{some_cids}
 use Rattle.bundle_command.specs.ChannelInput.{texts_of}
 use Rattle.bundle_command.specs.BundleLeft.{IsClientList, place_of}
-use Rattle.bundle_command.specs.Channels.{left_to_ask}
-use Rattle.bundle_command.specs.Steps.Channels.{AreFresh, ChannelAt, HasChannel, IsUnasked, OnlyClients, WeavingHas, WeavingReady, WeavingStands, GoesRound, IsReady, woven_bytes}
+use Rattle.bundle_command.specs.Steps.Channels.{AreFresh, ChannelAt, HasChannel, IsUnasked, OnlyClients, WeavingHas, WeavingReady, WeavingStands, GoesRound, IsReady, left_to_ask, woven_bytes}
 use Rattle.bundle_command.specs.Steps.Framed.{OnlyInputs}
 use Rattle.bundle_command.specs.declared.channel.Channel.{Channel}
 use Rattle.bundle_command.specs.declared.channel.Standing.TheVariants as standing

@@ -2,5 +2,4 @@ pub mod ChannelInput
 pub mod BundleStream
 pub mod BundleLeft
 pub mod ClientText
-pub mod Channels
 pub mod Steps

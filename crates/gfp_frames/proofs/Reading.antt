@@ -12,8 +12,8 @@ use Rattle.gfp_frames.specs.CoreHeader.{area_size, header_in, right_pli, near_pl
 use Rattle.gfp_frames.specs.Area.{packet_in}
 use Rattle.gfp_frames.specs.Delineation.{whole_area, from_hunt, from_presync, from_sync, sync_areas}
 use Rattle.gfp_frames.specs.Delivered.{joined, cut_as, plain_areas, packets_in, areas_in, delivered}
-use Rattle.gfp_frames.specs.Reader.{ReaderState, may_want, areas_from, to_come, HasRead, hunts}
-use Rattle.gfp_frames.specs.Steps.Reader.{kept, slid, presync_after, sync_after, area_after, Goes}
+use Rattle.gfp_frames.specs.Reader.{ReaderState, may_want, areas_from, to_come, HasRead}
+use Rattle.gfp_frames.specs.Steps.Reader.{hunts, kept, slid, presync_after, sync_after, area_after, Goes}
 use Rattle.gfp_frames.specs.declared.phase.Phase.{Phase}
 use Rattle.gfp_frames.specs.declared.phase.Phase.TheVariants.{Hunt, PresyncArea, Presync, SyncArea, Sync}
 use Rattle.gfp_frames.proofs.Lists.{all_dropped}

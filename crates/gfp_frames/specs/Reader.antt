@@ -41,10 +41,6 @@ pub record HasRead (taken : List ℕ) (reader : ReaderState) : Type 0 where
 
 -- ---- steps of the reader
 
--- a reader after its start
-abbrev pub hunts : ReaderState
-hunts = record { phase = Hunt; wanted = 4; held = []; register = 0; area = [] }
-
 -- the areas that a step gives
 abbrev pub news : Bool → ReaderState → List (List ℕ)
 news found reader = if found then reader.area ∷ [] else []

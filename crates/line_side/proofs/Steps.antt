@@ -10,8 +10,8 @@ use Rattle.line_side.specs.LineForm.{through_mask}
 use Rattle.line_side.specs.LineFile.{frame_at, first_frames, whole_frames}
 use Rattle.line_side.specs.Counted.{Counted, HasCounted}
 use Rattle.line_side.specs.Steps.Counted.{CountsOn}
-use Rattle.line_side.specs.Reader.{ReaderView, HasRead, with_reading, count_of, rest_of, EndedAs}
-use Rattle.line_side.specs.Steps.Reader.{FrameRead, Advanced, LookedAhead, Advances, LooksAhead, with_ahead, taking, ending_after, left_after, ReadStep}
+use Rattle.line_side.specs.Reader.{ReaderView, HasRead, count_of, rest_of, EndedAs}
+use Rattle.line_side.specs.Steps.Reader.{FrameRead, Advanced, LookedAhead, Advances, LooksAhead, with_ahead, taking, with_reading, ending_after, left_after, ReadStep}
 use Rattle.otn_base.specs.Counts.{saturated}
 use Rattle.line_side.proofs.Giving.{step_none, step_kept}
 use Rattle.line_side.proofs.Frames.{frame_here, whole_here, short_here}

@@ -3,7 +3,6 @@ use Rattle.std.specs.Prelude.{◌≡◌, ◌≢◌, ◌<◌, ◌≤◌, ◌+◌,
 use Rattle.otn_base.specs.Counts.{saturated}
 use Rattle.otn_base.specs.declared.limits.TheConstants.{LINE_FRAME_BYTES}
 use Rattle.otn_ports.specs.Views.{InView, Dead}
-use Rattle.otn_ports.specs.declared.in_place.Reading.{Reading}
 use Rattle.line_side.specs.LineFile.{frame_at, first_frames, whole_frames}
 use Rattle.line_side.specs.Counted.{Counted, HasCounted}
 use Rattle.line_side.specs.declared.ending.Ending.{Ending}
@@ -44,10 +43,6 @@ pub record HasRead (given : List ℕ) (n u w : ℕ) (r : ReaderView) : Type 0 wh
   pub frames : r.frames ≡ saturated u
   pub rest : r.rest ≡ rest_of r.ending given
   pub seen : HasCounted (first_frames given u) r.seen
-
--- the reader after a read of a frame that said this, but for the frame itself
-abbrev pub with_reading : Reading → ReaderView → ReaderView
-with_reading reading r = record r { ending = ending_after reading r.ending; rest = left_after reading r.rest }
 
 -- how the bytes ended, by the place: it died only where it is dead, and its end was seen only where it isn't
 pub record EndedAs (ending : Ending) (place : InView) : Type 0 where

@@ -7,7 +7,8 @@ use Rattle.frame_geometry.specs.Places.{place_of, payload_row_of}
 use Rattle.otn_base.specs.LineSlots.{IsSlotNumber}
 use Rattle.otn_base.specs.SlotList.{IsSlotList}
 use Rattle.odtu_columns.specs.Groups.{group_at, row_groups_of}
-use Rattle.odtu_columns.specs.Payload.{payload_group, payload_groups, run_groups}
+use Rattle.odtu_columns.specs.Payload.{payload_group, run_groups}
+use Rattle.odtu_columns.specs.Steps.Payload.{payload_groups}
 use Rattle.odtu_columns.proofs.LineCycles.{whole_cycles}
 use Rattle.odtu_columns.proofs.Rows.{cycle_byte}
 

@@ -6,10 +6,6 @@ use Rattle.std.specs.List.{range_with_len, flat_map}
 abbrev pub payload_group : (line_slots : ℕ) → List ℕ → List ℕ → (cycle : ℕ) → List ℕ
 payload_group line_slots payload slots cycle = map (λ slot. slice_index payload (line_slots * cycle + slot - 1)) slots
 
--- G.709 clause 19.1: those of the first n cycles, one after the other
-unfoldable pub payload_groups : (line_slots : ℕ) → List ℕ → List ℕ → (n : ℕ) → List ℕ
-payload_groups line_slots payload slots n = flat_map (payload_group line_slots payload slots) (range_with_len 0 n)
-
 -- G.709 clause 19.1: those of so many cycles from one on, one after the other
 unfoldable pub run_groups : (line_slots : ℕ) → List ℕ → List ℕ → (first count : ℕ) → List ℕ
 run_groups line_slots payload slots first count = flat_map (payload_group line_slots payload slots)

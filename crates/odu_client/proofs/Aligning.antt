@@ -4,8 +4,8 @@ use Rattle.std.proofs.lemmas.List.{take_at, drop_at, drop-append-le, take_more}
 use Rattle.std.proofs.Math.Seq.{take-add, take-length}
 use Rattle.std.proofs.lemmas.Bool.{cases_lt}
 use Rattle.odu_client.specs.AlignedRuns.{has_fas, misses_after, is_signal, Arrival, Broken, arrival_of, whole_frame, from_search, from_frame, searching, arrivals}
-use Rattle.odu_client.specs.Aligner.{AlignerState, to_come, HasAligned, news, GoesBy, Aligns, AlignsBy, searches_anew}
-use Rattle.odu_client.specs.Steps.Aligner.{Goes}
+use Rattle.odu_client.specs.Aligner.{AlignerState, to_come, HasAligned, news, Aligns, AlignsBy, searches_anew}
+use Rattle.odu_client.specs.Steps.Aligner.{Goes, GoesBy}
 use Rattle.odu_client.specs.declared.aligned.Aligned.{Aligned}
 use Rattle.odu_client.specs.declared.aligned.Aligned.TheVariants as aligned
 use Rattle.odu_client.proofs.Arriving.{search_step}

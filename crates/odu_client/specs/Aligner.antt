@@ -32,12 +32,6 @@ pub record Aligns (taken : List ℕ) (byte : ℕ) (result : Aligned) (frame : Li
   pub arrived : arrivals (taken ++ byte ∷ []) ≡ arrivals taken ++ news result frame
   pub aligned : HasAligned (taken ++ byte ∷ []) new
 
--- so many bytes were taken at once
-pub record GoesBy (old : AlignerState) (came : List ℕ) (result : Aligned) (frame : List ℕ)
-    (new : AlignerState) : Type 0 where
-  pub each : (more : List ℕ) → to_come old (came ++ more) ≡ news result frame ++ to_come new more
-  pub none : to_come new [] ≡ []
-
 -- with these bytes more
 pub record AlignsBy (taken came : List ℕ) (result : Aligned) (frame : List ℕ) (new : AlignerState) : Type 0 where
   pub arrived : arrivals (taken ++ came) ≡ arrivals taken ++ news result frame

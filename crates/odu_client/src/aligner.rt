@@ -29,8 +29,8 @@ pub struct ClientAligner {
 
 impl ClientAligner {
     ghost use Rattle.odu_client.specs.AlignedRuns.{arrivals};
-    ghost use Rattle.odu_client.specs.Aligner.{AlignerState, HasAligned, Aligns, AlignsBy, GoesBy, searches_anew};
-    ghost use Rattle.odu_client.specs.Steps.Aligner.{Goes};
+    ghost use Rattle.odu_client.specs.Aligner.{AlignerState, HasAligned, Aligns, AlignsBy, searches_anew};
+    ghost use Rattle.odu_client.specs.Steps.Aligner.{Goes, GoesBy};
     ghost use Rattle.odu_client.specs.View.{aligner_state, handed, frames_after};
 
     /// An aligner that searches. All memory is taken here.

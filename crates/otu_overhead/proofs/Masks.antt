@@ -7,7 +7,8 @@ use Rattle.std.proofs.lemmas.Bool.{cond-true, cond-false}
 use Rattle.std.proofs.lemmas.Bool.Decides.{leb_tells}
 use Rattle.std.proofs.lemmas.List.{ext_get_or}
 use Rattle.std.proofs.lemmas.List.FromFn.{get_or-map-range_with_len, length-map-range_with_len}
-use Rattle.otu_overhead.specs.Mask.{bits_from, mask_byte, mask, masked}
+use Rattle.otu_overhead.specs.Mask.{bits_from, mask_byte, mask}
+use Rattle.otu_overhead.specs.Steps.Mask.{masked}
 
 pub length-mask : (scrambled : Bool) → length (mask scrambled) ≡ 16320
 unfolding mask

@@ -1,5 +1,5 @@
 -- Believed: the mask of a scrambled line.
-use Rattle.std.specs.Prelude.{ℕ, zero, suc, ◌+◌, ◌-◌, ◌*◌, ◌%◌, nat_le, Bool, if◌then◌else◌, List, [], ◌∷◌, bit_xor, length, map, replicate, slice_index}
+use Rattle.std.specs.Prelude.{ℕ, zero, suc, ◌+◌, ◌-◌, ◌*◌, ◌%◌, nat_le, Bool, if◌then◌else◌, List, ◌∷◌, length, map, replicate, slice_index}
 use Rattle.std.specs.List.{range_with_len}
 use Rattle.otn_base.specs.declared.limits.TheConstants.{LINE_FRAME_BYTES}
 use Rattle.frame_geometry.specs.declared.overhead.TheConstants.{FAS}
@@ -31,9 +31,3 @@ mask_byte place = if nat_le (length FAS) place then bits_from (8 * (place - leng
 -- the mask of a line, which is all 0 where the line is plain
 unfoldable pub mask : (scrambled : Bool) → List ℕ
 mask scrambled = map (λ place. if scrambled then mask_byte place else 0) (range_with_len 0 LINE_FRAME_BYTES)
-
--- each byte of a frame with the byte of a mask at its place, by exclusive or; past the mask a byte stays
-unfoldable pub masked : (mask frame : List ℕ) → List ℕ
-masked mask [] = []
-masked [] (byte ∷ frame) = byte ∷ frame
-masked (m ∷ mask) (byte ∷ frame) = bit_xor byte m ∷ masked mask frame

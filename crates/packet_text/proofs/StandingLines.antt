@@ -6,8 +6,7 @@ use Rattle.otn_ports.proofs.GivenLaws.{dead_not_live, gave_none, gave_twice}
 use Rattle.packet_text.specs.TextLines.{lines_of, full_lines, text_of_dead}
 use Rattle.packet_text.specs.PacketText.{packets_of, packets_behind, empty_lines}
 use Rattle.packet_text.specs.LinesStand.{LinesView, Begins, GoesOnWith, may_be, GoesOn, came_short, asked_for, ReadAsNeeded, LinesStand, TakeStands, fresh_lines, given_by, is_packet}
-use Rattle.packet_text.specs.Finding.{with_answer}
-use Rattle.packet_text.specs.Steps.Finding.{Rests, Finds, answer_of}
+use Rattle.packet_text.specs.Steps.Finding.{Rests, Finds, answer_of, with_answer}
 use Rattle.packet_text.specs.declared.line.Line.{Line}
 use Rattle.packet_text.specs.declared.line.Line.TheVariants as line
 use Rattle.packet_text.specs.declared.found.Found.{Found}

@@ -3,6 +3,5 @@ pub mod PacketText
 pub mod DigitMarks
 pub mod Cutting
 pub mod LinesStand
-pub mod Finding
 pub mod Laws
 pub mod Steps

@@ -14,8 +14,8 @@ use Rattle.odtu_columns.proofs.GroupRows.{each_slot, payload_group-frame}
 use Rattle.tributary_model.specs.Places.{Tributary, tributary_of, Taken, row_groups, frame_groups}
 use Rattle.tributary_model.specs.Emission.{data_bytes}
 use Rattle.tributary_model.proofs.OnLine.{number_of_kind}
-use Rattle.trib_sink.specs.Rows.{row_cycles, data_from}
-use Rattle.trib_sink.specs.Steps.Rows.{row_data, frame_row_data, with_frame}
+use Rattle.trib_sink.specs.Rows.{row_cycles}
+use Rattle.trib_sink.specs.Steps.Rows.{row_data, data_from, frame_row_data, with_frame}
 use Rattle.trib_sink.proofs.LineRows.{frames_asked}
 
 piece : (c : ℕ) → ℕ × List ℕ → List ℕ

@@ -1,5 +1,5 @@
--- Steps of `next`, `take` and others: what private contracts alone cite, beside the definitions of `Channels`.
-use Rattle.std.specs.Prelude.{◌≡◌, ◌≢◌, ◌⊎◌, ◌<◌, ◌≤◌, ◌*◌, ◌+◌, ◌-◌, ℕ, nat_le, Bool, true, false, if◌then◌else◌, List, [], ◌∷◌, ◌++◌, Option, Some, None, length, set, slice_get, slice_index, take}
+-- Steps of `next`, `take` and others: how the channels stand with their clients' texts.
+use Rattle.std.specs.Prelude.{◌≡◌, ◌≢◌, ◌⊎◌, ◌<◌, ◌≤◌, ◌*◌, ◌+◌, ◌-◌, ℕ, suc, nat_le, Bool, true, false, if◌then◌else◌, List, [], ◌∷◌, ◌++◌, Option, Some, None, length, set, slice_get, slice_index, take}
 use Rattle.std.specs.List.{Contains, list_all}
 use Rattle.otn_base.specs.Counts.{saturated}
 use Rattle.otn_ports.specs.Steps.OnePlace.{OnlyClientIn}
@@ -17,6 +17,8 @@ use Rattle.bundle_command.specs.declared.channel.Channel.{Channel}
 use Rattle.bundle_command.specs.declared.channel.Standing.{Standing}
 use Rattle.bundle_command.specs.declared.channel.Standing.TheVariants.{Fresh, Going, Ended, Bad, Lost, More}
 use Rattle.bundle_command.specs.declared.weaving.Weaving.{Weaving}
+
+-- ---- one channel
 
 -- how a channel stands after an answer of its lines, with a packet of so many bytes where it is one
 abbrev pub standing_of : Line → (size : ℕ) → Standing
@@ -83,6 +85,8 @@ pub record Answered (first now : InView) (taken : List ℕ) (given : List (List 
   pub earlier : (input : ClientInput) → MayShow (lines_view new.lines) (taken ++ came) input
       → MayShow (lines_view old.lines) taken input
 
+-- ---- bytes of frames
+
 unfoldable pub woven_bytes : (cids : List ℕ) → List WovenFrame → ℕ
 woven_bytes cids [] = 0
 woven_bytes cids (frame ∷ frames) = woven_size cids frame + woven_bytes cids frames
@@ -106,6 +110,8 @@ pub record IsUnasked (cids : List ℕ) (at : Woven) (end c : ℕ) : Type 0 where
   pub low : asked_first (length cids) (last_giver at.frames) + at.others ≤ c
   pub most : woven_bytes cids at.frames ≤ 4 + 65539 * asked_first (length cids) (last_giver at.frames)
   pub late : woven_bytes cids at.frames ≤ end + 4 + 12 * asked_first (length cids) (last_giver at.frames)
+
+-- ---- all channels
 
 -- a channel of the list
 abbrev pub HasChannel : List Channel → (c : ℕ) → Channel → Type 0
@@ -182,6 +188,11 @@ pub record IsStanding (now : BaysView) (weaving : Weaving) : Type 0 where
   pub given : List ℕ
   pub stands : WeavingStands clients first now given weaving
 
+-- how many channels are left to be asked for the next frame, and one more; none where a frame is in hand
+abbrev pub left_to_ask : (hand : List ℕ) → (count asked : ℕ) → ℕ
+left_to_ask [] count asked = suc (count - asked)
+left_to_ask (byte ∷ hand) count asked = 0
+
 -- a channel that gives no frame any more: its text is over, and its client is not lost
 abbrev pub is_over : Standing → Bool
 is_over Ended = true
@@ -194,6 +205,8 @@ is_over More = false
 -- all are so
 pub record AreOver (channels : List Channel) : Type 0 where
   pub each : (c : ℕ) (channel : Channel) → HasChannel channels c channel → is_over channel.standing ≡ true
+
+-- ---- steps
 
 -- this is the channel that is asked
 abbrev pub IsAsked : (index : ℕ) → WeaverState → Type 0

@@ -6,6 +6,10 @@ use Rattle.gfp_frames.specs.declared.phase.Phase.{Phase}
 use Rattle.gfp_frames.specs.declared.phase.Phase.TheVariants.{Hunt, PresyncArea, Presync, SyncArea, Sync}
 use Rattle.gfp_frames.specs.Reader.{ReaderState, to_come, news}
 
+-- a reader after its start
+abbrev pub hunts : ReaderState
+hunts = record { phase = Hunt; wanted = 4; held = []; register = 0; area = [] }
+
 -- one byte more, and no more news
 abbrev pub kept : ReaderState → ℕ → ReaderState
 kept reader byte = record reader { held = reader.held ++ byte ∷ []; area = [] }

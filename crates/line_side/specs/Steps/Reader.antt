@@ -63,6 +63,10 @@ left_after Full rest = rest
 left_after (End n) rest = n
 left_after Lost rest = rest
 
+-- the reader after a read of a frame that said this, but for the frame itself
+abbrev pub with_reading : Reading → ReaderView → ReaderView
+with_reading reading r = record r { ending = ending_after reading r.ending; rest = left_after reading r.rest }
+
 -- Once the bytes have ended, the place is asked nothing more, and they stay ended.
 abbrev pub AsksNoMore : {P : Type 0} → Ending → InPlaceOf P → Ending → InPlaceOf P → Type 0
 AsksNoMore old was new is = old ≢ Open → (is ≡ was) × (new ≢ Open)

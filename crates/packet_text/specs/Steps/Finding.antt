@@ -1,4 +1,4 @@
--- Steps of `judge`, `search` and others: what private contracts alone cite, beside the definitions of `Finding`.
+-- Steps of `judge`, `search` and others: what a search for the next line that counts finds.
 use Rattle.std.specs.Prelude.{◌≡◌, ◌≢◌, ◌⊎◌, ◌+◌, ℕ, true, false, List, [], ◌∷◌, ◌++◌, length, Some, None}
 use Rattle.otn_ports.specs.Views.{InView, Live, Dead}
 use Rattle.otn_ports.specs.Given.{Gave}
@@ -60,3 +60,7 @@ pub record Finds (result : Found) (taken : List ℕ) (packets : List (List ℕ))
   pub shown : result ≡ Bad → new.ended ≡ false → shows_bad (taken ++ came) ≡ true
   pub reads : Rests result came old new ⊎ ReadAsNeeded (came_short new.ended (answer_of result new.number))
       (length packets + 1) (taken ++ came)
+
+-- what is seen of the lines once what was found is their answer
+abbrev pub with_answer : Found → LinesView → LinesView
+with_answer result view = record view { answer = answer_of result view.number }

@@ -1,6 +1,6 @@
 -- Steps of `take_frame`, `take_rows` and others: what private contracts alone cite, beside the definitions of `Rows`.
 use Rattle.std.specs.Prelude.{ℕ, ◌+◌, List, [], ◌++◌, if◌then◌else◌}
-use Rattle.std.specs.List.{range_with_len, flat_map}
+use Rattle.std.specs.List.{range_with_len, flat_map, enumerate_from}
 use Rattle.otn_base.specs.declared.limits.TheConstants.{LINE_COLUMNS}
 use Rattle.otn_base.specs.LineSlots.{LineSlots, slots_of}
 use Rattle.gmp_rule.specs.DataRule.{is_data_at}
@@ -15,6 +15,10 @@ unfoldable pub row_data : (line_slots c before : ℕ) → (payload slots : List 
 row_data line_slots c before payload slots n =
     flat_map (λ x. if is_data_at c (before + x + 1) then payload_group line_slots payload slots x else [])
     (range_with_len 0 n)
+
+-- the bytes of the data groups among these, before which stand so many of the multiframe
+unfoldable pub data_from : (c before : ℕ) → List (List ℕ) → List ℕ
+data_from c before groups = flat_map (λ p. if is_data_at c (p.0) then p.1 else []) (enumerate_from (before + 1) groups)
 
 -- the bytes of the data groups of a row of a frame
 abbrev pub frame_row_data : (c before : ℕ) → (slots : LineSlots) → (frame : List ℕ) → (row : ℕ) → List ℕ
