@@ -11,6 +11,7 @@ use Rattle.plan_file.specs.declared.outline.entries.Entries.{Entries}
 use Rattle.plan_file.specs.declared.outline.entries.Entries.TheVariants as entries
 use Rattle.plan_file.specs.Entry.{End, at_line, at_client, of_signal, Entry, Top, Outline, seen}
 use Rattle.plan_file.specs.Table.{entry_at}
+use Rattle.plan_table.specs.Seen.{numbers_in}
 
 -- one end
 abbrev pub end_in : EndView → End
