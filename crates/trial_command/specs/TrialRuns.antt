@@ -1,7 +1,9 @@
 -- Believed: the runs of the trial, over places in memory.
-use Rattle.std.specs.Prelude.{ℕ, ◌*◌, false, true, List, [], Some}
+use Rattle.std.specs.Prelude.{ℕ, ◌+◌, ◌*◌, false, true, List, [], Some}
+use Rattle.otn_base.specs.declared.limits.TheConstants.{LINE_FRAME_BYTES}
 use Rattle.otn_ports.specs.Views.{Live, InView, OutView}
-use Rattle.trial_plans.specs.TrialPlans.{trial_turns}
+use Rattle.trial_plans.specs.TrialCarried.{longest_packet, trial_frames}
+use Rattle.trial_plans.specs.TrialPlans.{trial_packets, trial_turns}
 
 -- ---- places
 
@@ -12,6 +14,16 @@ holding bytes = record { state = Live; boxed = false; left = Some bytes; ended =
 -- a place with room in memory, to which nothing went
 abbrev pub waiting : OutView
 waiting = record { state = Live; boxed = false; got = Some []; keeps = true; faults = 0; number = 0 }
+
+-- ---- room
+
+-- bytes of the file of a line
+abbrev pub file_bytes : ℕ
+file_bytes = LINE_FRAME_BYTES * trial_frames
+
+-- bytes of the text of a client at most: two digits a byte, and LF behind each packet
+abbrev pub most_text : ℕ
+most_text = trial_packets * (2 * longest_packet + 1)
 
 -- ---- runs
 

@@ -1,4 +1,4 @@
--- Steps of `next`, `take` and others: how the channels stand with their clients' texts.
+-- Steps of `next`, `take` and others: what private contracts alone cite, beside the definitions of `Channels`.
 use Rattle.std.specs.Prelude.{◌≡◌, ◌≢◌, ◌⊎◌, ◌<◌, ◌≤◌, ◌*◌, ◌+◌, ◌-◌, ℕ, suc, nat_le, Bool, true, false, if◌then◌else◌, List, [], ◌∷◌, ◌++◌, Option, Some, None, length, set, slice_get, slice_index, take}
 use Rattle.std.specs.List.{Contains, list_all}
 use Rattle.otn_base.specs.Counts.{saturated}
@@ -13,12 +13,12 @@ use Rattle.odu_client.specs.ClientInput.{ClientInput, input_of}
 use Rattle.odu_client.specs.Framing.{MayDie}
 use Rattle.bundle_command.specs.ChannelInput.{is_short, texts_of}
 use Rattle.bundle_command.specs.BundleLeft.{IsClientList, place_of}
+use Rattle.bundle_command.specs.BundleStream.{IsAskedIn}
 use Rattle.bundle_command.specs.declared.channel.Channel.{Channel}
 use Rattle.bundle_command.specs.declared.channel.Standing.{Standing}
 use Rattle.bundle_command.specs.declared.channel.Standing.TheVariants.{Fresh, Going, Ended, Bad, Lost, More}
 use Rattle.bundle_command.specs.declared.weaving.Weaving.{Weaving}
-
--- ---- one channel
+use Rattle.bundle_command.specs.Channels.{HasAsked, IsGoing}
 
 -- how a channel stands after an answer of its lines, with a packet of so many bytes where it is one
 abbrev pub standing_of : Line → (size : ℕ) → Standing
@@ -85,8 +85,6 @@ pub record Answered (first now : InView) (taken : List ℕ) (given : List (List 
   pub earlier : (input : ClientInput) → MayShow (lines_view new.lines) (taken ++ came) input
       → MayShow (lines_view old.lines) taken input
 
--- ---- bytes of frames
-
 unfoldable pub woven_bytes : (cids : List ℕ) → List WovenFrame → ℕ
 woven_bytes cids [] = 0
 woven_bytes cids (frame ∷ frames) = woven_size cids frame + woven_bytes cids frames
@@ -109,9 +107,8 @@ pub record PacketsEnd (cids : List ℕ) (frames : List WovenFrame) (end : ℕ) :
 pub record IsUnasked (cids : List ℕ) (at : Woven) (end c : ℕ) : Type 0 where
   pub low : asked_first (length cids) (last_giver at.frames) + at.others ≤ c
   pub most : woven_bytes cids at.frames ≤ 4 + 65539 * asked_first (length cids) (last_giver at.frames)
+  pub none : IsAskedIn (length cids) at.frames c → ⊥
   pub late : woven_bytes cids at.frames ≤ end + 4 + 12 * asked_first (length cids) (last_giver at.frames)
-
--- ---- all channels
 
 -- a channel of the list
 abbrev pub HasChannel : List Channel → (c : ℕ) → Channel → Type 0
@@ -129,6 +126,8 @@ pub record ChannelAt (clients : List ℕ) (first now : BaysView) (taken : List �
       (packets_given c at.frames) channel
   pub client : channel.client ≡ slice_index clients c
   pub unasked : channel.standing ≡ Fresh → IsUnasked clients at end c
+  pub untouched : channel.standing ≡ Fresh → place_of clients now c ≡ place_of clients first c
+  pub asked : channel.standing ≢ Fresh → HasAsked (length clients) at c
 
 -- only clients' places of the command changed
 pub record OnlyClients (clients : List ℕ) (first now : BaysView) : Type 0 where
@@ -139,6 +138,7 @@ pub record WeavingHas (clients : List ℕ) (first now : BaysView) (taken : ℕ �
     (weaving : Weaving) : Type 0 where
   pub list : IsClientList clients
   pub woven : HasWoven clients at given weaving.maker
+  pub going : IsGoing (length clients) at
   pub many : length weaving.channels.items ≡ length clients
   pub end : ℕ
   pub ends : PacketsEnd clients at.frames end
@@ -165,14 +165,16 @@ pub record WeavingStands (clients : List ℕ) (first now : BaysView) (given : Li
   pub has : WeavingHas clients first now taken at given weaving
   pub unsettled : AreOpen weaving.channels.items
   pub begun : IsBegun clients at (length given - 1)
+  pub told : at.others ≡ 0
 
--- where it is that, or the next
+-- where it is that, or the next; while a frame is in hand no channel was asked for the next
 pub record WeavingReady (clients : List ℕ) (first now : BaysView) (given : List ℕ) (weaving : Weaving) : Type 0 where
   pub taken : ℕ → List ℕ
   pub at : Woven
   pub has : WeavingHas clients first now taken at given weaving
   pub unsettled : AreOpen weaving.channels.items
   pub begun : IsBegun clients at (length given)
+  pub told : weaving.maker.maker.hand ≢ [] → at.others ≡ 0
 
 -- it is so of some channels
 pub record IsReady (now : BaysView) (weaving : Weaving) : Type 0 where
@@ -205,8 +207,6 @@ is_over More = false
 -- all are so
 pub record AreOver (channels : List Channel) : Type 0 where
   pub each : (c : ℕ) (channel : Channel) → HasChannel channels c channel → is_over channel.standing ≡ true
-
--- ---- steps
 
 -- this is the channel that is asked
 abbrev pub IsAsked : (index : ℕ) → WeaverState → Type 0
