@@ -10,18 +10,17 @@ use Rattle.otn_ports.specs.declared.ended.Ended.TheVariants.{Done, Unfinished, C
 use Rattle.line_side.specs.LineForm.{LineForm}
 use Rattle.line_side.specs.LineStands.{LineView}
 use Rattle.line_side.specs.declared.ending.Ending.TheVariants.{Seen}
-use Rattle.line_view.specs.ViewText.{end_line, turn_line, tributary_line}
+use Rattle.line_view.specs.ViewText.{end_line, turn_line, msi_line}
 use Rattle.line_view.specs.Steps.Viewing.{TurnMoves}
 use Rattle.line_view.specs.declared.told.TurnSeen.{TurnSeen}
 use Rattle.line_view.specs.declared.viewing.After.{After}
 use Rattle.line_view.specs.declared.viewing.After.TheVariants as next
 use Rattle.line_view.specs.declared.watched.Watched.{Watched}
-use Rattle.line_view.specs.ViewRuns.{written_of}
+use Rattle.line_view.specs.ViewRuns.{written_of, watched_line}
 
--- the lines of a turn: its own, and one of each tributary
-unfoldable pub lines_of : (number : ℕ) → TurnSeen → List Watched → List ℕ
-lines_of number seen watched = turn_line number seen
-    ++ flat_map (λ one. tributary_line one.port one.sink.slots.list one.told) watched
+-- the lines of turn t + 1: its own, one of each MSI byte, and one of each tributary that is shown in it
+unfoldable pub lines_of : (t : ℕ) → TurnSeen → (msi : List (ℕ × ℕ)) → List Watched → List ℕ
+lines_of t seen msi watched = turn_line (t + 1) seen ++ (flat_map msi_line msi ++ flat_map (watched_line t) watched)
 
 -- what a turn wrote of its lines
 abbrev pub TurnWrote : After → (ended : Bool) → (old new : SinkView) → (lines : List ℕ) → Type 0
@@ -34,8 +33,9 @@ pub record TurnRun (form : LineForm) (first now : InView) (taken : List ℕ) (t 
     (olds news : List Watched) (old new : SinkView) (answer : After)
     : Type 0 where
   pub seen : TurnSeen
-  pub moves : TurnMoves form first now taken t line later olds news seen
-  pub wrote : TurnWrote answer seen.ended old new (lines_of (t + 1) seen news)
+  pub msi : List (ℕ × ℕ)
+  pub moves : TurnMoves form first now taken t line later olds news seen msi
+  pub wrote : TurnWrote answer seen.ended old new (lines_of t seen msi news)
 
 -- how a view ends after its last turn: by the rest where the end was seen, else by one byte more, unless a write failed
 abbrev pub AnswerEnds : Ended → (line : LineView) → (came : List ℕ) → (was now : InView) → Type 0
