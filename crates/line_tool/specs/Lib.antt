@@ -20,7 +20,7 @@ pub use Rattle.line_commands.specs.SlotReport
 pub use Rattle.line_commands.specs.SlotRuns
 pub use Rattle.check_command.specs.PlanCheck
 pub use Rattle.check_command.specs.PlanReading
-pub use Rattle.run_report.specs.RunReport
+pub use Rattle.run_report.specs.Steps.RunReport
 pub use Rattle.run_command.specs.DamagedLines
 pub use Rattle.run_command.specs.Headline
 pub use Rattle.run_command.specs.PlanRuns

@@ -15,10 +15,9 @@ use Rattle.device_model.proofs.TurnFrames.{frames_none}
 use Rattle.device_model.specs.TurnFrames.{frames_in}
 use Rattle.line_view.specs.ViewRuns.{ViewEnded}
 use Rattle.line_view.specs.ViewText.{Showing, all_slots, views_from}
-use Rattle.line_view.specs.Viewing.{frames_by, taken_by}
-use Rattle.line_view.specs.Steps.Viewing.{ViewStands}
-use Rattle.line_view.specs.Watching.{IsOnLine, asked_of, begun, showing_of}
-use Rattle.line_view.specs.Steps.Watching.{AreNew, IsNew, own_of}
+use Rattle.line_view.specs.Steps.Viewing.{ViewStands, frames_by, taken_by}
+use Rattle.line_view.specs.Watching.{IsOnLine, asked_of}
+use Rattle.line_view.specs.Steps.Watching.{AreNew, IsNew, begun, own_of, showing_of}
 use Rattle.line_view.specs.declared.shown.Shown.{Shown}
 use Rattle.line_view.specs.declared.watched.Watched.{Watched}
 use Rattle.line_view.proofs.Begun.{none_by, views_waits, zero_by}

@@ -8,11 +8,9 @@ use Rattle.tributary_model.specs.Places.{Tributary, Taken, View}
 use Rattle.trib_sink.specs.Sink.{StandsAfter}
 use Rattle.device_model.specs.LineViews.{view_at, views_until}
 use Rattle.device_model.specs.TurnFrames.{frames_in}
-use Rattle.line_view.specs.Viewing.{frames_by, taken_by}
-use Rattle.line_view.specs.Steps.Viewing.{HasSeen}
+use Rattle.line_view.specs.Steps.Viewing.{HasSeen, frames_by, taken_by}
 use Rattle.line_view.specs.ViewText.{views_from}
-use Rattle.line_view.specs.Watching.{begun}
-use Rattle.line_view.specs.Steps.Watching.{IsSame, own_of}
+use Rattle.line_view.specs.Steps.Watching.{IsSame, begun, own_of}
 use Rattle.line_view.specs.declared.watched.Watched.{Watched}
 use Rattle.line_view.proofs.Steps.{same_own}
 

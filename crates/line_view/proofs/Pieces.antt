@@ -15,10 +15,8 @@ use Rattle.tributary_model.specs.Places.{Taken, msi_in}
 use Rattle.trib_sink.specs.Sink.{Sink, StandsAfter}
 use Rattle.device_model.specs.TurnFrames.{member_of, frames_in}
 use Rattle.line_view.specs.ViewText.{all_slots, views_from}
-use Rattle.line_view.specs.Viewing.{frames_by, taken_by}
-use Rattle.line_view.specs.Steps.Viewing.{HasSeen, IsInStep, ViewStands, ViewMoves}
-use Rattle.line_view.specs.Watching.{begun}
-use Rattle.line_view.specs.Steps.Watching.{EachWatched, IsSame, TookFrame, own_of}
+use Rattle.line_view.specs.Steps.Viewing.{HasSeen, IsInStep, ViewStands, ViewMoves, frames_by, taken_by}
+use Rattle.line_view.specs.Steps.Watching.{EachWatched, IsSame, TookFrame, begun, own_of}
 use Rattle.line_view.specs.declared.watched.Watched.{Watched}
 use Rattle.line_view.proofs.Begun.{has_seen, seen_still}
 use Rattle.line_view.proofs.MsiBytes.{msi_more}

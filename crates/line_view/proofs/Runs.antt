@@ -30,7 +30,7 @@ use Rattle.line_view.specs.ViewRuns.{MayFollow, frames_wanted, bytes_taken, View
 use Rattle.line_view.specs.Steps.ViewRuns.{lines_of, TurnRun, FinishRun}
 use Rattle.line_view.specs.ViewText.{Showing, head_line, end_line, turn_text, text_until, turns_of, view_text}
 use Rattle.line_view.specs.Steps.Viewing.{ViewStands}
-use Rattle.line_view.specs.Watching.{showing_of}
+use Rattle.line_view.specs.Steps.Watching.{showing_of}
 use Rattle.line_view.specs.declared.told.TurnSeen.{TurnSeen}
 use Rattle.line_view.specs.declared.viewing.After.{After}
 use Rattle.line_view.specs.declared.viewing.After.TheVariants as next

@@ -11,8 +11,7 @@ use Rattle.tributary_model.specs.declared.turns.SinkState.{SinkState}
 use Rattle.trib_sink.specs.Pairs.{pair_after}
 use Rattle.line_view.specs.ViewText.{told_of}
 use Rattle.line_view.specs.declared.told.Told.{Told}
-use Rattle.line_view.specs.Watching.{showing_of}
-use Rattle.line_view.specs.Steps.Watching.{EachWatched, IsSame, own_of}
+use Rattle.line_view.specs.Steps.Watching.{EachWatched, IsSame, own_of, showing_of}
 use Rattle.line_view.specs.declared.watched.Watched.{Watched}
 
 drop_all : (list : List Watched) (k : ℕ) → length list ≤ k → drop k list ≡ []

@@ -12,11 +12,9 @@ use Rattle.otn_ports.specs.PortViews.{SinkGot, SinkView, SinkWrites}
 use Rattle.otn_ports.specs.declared.drain.Written.{Written}
 use Rattle.otn_ports.specs.declared.drain.Written.TheVariants as written
 use Rattle.line_side.specs.LineForm.{LineForm}
-use Rattle.line_view.specs.ViewRuns.{watched_line}
-use Rattle.line_view.specs.Steps.ViewRuns.{lines_of}
+use Rattle.line_view.specs.Steps.ViewRuns.{lines_of, watched_line}
 use Rattle.line_view.specs.ViewText.{is_shown, has_begun, msi_came, msi_line, seen_at, showing_text, told_at, turn_line, tributary_line, turn_text}
-use Rattle.line_view.specs.Watching.{begun, showing_of}
-use Rattle.line_view.specs.Steps.Watching.{own_of}
+use Rattle.line_view.specs.Steps.Watching.{begun, own_of, showing_of}
 use Rattle.line_view.specs.declared.told.TurnSeen.{TurnSeen}
 use Rattle.line_view.specs.declared.watched.Watched.{Watched}
 

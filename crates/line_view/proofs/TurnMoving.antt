@@ -17,10 +17,8 @@ use Rattle.device_model.proofs.TurnFrames.{frames_none, turn_frames}
 use Rattle.device_model.specs.LineViews.{view_at}
 use Rattle.device_model.specs.TurnFrames.{frames_in}
 use Rattle.line_view.specs.ViewText.{all_slots, counts_between, seen_at, told_of, told_at, views_from}
-use Rattle.line_view.specs.Viewing.{frames_by, taken_by}
-use Rattle.line_view.specs.Steps.Viewing.{HasSeen, IsInStep, ViewMoves, TurnMoves}
-use Rattle.line_view.specs.Watching.{begun}
-use Rattle.line_view.specs.Steps.Watching.{EachWatched, EndedTurn, own_of}
+use Rattle.line_view.specs.Steps.Viewing.{HasSeen, IsInStep, ViewMoves, TurnMoves, frames_by, taken_by}
+use Rattle.line_view.specs.Steps.Watching.{EachWatched, EndedTurn, begun, own_of}
 use Rattle.line_view.specs.declared.told.TurnCounts.{TurnCounts}
 use Rattle.line_view.specs.declared.told.TurnSeen.{TurnSeen}
 use Rattle.line_view.specs.declared.watched.Watched.{Watched}

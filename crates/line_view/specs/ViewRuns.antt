@@ -15,9 +15,7 @@ use Rattle.line_side.specs.Reader.{EndedAs, rest_of}
 use Rattle.line_side.specs.declared.ending.Ending.{Ending}
 use Rattle.line_side.specs.declared.ending.Ending.TheVariants.{Open, Seen}
 use Rattle.multiframe.specs.LineTurns.{wanted}
-use Rattle.line_view.specs.ViewText.{Showing, is_shown, turns_of, view_text, text_until, turn_text, head_line, end_line, tributary_line}
-use Rattle.line_view.specs.Watching.{showing_of}
-use Rattle.line_view.specs.declared.watched.Watched.{Watched}
+use Rattle.line_view.specs.ViewText.{Showing, turns_of, view_text, text_until, turn_text, head_line, end_line}
 
 -- what may still stand behind the bytes taken: anything where there may be more, else nothing
 abbrev pub MayFollow : (more : Bool) → (rest : List ℕ) → Type 0
@@ -108,8 +106,3 @@ pub record ViewEnded (form : LineForm) (shows : List Showing) (first now : InVie
       → length taken ≡ bytes_taken (size_of form) (through_mask form.scrambled (taken ++ rest))
   pub failed : ended ≡ ReportFault → (rest : List ℕ) → MayFollow more rest
       → WriteFailed form shows ending (through_mask form.scrambled (taken ++ rest)) taken old new
-
--- the line of a tributary in turn t + 1, where that is one of its turns
-abbrev pub watched_line : (t : ℕ) → Watched → List ℕ
-watched_line t one = if is_shown (showing_of one) t
-    then tributary_line one.name.bytes one.port one.sink.slots.list one.told else []

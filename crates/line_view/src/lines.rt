@@ -5,8 +5,7 @@ ghost use Rattle.arrayvec.specs.ArrayString.{array_string_len};
 ghost use Rattle.otn_base.specs.declared.limits.TheConstants.{MOST_SLOTS, MOST_TURNS};
 ghost use Rattle.otn_ports.specs.PortViews.{SinkWrites, sink_view};
 ghost use Rattle.line_view.specs.ViewText.{head_line, turn_line, hex_text, msi_line, told_text, tributary_line, end_line, slots_text, pair_text};
-ghost use Rattle.line_view.specs.ViewRuns.{watched_line};
-ghost use Rattle.line_view.specs.Steps.ViewRuns.{lines_of};
+ghost use Rattle.line_view.specs.Steps.ViewRuns.{lines_of, watched_line};
 ghost use Rattle.line_view.specs.declared.shown.TheConstants.{NAME_BYTES};
 
 use crate::told::{Told, TurnSeen};

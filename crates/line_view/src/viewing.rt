@@ -8,7 +8,8 @@ ghost use Rattle.line_side.specs.LineForm.{LineForm};
 ghost use Rattle.line_view.specs.ViewRuns.{ViewEnded};
 ghost use Rattle.line_view.specs.Steps.ViewRuns.{TurnRun, FinishRun, AnswerRun};
 ghost use Rattle.line_view.specs.Steps.Viewing.{ViewStands};
-ghost use Rattle.line_view.specs.Watching.{IsOnLine, asked_of, showing_of};
+ghost use Rattle.line_view.specs.Watching.{IsOnLine, asked_of};
+ghost use Rattle.line_view.specs.Steps.Watching.{showing_of};
 
 use crate::beyond::ask_for_more;
 use crate::lines::{write_end, write_head, write_lines};

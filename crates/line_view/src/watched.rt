@@ -3,8 +3,8 @@ ghost use Rattle.std.specs.Prelude.{◌≡◌, ◌≤◌, ◌*◌, ◌+◌, IfOk
 ghost use Rattle.otn_base.specs.LineSlots.{slots_of};
 ghost use Rattle.otn_base.specs.declared.limits.TheConstants.{GROUPS, MOST_SLOTS};
 ghost use Rattle.line_view.specs.ViewText.{is_shown};
-ghost use Rattle.line_view.specs.Watching.{IsOnLine, showing_of};
-ghost use Rattle.line_view.specs.Steps.Watching.{AreNew, EachWatched, EndedTurn, IsNew, TookFrame};
+ghost use Rattle.line_view.specs.Watching.{IsOnLine};
+ghost use Rattle.line_view.specs.Steps.Watching.{AreNew, EachWatched, EndedTurn, IsNew, TookFrame, showing_of};
 
 use crate::shown::{NAME_BYTES, Shown};
 use crate::told::Told;

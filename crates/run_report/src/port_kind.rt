@@ -1,6 +1,6 @@
 // The kinds of ports, each of which has lines of a form of its own in the report.
 ghost use Rattle.std.specs.Prelude.{◌≡◌};
-ghost use Rattle.run_report.specs.RunReport.{count_of};
+ghost use Rattle.run_report.specs.Steps.RunReport.{count_of};
 
 use otn_base::limits::{CLIENTS, LINES};
 

@@ -1,5 +1,5 @@
 -- Steps of `finish`, `answer` and others: what private contracts alone cite, beside the definitions of `ViewRuns`.
-use Rattle.std.specs.Prelude.{◌≡◌, ◌≢◌, ◌<◌, ◌⊎◌, ◌+◌, ℕ, Bool, true, false, List, [], ◌++◌, length, flat_map}
+use Rattle.std.specs.Prelude.{◌≡◌, ◌≢◌, ◌<◌, ◌⊎◌, ◌+◌, if◌then◌else◌, ℕ, Bool, true, false, List, [], ◌++◌, length, flat_map}
 use Rattle.otn_ports.specs.Given.{Gave}
 use Rattle.otn_ports.specs.PortViews.{SinkView, SinkWrites}
 use Rattle.otn_ports.specs.Reads.{HasEnded}
@@ -10,13 +10,19 @@ use Rattle.otn_ports.specs.declared.ended.Ended.TheVariants.{Done, Unfinished, C
 use Rattle.line_side.specs.LineForm.{LineForm}
 use Rattle.line_side.specs.LineStands.{LineView}
 use Rattle.line_side.specs.declared.ending.Ending.TheVariants.{Seen}
-use Rattle.line_view.specs.ViewText.{end_line, turn_line, msi_line}
+use Rattle.line_view.specs.ViewText.{is_shown, end_line, turn_line, msi_line, tributary_line}
 use Rattle.line_view.specs.Steps.Viewing.{TurnMoves}
+use Rattle.line_view.specs.Steps.Watching.{showing_of}
 use Rattle.line_view.specs.declared.told.TurnSeen.{TurnSeen}
 use Rattle.line_view.specs.declared.viewing.After.{After}
 use Rattle.line_view.specs.declared.viewing.After.TheVariants as next
 use Rattle.line_view.specs.declared.watched.Watched.{Watched}
-use Rattle.line_view.specs.ViewRuns.{written_of, watched_line}
+use Rattle.line_view.specs.ViewRuns.{written_of}
+
+-- the line of a tributary in turn t + 1, where that is one of its turns
+abbrev pub watched_line : (t : ℕ) → Watched → List ℕ
+watched_line t one = if is_shown (showing_of one) t
+    then tributary_line one.name.bytes one.port one.sink.slots.list one.told else []
 
 -- the lines of turn t + 1: its own, one of each MSI byte, and one of each tributary that is shown in it
 unfoldable pub lines_of : (t : ℕ) → TurnSeen → (msi : List (ℕ × ℕ)) → List Watched → List ℕ

@@ -1,19 +1,28 @@
--- Steps of `do_turn`, `take_frames` and others: what private contracts alone cite, beside the definitions of `Viewing`.
-use Rattle.std.specs.Prelude.{◌≡◌, ℕ, ◌+◌, true, List, [], ◌++◌, Some, map, slice_get}
+-- Steps of `do_turn`, `take_frames` and others: a line with the tributaries that are watched on it, within a turn and
+-- between turns.
+use Rattle.std.specs.Prelude.{◌≡◌, ℕ, ◌+◌, Bool, true, false, List, [], ◌++◌, Some, map, slice_get}
 use Rattle.std.specs.List.{flat_map}
 use Rattle.otn_ports.specs.Views.{InView}
 use Rattle.line_side.specs.LineForm.{LineForm, size_of}
 use Rattle.line_side.specs.LineStands.{LineView, LineStands, frames_taken}
 use Rattle.line_side.specs.MayBe.{MayBe}
-use Rattle.tributary_model.specs.Places.{msi_in}
+use Rattle.tributary_model.specs.Places.{Taken, msi_in}
 use Rattle.trib_sink.specs.Sink.{StandsAfter}
 use Rattle.device_model.specs.TurnFrames.{frames_in}
 use Rattle.line_view.specs.ViewText.{all_slots, msi_came, seen_at, told_at, views_from}
-use Rattle.line_view.specs.Watching.{begun, showing_of}
-use Rattle.line_view.specs.Steps.Watching.{own_of}
+use Rattle.line_view.specs.Steps.Watching.{begun, own_of, showing_of}
 use Rattle.line_view.specs.declared.told.TurnSeen.{TurnSeen}
 use Rattle.line_view.specs.declared.watched.Watched.{Watched}
-use Rattle.line_view.specs.Viewing.{taken_by, frames_by}
+
+-- how many frames a sink has taken of a turn, of these that came: none before its first turn
+abbrev pub taken_by : (is_begun : Bool) → ℕ → ℕ
+taken_by true n = n
+taken_by false n = 0
+
+-- and which
+abbrev pub frames_by : (is_begun : Bool) → List Taken → List Taken
+frames_by true frames = frames
+frames_by false frames = []
 
 -- its sink is one of such a line, and has taken as many frames as the line's turn, turn t + 1, has come to
 pub record IsInStep (line : LineView) (t : ℕ) (one : Watched) : Type 0 where

@@ -4,14 +4,22 @@ use Rattle.std.specs.Prelude.{◌≡◌, ◌<◌, ◌+◌, ℕ, List, [], ◌∷
 use Rattle.otn_base.specs.LineSlots.{slots_of}
 use Rattle.tributary_model.specs.Places.{Tributary, Taken, View, tributary_of}
 use Rattle.trib_sink.specs.Sink.{StandsAfter, ended_view}
-use Rattle.line_view.specs.ViewText.{told_of}
+use Rattle.line_view.specs.ViewText.{Showing, has_begun, told_of}
 use Rattle.line_view.specs.declared.shown.Shown.{Shown}
 use Rattle.line_view.specs.declared.watched.Watched.{Watched}
-use Rattle.line_view.specs.Watching.{asked_of, showing_of, begun}
+use Rattle.line_view.specs.Watching.{asked_of}
 
 -- the tributary that is watched
 abbrev pub own_of : Watched → Tributary
 own_of one = tributary_of one.sink.slots one.sink.port
+
+-- with its name and its turns
+abbrev pub showing_of : Watched → Showing
+showing_of one = record { name = one.name.bytes; own = own_of one; first = one.first; stop = one.stop }
+
+-- whether its first turn is turn t + 1, or before it
+abbrev pub begun : Watched → (t : ℕ) → Bool
+begun one t = has_begun (showing_of one) t
 
 -- it is watched from before the line's first turn on
 pub record IsNew (shown : Shown) (one : Watched) : Type 0 where

@@ -5,7 +5,7 @@ use Rattle.otn_ports.specs.PortViews.{SinkWrites, sink_view}
 use Rattle.otn_ports.specs.declared.drain.Written.TheVariants as written
 use Rattle.line_side.specs.LineForm.{LineForm}
 use Rattle.line_view.specs.ViewText.{head_line}
-use Rattle.line_view.specs.Watching.{showing_of}
+use Rattle.line_view.specs.Steps.Watching.{showing_of}
 use Rattle.line_view.specs.declared.viewing.After.TheVariants as next
 use Rattle.line_view.proofs.Runs.{TurnsSoFar, turns_none, turns_more, head_lost, turns_lost, turns_end}
 use Rattle.line_view.proofs.viewing.write_turns.Goals as goal

@@ -4,7 +4,7 @@ use Rattle.otn_ports.specs.InPlace.{in_view}
 use Rattle.otn_ports.specs.PortViews.{sink_view}
 use Rattle.otn_ports.specs.Views.{InView}
 use Rattle.line_view.specs.Steps.Viewing.{ViewStands}
-use Rattle.line_view.specs.Watching.{showing_of}
+use Rattle.line_view.specs.Steps.Watching.{showing_of}
 use Rattle.line_view.proofs.Runs.{TurnsSoFar, HasLast}
 use Rattle.line_view.proofs.viewing.write_turns.Given as goal
 

@@ -4,7 +4,7 @@ use Rattle.otn_ports.specs.InPlace.{in_view}
 use Rattle.otn_ports.specs.PortViews.{sink_view}
 use Rattle.line_side.specs.LineForm.{LineForm}
 use Rattle.line_view.specs.ViewRuns.{ViewEnded}
-use Rattle.line_view.specs.Watching.{showing_of}
+use Rattle.line_view.specs.Steps.Watching.{showing_of}
 use Rattle.line_view.proofs.Begin.{new_shows, view_begins, view_has_memory}
 use Rattle.line_view.proofs.viewing.write_view.Goals as goal
 

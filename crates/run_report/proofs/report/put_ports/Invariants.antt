@@ -4,7 +4,7 @@ use Rattle.otn_ports.specs.Racks.{bays_view}
 use Rattle.device_model.specs.Moments.{uses}
 use Rattle.device_model.specs.Report.{used_lines}
 use Rattle.device_model.specs.RunNumbers.{numbers_of_run}
-use Rattle.run_report.specs.RunReport.{port_line, port_of, width_of}
+use Rattle.run_report.specs.Steps.RunReport.{port_line, port_of, width_of}
 use Rattle.run_report.proofs.report.put_ports.Given as goal
 
 -- the lines so far
