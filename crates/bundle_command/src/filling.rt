@@ -11,7 +11,7 @@ use crate::weaving::Weaving;
 use frame_geometry::Frame;
 use odu_client::ClientOverhead;
 use otn_base::limits::CLIENT_FRAME_BYTES;
-use otn_base::{Memory, Trace};
+use otn_base::{Memory, Trace, copy_front};
 use otn_ports::{Rack, Sink, Source};
 use std::alloc::Global;
 
@@ -104,14 +104,6 @@ impl Framing {
         self.at += count;
         count
     }
-}
-
-// Puts the bytes at the front of a slice.
-fn copy_front(into: &mut [u8], bytes: &[u8])
-    requires { length bytes.now ≤ length into.old }
-    ensures { into.new ≡ bytes.now ++ drop (length bytes.now) into.old }
-{
-    into[..bytes.len()].copy_from_slice(bytes);
 }
 
 // A trace with an empty identifier.

@@ -10,7 +10,7 @@ ghost use Rattle.gfp_frames.specs.Maker.{MakerState, HasMade, begun, made_frame,
 use crate::area::append_client_area;
 use crate::core_header::{IDLE_FRAME, header_bytes};
 use gfp_scrambler::Scrambler;
-use otn_base::{Memory, append};
+use otn_base::{Memory, append, copy_front};
 use std::alloc::Global;
 use std::marker::Model;
 
@@ -217,14 +217,6 @@ impl GfpMaker {
             self.give(&mut into[whole..]);
         }
     }
-}
-
-// Puts the bytes at the front of a slice.
-fn copy_front(into: &mut [u8], bytes: &[u8])
-    requires { length bytes.now ≤ length into.old }
-    ensures { into.new ≡ bytes.now ++ drop (length bytes.now) into.old }
-{
-    into[..bytes.len()].copy_from_slice(bytes);
 }
 
 // Sixteen idle frames, which are put at once.

@@ -26,7 +26,7 @@ pub fn group(frame: &Frame<LINE_COLUMNS>, g: u32, slots: &Slots, into: &mut [u8]
 }
 
 /// Writes all groups of a row (1 to 4) for these slots, one after the other: 476 on an OTU2, 119 on an
-/// OTU3.
+/// OTU3. No layer calls it: a sink takes a row by `TakeFrame`. It is for those who look into a frame, as tests do.
 pub fn row_groups(frame: &Frame<LINE_COLUMNS>, row: u32, slots: &Slots, into: &mut [u8])
     requires row_low { 1 ≤ row }
     requires row_high { row ≤ 4 }

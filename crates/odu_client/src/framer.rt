@@ -14,7 +14,7 @@ use crate::client_overhead::ClientOverhead;
 use crate::packet_stream::PacketStream;
 use frame_geometry::Frame;
 use otn_base::limits::{CLIENT_COLUMNS, CLIENT_FRAME_BYTES};
-use otn_base::{Memory, Trace};
+use otn_base::{Memory, Trace, copy_front};
 use otn_ports::{InPlaceOf, Source};
 use packet_text::{Line, PacketLines};
 use std::alloc::Global;
@@ -184,14 +184,6 @@ impl ClientFramer {
         self.at += count;
         count
     }
-}
-
-// Puts the bytes at the front of a slice.
-fn copy_front(into: &mut [u8], bytes: &[u8])
-    requires { length bytes.now ≤ length into.old }
-    ensures { into.new ≡ bytes.now ++ drop (length bytes.now) into.old }
-{
-    into[..bytes.len()].copy_from_slice(bytes);
 }
 
 // A trace with an empty identifier.

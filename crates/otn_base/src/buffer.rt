@@ -1,5 +1,5 @@
-// Bytes at the end of a buffer whose memory was taken before.
-ghost use Rattle.std.specs.Prelude.{◌≡◌, ◌+◌, ◌≤◌, ◌++◌, length, vec_len};
+// Bytes at the end of a buffer whose memory was taken before, and at the front of a slice.
+ghost use Rattle.std.specs.Prelude.{◌≡◌, ◌+◌, ◌≤◌, ◌++◌, drop, length, vec_len};
 ghost use Rattle.std.specs.Vec.{vec_capacity};
 
 /// Puts the bytes at the end. There is room, so this takes no memory.
@@ -12,4 +12,12 @@ pub fn append(buffer: &mut Vec<u8>, bytes: &[u8])
         Ok(()) => {}
         Err(_) => unreachable!(),
     }
+}
+
+/// Puts the bytes at the front of a slice; what stands behind them stays.
+pub fn copy_front(into: &mut [u8], bytes: &[u8])
+    requires { length bytes.now ≤ length into.old }
+    ensures { into.new ≡ bytes.now ++ drop (length bytes.now) into.old }
+{
+    into[..bytes.len()].copy_from_slice(bytes);
 }

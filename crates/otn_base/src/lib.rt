@@ -1,5 +1,6 @@
 //! What every layer of the device shares: kinds of lines and of tributaries, lists of tributary slots, trail
-//! traces, the names of ports, the answer for want of memory, bytes at the end of a buffer, and the numbers of the formats.
+//! traces, the names of ports, the answer for want of memory, bytes at the end or the front of a buffer, and the numbers of
+//! the formats.
 #![tactic(auto)]
 
 mod buffer;
@@ -10,7 +11,7 @@ mod memory;
 mod slots;
 mod trace;
 
-pub use buffer::append;
+pub use buffer::{append, copy_front};
 pub use kind::{Kind, PortName};
 pub use line_kind::LineKind;
 pub use memory::Memory;

@@ -63,14 +63,6 @@ impl Slots {
         self.list.len() as u32
     }
 
-    /// Slot number `i` of the list, from 0.
-    pub fn nth(&self, i: u32) -> u8
-        requires { i < length self.now.list }
-        ensures { slice_get self.now.list i ≡ Some result }
-    {
-        self.list.as_slice()[i as usize]
-    }
-
     /// The greatest slot, in whose frame of a multiframe the justification bytes of the ODTU stand.
     pub fn last(&self) -> u8
         ensures last { slice_get self.now.list (length self.now.list - 1) ≡ Some result }
