@@ -6,7 +6,7 @@ ghost use Rattle.otn_ports.specs.Racks.{bays_view};
 ghost use Rattle.plan_file.specs.Answer.{fault_in};
 ghost use Rattle.device_model.specs.Moments.{uses};
 ghost use Rattle.device_model.specs.Report.{connection_lines, report_text, used_lines};
-ghost use Rattle.node_core.specs.RunNumbers.{numbers_of_run};
+ghost use Rattle.device_model.specs.RunNumbers.{numbers_of_run};
 ghost use Rattle.run_report.specs.RunReport.{count_of, port_line, port_of, width_of};
 ghost use Rattle.run_report.specs.declared.report_lines.TheConstants.{CLIENT_IN_BYTES, CLIENT_OUT_BYTES, CONNECTION_BYTES, LINE_IN_BYTES, LINE_OUT_BYTES};
 

@@ -5,7 +5,7 @@ ghost use Rattle.arrayvec.specs.ArrayString.{array_string_len};
 ghost use Rattle.otn_ports.specs.InPlace.{in_view};
 ghost use Rattle.otn_ports.specs.OutPlace.{out_view};
 ghost use Rattle.device_model.specs.Report.{client_word, line_in_line, line_out_line, client_in_line, client_out_line, connection_line, line_of, outcome_word};
-ghost use Rattle.node_core.specs.RunNumbers.{client_in_numbers, client_out_numbers};
+ghost use Rattle.device_model.specs.RunNumbers.{client_in_numbers, client_out_numbers};
 
 use crate::report_words::{
     FROM_WORD, OUTCOME_WORD, PLACE_WORD, from_word, in_word, out_word, outcome_word,

@@ -1,7 +1,7 @@
 use Rattle.std.proofs.Common.{◌≡◌, ◌≤◌, ◌+◌, ◌*◌, ◌++◌, drop}
 use Rattle.arrayvec.specs.ArrayString.{array_string_len}
 use Rattle.device_model.specs.Report.{connection_lines}
-use Rattle.node_core.specs.RunNumbers.{numbers_of_run}
+use Rattle.device_model.specs.RunNumbers.{numbers_of_run}
 use Rattle.run_report.specs.declared.report_lines.TheConstants.{CONNECTION_BYTES}
 use Rattle.run_report.proofs.report.put_connections.Given as goal
 

@@ -2,7 +2,7 @@ use Rattle.std.proofs.Common.{◌≡◌, ◌≤◌, ◌+◌, ◌*◌, ◌++◌, 
 use Rattle.otn_ports.specs.Racks.{bays_view}
 use Rattle.device_model.specs.Moments.{uses}
 use Rattle.device_model.specs.Report.{used_lines}
-use Rattle.node_core.specs.RunNumbers.{numbers_of_run}
+use Rattle.device_model.specs.RunNumbers.{numbers_of_run}
 use Rattle.run_report.specs.RunReport.{count_of, port_line, port_of, width_of}
 use Rattle.run_report.proofs.RunReports.{most_more, room_left, used_more}
 use Rattle.run_report.proofs.report.put_ports.Goals as goal
