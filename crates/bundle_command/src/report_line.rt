@@ -14,6 +14,21 @@ use arrayvec::ArrayString;
 use itoa::Buffer;
 use otn_ports::{InPlaceOf, Rack, Sink, Source, Written, write_whole};
 
+/// Digits of a number at most.
+const DIGITS: usize = 20;
+
+/// Bytes of the word for a place at most.
+const PLACE_WORD: usize = "empty".len();
+
+/// Bytes of the line at most.
+const LINE_BYTES: usize = "channel ".len()
+    + DIGITS
+    + " packets ".len()
+    + DIGITS
+    + " ".len()
+    + PLACE_WORD
+    + "\n".len();
+
 /// Writes the lines of all channels, in their order; the first write that fails ends that.
 pub(crate) fn write_channels<I: Source, O: Sink, K: Sink>(
     channels: &[Channel],
@@ -57,7 +72,7 @@ fn write_line<I: Source, K: Sink>(
     ensures { SinkWrites result (sink_view K.Sink report.old) (channel_line client packets (in_view I.Source place.now).state) (sink_view K.Sink report.new) }
 {
     let mut digits = Buffer::new();
-    let mut line = ArrayString::<64>::new();
+    let mut line = ArrayString::<LINE_BYTES>::new();
     line.push_str("channel ");
     line.push_str(digits.format(client));
     line.push_str(" packets ");
@@ -70,7 +85,7 @@ fn write_line<I: Source, K: Sink>(
 
 fn word_of<I: Source>(place: &InPlaceOf<I>) -> &'static str
     ensures word { result.now ≡ state_word (in_view I.Source place.now).state }
-    ensures short { length result.now ≤ 5 }
+    ensures short { length result.now ≤ PLACE_WORD }
 {
     match place {
         InPlaceOf::Empty => "empty",

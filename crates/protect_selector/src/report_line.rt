@@ -10,6 +10,24 @@ use arrayvec::ArrayString;
 use itoa::Buffer;
 use otn_ports::{Sink, Written, write_whole};
 
+/// Digits of the number of a turn at most.
+const DIGITS: usize = 20;
+
+/// Bytes of the word for a side at most.
+const SIDE_WORD: usize = "protection".len();
+
+/// Bytes of the word for a cause at most.
+const CAUSE_WORD: usize = "restored".len();
+
+/// Bytes of the line at most.
+const LINE_BYTES: usize = "turn ".len()
+    + DIGITS
+    + " ".len()
+    + SIDE_WORD
+    + " ".len()
+    + CAUSE_WORD
+    + "\n".len();
+
 /// Writes the line of turn t + 1, where the choice in it is a switch.
 pub(crate) fn write_switch<K: Sink>(report: &mut K, t: u32, choice: Choice) -> Written
     requires { t ≤ MOST_TURNS }
@@ -27,7 +45,7 @@ fn write_line<K: Sink>(report: &mut K, t: u32, side: Side, cause: SwitchCause) -
     ensures { SinkWrites result (sink_view K.Sink report.old) (switch_line t side (Some cause)) (sink_view K.Sink report.new) }
 {
     let mut digits = Buffer::new();
-    let mut line = ArrayString::<64>::new();
+    let mut line = ArrayString::<LINE_BYTES>::new();
     line.push_str("turn ");
     line.push_str(digits.format(t + 1));
     line.push_str(" ");
@@ -40,7 +58,7 @@ fn write_line<K: Sink>(report: &mut K, t: u32, side: Side, cause: SwitchCause) -
 
 fn word_of(side: Side) -> &'static str
     ensures word { result.now ≡ side_word side }
-    ensures short { length result.now ≤ 10 }
+    ensures short { length result.now ≤ SIDE_WORD }
 {
     match side {
         Side::Working => "working",
@@ -50,7 +68,7 @@ fn word_of(side: Side) -> &'static str
 
 fn word_of_cause(cause: SwitchCause) -> &'static str
     ensures word { result.now ≡ cause_word cause }
-    ensures short { length result.now ≤ 8 }
+    ensures short { length result.now ≤ CAUSE_WORD }
 {
     match cause {
         SwitchCause::Defect => "defect",

@@ -1,7 +1,8 @@
 -- The report of a run, line by line.
-use Rattle.std.proofs.Common.{◌≡◌, ◌≤◌, ◌+◌, ◌∙◌, ℕ, Bool, List, [], ◌∷◌, ◌++◌, Option, Some, None, length, nat_le, drop, slice_get, refl, ap, sym, arith, add-one, append_assoc, ◌&&◌}
+use Rattle.std.proofs.Common.{◌≡◌, ◌≤◌, ◌<◌, ◌+◌, ◌*◌, ◌∙◌, ℕ, Bool, List, [], ◌∷◌, ◌++◌, Option, Some, None, length, nat_le, drop, slice_get, refl, ap, sym, arith, add-one, append_assoc, ◌&&◌}
 use Rattle.std.specs.Prelude.{if◌then◌else◌}
 use Rattle.std.specs.List.{list_all}
+use Rattle.std.proofs.Math.Nat.{mul-le-mul_left}
 use Rattle.std.proofs.lemmas.Bool.{and_parts, not-false}
 use Rattle.std.proofs.lemmas.Bool.Decides.{nat_tests}
 use Rattle.plan_file.specs.Answer.{fault_in}
@@ -47,6 +48,17 @@ short_name plan i x none at_i =
     let (size, bytes) = and_parts (nat_le 1 (length x.name) && nat_le (length x.name) 32) (list_all is_name_byte x.name) name in
     let (least, most) = and_parts (nat_le 1 (length x.name)) (nat_le (length x.name) 32) size in
     grind (arith, nat_tests)
+
+-- the room that lines of a width leave for one more, of so many that fit
+pub room_left : (old now width n count : ℕ) {room : ℕ} → now ≤ old + width * n → n < count → old + width * count ≤ room → now + width ≤ room
+room_left old now width n count so_far less fits =
+    let more : width * (n + 1) ≤ width * count = mul-le-mul_left width (let l : n + 1 ≤ count = omega arith in l) in
+    let split : width * (n + 1) ≡ width * n + width = omega arith in
+    omega arith
+
+-- and what one line more takes of it
+pub most_more : (old now new width n : ℕ) → now ≤ old + width * n → new ≤ now + width → new ≤ old + width * (n + 1)
+most_more old now new width n so_far step = omega arith
 
 -- seven parts, one behind the other
 pub seven_parts : (a b c d e f g : List ℕ) {t0 t1 t2 t3 t4 t5 t6 t7 : List ℕ} → t0 ≡ [] → t1 ≡ t0 ++ a → t2 ≡ t1 ++ b → t3 ≡ t2 ++ c → t4 ≡ t3 ++ d → t5 ≡ t4 ++ e → t6 ≡ t5 ++ f → t7 ≡ t6 ++ g

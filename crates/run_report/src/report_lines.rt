@@ -7,77 +7,159 @@ ghost use Rattle.otn_ports.specs.OutPlace.{out_view};
 ghost use Rattle.device_model.specs.Report.{client_word, line_in_line, line_out_line, client_in_line, client_out_line, connection_line, line_of, outcome_word};
 ghost use Rattle.device_model.specs.RunNumbers.{client_in_numbers, client_out_numbers};
 
-use crate::report_words::{from_word, in_word, out_word, outcome_word};
+use crate::report_words::{
+    FROM_WORD, OUTCOME_WORD, PLACE_WORD, from_word, in_word, out_word, outcome_word,
+};
 use arrayvec::ArrayString;
 use device_model::{ClientInCounts, ClientOutCounts, FromState, Outcome};
 use itoa::Buffer;
 use line_side::LineCounts;
+use otn_base::limits::{CLIENTS, LINES, MOST_CONNECTIONS};
 use otn_ports::{InPlaceOf, OutPlaceOf, Sink, Source};
 
-/// Room for a report: a report has fewer bytes than this.
-pub const REPORT_BYTES: usize = 8192;
+// The numbers of each line of a port, in order, each after its label: a further one is one more row here. `put` puts
+// them into a text, `width` says how many bytes they take at most.
+macro_rules! line_in {
+    ($do:ident, $text:expr, $a:expr, $counts:expr) => {
+        $do!($text;
+            "line-in " => $a as u64,
+            " frames " => $counts.frames,
+            " lead-in " => $counts.lead_in,
+            " lost " => $counts.lost,
+            " rest " => $counts.rest,
+            " fas " => $counts.fas,
+            " sm " => $counts.sm,
+            " pm " => $counts.pm)
+    };
+}
 
-/// The line of line input a, of 217 bytes at most.
+macro_rules! line_out {
+    ($do:ident, $text:expr, $b:expr, $frames:expr) => {
+        $do!($text;
+            "line-out " => $b as u64,
+            " frames " => $frames)
+    };
+}
+
+macro_rules! client_in {
+    ($do:ident, $text:expr, $n:expr, $counts:expr) => {
+        $do!($text;
+            "client-in " => $n as u64,
+            " packets " => $counts.packets)
+    };
+}
+
+macro_rules! client_out {
+    ($do:ident, $text:expr, $n:expr, $counts:expr) => {
+        $do!($text;
+            "client-out " => $n as u64,
+            " frames " => $counts.frames,
+            " packets " => $counts.packets)
+    };
+}
+
+macro_rules! put {
+    ($text:expr; $($label:literal => $number:expr),*) => {{
+        $(put_number($text, $label, $number);)*
+    }};
+}
+
+macro_rules! width {
+    ($text:expr; $($label:literal => $number:expr),*) => {
+        0 $(+ $label.len() + DIGITS)*
+    };
+}
+
+/// Digits of a number at most.
+const DIGITS: usize = 20;
+
+/// The space before the last word of a line, and the line feed.
+const AROUND: usize = " ".len() + "\n".len();
+
+/// Whether the text of a client is spent, or where it is bad: bytes at most.
+const CLIENT_WORD: usize = "bad ".len() + DIGITS;
+
+/// Bytes of the name of a connection at most.
+pub(crate) const MOST_NAME: usize = 32;
+
+// Bytes of each line at most: of the turns, of a port, of a connection, and of how the run ended.
+pub(crate) const TURNS_BYTES: usize = "turns ".len() + DIGITS + "\n".len();
+
+pub(crate) const LINE_IN_BYTES: usize = line_in!(width, (), 0, ()) + PLACE_WORD + AROUND;
+
+pub(crate) const LINE_OUT_BYTES: usize = line_out!(width, (), 0, ()) + PLACE_WORD + AROUND;
+
+pub(crate) const CLIENT_IN_BYTES: usize = client_in!(width, (), 0, ())
+    + " ".len()
+    + CLIENT_WORD
+    + PLACE_WORD
+    + AROUND;
+
+pub(crate) const CLIENT_OUT_BYTES: usize = client_out!(width, (), 0, ()) + PLACE_WORD + AROUND;
+
+pub(crate) const CONNECTION_BYTES: usize = "connection ".len() + MOST_NAME + FROM_WORD + AROUND;
+
+pub(crate) const STATUS_BYTES: usize = "status".len() + OUTCOME_WORD + AROUND;
+
+/// Room for a report: all lines that it can have, each of as many bytes as it has at most.
+pub const REPORT_BYTES: usize = TURNS_BYTES
+    + LINES * (LINE_IN_BYTES + LINE_OUT_BYTES)
+    + CLIENTS * (CLIENT_IN_BYTES + CLIENT_OUT_BYTES)
+    + MOST_CONNECTIONS * CONNECTION_BYTES
+    + STATUS_BYTES;
+
+/// The line of line input a.
 pub(crate) fn put_line_in<I: Source>(
     text: &mut ArrayString<REPORT_BYTES>,
     a: u8,
     counts: &LineCounts,
     place: &InPlaceOf<I>,
 )
-    requires room { array_string_len text.old + 217 ≤ 8192 }
+    requires room { array_string_len text.old + LINE_IN_BYTES ≤ REPORT_BYTES }
     ensures text { text.new.bytes ≡ text.old.bytes ++ line_in_line a counts.now (in_view I.Source place.now).state }
-    ensures most { array_string_len text.new ≤ array_string_len text.old + 217 }
+    ensures most { array_string_len text.new ≤ array_string_len text.old + LINE_IN_BYTES }
 {
-    put_number(text, "line-in ", a as u64);
-    put_number(text, " frames ", counts.frames);
-    put_number(text, " lead-in ", counts.lead_in);
-    put_number(text, " lost ", counts.lost);
-    put_number(text, " rest ", counts.rest);
-    put_number(text, " fas ", counts.fas);
-    put_number(text, " sm ", counts.sm);
-    put_number(text, " pm ", counts.pm);
+    line_in!(put, text, a, counts);
     put_last(text, in_word(place));
 }
 
-/// The line of line output b, which has sent so many frames, of 64 bytes at most.
+/// The line of line output b, which has sent so many frames.
 pub(crate) fn put_line_out<O: Sink>(
     text: &mut ArrayString<REPORT_BYTES>,
     b: u8,
     frames: u64,
     place: &OutPlaceOf<O>,
 )
-    requires room { array_string_len text.old + 64 ≤ 8192 }
+    requires room { array_string_len text.old + LINE_OUT_BYTES ≤ REPORT_BYTES }
     ensures text { text.new.bytes ≡ text.old.bytes ++ line_out_line b frames (out_view O.Sink place.now).state }
-    ensures most { array_string_len text.new ≤ array_string_len text.old + 64 }
+    ensures most { array_string_len text.new ≤ array_string_len text.old + LINE_OUT_BYTES }
 {
-    put_number(text, "line-out ", b as u64);
-    put_number(text, " frames ", frames);
+    line_out!(put, text, b, frames);
     put_last(text, out_word(place));
 }
 
-/// The line of client input n, of 91 bytes at most.
+/// The line of client input n.
 pub(crate) fn put_client_in<I: Source>(
     text: &mut ArrayString<REPORT_BYTES>,
     n: u8,
     counts: &ClientInCounts,
     place: &InPlaceOf<I>,
 )
-    requires room { array_string_len text.old + 91 ≤ 8192 }
+    requires room { array_string_len text.old + CLIENT_IN_BYTES ≤ REPORT_BYTES }
     ensures text { text.new.bytes ≡ text.old.bytes ++ client_in_line n (client_in_numbers counts.now) (in_view I.Source place.now).state }
-    ensures most { array_string_len text.new ≤ array_string_len text.old + 91 }
+    ensures most { array_string_len text.new ≤ array_string_len text.old + CLIENT_IN_BYTES }
 {
-    put_number(text, "client-in ", n as u64);
-    put_number(text, " packets ", counts.packets);
+    client_in!(put, text, n, counts);
     text.push_str(" ");
     put_client_word(text, counts.spent, counts.bad);
     put_last(text, in_word(place));
 }
 
-// Whether the client's text is spent, or at which line it is bad, in 24 bytes at most.
+// Whether the client's text is spent, or at which line it is bad.
 fn put_client_word(text: &mut ArrayString<REPORT_BYTES>, spent: bool, bad: Option<u64>)
-    requires room { array_string_len text.old + 24 ≤ 8192 }
+    requires room { array_string_len text.old + CLIENT_WORD ≤ REPORT_BYTES }
     ensures text { text.new.bytes ≡ text.old.bytes ++ client_word spent bad }
-    ensures most { array_string_len text.new ≤ array_string_len text.old + 24 }
+    ensures most { array_string_len text.new ≤ array_string_len text.old + CLIENT_WORD }
 {
     match (spent, bad) {
         (true, _) => text.push_str("spent"),
@@ -86,64 +168,62 @@ fn put_client_word(text: &mut ArrayString<REPORT_BYTES>, spent: bool, bad: Optio
     }
 }
 
-/// The line of client output n, of 95 bytes at most.
+/// The line of client output n.
 pub(crate) fn put_client_out<O: Sink>(
     text: &mut ArrayString<REPORT_BYTES>,
     n: u8,
     counts: &ClientOutCounts,
     place: &OutPlaceOf<O>,
 )
-    requires room { array_string_len text.old + 95 ≤ 8192 }
+    requires room { array_string_len text.old + CLIENT_OUT_BYTES ≤ REPORT_BYTES }
     ensures text { text.new.bytes ≡ text.old.bytes ++ client_out_line n (client_out_numbers counts.now) (out_view O.Sink place.now).state }
-    ensures most { array_string_len text.new ≤ array_string_len text.old + 95 }
+    ensures most { array_string_len text.new ≤ array_string_len text.old + CLIENT_OUT_BYTES }
 {
-    put_number(text, "client-out ", n as u64);
-    put_number(text, " frames ", counts.frames);
-    put_number(text, " packets ", counts.packets);
+    client_out!(put, text, n, counts);
     put_last(text, out_word(place));
 }
 
-/// The line of a connection whose name has 32 bytes at most, of 52 bytes at most.
+/// The line of a connection.
 pub(crate) fn put_connection(
     text: &mut ArrayString<REPORT_BYTES>,
     name: &str,
     from: Option<FromState>,
 )
-    requires name { length name.now ≤ 32 }
-    requires room { array_string_len text.old + 52 ≤ 8192 }
+    requires name { length name.now ≤ MOST_NAME }
+    requires room { array_string_len text.old + CONNECTION_BYTES ≤ REPORT_BYTES }
     ensures text { text.new.bytes ≡ text.old.bytes ++ connection_line name.now from }
-    ensures most { array_string_len text.new ≤ array_string_len text.old + 52 }
+    ensures most { array_string_len text.new ≤ array_string_len text.old + CONNECTION_BYTES }
 {
     text.push_str("connection ");
     text.push_str(name);
     put_last(text, from_word(from));
 }
 
-/// The line of the turns, of 27 bytes at most.
+/// The line of the turns.
 pub(crate) fn put_turns(text: &mut ArrayString<REPORT_BYTES>, turns: u32)
-    requires room { array_string_len text.old + 27 ≤ 8192 }
+    requires room { array_string_len text.old + TURNS_BYTES ≤ REPORT_BYTES }
     ensures text { text.new.bytes ≡ text.old.bytes ++ line_of (codes "turns " ∷ decimal turns ∷ []) }
-    ensures most { array_string_len text.new ≤ array_string_len text.old + 27 }
+    ensures most { array_string_len text.new ≤ array_string_len text.old + TURNS_BYTES }
 {
     put_number(text, "turns ", turns as u64);
     text.push_str("\n");
 }
 
-/// The line of how the run ended, of 18 bytes at most.
+/// The line of how the run ended.
 pub(crate) fn put_status(text: &mut ArrayString<REPORT_BYTES>, outcome: Outcome)
-    requires room { array_string_len text.old + 18 ≤ 8192 }
+    requires room { array_string_len text.old + STATUS_BYTES ≤ REPORT_BYTES }
     ensures text { text.new.bytes ≡ text.old.bytes ++ line_of (codes "status " ∷ outcome_word outcome ∷ []) }
-    ensures most { array_string_len text.new ≤ array_string_len text.old + 18 }
+    ensures most { array_string_len text.new ≤ array_string_len text.old + STATUS_BYTES }
 {
     text.push_str("status");
     put_last(text, outcome_word(outcome));
 }
 
-// A number after its label, of 20 digits at most.
+// A number after its label.
 fn put_number(text: &mut ArrayString<REPORT_BYTES>, label: &str, number: u64)
-    requires room { array_string_len text.old + length label.now + 20 ≤ 8192 }
+    requires room { array_string_len text.old + length label.now + DIGITS ≤ REPORT_BYTES }
     ensures text { text.new.bytes ≡ text.old.bytes ++ (label.now ++ decimal number) }
-    ensures most { array_string_len text.new ≤ array_string_len text.old + length label.now + 20 }
+    ensures most { array_string_len text.new ≤ array_string_len text.old + length label.now + DIGITS }
 {
     let mut digits = Buffer::new();
     text.push_str(label);
@@ -152,9 +232,9 @@ fn put_number(text: &mut ArrayString<REPORT_BYTES>, label: &str, number: u64)
 
 // The last word of a line, and the line feed.
 fn put_last(text: &mut ArrayString<REPORT_BYTES>, word: &str)
-    requires room { array_string_len text.old + length word.now + 2 ≤ 8192 }
+    requires room { array_string_len text.old + length word.now + AROUND ≤ REPORT_BYTES }
     ensures text { text.new.bytes ≡ text.old.bytes ++ (32 ∷ (word.now ++ 10 ∷ [])) }
-    ensures most { array_string_len text.new ≤ array_string_len text.old + length word.now + 2 }
+    ensures most { array_string_len text.new ≤ array_string_len text.old + length word.now + AROUND }
 {
     text.push_str(" ");
     text.push_str(word);

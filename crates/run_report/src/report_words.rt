@@ -7,10 +7,19 @@ ghost use Rattle.device_model.specs.Report.{state_word, from_word, outcome_word}
 use device_model::{FromState, Outcome};
 use otn_ports::{InPlaceOf, OutPlaceOf, Sink, Source};
 
+/// Bytes of the word for a place at most.
+pub(crate) const PLACE_WORD: usize = "empty".len();
+
+/// Bytes of the word for a from end at most.
+pub(crate) const FROM_WORD: usize = "waiting".len();
+
+/// Bytes of the word for how a run ended at most.
+pub(crate) const OUTCOME_WORD: usize = "unfinished".len();
+
 /// How a place for an input stands.
 pub(crate) fn in_word<I: Source>(place: &InPlaceOf<I>) -> &'static str
     ensures word { result.now ≡ state_word (in_view I.Source place.now).state }
-    ensures short { length result.now ≤ 5 }
+    ensures short { length result.now ≤ PLACE_WORD }
 {
     match place {
         InPlaceOf::Empty => "empty",
@@ -22,7 +31,7 @@ pub(crate) fn in_word<I: Source>(place: &InPlaceOf<I>) -> &'static str
 /// How a place for an output stands.
 pub(crate) fn out_word<O: Sink>(place: &OutPlaceOf<O>) -> &'static str
     ensures word { result.now ≡ state_word (out_view O.Sink place.now).state }
-    ensures short { length result.now ≤ 5 }
+    ensures short { length result.now ≤ PLACE_WORD }
 {
     match place {
         OutPlaceOf::Empty => "empty",
@@ -34,7 +43,7 @@ pub(crate) fn out_word<O: Sink>(place: &OutPlaceOf<O>) -> &'static str
 /// What the from end of a connection was in the last turn, where it was active in that.
 pub(crate) fn from_word(from: Option<FromState>) -> &'static str
     ensures word { result.now ≡ from_word from }
-    ensures short { length result.now ≤ 7 }
+    ensures short { length result.now ≤ FROM_WORD }
 {
     match from {
         None => "off",
@@ -49,7 +58,7 @@ pub(crate) fn from_word(from: Option<FromState>) -> &'static str
 /// How the run ended.
 pub(crate) fn outcome_word(outcome: Outcome) -> &'static str
     ensures word { result.now ≡ outcome_word outcome }
-    ensures short { length result.now ≤ 10 }
+    ensures short { length result.now ≤ OUTCOME_WORD }
 {
     match outcome {
         Outcome::Done => "done",

@@ -1,5 +1,5 @@
 // The report of the command.
-ghost use Rattle.std.specs.Prelude.{◌≡◌, ◌≢◌, ◌≤◌, ◌+◌, ◌-◌, ◌^◌, ◌++◌, List, [], length};
+ghost use Rattle.std.specs.Prelude.{◌≡◌, ◌≢◌, ◌≤◌, ◌+◌, ◌-◌, ◌*◌, ◌^◌, ◌++◌, List, [], length};
 ghost use Rattle.std.specs.Fmt.{decimal};
 ghost use Rattle.arrayvec.specs.ArrayString.{array_string_len};
 ghost use Rattle.otn_base.specs.declared.limits.TheConstants.{CLIENTS};
@@ -17,8 +17,40 @@ use itoa::Buffer;
 use otn_base::limits::CLIENTS;
 use otn_ports::{Sink, Written, write_whole};
 
-// Room for a report: 16 lines of channels, of 69 bytes at most, and one of 27.
-const REPORT_BYTES: usize = 2048;
+// The numbers of the line of a channel, in order, each after its label: a further one is one more row here. `put` puts
+// them into a text, `width` says how many bytes they take at most.
+macro_rules! channel {
+    ($do:ident, $text:expr, $cid:expr, $packets:expr, $losses:expr) => {
+        $do!($text;
+            "channel " => $cid as u64,
+            " packets " => $packets,
+            " losses " => $losses)
+    };
+}
+
+macro_rules! put {
+    ($text:expr; $($label:literal => $number:expr),*) => {{
+        $(put_number($text, $label, $number);)*
+    }};
+}
+
+macro_rules! width {
+    ($text:expr; $($label:literal => $number:expr),*) => {
+        0 $(+ $label.len() + DIGITS)*
+    };
+}
+
+/// Digits of a number at most.
+const DIGITS: usize = 20;
+
+/// Bytes of the line of a channel at most.
+const CHANNEL_BYTES: usize = channel!(width, (), 0, 0, 0) + "\n".len();
+
+/// Bytes of the last line at most.
+const OTHER_BYTES: usize = "other ".len() + DIGITS + "\n".len();
+
+/// Room for a report: all lines that it can have, each of as many bytes as it has at most.
+const REPORT_BYTES: usize = CHANNEL_BYTES * CLIENTS + OTHER_BYTES;
 
 /// Writes the report on what arrived.
 pub(crate) fn write_report<K: Sink>(outputs: &Outputs, report: &mut K) -> Written
@@ -44,21 +76,21 @@ fn put_report(text: &mut ArrayString<REPORT_BYTES>, outputs: &Outputs)
 
 // The lines of the channels with a client output.
 fn put_channels(text: &mut ArrayString<REPORT_BYTES>, outputs: &Outputs)
-    requires room { array_string_len text.old + 1104 ≤ 2048 }
+    requires room { array_string_len text.old + CHANNEL_BYTES * CLIENTS ≤ REPORT_BYTES }
     ensures text { (first now : BaysView) (came : List ChannelArrival) → OutputsStand first now came outputs.now → length came ≤ 2 ^ 64 - 1
         → text.new.bytes ≡ text.old.bytes ++ channel_lines came CLIENTS }
-    ensures most { array_string_len text.new ≤ array_string_len text.old + 1104 }
+    ensures most { array_string_len text.new ≤ array_string_len text.old + CHANNEL_BYTES * CLIENTS }
 {
     for cid in 0..CLIENTS as u8 {
         put_channel(text, cid, outputs.channel(cid));
     }
 }
 
-// The line of a channel, of 69 bytes at most, where something arrived on it.
+// The line of a channel, where something arrived on it.
 fn put_channel(text: &mut ArrayString<REPORT_BYTES>, cid: u8, channel: &Channel)
-    requires room { array_string_len text.old + 69 ≤ 2048 }
+    requires room { array_string_len text.old + CHANNEL_BYTES ≤ REPORT_BYTES }
     ensures text { text.new.bytes ≡ text.old.bytes ++ channel_line cid channel.now.packets channel.now.losses }
-    ensures most { array_string_len text.new ≤ array_string_len text.old + 69 }
+    ensures most { array_string_len text.new ≤ array_string_len text.old + CHANNEL_BYTES }
 {
     let packets = channel.packets();
     let losses = channel.losses();
@@ -69,32 +101,19 @@ fn put_channel(text: &mut ArrayString<REPORT_BYTES>, cid: u8, channel: &Channel)
 
 // The line.
 fn put_line(text: &mut ArrayString<REPORT_BYTES>, cid: u8, packets: u64, losses: u64)
-    requires room { array_string_len text.old + 69 ≤ 2048 }
+    requires room { array_string_len text.old + CHANNEL_BYTES ≤ REPORT_BYTES }
     ensures text { text.new.bytes ≡ text.old.bytes ++ channel_text cid packets losses }
-    ensures most { array_string_len text.new ≤ array_string_len text.old + 69 }
+    ensures most { array_string_len text.new ≤ array_string_len text.old + CHANNEL_BYTES }
 {
-    put_small(text, "channel ", cid);
-    put_number(text, " packets ", packets);
-    put_number(text, " losses ", losses);
+    channel!(put, text, cid, packets, losses);
     text.push_str("\n");
 }
 
-// A number below 256 after its label, of 3 digits at most.
-fn put_small(text: &mut ArrayString<REPORT_BYTES>, label: &str, number: u8)
-    requires room { array_string_len text.old + length label.now + 3 ≤ 2048 }
-    ensures text { text.new.bytes ≡ text.old.bytes ++ (label.now ++ decimal number) }
-    ensures most { array_string_len text.new ≤ array_string_len text.old + length label.now + 3 }
-{
-    let mut digits = Buffer::new();
-    text.push_str(label);
-    text.push_str(digits.format(number));
-}
-
-// A number after its label, of 20 digits at most.
+// A number after its label.
 fn put_number(text: &mut ArrayString<REPORT_BYTES>, label: &str, number: u64)
-    requires room { array_string_len text.old + length label.now + 20 ≤ 2048 }
+    requires room { array_string_len text.old + length label.now + DIGITS ≤ REPORT_BYTES }
     ensures text { text.new.bytes ≡ text.old.bytes ++ (label.now ++ decimal number) }
-    ensures most { array_string_len text.new ≤ array_string_len text.old + length label.now + 20 }
+    ensures most { array_string_len text.new ≤ array_string_len text.old + length label.now + DIGITS }
 {
     let mut digits = Buffer::new();
     text.push_str(label);

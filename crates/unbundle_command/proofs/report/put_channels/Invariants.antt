@@ -4,11 +4,12 @@ use Rattle.otn_ports.specs.Views.{BaysView}
 use Rattle.gfp_linear.specs.ChannelArrivals.{ChannelArrival}
 use Rattle.unbundle_command.specs.Receiving.{OutputsStand}
 use Rattle.unbundle_command.specs.Unbundled.{channel_lines}
+use Rattle.unbundle_command.specs.declared.report.TheConstants.{CHANNEL_BYTES}
 use Rattle.unbundle_command.proofs.report.put_channels.Given as goal
 
 -- the lines so far
 abbrev pub invariant-loop-cid : goal.invariant-loop-cid
 invariant-loop-cid l = record {
   text : (first now : BaysView) (came : List ChannelArrival) → OutputsStand first now came l.outputs → length came ≤ 2 ^ 64 - 1 → l.text.bytes ≡ l.fn.text.bytes ++ channel_lines came l.cid;
-  most : array_string_len l.text ≤ array_string_len l.fn.text + 69 * l.cid;
+  most : array_string_len l.text ≤ array_string_len l.fn.text + CHANNEL_BYTES * l.cid;
 }

@@ -4,4 +4,4 @@ use Rattle.unbundle_command.proofs.report.put_line.Goals as goal
 
 pub returns-clause-text : goal.returns-clause-text
 unfolding channel_text
-returns-clause-text c = rw (c.push_str.ensures.bytes, c.put_number-2.ensures.text, c.put_number.ensures.text, c.put_small.ensures.text) (simp append_assoc)
+returns-clause-text c = rw (c.push_str.ensures.bytes, c.put_number-3.ensures.text, c.put_number-2.ensures.text, c.put_number.ensures.text) (simp append_assoc)
