@@ -4,8 +4,7 @@ ghost use Rattle.otn_ports.specs.Racks.{bays_view};
 ghost use Rattle.trial_command.specs.TrialRuns.{RunWent, FirstRan, MiddleRan, LastRan};
 
 use crate::places::{
-    Memories, TEXT_ROOM, TextSink, file_of, first_places, last_places, middle_places,
-    rooms_suffice,
+    Memories, TEXT_ROOM, TextSink, file_of, first_places, last_places, middle_places, rooms_suffice,
 };
 use bounded_ports::{BoundedSink, full_where_failed};
 use node_core::{Node, carry_node};
