@@ -9,9 +9,10 @@
  * output, no order of service. The program says this of bytes that a file gave; the library says it of the very bytes
  * that stand in `inputs` and `outputs`. In full: where two calls of "run" each answer OTN_DONE, OTN_UNFINISHED, OTN_CUT
  * or OTN_REPORT_FAULT, both plans have the connection's entry, and its input agrees, then what it sends agrees: its
- * client's text, or its own places on its line. Of a client input that is its packets and how they end; of a line it is
- * the number of whole frames, their MFAS bytes, and the bytes at the connection's own places. Where its output was cut
- * for want of memory the promise goes up to there.
+ * client's text, or its own places on its line. An entry is its keys with their defaults (`stop` is `turns`), and which
+ * of its lines are OTU3s. Of a client input there agree its packets and how they end; of a line, unscrambled, the
+ * number of whole frames, their MFAS bytes, and the bytes at the connection's own places. An output line is scrambled
+ * by both plans, or by neither. Where its output was cut for want of memory the promise goes up to there.
  *
  * This is proved of the library's code as it was before compilation (docs/PROMISES.md, "The library"). NOT PROVED, and
  * tested only: the bytes that are handed out of a client output whose connection says `retire = true` in the plan. Nor
