@@ -1,7 +1,8 @@
-/* Times calls over the files of the current folder, which are read beforehand: library RUNS WORDS
+/* Times calls over the files of the current folder, which are read beforehand: library WORDS
  *
- * Prints processor time in ms, of the user and the system, of the best of RUNS: a call with room made before; a call
- * with fresh room, as a first call has it; and copying the inputs and what was handed out, once each. */
+ * For each line of standard input it makes one round, and prints processor time in ms, of the user and the system: of a
+ * call with room made before; of a call with fresh room, as a first call has it; and of copying the inputs and what was
+ * handed out, once each, into fresh memory. The first line that it prints has the code and how many bytes there are. */
 #define _DEFAULT_SOURCE
 #include "otn.h"
 #include <stdio.h>
@@ -18,8 +19,8 @@ static double now(void)
         + used.ru_stime.tv_usec / 1e3;
 }
 
-static uint8_t *plan, *inputs;
-static size_t plan_length, length, ends[OTN_PORTS], output_ends[OTN_PORTS];
+static uint8_t *plan, *inputs, *outputs, *report;
+static size_t plan_length, length, room, report_room, ends[OTN_PORTS], output_ends[OTN_PORTS];
 static uint8_t present[OTN_PORTS];
 static struct otn_answer told;
 
@@ -47,18 +48,53 @@ static uint8_t *fresh(size_t bytes)
     return at;
 }
 
-static uint32_t call(const char *words, uint8_t *outputs, size_t room, uint8_t *report, size_t report_room)
+static uint32_t call(const char *words, uint8_t *out, size_t out_room, uint8_t *said, size_t said_room)
 {
     return otn_run((const uint8_t *)words, strlen(words), plan, plan_length, inputs, length, ends, OTN_PORTS, present,
-                   OTN_PORTS, outputs, room, output_ends, OTN_PORTS, report, report_room, &told);
+                   OTN_PORTS, out, out_room, output_ends, OTN_PORTS, said, said_room, &told);
+}
+
+static double warm_call(const char *words)
+{
+    double start = now();
+    call(words, outputs, room, report, report_room);
+    return now() - start;
+}
+
+static double first_call(const char *words)
+{
+    double start = now();
+    uint8_t *other = fresh(room + 1), *another = fresh(report_room + 1);
+    call(words, other, room, another, report_room);
+    munmap(other, room + 1);
+    munmap(another, report_room + 1);
+    return now() - start;
+}
+
+static double copying_in(void)
+{
+    double start = now();
+    uint8_t *copy = fresh(length + 1);
+    memcpy(copy, inputs, length);
+    munmap(copy, length + 1);
+    return now() - start;
+}
+
+static double copying_out(void)
+{
+    double start = now();
+    uint8_t *copy = fresh(room + report_room + 1);
+    memcpy(copy, outputs, room);
+    memcpy(copy + room, report, report_room);
+    munmap(copy, room + report_room + 1);
+    return now() - start;
 }
 
 int main(int count, char **said)
 {
-    int runs = count > 1 ? atoi(said[1]) : 1;
-    const char *words = count > 2 ? said[2] : "run";
-    double warm = 1e9, cold = 1e9, copy_in = 1e9, copy_out = 1e9;
-    char name[32];
+    const char *words = count > 1 ? said[1] : "run";
+    char name[32], line[32];
+    uint8_t one[1];
     inputs = malloc(1);
     plan = malloc(1);
     plan_length = load("plan.toml", &plan, 0);
@@ -68,39 +104,18 @@ int main(int count, char **said)
         present[n] = next > length;
         ends[n] = length = next;
     }
-    uint8_t one[1], *outputs = NULL, *report = NULL, *copy = NULL;
-    uint32_t code = call(words, one, 0, one, 0);
-    size_t room = told.outputs, report_room = told.report;
+    call(words, one, 0, one, 0);
+    room = told.outputs;
+    report_room = told.report;
     outputs = fresh(room + 1);
     report = fresh(report_room + 1);
-    code = call(words, outputs, room, report, report_room);
-    for (int i = 0; i < runs; i++) {
-        double start = now(), end;
-        call(words, outputs, room, report, report_room);
-        end = now();
-        warm = end - start < warm ? end - start : warm;
-        start = now();
-        uint8_t *other = fresh(room + 1), *another = fresh(report_room + 1);
-        call(words, other, room, another, report_room);
-        munmap(other, room + 1);
-        munmap(another, report_room + 1);
-        end = now();
-        cold = end - start < cold ? end - start : cold;
-        start = now();
-        copy = fresh(length + 1);
-        memcpy(copy, inputs, length);
-        munmap(copy, length + 1);
-        end = now();
-        copy_in = end - start < copy_in ? end - start : copy_in;
-        start = now();
-        copy = fresh(room + report_room + 1);
-        memcpy(copy, outputs, room);
-        memcpy(copy + room, report, report_room);
-        munmap(copy, room + report_room + 1);
-        end = now();
-        copy_out = end - start < copy_out ? end - start : copy_out;
+    uint32_t code = call(words, outputs, room, report, report_room);
+    printf("%u %zu %zu\n", (unsigned)code, length, room + report_room);
+    fflush(stdout);
+    while (fgets(line, sizeof line, stdin)) {
+        double warm = warm_call(words), cold = first_call(words), in = copying_in(), out = copying_out();
+        printf("%.3f %.3f %.3f %.3f\n", warm, cold, in, out);
+        fflush(stdout);
     }
-    printf("code %u in %zu out %zu call %.1f fresh %.1f copy-in %.1f copy-out %.1f\n", (unsigned)code, length,
-           room + report_room, warm, cold, copy_in, copy_out);
     return 0;
 }

@@ -9,18 +9,20 @@
  * output, no order of service. The program says this of bytes that a file gave; the library says it of the very bytes
  * that stand in `inputs` and `outputs`. In full: where two calls of "run" each answer OTN_DONE, OTN_UNFINISHED, OTN_CUT
  * or OTN_REPORT_FAULT, both plans have the connection's entry, and its input agrees, then what it sends agrees: its
- * client's text, or its own places on its line. Of a client input that is its packets and how they end; of a line it is
- * the number of whole frames, their MFAS bytes, and the bytes at the connection's own places. Where its output was cut
- * for want of memory the promise goes up to there.
+ * client's text, or its own places on its line. An entry is its keys with their defaults (`stop` is `turns`), and which
+ * of its lines are OTU3s. Of a client input there agree its packets and how they end; of a line, unscrambled, the
+ * number of whole frames, their MFAS bytes, and the bytes at the connection's own places. An output line is scrambled
+ * by both plans, or by neither. Where its output was cut for want of memory the promise goes up to there.
  *
  * This is proved of the library's code as it was before compilation (docs/PROMISES.md, "The library"). NOT PROVED, and
  * tested only: the bytes that are handed out of a client output whose connection says `retire = true` in the plan. Nor
  * does any proof speak of the program that calls: it has to keep the rules below.
  *
- * HOW IT IS CALLED. It takes bytes with their length, and calls the system for nothing but memory (malloc, realloc,
- * free, and on Linux advice on the pages of large blocks), all of which it gives back. It keeps nothing from one call to
- * the next, has no global state and starts no thread: threads may call it side by side, each with memory of its own to be
- * written to. Call it from no signal handler.
+ * HOW IT IS CALLED. It takes bytes with their length. It calls the system for nothing but memory: malloc,
+ * posix_memalign, realloc, free, and on Linux advice on the pages of large blocks. It gives all of it back. What comes
+ * out is kept until the command has ended, so a call takes about as much memory of its own as it hands out. It keeps
+ * nothing from one call to the next, has no global state and starts no thread: threads may call it side by side, each
+ * with memory of its own to be written to. Call it from no signal handler.
  *
  * - Each pointer points to as many bytes or numbers as the length behind it says, aligned for its type.
  * - No pointer is null, not for a length of 0 either: point to anything then.
@@ -103,7 +105,8 @@ uint32_t otn_version(void);
  *
  * Read:
  * words         the command in UTF-8, with one blank between each two of its words: "run", "run --order 7", "check",
- *               "slot 3", "pull 1 1,2", "protect 1 3 20 4", "unbundle 20", "trial 5" (docs/FORMATS.md, "Words"). The
+ *               "slot 3", "pull 1 1,2", "protect 1 3 20 4", "bundle 0,5 20", "unbundle 20", "trial 5" (docs/FORMATS.md,
+ *               "How the program ends"). "run --pcap" is "run" here: clients bring and get texts, and no captures. The
  *               length counts no zero byte behind them
  * plan          the plan; only "run" and "check" look at it
  * inputs        the bytes of the 20 inputs, one behind the other: lines 0 to 3, then clients 0 to 15

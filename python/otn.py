@@ -311,6 +311,8 @@ def _library() -> ctypes.CDLL:
     except OSError as why:
         raise OSError(f"{why} (library/build python makes it; OTN_LIBRARY says where it is)") from why
     read, write, number = ctypes.c_char_p, ctypes.c_void_p, ctypes.c_size_t
+    if not hasattr(library, "otn_version"):
+        raise OSError(f"{path} says no version, and otn.py is for version {VERSION}")
     library.otn_version.restype = ctypes.c_uint32
     library.otn_version.argtypes = []
     if library.otn_version() != VERSION:
@@ -340,28 +342,36 @@ def _memory(size: int) -> mmap.mmap:
     return made
 
 
+def _bytes(given: Bytes) -> bytes:
+    # (a number is no bytes: `bytes(5)` would be five of them)
+    return given if isinstance(given, bytes) else bytes(memoryview(given))
+
+
 def _inputs(lines: Optional[Mapping[int, Bytes]], clients: Optional[Mapping[int, Client]]) -> Dict[int, bytes]:
     """All inputs, by the numbers of the library: lines 0 to 3, then clients as 4 to 19."""
     found: Dict[int, bytes] = {}
     for n, line in (lines or {}).items():
         if n not in range(LINES):
             raise ValueError(f"a line has a number from 0 to 3, and not {n!r}")
-        found[n] = bytes(line)
+        found[n] = _bytes(line)
     for n, client in (clients or {}).items():
         if n not in range(CLIENTS):
             raise ValueError(f"a client has a number from 0 to 15, and not {n!r}")
-        is_text = isinstance(client, (bytes, bytearray, memoryview))
-        found[LINES + n] = bytes(client) if is_text else text(client)  # type: ignore[arg-type]
+        found[LINES + n] = _bytes(client) if isinstance(client, (bytes, bytearray, memoryview)) else text(client)
     return found
 
 
 def _room(said: str, plan: bytes, block: bytes) -> int:
     """Enough room for the outputs of nearly every command: a line has a multiframe a turn."""
-    outputs = set(re.findall(rb"line *= *([0-3])", plan)) if said.startswith("run") else {b"0"}
-    found = re.findall(rb"^ *turns *= *(\d{1,5})", plan, re.MULTILINE) or [word.encode() for word in said.split()[3:4]]
-    turns = min(int(found[0]) if found and found[0].isdigit() else 0, 16_384)
+    words = said.split() + [""] * 4
+    if words[0] == "run":
+        outputs = len(set(re.findall(rb"line *= *([0-3])", plan)))
+        found = [it.decode() for it in re.findall(rb"^ *turns *= *(\d{1,5})", plan, re.MULTILINE)[:1]]
+    else:
+        outputs, found = 1, [{"protect": words[3], "bundle": words[2]}.get(words[0], "")]
+    turns = min(int(found[0]) if found and re.fullmatch("[0-9]{1,5}", found[0]) else 0, 16_384)
     kinds = 4 if b"otu3-out" in plan else 1
-    return min((1 << 20) + 4 * len(block) + len(outputs) * turns * MULTIFRAME * kinds, 1 << 32)
+    return min((1 << 20) + 4 * len(block) + outputs * turns * MULTIFRAME * kinds, 1 << 32)
 
 
 def call(
@@ -388,7 +398,7 @@ def call(
         if any(" " in word for word in words):
             raise ValueError("no word has a blank in it")
         words = " ".join(words)
-    said, plan = words.encode(), plan.encode() if isinstance(plan, str) else bytes(plan)
+    said, plan = words.encode(), plan.encode() if isinstance(plan, str) else _bytes(plan)
     inputs = _inputs(lines, clients)
     parts = [inputs.get(n, b"") for n in range(_PORTS)]
     block = next(iter(inputs.values())) if len(inputs) == 1 else b"".join(parts)

@@ -63,6 +63,7 @@ static void no_calls(void)
     want(code_of("slot 3\0", 7, ends, 20, 20, 20) == OTN_WORDS, "a zero byte at the end");
     want(code_of("slot 3\n", 7, ends, 20, 20, 20) == OTN_WORDS, "a line feed at the end");
     want(code_of("slot\t3", 6, ends, 20, 20, 20) == OTN_WORDS, "a tab for a blank");
+    want(code_of("--help", 6, ends, 20, 20, 20) == OTN_WORDS, "a page of the program");
 }
 
 static const char across[] =
@@ -119,6 +120,26 @@ static void absent(void)
         let_go(&it);
         free(in.inputs);
     }
+}
+
+/* `run --pcap` is `run`: the clients of a call are texts. */
+static void captures(void)
+{
+    static const char packets[] = "68656c6c6f\n776f726c64\n";
+    struct given in = of_text("run", across), other = of_text("run --pcap", across);
+    for (int n = OTN_CLIENT(0); n < OTN_PORTS; n++)
+        in.ends[n] = other.ends[n] = sizeof packets - 1;
+    in.present[OTN_CLIENT(0)] = other.present[OTN_CLIENT(0)] = 1;
+    free(in.inputs), free(other.inputs);
+    in.inputs = (uint8_t *)packets;
+    other.inputs = (uint8_t *)packets;
+    struct got one = answered(&in), two = answered(&other);
+    one.report[one.told.report - 1] = 0;
+    want(strstr((char *)one.report, "client-in 0 packets 2 spent live") != NULL, "two packets");
+    one.report[one.told.report - 1] = '\n';
+    want(are_same(&one, &two), "run --pcap is run");
+    let_go(&one);
+    let_go(&two);
 }
 
 /* A plan that is no plan, and one that is. */
@@ -186,6 +207,7 @@ int main(int count, char **said)
     no_calls();
     rooms();
     absent();
+    captures();
     plans();
     for (long i = 0; i < calls; i++)
         by_chance();

@@ -2,15 +2,19 @@
  *
  * Whatever is refused, all memory is given back. The answer is that there was no memory, or what it is with memory, but
  * for one output or the report, of which a part from the front is handed out: what all others got stays the same. So
- * it is seen with ports that fail that no connection touches another. Linked with --wrap for malloc, realloc, free. */
+ * it is seen with ports that fail that no connection touches another. Linked with --wrap for malloc, posix_memalign,
+ * realloc, free. */
 #include "call.h"
+#include <errno.h>
 
 static long asked, refused, held;
 
 void *__real_malloc(size_t size);
+int __real_posix_memalign(void **at, size_t alignment, size_t size);
 void *__real_realloc(void *at, size_t size);
 void __real_free(void *at);
 void *__wrap_malloc(size_t size);
+int __wrap_posix_memalign(void **at, size_t alignment, size_t size);
 void *__wrap_realloc(void *at, size_t size);
 void __wrap_free(void *at);
 
@@ -21,6 +25,15 @@ void *__wrap_malloc(size_t size)
     void *at = __real_malloc(size);
     held += at != NULL;
     return at;
+}
+
+int __wrap_posix_memalign(void **at, size_t alignment, size_t size)
+{
+    if (++asked == refused)
+        return ENOMEM;
+    int fault = __real_posix_memalign(at, alignment, size);
+    held += !fault;
+    return fault;
 }
 
 void *__wrap_realloc(void *at, size_t size)

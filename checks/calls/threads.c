@@ -1,6 +1,8 @@
 /* Calls from several threads at once give what each gives alone: threads THREADS CALLS WORDS PLAN [NUMBER FILE]..
  *
- * Each thread has inputs of its own: those that are named, with other bytes damaged in each. Its stack has 256 KiB. */
+ * Each thread has inputs of its own: those that are named, with other bytes damaged in each. Its stack has 256 KiB.
+ * Where there are inputs at least half of the threads have to answer otherwise than the first. That is not asked of
+ * `unbundle`, which may find nothing in any of them. */
 #include "call.h"
 #include <pthread.h>
 
@@ -23,7 +25,7 @@ static void *again(void *at)
 
 int main(int count, char **said)
 {
-    int threads = atoi(said[1]), differ = 0;
+    int threads = atoi(said[1]), differ = 0, has_to_differ = count > 5 && strncmp(said[3], "unbundle", 8);
     long wrong = 0;
     struct part *parts = memory((size_t)threads * sizeof *parts);
     pthread_t *ids = memory((size_t)threads * sizeof *ids);
@@ -52,5 +54,5 @@ int main(int count, char **said)
            differ, wrong);
     free(parts);
     free(ids);
-    return wrong || differ < threads / 2;
+    return wrong || (has_to_differ && differ < threads / 2);
 }

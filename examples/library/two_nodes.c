@@ -60,6 +60,10 @@ int main(void)
 {
     static const uint8_t packets[] = "68656c6c6f\n776f726c64\n";
     size_t length;
+    if (otn_version() != OTN_VERSION) {
+        fprintf(stderr, "this is another version of the library\n");
+        return 2;
+    }
     struct made a = carry(node_a, OTN_CLIENT(0), packets, sizeof packets - 1);
     const uint8_t *line = output(&a, OTN_LINE(0), &length);
     printf("line 0: %zu bytes\n", length);

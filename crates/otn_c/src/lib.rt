@@ -35,7 +35,8 @@ pub use slice_source::SliceSource;
 use std::alloc::Global;
 pub use version::otn_version;
 
-/// Does all that the program does, over the bytes that it is handed.
+/// Carries out a command of the program, over the bytes that it is handed. `run --pcap` is `run` here: clients bring
+/// and get texts.
 ///
 /// `words` are the words of a command with a blank between each two, as `run --order 7`. The 20 inputs, lines 0 to 3 and clients 0
 /// to 15, stand one behind the other in `inputs`: input n ends before place `ends[n]` of it, and is there where `present[n]` is not 0.
