@@ -17,6 +17,7 @@ use Rattle.gfp_linear.specs.ChannelFrames.{IsCidList}
 use Rattle.gfp_linear.specs.Laws.{WeaveGoesOn}
 use Rattle.gfp_linear.specs.Weave.{ChannelText, WovenFrame, IdleFrame, PacketFrame, LossFrame, asked_first, giver_or, given_of, is_loss_late, last_giver, loss_due, no_text, offer, packet_of, packets_given, woven_size}
 use Rattle.gfp_linear.specs.Weaver.{WeaverState, Woven, HasWoven, IsWeave, channel_at, woven_on}
+use Rattle.gfp_frames.proofs.Lists.{some_length}
 use Rattle.gfp_linear.proofs.Streams.{weave_goes_on}
 use Rattle.gfp_linear.proofs.Weaves.{given-push}
 use Rattle.gfp_linear.proofs.Weaving.{giver-push}
@@ -28,6 +29,7 @@ use Rattle.bundle_command.specs.declared.channel.Channel.{Channel}
 use Rattle.bundle_command.specs.declared.channel.Standing.{Standing}
 use Rattle.bundle_command.specs.declared.channel.Standing.TheVariants as standing
 use Rattle.bundle_command.specs.declared.weaving.Weaving.{Weaving}
+use Rattle.bundle_command.proofs.AskedTurns.{asked_by, asked_on, given_by, giver_same, going_on, not_asked_on, others_on}
 use Rattle.bundle_command.proofs.Sizes.{bytes-push, packet_bytes, loss_bytes, size_some, given_bytes, end_packet, end_other}
 use Rattle.bundle_command.proofs.Channels.{no_news}
 use Rattle.bundle_command.proofs.Texts.{IsOver as is_over, OverText, over_text, going_text, get_next, get_none}
@@ -179,7 +181,7 @@ asked_below : (cids : List ℕ) (at : Woven) (end c index : ℕ) → IsUnasked c
 asked_below cids at end c index h asked here = asked ∙ mod-eq_of_lt (let low = h.low in omega arith)
 
 unasked_frame : (cids : List ℕ) (at : Woven) (end last c index : ℕ) (frame : WovenFrame) → IsUnasked cids at end c → index ≡ channel_at (length cids) at → c ≢ index → c < length cids
-    → giver_or (last_giver at.frames) frame ≡ Some index → woven_size cids frame ≤ 65539
+    → giver_or None frame ≡ Some index → woven_size cids frame ≤ 65539
     → woven_bytes cids at.frames + woven_size cids frame ≤ last + 4 + 12 * (asked_first (length cids) (last_giver at.frames) + 1)
     → IsUnasked cids (record { frames = at.frames ++ frame ∷ []; others = 0 }) last c
 unasked_frame cids at end last c index frame h asked differ here giver size past =
@@ -189,12 +191,13 @@ unasked_frame cids at end last c index frame h asked differ here giver size past
     let most = h.most in
     let below : index < c = omega (arith, is, low, differ) in
     let next : asked_first (length cids) (last_giver (at.frames ++ frame ∷ [])) ≡ index + 1 =
-    ap (asked_first (length cids)) (giver-push at.frames frame ∙ giver) ∙ mod-eq_of_lt (let l : index + 1 < length cids = omega arith in l) in
+    ap (asked_first (length cids)) (giver-push at.frames frame ∙ giver_same frame (last_giver at.frames) index giver) ∙ mod-eq_of_lt (let l : index + 1 < length cids = omega arith in l) in
     let bytes = bytes-push cids at.frames frame in
     record {
       low = omega (arith, next, below);
       most = omega (arith, next, bytes, most, size, is);
       late = omega (arith, next, bytes, past, is);
+      none = not_asked_on (length cids) c index at.frames frame h.none (omega (arith, is)) below here giver;
     }
 
 unasked_none : (cids : List ℕ) (at : Woven) (end c index : ℕ) → IsUnasked cids at end c → index ≡ channel_at (length cids) at → c ≢ index → c < length cids → IsUnasked cids (woven_on (length cids) at None) end c
@@ -203,7 +206,7 @@ unasked_none cids at end c index h asked differ here =
     let low = h.low in
     let more : at.others + 1 < length cids = omega (arith, is, low, differ, here) in
     subst (λ b. IsUnasked cids (cond {A = Woven} b (record { frames = at.frames; others = at.others + 1 }) (record { frames = at.frames ++ IdleFrame ∷ []; others = 0 })) end c)
-    (sym (lt-ltb (at.others + 1) (length cids) more)) (record { low = omega (arith, is, low, differ); most = h.most; late = h.late })
+    (sym (lt-ltb (at.others + 1) (length cids) more)) (record { low = omega (arith, is, low, differ); most = h.most; late = h.late; none = h.none })
 
 pub unasked_on : (cids : List ℕ) (at : Woven) (end c index : ℕ) (packet : List ℕ) (answer : Standing) → (answer ≡ standing.Going → length packet ≤ 65523)
     → IsUnasked cids at end c → index ≡ channel_at (length cids) at → c ≢ index → c < length cids
@@ -308,7 +311,8 @@ asks clients first was is given old mid new index answer idle which_is maker_sam
       at = next_at;
       has = record {
         list = has.list;
-        woven = subst (λ c. HasWoven clients (woven_on n at (frame_of answer c packet at.frames)) given new.maker) (sym index_is) (told.woven clients at given (subst (HasWoven clients at given) (sym maker_same) has.woven));
+        woven = woven;
+        going = going_on n at (frame_of answer index packet at.frames) has.going;
         many = ap length channels_is ∙ set_many old.channels.items index asked.next ∙ has.many;
         end = next_end answer bytes (length packet) has.end;
         ends = ends_on clients n index packet at answer has.end has.ends;
@@ -321,6 +325,7 @@ asks clients first was is given old mid new index answer idle which_is maker_sam
       };
       unsettled = λ c channel known. unsettled c channel known (which c index);
       begun = begun_on clients n index (length given) packet at answer ready.begun (subst (λ k. k ≤ length given) all_given (omega arith));
+      told = λ hand. by_others hand (others_on n at (frame_of answer index packet at.frames));
     }
   where
     n : ℕ
@@ -370,6 +375,17 @@ asks clients first was is given old mid new index answer idle which_is maker_sam
     told : IsTold answer packet mid new
     told = tells asked.next next_known
 
+    woven : HasWoven clients next_at given new.maker
+    woven = subst (λ c. HasWoven clients (woven_on n at (frame_of answer c packet at.frames)) given new.maker) (sym index_is) (told.woven clients at given (subst (HasWoven clients at given) (sym maker_same) has.woven))
+
+    by_others : new.maker.maker.hand ≢ [] → (next_at.others ≡ 0) ⊎ (next_at.frames ≡ at.frames) → next_at.others ≡ 0
+    by_others hand (inl e) = e
+    by_others hand (inr same) =
+        let all = given_bytes clients next_at given new.maker woven in
+        let bytes : woven_bytes clients next_at.frames ≡ woven_bytes clients ready.at.frames = ap (woven_bytes clients) same in
+        let some = some_length new.maker.maker.hand hand in
+        absurd (omega (arith, all, bytes, some, all_given))
+
     channels_is : new.channels.items ≡ set old.channels.items index asked.next
     channels_is = ap (λ (cs : _). cs.items) told.channels ∙ asked.channels
 
@@ -380,6 +396,8 @@ asks clients first was is given old mid new index answer idle which_is maker_sam
           (subst (λ k. ChannelStands (place_of clients first index) (client_in_at is k) (ready.taken index ++ answered.came) (packets_given index at.frames ++ news answer packet) asked.next) here_at.client answered.stands));
       client = asked.client ∙ here_at.client;
       unasked = λ fresh. absurd (asked.closed.0 (sym asked.standing ∙ fresh));
+      untouched = λ fresh. absurd (asked.closed.0 (sym asked.standing ∙ fresh));
+      asked = λ other. asked_on n index index at (frame_of answer index packet at.frames) has.going index_is (given_by answer index packet at.frames) (inr (at.others, omega arith, sym index_is));
     }
 
     each : (c : ℕ) (channel : Channel) → HasChannel new.channels.items c channel → (c ≡ index) ⊎ (c ≢ index) → ChannelAt clients first is (later c) next_at (next_end answer bytes (length packet) has.end) c channel
@@ -397,6 +415,8 @@ asks clients first was is given old mid new index answer idle which_is maker_sam
               (subst (λ v. ChannelStands (place_of clients first c) v (ready.taken c) (packets_given c at.frames) channel) (sym (other_place clients was is asked.channel.client index c has.list asked.only here_at.client here there differ)) was_at.stands));
           client = was_at.client;
           unasked = λ fresh. unasked_on clients at has.end c index packet answer (λ e. (asked.packet e).1) (was_at.unasked fresh) index_is differ there;
+          untouched = λ fresh. other_place clients was is asked.channel.client index c has.list asked.only here_at.client here there differ ∙ was_at.untouched fresh;
+          asked = λ other. asked_on n index c at (frame_of answer index packet at.frames) has.going index_is (given_by answer index packet at.frames) (asked_by n c at (was_at.asked other));
         }
 
     unsettled : (c : ℕ) (channel : Channel) → HasChannel new.channels.items c channel → (c ≡ index) ⊎ (c ≢ index) → channel.standing ≢ standing.More

@@ -13,12 +13,12 @@ use Rattle.bundle_command.specs.declared.channel.Standing.TheVariants as standin
 use Rattle.bundle_command.proofs.Ends.{more_by, none_ended}
 
 -- the lines came to an end
-at_end : (packets : ℕ) (taken : List ℕ) (state : State) (ended : Bool) → ended ≡ true → WasAsked packets (more_by state ended) taken
-at_end packets taken state ended e = inr (inl (none_ended state ended e))
+at_end : (packets : ℕ) (taken : List ℕ) (state : State) (ended : Bool) → ended ≡ true → TellsBehind packets (more_by state ended) taken
+at_end packets taken state ended e = inl (none_ended state ended e)
 
 -- a packet came that was not given
 has_more : (first last : InView) (taken packet : List ℕ) (given : List (List ℕ)) (view : LinesView) → LinesStand first last taken (given ++ packet ∷ []) view → view.answer ≡ line.Packet
-    → WasAsked (length given) (more_by last.state view.ended) taken
+    → TellsBehind (length given) (more_by last.state view.ended) taken
 has_more first last taken packet given view h answer = by view.ended refl
   where
     many : view.ended ≡ false → length given < length (packets_of (full_lines taken)).packets
@@ -31,19 +31,19 @@ has_more first last taken packet given view h answer = by view.ended refl
         let one = length-append given (packet ∷ []) in
         omega (arith, size, both, one)
 
-    by : (ended : Bool) → view.ended ≡ ended → WasAsked (length given) (more_by last.state view.ended) taken
+    by : (ended : Bool) → view.ended ≡ ended → TellsBehind (length given) (more_by last.state view.ended) taken
     by true e = at_end (length given) taken last.state view.ended e
-    by false e = inr (inr (inr (many e)))
+    by false e = inr (inr (many e))
 
 is_bad : (first last : InView) (taken : List ℕ) (packets : ℕ) (given : List (List ℕ)) (view : LinesView) → LinesStand first last taken given view → IsBadLine view.answer
-    → WasAsked packets (more_by last.state view.ended) taken
+    → TellsBehind packets (more_by last.state view.ended) taken
 is_bad first last taken packets given view h bad = by view.answer refl bad
   where
-    by_ended : (n : ℕ) → view.answer ≡ line.Bad n → (ended : Bool) → view.ended ≡ ended → WasAsked packets (more_by last.state view.ended) taken
+    by_ended : (n : ℕ) → view.answer ≡ line.Bad n → (ended : Bool) → view.ended ≡ ended → TellsBehind packets (more_by last.state view.ended) taken
     by_ended n a true e = at_end packets taken last.state view.ended e
-    by_ended n a false e = inr (inr (inl (h.shown n a e)))
+    by_ended n a false e = inr (inl (h.shown n a e))
 
-    by : (a : Line) → view.answer ≡ a → IsBadLine a → WasAsked packets (more_by last.state view.ended) taken
+    by : (a : Line) → view.answer ≡ a → IsBadLine a → TellsBehind packets (more_by last.state view.ended) taken
     by line.Packet e is = absurd is
     by line.End e is = absurd is
     by (line.Bad n) e is = by_ended n e view.ended refl
@@ -51,25 +51,46 @@ is_bad first last taken packets given view h bad = by view.answer refl bad
 
 -- nothing was asked for
 none_asked : (first last : InView) (taken : List ℕ) (given beyond : List (List ℕ)) (view : LinesView) → given ≡ [] → beyond ≡ [] → view.answer ≡ line.Packet → LinesStand first last taken (given ++ beyond) view
-    → WasAsked (length given) (more_by last.state view.ended) taken
+    → taken ≡ []
 none_asked first last taken given beyond view e f answer h =
     let nothing : length (given ++ beyond) ≡ 0 = ap length (ap (λ g. g ++ beyond) e ∙ f) in
     let asked : asked_for view.answer (length (given ++ beyond)) ≡ 0 = ap (λ a. asked_for a (length (given ++ beyond))) answer ∙ nothing in
     elim h.read.fewer [
-      | inl none ↦ inl (ap length e, none)
+      | inl none ↦ none
       | inr less ↦ absurd (omega (arith, less, asked))
     ]
 
--- once it is settled
-pub was_asked : (s : Standing) (first last : InView) (taken : List ℕ) (given beyond : List (List ℕ)) (view : LinesView) → s ≢ standing.Going → StandsSo s given beyond view.answer
-    → LinesStand first last taken (given ++ beyond) view → WasAsked (length given) (more_by last.state view.ended) taken
-was_asked standing.Fresh first last taken given beyond view over so h = none_asked first last taken given beyond view so.0 so.1 so.2 h
-was_asked standing.Going first last taken given beyond view over so h = absurd (over refl)
-was_asked standing.Ended first last taken given beyond view over so h = at_end (length given) taken last.state view.ended (h.ended so.1)
-was_asked standing.Bad first last taken given beyond view over (inl (none, bad)) h = is_bad first last taken (length given) (given ++ beyond) view h bad
-was_asked standing.Bad first last taken given beyond view over (inr (packet, is, long, answer)) h =
+-- one that was asked, once it is settled
+tells_behind : (s : Standing) (first last : InView) (taken : List ℕ) (given beyond : List (List ℕ)) (view : LinesView) → s ≢ standing.Going → s ≢ standing.Fresh → StandsSo s given beyond view.answer
+    → LinesStand first last taken (given ++ beyond) view → TellsBehind (length given) (more_by last.state view.ended) taken
+tells_behind standing.Fresh first last taken given beyond view over known so h = absurd (known refl)
+tells_behind standing.Going first last taken given beyond view over known so h = absurd (over refl)
+tells_behind standing.Ended first last taken given beyond view over known so h = at_end (length given) taken last.state view.ended (h.ended so.1)
+tells_behind standing.Bad first last taken given beyond view over known (inl (none, bad)) h = is_bad first last taken (length given) (given ++ beyond) view h bad
+tells_behind standing.Bad first last taken given beyond view over known (inr (packet, is, long, answer)) h =
     has_more first last taken packet given view (subst (λ b. LinesStand first last taken (given ++ b) view) is h) answer
-was_asked standing.Lost first last taken given beyond view over so h =
-    inr (inl (ap (λ s. more_by s view.ended) (h.lost so.1).1))
-was_asked standing.More first last taken given beyond view over (packet, is, answer) h =
+tells_behind standing.Lost first last taken given beyond view over known so h = inl (ap (λ s. more_by s view.ended) (h.lost so.1).1)
+tells_behind standing.More first last taken given beyond view over known (packet, is, answer) h =
     has_more first last taken packet given view (subst (λ b. LinesStand first last taken (given ++ b) view) is h) answer
+
+-- by whether its channel is asked
+pub was_asked : (Asked : Type 0) (s : Standing) (first last : InView) (taken : List ℕ) (given beyond : List (List ℕ)) (view : LinesView) → s ≢ standing.Going → (s ≢ standing.Fresh → Asked)
+    → (s ≡ standing.Fresh → (Asked → ⊥) × (last ≡ first)) → StandsSo s given beyond view.answer → LinesStand first last taken (given ++ beyond) view
+    → WasAsked Asked (length given) (more_by last.state view.ended) first last taken
+was_asked Asked s first last taken given beyond view over known fresh so h = by s refl so
+  where
+    other : (x : Standing) → s ≡ x → x ≢ standing.Fresh → WasAsked Asked (length given) (more_by last.state view.ended) first last taken
+    other x e differ =
+        let other_than : s ≢ standing.Fresh = λ f. differ (sym e ∙ f) in
+        record { behind = λ asked. tells_behind s first last taken given beyond view over other_than so h; untouched = λ never. absurd (never (known other_than)) }
+
+    by : (x : Standing) → s ≡ x → StandsSo x given beyond view.answer → WasAsked Asked (length given) (more_by last.state view.ended) first last taken
+    by standing.Fresh e so' = record {
+      behind = λ asked. absurd ((fresh e).0 asked);
+      untouched = λ never. ((fresh e).1, none_asked first last taken given beyond view so'.0 so'.1 so'.2 h);
+    }
+    by standing.Going e so' = other standing.Going e (λ f. cc)
+    by standing.Ended e so' = other standing.Ended e (λ f. cc)
+    by standing.Bad e so' = other standing.Bad e (λ f. cc)
+    by standing.Lost e so' = other standing.Lost e (λ f. cc)
+    by standing.More e so' = other standing.More e (λ f. cc)

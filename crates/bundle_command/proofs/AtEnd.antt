@@ -17,7 +17,7 @@ use Rattle.bundle_command.specs.declared.weaving.Weaving.{Weaving}
 use Rattle.bundle_command.proofs.Asked.{set_at, set_beside, set_many, which, taken_on, taken_here, taken_there, list_here, list_there, other_place, only_on}
 
 pub none_settled : (clients : List ℕ) (first now : BaysView) (given : List ℕ) (weaving : Weaving) → WeavingStands clients first now given weaving → IsSettled 0 clients first now given weaving
-none_settled clients first now given weaving h = record { taken = h.taken; at = h.at; has = h.has; over = λ c channel known less. absurd (omega arith); begun = h.begun }
+none_settled clients first now given weaving h = record { taken = h.taken; at = h.at; has = h.has; over = λ c channel known less. absurd (omega arith); begun = h.begun; told = h.told }
 
 pub settles : (clients : List ℕ) (first was is : BaysView) (given : List ℕ) (old new : Weaving) (index : ℕ) → new.maker ≡ old.maker → new.given ≡ old.given → new.end ≡ old.end
     → ChannelSettled index was old.channels.items is new.channels.items → IsSettled index clients first was given old → IsSettled (suc index) clients first is given new
@@ -28,6 +28,7 @@ settles clients first was is given old new index maker_same given_same end_same 
       has = record {
         list = h.has.list;
         woven = rw maker_same h.has.woven;
+        going = h.has.going;
         many = ap length asked.channels ∙ set_many old.channels.items index asked.next ∙ h.has.many;
         end = h.has.end;
         ends = h.has.ends;
@@ -39,6 +40,7 @@ settles clients first was is given old new index maker_same given_same end_same 
       };
       over = λ c channel known less. over c channel known less (which c index);
       begun = h.begun;
+      told = h.told;
     }
   where
     within : index < length old.channels.items
@@ -64,6 +66,8 @@ settles clients first was is given old new index maker_same given_same end_same 
           (subst (λ k. ChannelStands (place_of clients first index) (client_in_at is k) (h.taken index ++ answered.came) (packets_given index h.at.frames) asked.next) here_at.client answered.stands);
       client = asked.client ∙ here_at.client;
       unasked = λ fresh. here_at.unasked (asked.fresh fresh);
+      untouched = λ fresh. ap (client_in_at is) (sym here_at.client) ∙ asked.still fresh ∙ ap (client_in_at was) here_at.client ∙ here_at.untouched (asked.fresh fresh);
+      asked = λ other. here_at.asked (λ fresh. other (asked.stays fresh));
     }
 
     each : (c : ℕ) (channel : Channel) → HasChannel new.channels.items c channel → (c ≡ index) ⊎ (c ≢ index) → ChannelAt clients first is (later c) h.at h.has.end c channel
@@ -80,6 +84,8 @@ settles clients first was is given old new index maker_same given_same end_same 
               (subst (λ v. ChannelStands (place_of clients first c) v (h.taken c) (packets_given c h.at.frames) channel) (sym (other_place clients was is asked.channel.client index c h.has.list asked.only here_at.client here there differ)) was_at.stands);
           client = was_at.client;
           unasked = was_at.unasked;
+          untouched = λ fresh. other_place clients was is asked.channel.client index c h.has.list asked.only here_at.client here there differ ∙ was_at.untouched fresh;
+          asked = was_at.asked;
         }
 
     over : (c : ℕ) (channel : Channel) → HasChannel new.channels.items c channel → c < suc index → (c ≡ index) ⊎ (c ≢ index) → channel.standing ≢ standing.Going

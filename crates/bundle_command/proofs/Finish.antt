@@ -60,6 +60,7 @@ few_channels clients c h less = (let low = list_high clients c h.cids.rising les
 pub record Stream (clients : List ℕ) (texts : List ChannelText) (turns : ℕ) (frames : List WovenFrame) : Type 0 where
   pub rest : List WovenFrame
   pub parts : woven_in texts turns ≡ frames ++ rest
+  pub are : woven_begun clients (payload_sent turns) (woven_in texts turns) ≡ frames
   pub begun : (c : ℕ) → begun_of clients texts turns c ≡ packets_given c frames
   pub whole : (c : ℕ) → whole_of clients texts turns c ≡ packets_given c (woven_within clients (payload_whole turns) frames)
   pub front : (c : ℕ) → IsFront (packets_given c frames) (get_or texts c no_text).packets
@@ -98,11 +99,13 @@ stream_at clients texts turns hand at weaves all begun =
     let more = weave_more texts k n (omega (arith, count, short, size, begun)) in
     let parts : woven_in texts turns ≡ frames ++ more.0 = more.1 ∙ ap (λ fs. fs ++ more.0) (sym weaves.begins) in
     let bytes : woven_bytes clients frames ≡ woven_bytes clients init + woven_size clients last.0 = ap (woven_bytes clients) last.1 ∙ bytes-push clients init last.0 in
+    let are : woven_begun clients n (woven_in texts turns) ≡ frames =
+    ap (woven_begun clients n) (parts ∙ ap (λ fs. fs ++ more.0) last.1 ∙ append_assoc init (last.0 ∷ []) more.0) ∙ begun_all clients n init last.0 more.0 begun (omega (arith, bytes, all)) ∙ sym last.1 in
     record {
       rest = more.0;
       parts = parts;
-      begun = λ c. ap (packets_given c)
-          (ap (woven_begun clients n) (parts ∙ ap (λ fs. fs ++ more.0) last.1 ∙ append_assoc init (last.0 ∷ []) more.0) ∙ begun_all clients n init last.0 more.0 begun (omega (arith, bytes, all)) ∙ sym last.1);
+      are = are;
+      begun = λ c. ap (packets_given c) are;
       whole = λ c. ap (packets_given c) (ap (woven_within clients (payload_whole turns)) parts ∙ within_short clients (payload_whole turns) frames more.0 (let w = whole_less turns in omega (arith, all, w)));
       front = λ c. subst (λ fs. IsFront (packets_given c fs) (get_or texts c no_text).packets) (sym weaves.begins) (weave_front texts k c);
     }

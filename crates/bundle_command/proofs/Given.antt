@@ -19,25 +19,27 @@ use Rattle.bundle_command.specs.declared.channel.Channel.{Channel}
 use Rattle.bundle_command.specs.declared.channel.Standing.TheVariants as standing
 use Rattle.bundle_command.specs.declared.weaving.Weaving.{Weaving}
 use Rattle.bundle_command.proofs.Asked.{texts_many}
+use Rattle.bundle_command.proofs.AskedTurns.{none_first}
 use Rattle.bundle_command.proofs.Sizes.{bytes-none, bytes-push, end_first}
 
 pub stands_ready : (clients : List ℕ) (first now : BaysView) (given : List ℕ) (weaving : Weaving) → WeavingStands clients first now given weaving → WeavingReady clients first now given weaving
-stands_ready clients first now given weaving h = record { taken = h.taken; at = h.at; has = h.has; unsettled = h.unsettled; begun = (let b = h.begun in omega arith) }
+stands_ready clients first now given weaving h = record { taken = h.taken; at = h.at; has = h.has; unsettled = h.unsettled; begun = (let b = h.begun in omega arith); told = λ hand. h.told }
 
 pub sat_sum : (g k : ℕ) → saturated (saturated g + k) ≡ saturated (g + k)
 sat_sum g k = omega arith
 
 -- some bytes of the frame in hand
-pub gives : (clients : List ℕ) (first now : BaysView) (given bytes : List ℕ) (count : ℕ) (old new : Weaving) → 1 ≤ count → count ≡ length bytes
+pub gives : (clients : List ℕ) (first now : BaysView) (given bytes : List ℕ) (count : ℕ) (old new : Weaving) → old.maker.maker.hand ≢ [] → 1 ≤ count → count ≡ length bytes
     → ((cids : List ℕ) (at : _) (given : List ℕ) → HasWoven cids at given old.maker → HasWoven cids at (given ++ bytes) new.maker)
     → new.channels ≡ old.channels → new.end ≡ old.end → new.given ≡ saturated (old.given + count)
     → WeavingReady clients first now given old → WeavingStands clients first now (given ++ bytes) new
-gives clients first now given bytes count old new some size woven channels end count_is h = record {
+gives clients first now given bytes count old new hand some size woven channels end count_is h = record {
   taken = h.taken;
   at = h.at;
   has = record {
     list = h.has.list;
     woven = woven clients h.at given h.has.woven;
+    going = h.has.going;
     many = ap (λ (cs : _). length cs.items) channels ∙ h.has.many;
     end = h.has.end;
     ends = h.has.ends;
@@ -49,6 +51,7 @@ gives clients first now given bytes count old new some size woven channels end c
   };
   unsettled = λ c channel known. h.unsettled c channel (ap (λ (cs : _). slice_get cs.items c) (sym channels) ∙ known);
   begun = (let b = h.begun in let l = length-append given bytes in omega arith);
+  told = h.told hand;
 }
 
 -- before the first byte
@@ -60,6 +63,7 @@ weaving_begins clients weaving list woven fresh given end first = record {
   has = record {
     list = list;
     woven = woven;
+    going = record { few = some_cids clients list.cids; some = λ e. (let h : IdleFrame ∷ [] ≡ [] = e in cc) };
     many = fresh.many;
     end = 0;
     ends = end_first clients;
@@ -68,7 +72,9 @@ weaving_begins clients weaving list woven fresh given end first = record {
         record {
           stands = f.0 (place_of clients first c);
           client = f.1;
-          unasked = λ e. record { low = omega arith; most = idle; late = idle };
+          unasked = λ e. record { low = omega arith; most = idle; late = idle; none = none_first (length clients) c };
+          untouched = λ e. refl;
+          asked = λ other. absurd (other f.2);
         };
     weave = λ inputs may. weave_starts (texts_of (length clients) inputs) (let many = texts_many (length clients) inputs in let some = some_cids clients list.cids in omega arith);
     only = record { client_in = λ n none. refl };
@@ -77,6 +83,7 @@ weaving_begins clients weaving list woven fresh given end first = record {
   };
   unsettled = λ c channel known more. not_more (sym (fresh.each c channel known).2 ∙ more);
   begun = (let e = bytes-none clients in omega arith);
+  told = refl;
 }
   where
     not_more : standing.Fresh ≢ standing.More

@@ -19,6 +19,7 @@ use Rattle.bundle_command.specs.declared.channel.Standing.{Standing}
 use Rattle.bundle_command.specs.declared.channel.Standing.TheVariants as standing
 use Rattle.bundle_command.specs.declared.weaving.Weaving.{Weaving}
 use Rattle.bundle_command.proofs.Asked.{text_at, texts_many}
+use Rattle.bundle_command.proofs.AskedTurns.{asked_idles, going_idles}
 use Rattle.bundle_command.proofs.Given.{sat_sum}
 use Rattle.bundle_command.proofs.Sizes.{bytes-push, end_other, given_bytes}
 use Rattle.bundle_command.proofs.Texts.{IsOver, get_none, is_lost_so, over_text}
@@ -131,6 +132,7 @@ idles_stand clients first now given bytes old new none over some woven channels 
   has = record {
     list = h.has.list;
     woven = woven clients h.at given h.has.woven;
+    going = going_idles (length clients) ((length bytes + 3) / 4) h.at h.has.going;
     many = ap (λ (cs : _). length cs.items) channels ∙ h.has.many;
     end = h.has.end;
     ends = end_idles clients h.at.frames ((length bytes + 3) / 4) h.has.end h.has.ends;
@@ -141,6 +143,8 @@ idles_stand clients first now given bytes old new none over some woven channels 
           stands = subst (λ g. ChannelStands (place_of clients first c) (place_of clients now c) (h.taken c) g channel) (sym (given_idles c h.at.frames ((length bytes + 3) / 4))) at.stands;
           client = at.client;
           unasked = λ fresh. absurd (not_over (sym (over.each c channel was) ∙ ap is_over fresh));
+          untouched = at.untouched;
+          asked = λ other. asked_idles (length clients) ((length bytes + 3) / 4) c h.at (omega (arith, some)) h.has.going (at.asked other);
         };
     weave = λ inputs may. weave_idles (texts_of (length clients) inputs) h.at ((length bytes + 3) / 4) (h.has.weave inputs (may_was inputs may)) (all_given inputs (may_was inputs may));
     only = h.has.only;
@@ -150,6 +154,7 @@ idles_stand clients first now given bytes old new none over some woven channels 
   unsettled = λ c channel known. h.unsettled c channel (was_known c channel known);
   begun = subst (λ n. IsBegun clients (idles_on ((length bytes + 3) / 4) h.at) (n - 1)) (sym (length-append given bytes))
       (begun_idles clients h.at.frames (length given) (length bytes) all_bytes some);
+  told = refl;
 }
   where
     not_over : true ≢ false

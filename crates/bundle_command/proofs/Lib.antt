@@ -14,5 +14,6 @@ pub mod Ends
 pub mod Finish
 pub mod BundleEnds
 pub mod AskedAtEnd
+pub mod AskedTurns
 pub mod Ran
 pub mod Turning

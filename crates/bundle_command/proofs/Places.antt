@@ -38,9 +38,10 @@ asked_at p k rack channels index channel next x y answer known at answered stand
 pub settled_at : {P K : Type 0} (p : source.Ghosts P) (k : sink.Ghosts K) (rack : Rack P K) (channels : List Channel) (index : ℕ) (channel next : Channel) (x y : InPlaceOf P)
     → HasChannel channels index channel → slice_get (client_ins rack) channel.client ≡ Some x
     → ((first : InView) (taken : List ℕ) (given : List (List ℕ)) → ChannelStands first (in_view p x) taken given channel → Answered first (in_view p y) taken given channel next)
-    → next.standing ≢ standing.Going → (next.standing ≡ standing.Fresh → channel.standing ≡ standing.Fresh) → next.client ≡ channel.client
+    → next.standing ≢ standing.Going → (next.standing ≡ standing.Fresh → channel.standing ≡ standing.Fresh) → (channel.standing ≡ standing.Fresh → next.standing ≡ standing.Fresh)
+    → (next.standing ≡ standing.Fresh → in_view p y ≡ in_view p x) → next.client ≡ channel.client
     → ChannelSettled index (bays_view p k rack) channels (bays_view p k (with_client_in rack channel.client y)) (set channels index next)
-settled_at p k rack channels index channel next x y known at settled over fresh client = record {
+settled_at p k rack channels index channel next x y known at settled over fresh stays still client = record {
   channel = channel;
   known = known;
   next = next;
@@ -48,6 +49,8 @@ settled_at p k rack channels index channel next x y known at settled over fresh 
   settled = rw (client_in_seen p k rack channel.client x at, client_in_set p k rack channel.client x y at) settled;
   over = over;
   fresh = fresh;
+  stays = stays;
+  still = rw (client_in_seen p k rack channel.client x at, client_in_set p k rack channel.client x y at) still;
   client = client;
   only = only_client_in p k rack channel.client y;
 }

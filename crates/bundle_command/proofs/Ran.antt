@@ -19,7 +19,7 @@ use Rattle.device_model.specs.LineAsked.{InputLeft}
 use Rattle.tributary_line.specs.FeedTurn.{FeedStands, FeedView}
 use Rattle.tributary_line.specs.TributaryFile.{AreTributaryFrames}
 use Rattle.bundle_command.specs.ChannelInput.{texts_of}
-use Rattle.bundle_command.specs.BundleStream.{IsFinished, begun_of, channel_stream, channel_turns, first_slot, lines_told, parts_of, payload_sent, payload_whole}
+use Rattle.bundle_command.specs.BundleStream.{IsAskedIn, IsAskedWithin, IsFinished, begun_of, channel_stream, channel_turns, first_slot, lines_told, parts_of, payload_sent, payload_whole}
 use Rattle.bundle_command.specs.BundleLeft.{BundleRan, IsCut, LeftOf, MayBeInput, OutputDue, Tells, WasAsked, place_of}
 use Rattle.bundle_command.specs.Channels.{ChannelAt, ChannelStands, HasChannel, IsBadLine, MayShowAll, StandsSo, woven_bytes}
 use Rattle.bundle_command.specs.Settled.{IsEnded, IsSettled, ended_by, is_dead, lines_of}
@@ -30,6 +30,7 @@ use Rattle.otn_ports.specs.declared.ended.Ended.{Ended}
 use Rattle.otn_ports.specs.declared.ended.Ended.TheVariants.{ReportFault, Memory}
 use Rattle.bundle_command.specs.declared.weaving.Weaving.{Weaving}
 use Rattle.bundle_command.proofs.AskedAtEnd.{was_asked}
+use Rattle.bundle_command.proofs.AskedTurns.{asked_in}
 use Rattle.bundle_command.proofs.BundleEnds.{Known, channel_at, cut_of, is_finished, is_gt, is_le, few_bytes, lines_are, of_cut, open_one, sat_high, sat_low, and_false, and_true, by_false}
 use Rattle.bundle_command.proofs.Ends.{input_left, may_show, more_by}
 use Rattle.bundle_command.proofs.Finish.{EndsAs, ends_by, not_finished, stream_at}
@@ -186,9 +187,15 @@ ran clients turns first last report told gone left given count weaving feed ende
           asked = λ c here.
               let k = channel_at clients weaving.channels.items c settled.has.many here in
               let at = (settled.has.each c k.0 k.1).stands in
-              subst (λ m. WasAsked (length (begun_of clients texts turns c)) m (settled.taken c)) (sym (more_is weaving.channels.items c k.0 (place_of clients last c).state k.1))
-              (subst (λ (ps : List (List ℕ)). WasAsked (length ps) (more_by (place_of clients last c).state (lines_view k.0.lines).ended) (settled.taken c)) (sym (known.stream.begun c))
-              (was_asked k.0.standing (place_of clients first c) (place_of clients last c) (settled.taken c) (packets_given c settled.at.frames) at.beyond (lines_view k.0.lines) (settled.over c k.0 k.1 here) at.so at.text));
+              let each = settled.has.each c k.0 k.1 in
+              let Asked : Type 0 = IsAskedWithin clients texts turns c in
+              let was = place_of clients first c in
+              let is = place_of clients last c in
+              subst (λ m. WasAsked Asked (length (begun_of clients texts turns c)) m was is (settled.taken c)) (sym (more_is weaving.channels.items c k.0 is.state k.1))
+              (subst (λ (ps : List (List ℕ)). WasAsked Asked (length ps) (more_by is.state (lines_view k.0.lines).ended) was is (settled.taken c)) (sym (known.stream.begun c))
+              (was_asked Asked k.0.standing was is (settled.taken c) (packets_given c settled.at.frames) at.beyond (lines_view k.0.lines) (settled.over c k.0 k.1 here)
+              (λ other. subst (λ fs. IsAskedIn (length clients) fs c) (sym known.stream.are) (asked_in (length clients) settled.at c settled.told (each.asked other)))
+              (λ fresh. (λ asked. (each.unasked fresh).none (subst (λ fs. IsAskedIn (length clients) fs c) known.stream.are asked), each.untouched fresh)) at.so at.text));
           cut = λ other. (ends inputs known (outcome_ended outcome other)).cut;
           unfinished = λ other. (ends inputs known (outcome_ended outcome other)).unfinished;
         }

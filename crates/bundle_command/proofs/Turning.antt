@@ -34,6 +34,7 @@ same_weaving clients first was is given weaving same h = record {
   has = record {
     list = h.has.list;
     woven = h.has.woven;
+    going = h.has.going;
     many = h.has.many;
     end = h.has.end;
     ends = h.has.ends;
@@ -43,6 +44,8 @@ same_weaving clients first was is given weaving same h = record {
           stands = subst (λ v. ChannelStands (place_of clients first c) v (h.taken c) (packets_given c h.at.frames) channel) (sym (ap (λ (l : List InView). get_or l (get_or clients c 0) no_input) same)) a.stands;
           client = a.client;
           unasked = a.unasked;
+          untouched = λ fresh. ap (λ (l : List InView). get_or l (get_or clients c 0) no_input) same ∙ a.untouched fresh;
+          asked = a.asked;
         };
     weave = h.has.weave;
     only = record { client_in = λ n none. ap (λ (l : List InView). get_or l n no_input) same ∙ h.has.only.client_in n none };
@@ -51,6 +54,7 @@ same_weaving clients first was is given weaving same h = record {
   };
   unsettled = h.unsettled;
   begun = h.begun;
+  told = h.told;
 }
 
 same_frames : (clients : List ℕ) (first was is : BaysView) (gone : List ℕ) (framing : Framing) → is.client_in ≡ was.client_in → FramesStand clients first was gone framing → FramesStand clients first is gone framing

@@ -14,7 +14,7 @@ use Rattle.device_model.specs.Inputs.{has_died}
 use Rattle.device_model.specs.LineAsked.{MayHave, InputLeft}
 use Rattle.tributary_line.specs.TributaryFile.{IsTributaryFile}
 use Rattle.bundle_command.specs.ChannelInput.{texts_of}
-use Rattle.bundle_command.specs.BundleStream.{IsFinished, begun_of, channel_turns, first_slot, lines_told}
+use Rattle.bundle_command.specs.BundleStream.{IsAskedWithin, IsFinished, begun_of, channel_turns, first_slot, lines_told}
 use Rattle.otn_ports.specs.declared.ended.Ended.{Ended}
 use Rattle.otn_ports.specs.declared.ended.Ended.TheVariants.{Unfinished, Cut, ReportFault, Memory}
 
@@ -41,10 +41,11 @@ pub record MayBeInput (first last : InView) (taken : List ℕ) (more : Bool) (in
 abbrev pub TellsBehind : (packets : ℕ) → (more : Bool) → (taken : List ℕ) → Type 0
 TellsBehind packets more taken = (more ≡ false) ⊎ (shows_bad taken ≡ true) ⊎ (packets < length (packets_of (full_lines taken)).packets)
 
--- A client of which so many packets are begun was asked once more, until what stands behind them is known; or it was never asked, and nothing
--- of it was taken.
-abbrev pub WasAsked : (packets : ℕ) → (more : Bool) → (taken : List ℕ) → Type 0
-WasAsked packets more taken = ((packets ≡ 0) × (taken ≡ [])) ⊎ TellsBehind packets more taken
+-- A client of which so many packets are begun: where its channel is asked in the turns it was asked once more behind them, until what stands behind
+-- these packets is known; where it is not, its place is as it was.
+pub record WasAsked (Asked : Type 0) (packets : ℕ) (more : Bool) (first last : InView) (taken : List ℕ) : Type 0 where
+  pub behind : Asked → TellsBehind packets more taken
+  pub untouched : (Asked → ⊥) → (last ≡ first) × (taken ≡ [])
 
 -- all frames of these turns were due to the line output
 pub record OutputDue (own : List (List ℕ)) (count : ℕ) (first last : OutView) : Type 0 where
@@ -64,8 +65,9 @@ pub record LeftOf (clients : List ℕ) (turns : ℕ) (first last : BaysView) (re
   pub tells : Tells ended report (lines_told clients (texts_of (length clients) inputs) turns (λ c. (place_of clients last c).state) (length clients)) told
   -- of each text no block was read that was not needed for one packet more than are begun
   pub read : (c : ℕ) → c < length clients → (short : Bool) × ReadAsNeeded short (length (begun_of clients (texts_of (length clients) inputs) turns c) + 1) (taken c)
-  -- and each that gave a packet was asked for the one behind
-  pub asked : (c : ℕ) → c < length clients → WasAsked (length (begun_of clients (texts_of (length clients) inputs) turns c)) (more c) (taken c)
+  -- and each whose channel is asked was asked for the one behind, and no other
+  pub asked : (c : ℕ) → c < length clients → WasAsked (IsAskedWithin clients (texts_of (length clients) inputs) turns c) (length (begun_of clients (texts_of (length clients) inputs) turns c)) (more c)
+      (place_of clients first c) (place_of clients last c) (taken c)
   pub cut : ended ≢ ReportFault → (ended ≡ Cut) ↔ IsCut clients last
   pub unfinished : ended ≢ ReportFault → (ended ≡ Unfinished) ↔ ((IsCut clients last → ⊥) × (IsFinished clients turns inputs → ⊥))
 

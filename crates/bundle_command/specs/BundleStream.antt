@@ -1,6 +1,6 @@
 -- What several clients send as the channels of one ODU0. Channels count from 0, in the order of the clients' numbers, which are their CIDs;
 -- turns count from 0.
-use Rattle.std.specs.Prelude.{◌≡◌, ℕ, zero, suc, ◌+◌, ◌-◌, ◌*◌, ◌/◌, ◌<◌, nat_lt, if◌then◌else◌, true, List, [], ◌∷◌, ◌++◌, codes, length, take, drop, slice_index}
+use Rattle.std.specs.Prelude.{◌≡◌, ◌≢◌, ◌⊎◌, ◌≤◌, ℕ, zero, suc, ◌+◌, ◌-◌, ◌*◌, ◌/◌, ◌<◌, nat_lt, if◌then◌else◌, true, List, [], ◌∷◌, ◌++◌, None, Some, codes, length, take, drop, slice_index}
 use Rattle.std.specs.Fmt.{decimal}
 use Rattle.std.specs.List.{concat}
 use Rattle.otn_base.specs.Counts.{saturated}
@@ -8,7 +8,7 @@ use Rattle.otn_base.specs.declared.limits.TheConstants.{CLIENT_FRAME_BYTES, CLIE
 use Rattle.otn_base.specs.declared.line_kind.LineKind.TheVariants.{Otu2}
 use Rattle.otn_ports.specs.Views.{State}
 use Rattle.tributary_model.specs.Places.{Tributary, tributary_of}
-use Rattle.gfp_linear.specs.Weave.{ChannelText, WovenFrame, weave, weave_text, woven_size, woven_within, packets_given}
+use Rattle.gfp_linear.specs.Weave.{ChannelText, WovenFrame, IdleFrame, asked_after, giver_or, last_giver, weave, weave_text, woven_size, woven_within, packets_given}
 use Rattle.odu_client.specs.ClientFrames.{client_frames, frames_begun, payload_begun}
 use Rattle.odu_client.specs.ClientInput.{ClientInput}
 use Rattle.device_model.specs.Report.{state_word}
@@ -59,6 +59,33 @@ begun_of cids texts turns c = packets_given c (woven_begun cids (payload_sent tu
 -- and those whose frames lie whole in the client frames that are whole in them
 abbrev pub whole_of : (cids : List ℕ) → List ChannelText → (turns c : ℕ) → List (List ℕ)
 whole_of cids texts turns c = packets_given c (woven_within cids (payload_whole turns) (woven_in texts turns))
+
+-- ---- who is asked
+
+-- A frame comes behind others. Of so many channels this one is asked for it: in the order of asking it stands no later than the one that gave the
+-- frame, or none gave it.
+pub record IsAskedFor (count : ℕ) (before : List WovenFrame) (frame : WovenFrame) (c : ℕ) : Type 0 where
+  pub place : ℕ
+  pub last : ℕ
+  pub order : place ≤ last
+  pub once : last < count
+  pub here : asked_after count (last_giver before) place ≡ c
+  pub gave : (frame ≡ IdleFrame) ⊎ (giver_or None frame ≡ Some (asked_after count (last_giver before) last))
+
+-- it is asked for one of some frames, behind the first
+pub record IsAskedIn (count : ℕ) (frames : List WovenFrame) (c : ℕ) : Type 0 where
+  pub before : List WovenFrame
+  pub frame : WovenFrame
+  pub behind : List WovenFrame
+  pub parts : frames ≡ before ++ frame ∷ behind
+  pub some : before ≢ []
+  pub asked : IsAskedFor count before frame c
+
+-- it is asked for one of the frames that are begun in these turns
+abbrev pub IsAskedWithin : (cids : List ℕ) → List ChannelText → (turns c : ℕ) → Type 0
+IsAskedWithin cids texts turns c = IsAskedIn (length cids) (woven_begun cids (payload_sent turns) (woven_in texts turns)) c
+
+-- ---- whether all went out
 
 -- Each client's input ends at the end of its text, and each packet's frame lies whole in the client frames that are whole in these turns.
 pub record IsFinished (clients : List ℕ) (turns : ℕ) (inputs : ℕ → ClientInput) : Type 0 where

@@ -7,12 +7,13 @@ use Rattle.otn_ports.specs.Views.{InView, BaysView, client_in_at}
 use Rattle.packet_text.specs.LinesStand.{LinesView, LinesStand, MayBe, lines_view}
 use Rattle.packet_text.specs.declared.line.Line.{Line}
 use Rattle.packet_text.specs.declared.line.Line.TheVariants as line
-use Rattle.gfp_linear.specs.Weave.{WovenFrame, PacketFrame, asked_first, last_giver, loss_due, packets_given, woven_size}
+use Rattle.gfp_linear.specs.Weave.{WovenFrame, PacketFrame, asked_after, asked_first, last_giver, loss_due, packets_given, woven_size}
 use Rattle.gfp_linear.specs.Weaver.{WeaverState, Woven, HasWoven, IsWeave, channel_at, woven_on}
 use Rattle.odu_client.specs.ClientInput.{ClientInput, input_of}
 use Rattle.odu_client.specs.Framing.{MayDie}
 use Rattle.bundle_command.specs.ChannelInput.{is_short, texts_of}
 use Rattle.bundle_command.specs.BundleLeft.{IsClientList, place_of}
+use Rattle.bundle_command.specs.BundleStream.{IsAskedIn}
 use Rattle.bundle_command.specs.declared.channel.Channel.{Channel}
 use Rattle.bundle_command.specs.declared.channel.Standing.{Standing}
 use Rattle.bundle_command.specs.declared.channel.Standing.TheVariants.{Fresh, Going, Ended, Bad, Lost, More}
@@ -101,10 +102,20 @@ pub record PacketsEnd (cids : List ℕ) (frames : List WovenFrame) (end : ℕ) :
   pub none : (c : ℕ) → packets_given c behind ≡ []
   pub bytes : end ≡ woven_bytes cids before
 
+-- a channel was asked for one of the frames so far, or for the next one
+abbrev pub HasAsked : (count : ℕ) → Woven → (c : ℕ) → Type 0
+HasAsked count at c = IsAskedIn count at.frames c ⊎ ((j : ℕ) × (j < at.others) × (asked_after count (last_giver at.frames) j ≡ c))
+
+-- there are frames so far, and a channel is left to be asked for the next one
+pub record IsGoing (count : ℕ) (at : Woven) : Type 0 where
+  pub few : at.others < count
+  pub some : at.frames ≢ []
+
 -- A channel that was never asked: each channel that gave a frame gave one, and stands before it.
 pub record IsUnasked (cids : List ℕ) (at : Woven) (end c : ℕ) : Type 0 where
   pub low : asked_first (length cids) (last_giver at.frames) + at.others ≤ c
   pub most : woven_bytes cids at.frames ≤ 4 + 65539 * asked_first (length cids) (last_giver at.frames)
+  pub none : IsAskedIn (length cids) at.frames c → ⊥
   pub late : woven_bytes cids at.frames ≤ end + 4 + 12 * asked_first (length cids) (last_giver at.frames)
 
 -- ---- all channels
@@ -122,6 +133,8 @@ pub record ChannelAt (clients : List ℕ) (first now : BaysView) (taken : List �
   pub stands : ChannelStands (place_of clients first c) (place_of clients now c) taken (packets_given c at.frames) channel
   pub client : channel.client ≡ slice_index clients c
   pub unasked : channel.standing ≡ Fresh → IsUnasked clients at end c
+  pub untouched : channel.standing ≡ Fresh → place_of clients now c ≡ place_of clients first c
+  pub asked : channel.standing ≢ Fresh → HasAsked (length clients) at c
 
 -- only clients' places of the command changed
 pub record OnlyClients (clients : List ℕ) (first now : BaysView) : Type 0 where
@@ -131,6 +144,7 @@ pub record OnlyClients (clients : List ℕ) (first now : BaysView) : Type 0 wher
 pub record WeavingHas (clients : List ℕ) (first now : BaysView) (taken : ℕ → List ℕ) (at : Woven) (given : List ℕ) (weaving : Weaving) : Type 0 where
   pub list : IsClientList clients
   pub woven : HasWoven clients at given weaving.maker
+  pub going : IsGoing (length clients) at
   pub many : length weaving.channels.items ≡ length clients
   pub end : ℕ
   pub ends : PacketsEnd clients at.frames end
@@ -155,14 +169,16 @@ pub record WeavingStands (clients : List ℕ) (first now : BaysView) (given : Li
   pub has : WeavingHas clients first now taken at given weaving
   pub unsettled : AreOpen weaving.channels.items
   pub begun : IsBegun clients at (length given - 1)
+  pub told : at.others ≡ 0
 
--- where it is that, or the next
+-- where it is that, or the next; while a frame is in hand no channel was asked for the next
 pub record WeavingReady (clients : List ℕ) (first now : BaysView) (given : List ℕ) (weaving : Weaving) : Type 0 where
   pub taken : ℕ → List ℕ
   pub at : Woven
   pub has : WeavingHas clients first now taken at given weaving
   pub unsettled : AreOpen weaving.channels.items
   pub begun : IsBegun clients at (length given)
+  pub told : weaving.maker.maker.hand ≢ [] → at.others ≡ 0
 
 -- it is so of some channels
 pub record IsReady (now : BaysView) (weaving : Weaving) : Type 0 where

@@ -18,6 +18,7 @@ pub record IsSettled (count : ℕ) (clients : List ℕ) (first now : BaysView) (
   pub has : WeavingHas clients first now taken at given weaving
   pub over : (c : ℕ) (channel : Channel) → HasChannel weaving.channels.items c channel → c < count → channel.standing ≢ standing.Going
   pub begun : IsBegun clients at (length given - 1)
+  pub told : at.others ≡ 0
 
 -- one channel was
 pub record ChannelSettled (index : ℕ) (was : BaysView) (old : List Channel) (is : BaysView) (new : List Channel) : Type 0 where
@@ -29,6 +30,8 @@ pub record ChannelSettled (index : ℕ) (was : BaysView) (old : List Channel) (i
       → Answered first (client_in_at is channel.client) taken given channel next
   pub over : next.standing ≢ standing.Going
   pub fresh : next.standing ≡ standing.Fresh → channel.standing ≡ standing.Fresh
+  pub stays : channel.standing ≡ standing.Fresh → next.standing ≡ standing.Fresh
+  pub still : next.standing ≡ standing.Fresh → client_in_at is channel.client ≡ client_in_at was channel.client
   pub client : next.client ≡ channel.client
   pub only : OnlyClientIn channel.client was is
 

@@ -100,6 +100,8 @@ impl Channel {
         ensures settled { (first : InView) (taken : List ℕ) (given : List (List ℕ)) → ChannelStands first (in_view I.Source place.old) taken given self.old
             → Answered first (in_view I.Source place.new) taken given self.old self.new }
         ensures over { self.new.standing ≢ Standing.Going }
+        ensures stays { self.old.standing ≡ Standing.Fresh → self.new.standing ≡ Standing.Fresh }
+        ensures still { self.new.standing ≡ Standing.Fresh → in_view I.Source place.new ≡ in_view I.Source place.old }
         ensures fresh { self.new.standing ≡ Standing.Fresh → self.old.standing ≡ Standing.Fresh }
         ensures client { self.new.client ≡ self.old.client }
     {

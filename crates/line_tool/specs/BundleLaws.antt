@@ -1,14 +1,14 @@
 -- What follows of what the command `bundle` answers for: by the bytes that its clients had to give, and where nothing failed.
 use Rattle.std.specs.Prelude.{◌≡◌, ◌≢◌, ◌↔◌, ◌⊎◌, ◌-◌, ◌+◌, ◌^◌, ◌<◌, ℕ, Bool, false, List, [], ◌++◌, length}
 use Rattle.otn_ports.specs.Given.{HadToGive}
-use Rattle.otn_ports.specs.Views.{Dead, BaysView, line_out_at}
+use Rattle.otn_ports.specs.Views.{Dead, InView, BaysView, line_out_at}
 use Rattle.otn_ports.specs.declared.ended.Ended.{Ended}
 use Rattle.otn_ports.specs.declared.ended.Ended.TheVariants as ending
 use Rattle.packet_text.specs.LinesStand.{ReadAsNeeded}
 use Rattle.odu_client.specs.ClientInput.{ClientInput, input_given}
 use Rattle.device_model.specs.Inputs.{has_died}
 use Rattle.bundle_command.specs.ChannelInput.{texts_of}
-use Rattle.bundle_command.specs.BundleStream.{IsFinished, begun_of, channel_turns, lines_told}
+use Rattle.bundle_command.specs.BundleStream.{IsAskedWithin, IsFinished, begun_of, channel_turns, lines_told}
 use Rattle.bundle_command.specs.BundleLeft.{IsCut, OnlyBundled, OutputDue, Tells, WasAsked, place_of}
 use Rattle.command_base.specs.AnswerWords.{IsWell}
 use Rattle.line_tool.specs.Answers.{Bundles, PlacesAnswers}
@@ -20,9 +20,9 @@ use Rattle.command_base.specs.declared.status.Status.TheVariants as status
 abbrev pub inputs_of : (clients : List ℕ) (first last : BaysView) (given : ℕ → List ℕ) → (c : ℕ) → ClientInput
 inputs_of clients first last given c = input_given (has_died (place_of clients first c).state (place_of clients last c).state) (given c)
 
--- These bytes from the front of a client's were taken: no block that was not needed for one packet more than these, and for that one where any came. The place's number
--- tells how many bytes.
-pub record TookOf (packets : ℕ) (given : List ℕ) (was is : ℕ) : Type 0 where
+-- These bytes from the front of a client's were taken: where its channel is asked in the turns, no block that was not needed for one packet more than
+-- these, and for that one; where it is not, none. The place's number tells how many bytes.
+pub record TookOf (Asked : Type 0) (packets : ℕ) (given : List ℕ) (first last : InView) : Type 0 where
   pub taken : List ℕ
   pub rest : List ℕ
   pub parts : given ≡ taken ++ rest
@@ -30,15 +30,16 @@ pub record TookOf (packets : ℕ) (given : List ℕ) (was is : ℕ) : Type 0 whe
   pub over : more ≡ false → rest ≡ []
   pub short : Bool
   pub read : ReadAsNeeded short (packets + 1) taken
-  pub asked : WasAsked packets more taken
-  pub number : is < 2 ^ 64 - 1 → is - was ≡ length taken
+  pub asked : WasAsked Asked packets more first last taken
+  pub number : last.number < 2 ^ 64 - 1 → last.number - first.number ≡ length taken
 
 -- What is left where the clients had these bytes to give.
 pub record BundledOfGiven (clients : List ℕ) (turns : ℕ) (old new : Device) (ended : Ended) (given : ℕ → List ℕ) (inputs : ℕ → ClientInput) : Type 0 where
   pub output : OutputDue (channel_turns clients (texts_of (length clients) inputs) turns) turns (line_out_at old.bays 0) (line_out_at new.bays 0)
   pub report : Tells ended old.report (lines_told clients (texts_of (length clients) inputs) turns (λ c. (place_of clients new.bays c).state) (length clients)) new.report
   pub took : (c : ℕ) → c < length clients
-      → TookOf (length (begun_of clients (texts_of (length clients) inputs) turns c)) (given c) (place_of clients old.bays c).number (place_of clients new.bays c).number
+      → TookOf (IsAskedWithin clients (texts_of (length clients) inputs) turns c) (length (begun_of clients (texts_of (length clients) inputs) turns c)) (given c)
+      (place_of clients old.bays c) (place_of clients new.bays c)
   pub cut : ended ≢ ending.ReportFault → (ended ≡ ending.Cut) ↔ IsCut clients new.bays
   pub unfinished : ended ≢ ending.ReportFault → (ended ≡ ending.Unfinished) ↔ ((IsCut clients new.bays → ⊥) × (IsFinished clients turns inputs → ⊥))
 

@@ -13,4 +13,5 @@ returns-clause-settled g c =
     let lent : HasChannel channels c.args.index c.index_mut.result.now = slice_get_read channels (length channels) c.args.index c.index_mut.result.now refl within c.index_mut.ensures.value in
     let same : c.index_mut.result.now ≡ c.index.result.now = same_Some c.index_mut.result.now c.index.result.now (sym lent ∙ known) in
     settled_at g.I.Source g.O.Sink c.args.bays.now channels c.args.index c.index.result.now c.settle.new.self c.client_in_mut.result.now c.settle.new.place known c.client_in_mut.ensures.value
-    (rw same at c.settle.ensures.settled) c.settle.ensures.over (rw same at c.settle.ensures.fresh) (rw same at c.settle.ensures.client)
+    (rw same at c.settle.ensures.settled) c.settle.ensures.over (rw same at c.settle.ensures.fresh) (rw same at c.settle.ensures.stays)
+    c.settle.ensures.still (rw same at c.settle.ensures.client)

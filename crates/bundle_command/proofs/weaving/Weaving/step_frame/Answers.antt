@@ -12,7 +12,7 @@ returns-clause-stands g c = λ clients first given h.
     let some = given_some c.have_frame.new.self.maker.maker.hand c.args.into.now count c.have_frame.ensures.some c.requires.room c.give_bytes-count.ensures.count in
     gives clients first (bays_view g.I.Source g.O.Sink c.have_frame.new.bays) given (take count into) count c.have_frame.new.self
     (record { channels = c.have_frame.new.self.channels; maker = c.give_bytes-count.new.self; given = c.saturating_add-self.result; end = c.have_frame.new.self.end })
-    some (given_long c.have_frame.new.self.maker.maker.hand c.args.into.now into count long c.give_bytes-count.ensures.count) c.give_bytes-count.ensures.woven refl refl c.saturating_add-self.ensures
+    c.have_frame.ensures.some some (given_long c.have_frame.new.self.maker.maker.hand c.args.into.now into count long c.give_bytes-count.ensures.count) c.give_bytes-count.ensures.woven refl refl c.saturating_add-self.ensures
     (c.have_frame.ensures.stands clients first given (stands_ready clients first (bays_view g.I.Source g.O.Sink c.args.bays.now) given c.args.self.now h))
 
 pub returns-clause-ready : goal.returns-clause-ready
@@ -29,7 +29,7 @@ returns-clause-ready g c =
       first = r.first;
       given = r.given ++ take count into;
       ready = stands_ready r.clients r.first now (r.given ++ take count into) new
-          (gives r.clients r.first now r.given (take count into) count c.have_frame.new.self new some
+          (gives r.clients r.first now r.given (take count into) count c.have_frame.new.self new c.have_frame.ensures.some some
           (given_long c.have_frame.new.self.maker.maker.hand c.args.into.now into count long c.give_bytes-count.ensures.count) c.give_bytes-count.ensures.woven refl refl c.saturating_add-self.ensures
           (c.have_frame.ensures.stands r.clients r.first r.given r.ready));
     }
