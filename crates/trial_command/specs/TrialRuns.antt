@@ -1,6 +1,7 @@
 -- The runs of the trial, over places in memory.
-use Rattle.std.specs.Prelude.{◌≡◌, ℕ, ◌<◌, ◌*◌, false, true, List, [], Some, All, length}
+use Rattle.std.specs.Prelude.{◌≡◌, ℕ, ◌<◌, ◌+◌, ◌*◌, false, true, List, [], Some, All, length}
 use Rattle.std.specs.List.{concat}
+use Rattle.otn_base.specs.declared.limits.TheConstants.{LINE_FRAME_BYTES}
 use Rattle.otn_ports.specs.Bytes.{raised}
 use Rattle.otn_ports.specs.Views.{Live, InView, OutView, BaysView, line_in_at, line_out_at, client_in_at, client_out_at}
 use Rattle.device_model.specs.LineFiles.{IsLineFile}
@@ -10,10 +11,10 @@ use Rattle.node_core.specs.RunLeft.{Takings, RunLeft}
 use Rattle.odu_client.specs.ClientInput.{AtEnd}
 use Rattle.packet_text.specs.Laws.{IsPacket}
 use Rattle.packet_text.specs.PacketText.{hex_text}
-use Rattle.trial_plans.specs.TrialCarried.{trial_frames}
+use Rattle.trial_plans.specs.TrialCarried.{longest_packet, trial_frames}
 use Rattle.trial_plans.specs.TrialDraw.{packets_of_trial}
 use Rattle.trial_command.specs.TrialReport.{client_lines}
-use Rattle.trial_plans.specs.TrialPlans.{trial_clients, trial_turns, trial_connection, trial_plan}
+use Rattle.trial_plans.specs.TrialPlans.{trial_clients, trial_packets, trial_turns, trial_connection, trial_plan}
 
 -- ---- places
 
@@ -44,6 +45,16 @@ pub record MiddlePlaces (run : ℕ) (file : List ℕ) (bays : BaysView) : Type 0
 pub record LastPlaces (file : List ℕ) (bays : BaysView) : Type 0 where
   pub line : line_in_at bays 0 ≡ holding file
   pub clients : (c : ℕ) → c < trial_clients → client_out_at bays c ≡ waiting
+
+-- ---- room
+
+-- bytes of the file of a line
+abbrev pub file_bytes : ℕ
+file_bytes = LINE_FRAME_BYTES * trial_frames
+
+-- bytes of the text of a client at most: two digits a byte, and LF behind each packet
+abbrev pub most_text : ℕ
+most_text = trial_packets * (2 * longest_packet + 1)
 
 -- ---- runs
 

@@ -4,7 +4,7 @@ ghost use Rattle.otn_ports.specs.Racks.{bays_view};
 ghost use Rattle.trial_command.specs.TrialRuns.{RunWent, FirstRan, MiddleRan, LastRan};
 
 use crate::places::{
-    Memories, TEXT_ROOM, TextSink, file_of, first_places, last_places, middle_places,
+    Memories, TEXT_ROOM, TextSink, file_of, first_places, last_places, middle_places, rooms_suffice,
 };
 use bounded_ports::{BoundedSink, full_where_failed};
 use node_core::{Node, carry_node};
@@ -24,6 +24,7 @@ pub(crate) fn first_run<C: Chooser>(
     let mut bays = first_places(alloc, number)?;
     carry_run(alloc, 0, &mut bays, chooser)?;
     full_where_failed(&bays);
+    rooms_suffice();
     Ok(file_of(bays, 0))
 }
 
@@ -41,6 +42,7 @@ pub(crate) fn middle_run<C: Chooser>(
     let mut bays = middle_places(alloc, run, file)?;
     carry_run(alloc, run, &mut bays, chooser)?;
     full_where_failed(&bays);
+    rooms_suffice();
     Ok(file_of(bays, run))
 }
 

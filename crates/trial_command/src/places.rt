@@ -4,7 +4,7 @@ ghost use Rattle.otn_ports.specs.InPlace.{in_view};
 ghost use Rattle.otn_ports.specs.OutPlace.{out_view};
 ghost use Rattle.otn_ports.specs.Racks.{bays_view};
 ghost use Rattle.otn_ports.specs.Views.{Live, line_out_at};
-ghost use Rattle.trial_command.specs.TrialRuns.{FirstPlaces, MiddlePlaces, LastPlaces, holding, waiting};
+ghost use Rattle.trial_command.specs.TrialRuns.{FirstPlaces, MiddlePlaces, LastPlaces, file_bytes, holding, most_text, waiting};
 
 use bounded_ports::BoundedSink;
 use otn_base::Memory;
@@ -21,6 +21,12 @@ pub(crate) const FILE_ROOM: usize = 2_088_961;
 
 /// Room for the text of 16 packets of 1,500 bytes, and for one byte more.
 pub(crate) const TEXT_ROOM: usize = 48_017;
+
+/// Each output has room for more than is ever due to it.
+pub(crate) fn rooms_suffice()
+    ensures file { file_bytes < FILE_ROOM }
+    ensures text { most_text < TEXT_ROOM }
+{}
 
 /// Takes a line's file.
 pub(crate) type FileSink = BoundedSink<FILE_ROOM>;

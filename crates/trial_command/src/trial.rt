@@ -8,7 +8,7 @@ ghost use Rattle.trial_command.specs.TrialRuns.{AllClientsLive, ClientsTold};
 
 use crate::carried::{first_run, last_run, middle_run};
 use crate::lines::{line_of_check, line_of_client};
-use crate::places::{Memories, TEXT_ROOM, TextSink, text_of};
+use crate::places::{Memories, TEXT_ROOM, TextSink, rooms_suffice, text_of};
 use bounded_ports::BoundedSink;
 use command_base::Status;
 use otn_base::Memory;
@@ -46,6 +46,7 @@ pub fn run_trial<C: Chooser, K: Sink>(
     let third = middle_run(alloc, 2, second, chooser)?;
     text.push_str(&line_of_check(alloc, 2, &third)?)?;
     let bays = last_run(alloc, third, chooser)?;
+    rooms_suffice();
     text.push_str(&lines_of_clients(alloc, &bays)?)?;
     Ok(write_whole(report, text.as_bytes()))
 }

@@ -1,4 +1,4 @@
-use Rattle.std.proofs.Common.{◌≡◌, ◌++◌, ap, ◌∙◌, arith}
+use Rattle.std.proofs.Common.{◌≡◌, ◌++◌, ap, ◌∙◌}
 use Rattle.std.specs.Prelude.{string_bytes}
 use Rattle.otn_ports.specs.PortViews.{sink_view}
 use Rattle.trial_command.specs.TrialReport.{check_line}
@@ -11,7 +11,7 @@ pub lines_of_clients-requires : goal.lines_of_clients-requires
 lines_of_clients-requires g c =
     all_live TEXT_ROOM c.args.number c.in_ok-first.first.items c.in_ok-second.second.items c.in_ok-third.third.items (view text_sink c.in_ok-bays.bays)
     (g.C.Chooser.asked c.args.chooser.now) (g.C.Chooser.asked c.first_run.new.chooser) (g.C.Chooser.asked c.middle_run.new.chooser) (g.C.Chooser.asked c.middle_run-2.new.chooser) (g.C.Chooser.asked c.last_run.new.chooser)
-    c.in_ok-first.ensures c.in_ok-second.ensures c.in_ok-third.ensures c.in_ok-bays.ensures (omega arith)
+    c.in_ok-first.ensures c.in_ok-second.ensures c.in_ok-third.ensures c.in_ok-bays.ensures c.rooms_suffice.ensures.text
 
 pub returns-clause-ran : goal.returns-clause-ran
 returns-clause-ran g c =
@@ -33,4 +33,4 @@ returns-clause-ran g c =
     trial_ran TEXT_ROOM c.args.number first second third lines c.as_bytes.result.now (view text_sink c.in_ok-bays.bays) c.write_whole.result
     (sink_view g.K.Sink c.args.report.now) (sink_view g.K.Sink c.write_whole.new.sink)
     (g.C.Chooser.asked c.args.chooser.now) (g.C.Chooser.asked c.first_run.new.chooser) (g.C.Chooser.asked c.middle_run.new.chooser) (g.C.Chooser.asked c.middle_run-2.new.chooser) (g.C.Chooser.asked c.last_run.new.chooser)
-    c.in_ok-first.ensures c.in_ok-second.ensures c.in_ok-third.ensures c.in_ok-bays.ensures (omega arith) c.in_ok-lines_of_clients.ensures text c.write_whole.ensures.port
+    c.in_ok-first.ensures c.in_ok-second.ensures c.in_ok-third.ensures c.in_ok-bays.ensures c.rooms_suffice.ensures.text c.in_ok-lines_of_clients.ensures text c.write_whole.ensures.port
