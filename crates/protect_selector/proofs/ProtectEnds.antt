@@ -1,11 +1,12 @@
 -- The end of the command.
-use Rattle.std.proofs.Common.{◌≡◌, ◌≢◌, ◌⊎◌, inl, inr, ◌↔◌, ◌<◌, ◌+◌, ◌*◌, ℕ, zero, suc, Bool, true, false, List, [], ◌∷◌, ◌++◌, length, refl, sym, subst, ◌∙◌, length-append, add-one, arith}
+use Rattle.std.proofs.Common.{◌≡◌, ◌≢◌, ◌⊎◌, inl, inr, ◌↔◌, ◌<◌, ◌+◌, ◌*◌, ℕ, zero, suc, Bool, true, false, List, [], ◌∷◌, ◌++◌, length, refl, sym, ap, subst, ◌∙◌, length-append, add-one, arith}
 use Rattle.std.specs.Prelude.{not, ◌||◌}
 use Rattle.otn_ports.specs.PortViews.{SinkView, SinkGot}
 use Rattle.otn_ports.specs.Views.{State, Empty, Live, Dead, InView, OutView, BaysView}
 use Rattle.line_side.specs.LineForm.{plain_otu2}
 use Rattle.line_side.specs.LineStands.{LineView}
 use Rattle.line_side.specs.MayBe.{MayBe}
+use Rattle.line_side.proofs.Exits.{took_is}
 use Rattle.line_side.proofs.Standing.{died_unended}
 use Rattle.line_side.specs.declared.ending.Ending.{Ending}
 use Rattle.line_side.specs.declared.ending.Ending.TheVariants.{Open, Seen, Died}
@@ -17,6 +18,7 @@ use Rattle.tributary_line.specs.TributaryFile.{AreTributaryFrames}
 use Rattle.tributary_line.specs.FeedTurn.{FeedView, FeedStands}
 use Rattle.otn_ports.specs.Asked.{ByteAnswer, has_come}
 use Rattle.device_model.specs.LineAsked.{is_seen, MayHave, InputLeft}
+use Rattle.device_model.specs.Moments.{line_taken}
 use Rattle.device_model.proofs.SettledLines.{may_at_end, end_of_line, line_left, EndOfLine}
 use Rattle.otn_ports.specs.declared.ended.Ended.{Ended}
 use Rattle.otn_ports.specs.declared.ended.Ended.TheVariants.{Unfinished, Cut, ReportFault, Memory}
@@ -223,9 +225,9 @@ left_open own first now taken t tap h = record {
 may_open : (e : Ending) (s : State) (taken given : List ℕ) → MayHave (more_of e s) taken given → MayBe false e taken given
 may_open e s taken given may = record { rest = may.rest; over = λ closed. may.over (closed_none e s closed); parts = may.parts }
 
-pub stopped_at : (own : Tributary) (turns n t : ℕ) (first last : Ends) (working protection : List ℕ) (parts : Protecting) → t < turns → StandsLost own n first last working protection t parts
+pub stopped_at : (own : Tributary) (turns n t : ℕ) (first last : Ends) (working protection : List ℕ) (parts : Protecting) → AreReady parts → t < turns → StandsLost own n first last working protection t parts
     → ProtectRan own turns n first last ReportFault
-stopped_at own turns n t first last working protection parts less stands = record {
+stopped_at own turns n t first last working protection parts ready less stands = record {
   working = working;
   protection = protection;
   working_more = more_of parts.working.line.reader.ending last.working.state;
@@ -234,13 +236,19 @@ stopped_at own turns n t first last working protection parts less stands = recor
   protection_left = left_open own first.protection last.protection protection (suc t) parts.protection stands.on_protection;
   stopped = t;
   left = λ w p mw mp.
-      let agrees = stands.holds w p (may_open parts.working.line.reader.ending last.working.state working w mw) (may_open parts.protection.line.reader.ending last.protection.state protection p mp) in (
+      let may_w = may_open parts.working.line.reader.ending last.working.state working w mw in
+      let may_p = may_open parts.protection.line.reader.ending last.protection.state protection p mp in
+      let agrees = stands.holds w p may_w may_p in (
         less,
         record {
           output = output_due own n w p t first last parts.feed agrees.fed;
           went = agrees.went;
           part = agrees.part;
           report = agrees.told;
+        },
+        record {
+          of_working = took_is plain_otu2 first.working last.working working w (suc t) parts.working.line stands.on_working.line may_w ∙ ap (line_taken plain_otu2 w (suc t)) ready.working.pieces;
+          of_protection = took_is plain_otu2 first.protection last.protection protection p (suc t) parts.protection.line stands.on_protection.line may_p ∙ ap (line_taken plain_otu2 p (suc t)) ready.protection.pieces;
         },
       );
 }
@@ -268,12 +276,12 @@ one_more own n t first was is old new turn gone =
     let went = turn gone.working gone.protection gone.stands in
     rw (add-one t) (record { working = gone.working ++ went.working_came; protection = gone.protection ++ went.protection_came; stands = went.left })
 
-pub one_lost : (own : Tributary) (turns n t : ℕ) (first was is : Ends) (old new : Protecting) → t < turns
+pub one_lost : (own : Tributary) (turns n t : ℕ) (first was is : Ends) (old new : Protecting) → AreReady new → t < turns
     → ((working protection : List ℕ) → Stands own n first was working protection t old → TurnGone written.Lost own n first is working protection t new)
     → TurnsGone own n first was t old → ProtectRan own turns n first is ReportFault
-one_lost own turns n t first was is old new less turn gone =
+one_lost own turns n t first was is old new ready less turn gone =
     let went = turn gone.working gone.protection gone.stands in
-    stopped_at own turns n t first is (gone.working ++ went.working_came) (gone.protection ++ went.protection_came) new less went.left
+    stopped_at own turns n t first is (gone.working ++ went.working_came) (gone.protection ++ went.protection_came) new ready less went.left
 
 -- ---- the other places
 

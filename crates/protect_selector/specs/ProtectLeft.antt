@@ -50,9 +50,14 @@ pub record StoppedIn (own : Tributary) (t n : ℕ) (first last : Ends) (w p : Li
   pub part : went < length (switch_text_at own n w p t)
   pub report : SinkGot first.report (switch_text own n w p t ++ take went (switch_text_at own n w p t)) last.report
 
+-- That ended the command at once: of both lines was taken what the turns up to turn t + 1 want, and no more.
+pub record StoppedTaking (t : ℕ) (working protection w p : List ℕ) : Type 0 where
+  pub of_working : length working ≡ line_taken plain_otu2 w (suc t) 0
+  pub of_protection : length protection ≡ line_taken plain_otu2 p (suc t) 0
+
 -- by how the command ended, where the lines are these, of so many turns
 abbrev pub LeftSo : (ended : Ended) → Tributary → (turns n t : ℕ) → (first last : Ends) → (working protection w p : List ℕ) → Type 0
-LeftSo ReportFault own turns n t first last working protection w p = (t < turns) × StoppedIn own t n first last w p
+LeftSo ReportFault own turns n t first last working protection w p = (t < turns) × StoppedIn own t n first last w p × StoppedTaking t working protection w p
 LeftSo Memory own turns n t first last working protection w p = ⊥
 LeftSo ended own turns n t first last working protection w p = AllDone own turns n first last ended working protection w p
 

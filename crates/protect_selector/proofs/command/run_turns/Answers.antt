@@ -12,7 +12,7 @@ returns-then-eq-clause-ran g c = λ own n trib start.
     let was = ends_of (bays_view g.I.Source g.O.Sink c.loop-t.bays) (sink_view g.K.Sink c.loop-t.report) in
     let is = ends_of (bays_view g.I.Source g.O.Sink c.turn.new.bays) (sink_view g.K.Sink c.turn.new.report) in
     let lost : c.turn.result ≡ written.Lost = search rules in
-    one_lost own c.args.turns n c.loop-t.t first was is c.loop-t.parts c.turn.new.self c.loop-t-test.true
+    one_lost own c.args.turns n c.loop-t.t first was is c.loop-t.parts c.turn.new.self c.turn.ensures.ready c.loop-t-test.true
     (λ w p stood. subst (λ r. TurnGone r own n first is w p c.loop-t.t c.turn.new.self) lost (c.turn.ensures.gone own n first w p trib stood)) (c.loop-t.invariant.gone own n trib start)
 
 pub loop-t-preserved : goal.loop-t-preserved
