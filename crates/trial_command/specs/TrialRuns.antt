@@ -7,7 +7,7 @@ use Rattle.otn_ports.specs.Views.{Live, InView, OutView, BaysView, line_in_at, l
 use Rattle.device_model.specs.LineFiles.{IsLineFile}
 use Rattle.device_model.specs.Report.{Numbers}
 use Rattle.device_model.specs.Through.{Inputs, own_input, text_by}
-use Rattle.node_core.specs.RunLeft.{Takings, RunLeft}
+use Rattle.device_model.specs.RunLeft.{Takings, RunLeft}
 use Rattle.odu_client.specs.ClientInput.{AtEnd}
 use Rattle.packet_text.specs.Laws.{IsPacket}
 use Rattle.packet_text.specs.PacketText.{hex_text}
