@@ -33,6 +33,7 @@ use Rattle.otn_ports.specs.declared.ended.Ended.{Ended}
 use Rattle.otn_ports.specs.declared.ended.Ended.TheVariants.{ReportFault, Memory}
 use Rattle.bundle_command.specs.declared.weaving.Weaving.{Weaving}
 use Rattle.bundle_command.proofs.AskedAtEnd.{was_asked}
+use Rattle.bundle_command.proofs.AskedTurns.{asked_in}
 use Rattle.bundle_command.proofs.BundleEnds.{Known, channel_at, cut_of, is_finished, is_gt, is_le, few_bytes, lines_are, of_cut, open_one, sat_high, sat_low, and_false, and_true, by_false}
 use Rattle.bundle_command.proofs.AskedTurns.{asked_in}
 use Rattle.bundle_command.proofs.Ends.{input_left, may_show, more_by}
