@@ -4,6 +4,8 @@ pub mod Fronts
 pub mod Digits
 pub mod Writings
 pub mod ManyLines
+pub mod LowerLanes
+pub mod DecodedDigits
 pub mod Standing
 pub mod ManyStand
 pub mod ReadingBack

@@ -2,6 +2,7 @@ pub mod CaptureText
 pub mod HeldBytes
 pub mod Captures
 pub mod Written
+pub mod Decoding
 pub mod Writing
 pub mod Gathering
 pub mod Sinks

@@ -4,8 +4,12 @@ ghost use Rattle.otn_ports.specs.Bytes.{before, taken, HasFailed};
 ghost use Rattle.otn_ports.specs.Reads.{HasEnded};
 ghost use Rattle.packet_text.specs.PacketText.{packet_line};
 ghost use Rattle.pcap_packets.specs.Written.{all_lower, packet_of, record_of};
+ghost use Rattle.pcap_packets.specs.Decoding.{header_of};
+ghost use Rattle.pcap_packets.specs.Gathering.{OneMore};
 ghost use Rattle.pcap_packets.specs.Writing.{Went};
 
+use crate::front::RECORD_HEADER;
+use crate::making::{put_at, put_header, put_record};
 use otn_base::Memory;
 use otn_ports::{Failed, Sink, Source};
 use packet_text::{ByteDigits, DigitPairs};
@@ -13,9 +17,6 @@ use std::alloc::Global;
 
 /// Bytes of a buffer: the longest line, and the longest record twice.
 pub(crate) const ROOM: usize = 131_072;
-
-// The time of a packet: none.
-const TIME: [u8; 8] = [0; 8];
 
 /// Bytes that wait: they come at the end and go from the front.
 #[derive(Drop)]
@@ -113,7 +114,7 @@ impl Held {
         ensures bytes { held self.new ≡ held self.old ++ bytes.now }
         ensures front { self.new.at ≡ 0 }
     {
-        put_at(bytes, self.end, &mut self.bytes);
+        put_at(bytes, &mut self.bytes, self.end);
         self.end += bytes.len();
     }
 
@@ -140,11 +141,41 @@ impl Held {
         ensures bytes { held self.new ≡ held self.old ++ record_of (packet_of digits.now) }
         ensures front { self.new.at ≡ 0 }
     {
-        self.push(&TIME);
-        let size_bytes = packet_size(digits).to_le_bytes();
-        self.push(&size_bytes);
-        self.push(&size_bytes);
+        self.push_header(digits.len());
         self.push_packet(pairs, digits);
+    }
+
+    // Puts the header of the record of a packet of so many digits behind them.
+    fn push_header(&mut self, digits: usize)
+        requires front { self.old.at ≡ 0 }
+        requires room { length (held self.old) + 16 ≤ 131072 }
+        requires few { digits ≤ 262144 }
+        ensures bytes { held self.new ≡ held self.old ++ header_of (digits / 2) }
+        ensures front { self.new.at ≡ 0 }
+    {
+        put_header(digits, &mut self.bytes, self.end);
+        self.end += RECORD_HEADER;
+    }
+
+    /// Puts the record of the line in front of a text behind them, where none went since they were cleared, and says how
+    /// many bytes the line has with its LF: none where it is not whole, or where there may be no room, and then they are
+    /// as they were.
+    pub(crate) fn push_line(&mut self, text: &[u8]) -> usize
+        requires front { self.old.at ≡ 0 }
+        ensures within { result ≤ length text.now }
+        ensures none { result ≡ 0 → held self.new ≡ held self.old }
+        ensures some { 0 < result → OneMore (take result text.now) (held self.old) (held self.new) }
+        ensures front { self.new.at ≡ 0 }
+    {
+        if ROOM - self.end < RECORD_HEADER {
+            return 0;
+        }
+        let digits = put_record(text, &mut self.bytes, self.end);
+        if digits == 0 {
+            return 0;
+        }
+        self.end += RECORD_HEADER + digits / 2;
+        digits + 1
     }
 
     /// Writes them to a sink, from the front, until none is left or a call fails. Failed as the sink does, and then some are left.
@@ -227,22 +258,6 @@ fn ask_behind<S: Source>(source: &mut S, buffer: &mut [u8], end: usize) -> Resul
     ensures well { OnOk result (S.faults source.new ≡ S.faults source.old) }
 {
     source.read(&mut buffer[end..])
-}
-
-// Puts bytes into a buffer, from `at` on.
-fn put_at(bytes: &[u8], at: usize, buffer: &mut [u8])
-    requires { at + length bytes.now ≤ length buffer.old }
-    ensures { take (at + length bytes.now) buffer.new ≡ take at buffer.old ++ bytes.now }
-{
-    buffer[at..at + bytes.len()].copy_from_slice(bytes);
-}
-
-// How many bytes the packet has that digits say.
-fn packet_size(digits: &[u8]) -> u32
-    requires { length digits.now ≤ 262144 }
-    ensures { result ≡ length digits.now / 2 }
-{
-    (digits.len() / 2) as u32
 }
 
 // Puts the bytes that digits say into a buffer, from `at` on.

@@ -3,7 +3,9 @@
 //!
 //! - `order`: the two byte orders of a capture's numbers.
 //! - `header`, `front`: what the bytes at the front of a capture, or of its records, are.
-//! - `leading`: the digits in front of a line.
+//! - `leading`: how many digits are in front of a text.
+//! - `lanes`, `decoding`: these digits, decoded where they are looked for.
+//! - `making`: the record of the line in front of a text.
 //! - `held`: bytes that wait in a buffer.
 //! - `lines`: the lines of a capture whose bytes come piece by piece.
 //! - `source`: the port that gives them.
@@ -12,12 +14,15 @@
 //! - `laws`: either byte order gives one text, and what was written reads back.
 #![tactic(auto)]
 
+mod decoding;
 mod front;
 mod header;
 mod held;
+mod lanes;
 mod laws;
 mod leading;
 mod lines;
+mod making;
 mod order;
 mod record;
 mod sink;

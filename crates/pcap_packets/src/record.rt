@@ -8,8 +8,8 @@ ghost use Rattle.pcap_packets.specs.Writing.{Went};
 ghost use Rattle.pcap_packets.specs.Gathering.{lines_records, is_whole_line, Gathered, OneMore, IsCut, HasCut, PartWent, StopsAt, WentLines};
 
 use crate::front::RECORD_HEADER;
-use crate::held::{Held, ROOM};
-use crate::leading::{MOST_DIGITS, leading_digits, whole_line};
+use crate::held::Held;
+use crate::leading::{MOST_DIGITS, leading_digits};
 use otn_base::Memory;
 use otn_ports::{Failed, Sink, Written};
 use packet_text::DigitPairs;
@@ -182,7 +182,7 @@ impl LineRecord {
     }
 
     // Puts the record of the line at the front behind the others, where that line is whole and there is room, and says how many
-    // bytes the line has with its LF: none where there is no such line or no room.
+    // bytes the line has with its LF: none where there is no such line, or may be no room.
     fn add_record(&mut self, bytes: &[u8]) -> usize
         requires line { held self.old.line ≡ [] }
         requires front { self.old.rest.at ≡ 0 }
@@ -193,12 +193,7 @@ impl LineRecord {
         ensures front { self.new.rest.at ≡ 0 }
         ensures begun { self.new.begun ≡ self.old.begun }
     {
-        let count = whole_line(bytes);
-        if count == 0 || self.rest.bytes().len() + (RECORD_HEADER + count / 2) > ROOM {
-            return 0;
-        }
-        self.rest.push_record(&self.pairs, &bytes[..count]);
-        count + 1
+        self.rest.push_line(bytes)
     }
 
     // So many bytes of these lines' records went: the line in which they end is in hand, and what is left of its record. Says

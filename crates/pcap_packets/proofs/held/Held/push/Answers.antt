@@ -17,4 +17,4 @@ returns-clause-bytes c =
     let h = c.args.self.now in
     let ys = c.put_at.new.buffer in
     let size : length ys ≡ h.bytes.len = c.put_at.auto.buffer ∙ c.deref_mut.ensures.len in
-    pushed h _ ys c.args.bytes.now (length c.args.bytes.now) c.requires.front (with_items_is h.bytes ys size) refl refl (c.put_at.ensures ∙ ap (λ xs. take h.end xs ++ c.args.bytes.now) c.deref_mut.ensures.value)
+    pushed h _ ys c.args.bytes.now (length c.args.bytes.now) c.requires.front (with_items_is h.bytes ys size) refl refl (c.put_at.ensures.front ∙ ap (λ xs. take h.end xs ++ c.args.bytes.now) c.deref_mut.ensures.value)
