@@ -12,6 +12,7 @@ import binascii
 import signal
 from functools import lru_cache
 
+import viewtext
 from networks import read_plan
 
 FRAME, ROW, P, ODU = 16320, 4080, 15232, 15296
@@ -579,4 +580,9 @@ def from_words(words, *switches):
         line = Line.read(a.line, *given)
     except OSError as fault:
         raise SystemExit(f'{a.line}: {fault.strerror}')
+    if a.plan:
+        with open(a.plan) as plan:
+            viewtext.lay_over(line, plan.read(), side, a.side_in if side == 'in' else a.side_out or 0)
+    else:
+        viewtext.lay_over(line)
     return line, [getattr(a, name) for name in switches]

@@ -1,4 +1,6 @@
 mod Steps
+mod Begun
+mod MsiBytes
 mod Pieces
 mod TurnMoving
 mod Texts

@@ -1,6 +1,7 @@
 -- The pieces of a turn, with the sinks on the line.
-use Rattle.std.proofs.Common.{◌≡◌, ◌<◌, ◌+◌, ◌∙◌, ℕ, true, false, List, [], ◌∷◌, ◌++◌, Option, Some, None, refl, sym, ap, subst, add-one, append-nil, append_assoc}
-use Rattle.std.specs.Prelude.{is_some, IfSome}
+use Rattle.std.proofs.Common.{◌≡◌, ◌<◌, ◌+◌, ◌∙◌, ℕ, Bool, true, false, List, [], ◌∷◌, ◌++◌, Option, Some, None, refl, sym, ap, subst, add-one, append-nil, append_assoc}
+use Rattle.std.specs.Prelude.{is_some, nat_le, IfSome}
+use Rattle.std.specs.List.{flat_map}
 use Rattle.otn_base.specs.LineSlots.{slots_of}
 use Rattle.otn_ports.specs.Views.{InView}
 use Rattle.line_side.specs.LineForm.{LineForm, size_of}
@@ -10,14 +11,16 @@ use Rattle.line_side.specs.MayBe.{MayBe}
 use Rattle.multiframe.specs.LineTurns.{Lock, line_state}
 use Rattle.multiframe.specs.TurnPieces.{in_hand}
 use Rattle.otn_base.specs.LineSlots.{LineSlots}
-use Rattle.tributary_model.specs.Places.{Taken}
-use Rattle.trib_sink.specs.Sink.{StandsAfter}
-use Rattle.device_model.specs.LineViews.{views_until}
+use Rattle.tributary_model.specs.Places.{Taken, msi_in}
+use Rattle.trib_sink.specs.Sink.{Sink, StandsAfter}
 use Rattle.device_model.specs.TurnFrames.{member_of, frames_in}
-use Rattle.line_view.specs.Viewing.{IsInStep, ViewStands, ViewMoves}
-use Rattle.line_view.specs.Watching.{EachWatched, TookFrame, own_of}
+use Rattle.line_view.specs.ViewText.{all_slots, views_from}
+use Rattle.line_view.specs.Viewing.{HasSeen, IsInStep, ViewStands, ViewMoves, frames_by, taken_by}
+use Rattle.line_view.specs.Watching.{EachWatched, IsSame, TookFrame, begun, own_of}
 use Rattle.line_view.specs.declared.watched.Watched.{Watched}
-use Rattle.line_view.proofs.Steps.{was_there, same_own, same_owns}
+use Rattle.line_view.proofs.Begun.{has_seen, seen_still}
+use Rattle.line_view.proofs.MsiBytes.{msi_more}
+use Rattle.line_view.proofs.Steps.{was_there, same_shows}
 
 frames_more : (size : ℕ) (given : List ℕ) (t k : ℕ)
     → frames_in size given t (k + 1) ≡ frames_in size given t k ++ member_of given (in_hand size (mfas_of given) (line_state size (mfas_of given) t) (k + 1))
@@ -53,88 +56,122 @@ one_frame size given frame t k expected some hand number =
         ap (λ x. frames_in size given t k ++ x ∷ []) same
 
 -- after a piece that has no frame in hand no sink has taken more
-pub piece_none : (form : LineForm) (first was now : InView) (taken : List ℕ) (t : ℕ) (old new : LineView) (watched : List Watched)
+pub piece_none : (form : LineForm) (first was now : InView) (taken : List ℕ) (t : ℕ) (old new : LineView) (watched : List Watched) (msi : List (ℕ × ℕ))
     → new.pieces ≡ old.pieces + 1 → new.has_frame ≡ false → new.kind ≡ old.kind → frames_taken new ≡ frames_taken old
-    → ViewStands form first was taken t old watched → PieceStands form first now taken t old new → ViewMoves form first now taken t old new watched watched
-piece_none form first was now taken t old new watched pieces none kind count h p = record {
-  came = p.came;
-  stands = record {
-    line_is = p.stands;
-    step = λ i one at. let s = h.step i one at in record { kind = s.kind ∙ sym kind; taken = s.taken ∙ sym count; port = s.port };
-    sinks = λ given may i one at.
-        let is = p.stands.is_line given may in
-        let hand = subst (λ k. is_some (in_hand (size_of form) (mfas_of given) (line_state (size_of form) (mfas_of given) t) k) ≡ false) pieces (sym is.has_frame ∙ none) in
-        let frames = ap (frames_in (size_of form) given t) pieces ∙ no_frame (size_of form) given t old.pieces hand in
-        subst (λ xs. StandsAfter (own_of one) (views_until (own_of one) given t) xs one.sink) (sym frames) (h.sinks given (p.earlier given may) i one at);
-  };
-  earlier = p.earlier;
-  owns = refl;
-}
+    → ViewStands form first was taken t old watched msi → PieceStands form first now taken t old new → ViewMoves form first now taken t old new watched watched msi
+piece_none form first was now taken t old new watched msi pieces none kind count h p =
+    let same : (given : List ℕ) → MayBe form.scrambled new.reader.ending (taken ++ p.came) given → frames_in (size_of form) given t new.pieces ≡ frames_in (size_of form) given t old.pieces
+    = λ given may.
+    let is = p.stands.is_line given may in
+    let hand = subst (λ k. is_some (in_hand (size_of form) (mfas_of given) (line_state (size_of form) (mfas_of given) t) k) ≡ false) pieces (sym is.has_frame ∙ none) in
+    ap (frames_in (size_of form) given t) pieces ∙ no_frame (size_of form) given t old.pieces hand in
+    record {
+      came = p.came;
+      stands = record {
+        line_is = p.stands;
+        step = λ i one at. let s = h.step i one at in record { kind = s.kind ∙ sym kind; taken = s.taken ∙ ap (taken_by (begun one t)) (sym count); port = s.port };
+        sinks = λ given may i one at.
+            subst (λ xs. StandsAfter (own_of one) (views_from (own_of one) one.first given t) (frames_by (begun one t) xs) one.sink) (sym (same given may)) (h.sinks given (p.earlier given may) i one at);
+        msi_is = λ given may. h.msi_is given (p.earlier given may) ∙ ap (flat_map (msi_in (all_slots form))) (sym (same given may));
+      };
+      earlier = p.earlier;
+      shows = refl;
+    }
 
--- after a piece that has a frame in hand each sink has taken this one
-pub piece_frame : (form : LineForm) (first was now : InView) (taken : List ℕ) (t expected : ℕ) (old new : LineView) (olds news : List Watched)
+-- a sink is in step after a frame
+frame_step : (old new : LineView) (t : ℕ) (frame : Taken) (one two : Watched) (b : Bool) → begun one t ≡ b → TookFrame t frame one two → IsInStep old t one
+    → new.kind ≡ old.kind → frames_taken new ≡ frames_taken old + 1 → frames_taken old < slots_of old.kind → IsInStep new t two
+frame_step old new t frame one two b on took s kind count few = record {
+  kind = ap (λ (x : LineSlots). x.kind) took.same.slots ∙ s.kind ∙ sym kind;
+  taken = by_turn b on;
+  port = took.same.port ∙ s.port ∙ sym took.same.sink_port;
+}
+  where
+    same_turn : begun two t ≡ begun one t
+    same_turn = ap (λ n. nat_le n t) took.same.first
+
+    by_turn : (b : Bool) → begun one t ≡ b → two.sink.taken ≡ taken_by (begun two t) (frames_taken new)
+    by_turn true on =
+        let had : one.sink.taken ≡ frames_taken old = s.taken ∙ ap (λ b. taken_by b (frames_taken old)) on in
+        let room = subst (λ n. n < slots_of one.sink.slots.kind) (sym had) (subst (λ k. frames_taken old < slots_of k) (sym s.kind) few) in
+        took.count on room ∙ ap (λ n. n + 1) had ∙ sym count ∙ sym (ap (λ b. taken_by b (frames_taken new)) (same_turn ∙ on))
+    by_turn false on =
+        ap (λ (x : Sink). x.taken) (took.waits on) ∙ s.taken ∙ ap (λ b. taken_by b (frames_taken old)) on ∙ sym (ap (λ b. taken_by b (frames_taken new)) (same_turn ∙ on))
+
+-- it has seen one frame more, or waits
+frame_seen : (form : LineForm) (given : List ℕ) (t k m : ℕ) (line : LineView) (frame : Taken) (one two : Watched) (b : Bool) → begun one t ≡ b → TookFrame t frame one two → IsInStep line t one
+    → frames_taken line < slots_of line.kind → frames_in (size_of form) given t k ++ frame ∷ [] ≡ frames_in (size_of form) given t m → HasSeen form given t k one → HasSeen form given t m two
+frame_seen form given t k m line frame one two true on took s few frames h =
+    let had : one.sink.taken ≡ frames_taken line = s.taken ∙ ap (λ b. taken_by b (frames_taken line)) on in
+    let room = subst (λ n. n < slots_of one.sink.slots.kind) (sym had) (subst (λ k. frames_taken line < slots_of k) (sym s.kind) few) in
+    let views = views_from (own_of one) one.first given t in
+    let before = subst (λ b. StandsAfter (own_of one) views (frames_by b (frames_in (size_of form) given t k)) one.sink) on h in
+    has_seen form given t m one two views (frames_in (size_of form) given t k ++ frame ∷ []) took.same refl
+    (frames ∙ sym (ap (λ b. frames_by b (frames_in (size_of form) given t m)) on))
+    (took.stands on room (own_of one) views (frames_in (size_of form) given t k) before)
+frame_seen form given t k m line frame one two false on took s few frames h =
+    let none = λ (n : ℕ). ap (λ b. frames_by b (frames_in (size_of form) given t n)) on in
+    seen_still form given t t k m one two took.same (took.waits on) refl (none k ∙ sym (none m)) h
+
+-- after a piece that has a frame in hand each sink that has begun has taken this one
+pub piece_frame : (form : LineForm) (first was now : InView) (taken : List ℕ) (t expected : ℕ) (old new : LineView) (olds news : List Watched) (msi more : List (ℕ × ℕ))
     → new.pieces ≡ old.pieces + 1 → new.has_frame ≡ true → new.kind ≡ old.kind → frames_taken new ≡ frames_taken old + 1 → frames_taken old < slots_of old.kind
-    → ViewStands form first was taken t old olds → (p : PieceStands form first now taken t old new)
+    → ViewStands form first was taken t old olds msi → (p : PieceStands form first now taken t old new)
     → ((given : List ℕ) → MayBe form.scrambled new.reader.ending (taken ++ p.came) given
     → IfSome (in_hand (size_of form) (mfas_of given) (line_state (size_of form) (mfas_of given) t) new.pieces) (λ member. expected ≡ member.expected))
-    → EachWatched (TookFrame (record { frame = new.reader.hand; expected = expected })) olds news
-    → ViewMoves form first now taken t old new olds news
-piece_frame form first was now taken t expected old new olds news pieces some kind count few h p number takes =
+    → EachWatched (TookFrame t (record { frame = new.reader.hand; expected = expected })) olds news
+    → more ≡ msi ++ msi_in (all_slots form) (record { frame = new.reader.hand; expected = expected })
+    → ViewMoves form first now taken t old new olds news more
+piece_frame form first was now taken t expected old new olds news msi more pieces some kind count few h p number takes noted =
     let frame : Taken = record { frame = new.reader.hand; expected = expected } in
-    let room : (one : Watched) → IsInStep old one → one.sink.taken < slots_of one.sink.slots.kind
-    = λ one s. subst (λ n. n < slots_of one.sink.slots.kind) (sym s.taken) (subst (λ k. frames_taken old < slots_of k) (sym s.kind) few) in
+    let frames : (given : List ℕ) → MayBe form.scrambled new.reader.ending (taken ++ p.came) given
+    → frames_in (size_of form) given t old.pieces ++ frame ∷ [] ≡ frames_in (size_of form) given t new.pieces
+    = λ given may.
+    let is = p.stands.is_line given may in
+    let there = subst (λ k. is_some (in_hand (size_of form) (mfas_of given) (line_state (size_of form) (mfas_of given) t) k) ≡ true) pieces (sym is.has_frame ∙ some) in
+    let hand = subst (λ k. IfSome (in_hand (size_of form) (mfas_of given) (line_state (size_of form) (mfas_of given) t) k) (λ member. new.reader.hand ≡ frame_at given member.frame)) pieces is.hand in
+    let mfas = subst (λ k. IfSome (in_hand (size_of form) (mfas_of given) (line_state (size_of form) (mfas_of given) t) k) (λ member. expected ≡ member.expected)) pieces (number given may) in
+    one_frame (size_of form) given new.reader.hand t old.pieces expected there hand mfas ∙ sym (ap (frames_in (size_of form) given t) pieces) in
     record {
       came = p.came;
       stands = record {
         line_is = p.stands;
         step = λ i one at.
-            let k = was_there (TookFrame frame) olds news takes i one at in
-            let s = h.step i k.0 k.1.0 in
-            let took = k.1.1 in
-            record {
-              kind = ap (λ (x : LineSlots). x.kind) took.same.slots ∙ s.kind ∙ sym kind;
-              taken = took.count (room k.0 s) ∙ ap (λ n. n + 1) s.taken ∙ sym count;
-              port = took.same.port ∙ s.port ∙ sym took.same.sink_port;
-            };
+            let k = was_there (TookFrame t frame) olds news takes i one at in
+            frame_step old new t frame k.0 one (begun k.0 t) refl k.1.1 (h.step i k.0 k.1.0) kind count few;
         sinks = λ given may i one at.
-            let k = was_there (TookFrame frame) olds news takes i one at in
-            let s = h.step i k.0 k.1.0 in
-            let took = k.1.1 in
-            let is = p.stands.is_line given may in
-            let there = subst (λ k. is_some (in_hand (size_of form) (mfas_of given) (line_state (size_of form) (mfas_of given) t) k) ≡ true) pieces (sym is.has_frame ∙ some) in
-            let hand = subst (λ k. IfSome (in_hand (size_of form) (mfas_of given) (line_state (size_of form) (mfas_of given) t) k) (λ member. new.reader.hand ≡ frame_at given member.frame)) pieces is.hand in
-            let mfas = subst (λ k. IfSome (in_hand (size_of form) (mfas_of given) (line_state (size_of form) (mfas_of given) t) k) (λ member. expected ≡ member.expected)) pieces (number given may) in
-            let frames = one_frame (size_of form) given new.reader.hand t old.pieces expected there hand mfas ∙ sym (ap (frames_in (size_of form) given t) pieces) in
-            let next = took.stands (room k.0 s) (own_of k.0) (views_until (own_of k.0) given t) (frames_in (size_of form) given t old.pieces) (h.sinks given (p.earlier given may) i k.0 k.1.0) in
-            subst (λ o. StandsAfter o (views_until o given t) (frames_in (size_of form) given t new.pieces) one.sink) (sym (same_own k.0 one took.same))
-            (subst (λ xs. StandsAfter (own_of k.0) (views_until (own_of k.0) given t) xs one.sink) frames next);
+            let k = was_there (TookFrame t frame) olds news takes i one at in
+            frame_seen form given t old.pieces new.pieces old frame k.0 one (begun k.0 t) refl k.1.1 (h.step i k.0 k.1.0) few (frames given may) (h.sinks given (p.earlier given may) i k.0 k.1.0);
+        msi_is = λ given may.
+            noted ∙ ap (λ xs. xs ++ msi_in (all_slots form) frame) (h.msi_is given (p.earlier given may))
+            ∙ sym (msi_more (all_slots form) (frames_in (size_of form) given t old.pieces) frame) ∙ ap (flat_map (msi_in (all_slots form))) (frames given may);
       };
       earlier = p.earlier;
-      owns = same_owns olds news takes.count (λ i a b at_a at_b. (takes.each i a b at_a at_b).same);
+      shows = same_shows olds news takes.count (λ i a b at_a at_b. (takes.each i a b at_a at_b).same);
     }
 
 -- nothing went by
-pub moves_none : (form : LineForm) (first now : InView) (taken : List ℕ) (t : ℕ) (line : LineView) (watched : List Watched) → ViewStands form first now taken t line watched
-    → ViewMoves form first now taken t line line watched watched
-moves_none form first now taken t line watched h =
+pub moves_none : (form : LineForm) (first now : InView) (taken : List ℕ) (t : ℕ) (line : LineView) (watched : List Watched) (msi : List (ℕ × ℕ)) → ViewStands form first now taken t line watched msi
+    → ViewMoves form first now taken t line line watched watched msi
+moves_none form first now taken t line watched msi h =
     let all : taken ++ [] ≡ taken = append-nil taken in
     record {
       came = [];
-      stands = subst (λ xs. ViewStands form first now xs t line watched) (sym all) h;
+      stands = subst (λ xs. ViewStands form first now xs t line watched msi) (sym all) h;
       earlier = λ given may. subst (λ xs. MayBe form.scrambled line.reader.ending xs given) all may;
-      owns = refl;
+      shows = refl;
     }
 
 -- some pieces and then some more
-pub moves_twice : (form : LineForm) (first was now : InView) (taken : List ℕ) (t : ℕ) (old mid new : LineView) (olds mids news : List Watched)
-    → (m : ViewMoves form first was taken t old mid olds mids)
-    → (ViewStands form first was (taken ++ m.came) t mid mids → ViewMoves form first now (taken ++ m.came) t mid new mids news) → ViewMoves form first now taken t old new olds news
-moves_twice form first was now taken t old mid new olds mids news m next =
+pub moves_twice : (form : LineForm) (first was now : InView) (taken : List ℕ) (t : ℕ) (old mid new : LineView) (olds mids news : List Watched) (msi more : List (ℕ × ℕ))
+    → (m : ViewMoves form first was taken t old mid olds mids msi)
+    → (ViewStands form first was (taken ++ m.came) t mid mids msi → ViewMoves form first now (taken ++ m.came) t mid new mids news more) → ViewMoves form first now taken t old new olds news more
+moves_twice form first was now taken t old mid new olds mids news msi more m next =
     let n = next m.stands in
     let all : (taken ++ m.came) ++ n.came ≡ taken ++ (m.came ++ n.came) = append_assoc taken m.came n.came in
     record {
       came = m.came ++ n.came;
-      stands = subst (λ xs. ViewStands form first now xs t new news) all n.stands;
+      stands = subst (λ xs. ViewStands form first now xs t new news more) all n.stands;
       earlier = λ given may. m.earlier given (n.earlier given (subst (λ xs. MayBe form.scrambled new.reader.ending xs given) (sym all) may));
-      owns = n.owns ∙ m.owns;
+      shows = n.shows ∙ m.shows;
     }

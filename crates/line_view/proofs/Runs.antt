@@ -1,8 +1,9 @@
 -- The turns of a view, and how it ends.
-use Rattle.std.proofs.Common.{◌≡◌, ◌≢◌, ◌<◌, ◌≤◌, ◌+◌, ◌*◌, ◌%◌, ◌∙◌, ◌⊎◌, ℕ, Bool, true, false, List, [], ◌++◌, length, ltb, refl, sym, ap, subst, inl, inr, arith, append-nil, append_assoc, length-append}
-use Rattle.std.specs.Prelude.{map}
+use Rattle.std.proofs.Common.{◌≡◌, ◌≢◌, ◌<◌, ◌≤◌, ◌+◌, ◌*◌, ◌%◌, ◌∙◌, ◌⊎◌, ℕ, zero, suc, Bool, true, false, List, [], ◌++◌, length, ltb, refl, sym, ap, subst, inl, inr, arith, append-nil, append_assoc, length-append}
+use Rattle.std.specs.Prelude.{map, ◌==◌, if◌then◌else◌, min}
 use Rattle.std.specs.List.{flat_map, range_with_len}
 use Rattle.std.proofs.lemmas.Bool.{ltb-true, ltb-false}
+use Rattle.std.proofs.lemmas.Bool.Decides.{nat_tests}
 use Rattle.std.proofs.lemmas.Grind.{flat_map-append}
 use Rattle.otn_base.specs.LineSlots.{slots_of}
 use Rattle.otn_base.specs.declared.line_kind.LineKind.{LineKind}
@@ -21,33 +22,28 @@ use Rattle.line_side.specs.LineFile.{mfas_of}
 use Rattle.line_side.specs.LineForm.{LineForm, size_of, through_mask}
 use Rattle.line_side.specs.LineStands.{LineView}
 use Rattle.line_side.specs.MayBe.{MayBe}
-use Rattle.line_side.specs.Reader.{EndedAs, rest_of}
+use Rattle.line_side.specs.Reader.{EndedAs, ReaderView, rest_of}
 use Rattle.line_side.specs.declared.ending.Ending.{Ending}
 use Rattle.line_side.specs.declared.ending.Ending.TheVariants.{Open, Seen, Died}
-use Rattle.multiframe.specs.LineTurns.{line_state, has_ended}
-use Rattle.tributary_model.specs.Places.{Tributary}
-use Rattle.line_view.specs.ViewRuns.{MayFollow, frames_wanted, bytes_taken, ViewEnded, lines_of, TurnRun, FinishRun}
-use Rattle.line_view.specs.ViewText.{head_line, end_line, turn_text, turns_of, view_text}
+use Rattle.multiframe.specs.LineTurns.{line_state, has_ended, wanted}
+use Rattle.line_view.specs.ViewRuns.{MayFollow, frames_wanted, bytes_taken, ViewEnded, WriteFailed, lines_of, text_before, text_part, turn_count, TurnRun, FinishRun}
+use Rattle.line_view.specs.ViewText.{Showing, head_line, end_line, turn_text, text_until, turns_of, view_text}
 use Rattle.line_view.specs.Viewing.{ViewStands}
-use Rattle.line_view.specs.Watching.{own_of}
+use Rattle.line_view.specs.Watching.{showing_of}
 use Rattle.line_view.specs.declared.told.TurnSeen.{TurnSeen}
 use Rattle.line_view.specs.declared.viewing.After.{After}
 use Rattle.line_view.specs.declared.viewing.After.TheVariants as next
 use Rattle.line_view.specs.declared.watched.Watched.{Watched}
-use Rattle.line_view.proofs.Texts.{writes_twice, part_of_more, lines_are, turns-more}
-use Rattle.line_view.proofs.Wanting.{TookWanted, took_wanted, closed_least, open_least, more_least}
-use Rattle.line_view.proofs.TurnCount.{turns_first, turns_all, turn_count}
-
--- the text up to a turn
-abbrev pub text_until : LineForm → List Tributary → (given : List ℕ) → (t : ℕ) → List ℕ
-text_until form owns given t = head_line form.kind form.scrambled ++ flat_map (turn_text form owns given) (range_with_len 0 t)
+use Rattle.line_view.proofs.Texts.{writes_none, writes_twice, part_of_more, lines_are, turns-more}
+use Rattle.line_view.proofs.Wanting.{TookFrames, none_by_turns, took_least, took_turns, took_wanted, closed_least, open_least, more_least}
+use Rattle.line_view.proofs.TurnCount.{turns_first, turns_all, turns_count, turns_least}
 
 -- the turns so far: t of them, and the line had not ended before any
-pub record TurnsSoFar (form : LineForm) (owns : List Tributary) (first now : InView) (t : ℕ) (line : LineView) (watched : List Watched) (old new : SinkView) : Type 0 where
+pub record TurnsSoFar (form : LineForm) (shows : List Showing) (first now : InView) (t : ℕ) (line : LineView) (watched : List Watched) (old new : SinkView) : Type 0 where
   pub taken : List ℕ
-  pub stands : ViewStands form first now taken t line watched
-  pub owns_are : map own_of watched ≡ owns
-  pub report : (given : List ℕ) → MayBe form.scrambled line.reader.ending taken given → SinkWrites written.Whole old (text_until form owns given t) new
+  pub stands : ViewStands form first now taken t line watched []
+  pub shows_are : map showing_of watched ≡ shows
+  pub report : (given : List ℕ) → MayBe form.scrambled line.reader.ending taken given → SinkWrites written.Whole old (text_until form shows given t) new
   pub unended : (given : List ℕ) → MayBe form.scrambled line.reader.ending taken given → (s : ℕ) → s < t → has_ended (line_state (size_of form) (mfas_of given) s) ≡ false
 
 -- whether the line has ended after these turns
@@ -60,14 +56,14 @@ unfolding line_state
 first_open size ms = refl
 
 -- before the first turn, behind the line of the line
-pub turns_none : (form : LineForm) (first : InView) (line : LineView) (watched : List Watched) (old new : SinkView) → ((first : InView) → ViewStands form first first [] 0 line watched)
+pub turns_none : (form : LineForm) (first : InView) (line : LineView) (watched : List Watched) (old new : SinkView) → ((first : InView) → ViewStands form first first [] 0 line watched [])
     → SinkWrites written.Whole old (head_line form.kind form.scrambled) new
-    → (h : TurnsSoFar form (map own_of watched) first first 0 line watched old new) × HasLast form 0 line h.taken false
+    → (h : TurnsSoFar form (map showing_of watched) first first 0 line watched old new) × HasLast form 0 line h.taken false
 turns_none form first line watched old new stands wrote = (
   record {
     taken = [];
     stands = stands first;
-    owns_are = refl;
+    shows_are = refl;
     report = λ given may. subst (λ xs. SinkWrites written.Whole old xs new) (sym (append-nil (head_line form.kind form.scrambled))) wrote;
     unended = λ given may s before. absurd (omega (arith, before));
   },
@@ -92,37 +88,43 @@ still_unended size ms t before last s within = by_place (last_or_before s t with
     by_place (inr same) = ap (λ k. has_ended (line_state size ms k)) same ∙ last
 
 -- the lines of one turn more
-text_more : (form : LineForm) (owns : List Tributary) (given : List ℕ) (t : ℕ) (watched : List Watched) (seen : TurnSeen) → map own_of watched ≡ owns
-    → lines_of (t + 1) seen watched ≡ turn_text form (map own_of watched) given t → text_until form owns given t ++ lines_of (t + 1) seen watched ≡ text_until form owns given (t + 1)
-text_more form owns given t watched seen same lines =
+text_more : (form : LineForm) (shows : List Showing) (given : List ℕ) (t : ℕ) (watched : List Watched) (lines : List ℕ) → map showing_of watched ≡ shows
+    → lines ≡ turn_text form (map showing_of watched) given t → text_until form shows given t ++ lines ≡ text_until form shows given (t + 1)
+text_more form shows given t watched some same lines =
     let head = head_line form.kind form.scrambled in
-    let turns = flat_map (turn_text form owns given) (range_with_len 0 t) in
+    let turns = flat_map (turn_text form shows given) (range_with_len 0 t) in
     ap (λ xs. (head ++ turns) ++ xs) (lines ∙ ap (λ os. turn_text form os given t) same)
-    ∙ append_assoc head turns (turn_text form owns given t)
-    ∙ ap (λ xs. head ++ xs) (sym (turns-more (turn_text form owns given) t))
+    ∙ append_assoc head turns (turn_text form shows given t)
+    ∙ ap (λ xs. head ++ xs) (sym (turns-more (turn_text form shows given) t))
+
+-- the lines of a turn are what the definition says
+turn_is : (form : LineForm) (shows : List Showing) (first now : InView) (taken : List ℕ) (t : ℕ) (line later : LineView) (olds news : List Watched) (old new : SinkView) (answer : After)
+    → (run : TurnRun form first now taken t line later olds news old new answer)
+    → (given : List ℕ) → MayBe form.scrambled later.reader.ending (taken ++ run.moves.came) given → lines_of t run.seen run.msi news ≡ turn_text form (map showing_of news) given t
+turn_is form shows first now taken t line later olds news old new answer run given may =
+    lines_are form given t news run.seen run.msi (run.moves.seen_is given may) (run.moves.msi_is given may) (run.moves.told given may) (λ i one at. (run.moves.stands.step i one at).port)
 
 -- what one turn more says, of what the line may have
-turn_lines : (form : LineForm) (owns : List Tributary) (first now : InView) (taken : List ℕ) (t : ℕ) (line later : LineView) (olds news : List Watched) (old new : SinkView) (answer : After)
-    → map own_of olds ≡ owns → (run : TurnRun form first now taken t line later olds news old new answer)
+turn_lines : (form : LineForm) (shows : List Showing) (first now : InView) (taken : List ℕ) (t : ℕ) (line later : LineView) (olds news : List Watched) (old new : SinkView) (answer : After)
+    → map showing_of olds ≡ shows → (run : TurnRun form first now taken t line later olds news old new answer)
     → (given : List ℕ) → MayBe form.scrambled later.reader.ending (taken ++ run.moves.came) given
-    → text_until form owns given t ++ lines_of (t + 1) run.seen news ≡ text_until form owns given (t + 1)
-turn_lines form owns first now taken t line later olds news old new answer same run given may =
-    text_more form owns given t news run.seen (run.moves.owns ∙ same)
-    (lines_are form given t news run.seen (run.moves.seen_is given may) (run.moves.told given may) (λ i one at. (run.moves.stands.step i one at).port))
+    → text_until form shows given t ++ lines_of t run.seen run.msi news ≡ text_until form shows given (t + 1)
+turn_lines form shows first now taken t line later olds news old new answer same run given may =
+    text_more form shows given t news (lines_of t run.seen run.msi news) (run.moves.shows ∙ same) (turn_is form shows first now taken t line later olds news old new answer run given may)
 
 -- a turn more, after which the line has ended or not
-pub turns_more : (form : LineForm) (owns : List Tributary) (first was now : InView) (t : ℕ) (line later : LineView) (olds news : List Watched) (old gained new : SinkView) (ended : Bool) (answer : After)
-    → (h : TurnsSoFar form owns first was t line olds old gained) → HasLast form t line h.taken false
-    → (run : TurnRun form first now h.taken t line later olds news gained new answer) → SinkWrites written.Whole gained (lines_of (t + 1) run.seen news) new × (run.seen.ended ≡ ended)
-    → (k : TurnsSoFar form owns first now (t + 1) later news old new) × HasLast form (t + 1) later k.taken ended
-turns_more form owns first was now t line later olds news old gained new ended answer h last run wrote = (
+pub turns_more : (form : LineForm) (shows : List Showing) (first was now : InView) (t : ℕ) (line later : LineView) (olds news : List Watched) (old gained new : SinkView) (ended : Bool) (answer : After)
+    → (h : TurnsSoFar form shows first was t line olds old gained) → HasLast form t line h.taken false
+    → (run : TurnRun form first now h.taken t line later olds news gained new answer) → SinkWrites written.Whole gained (lines_of t run.seen run.msi news) new × (run.seen.ended ≡ ended)
+    → (k : TurnsSoFar form shows first now (t + 1) later news old new) × HasLast form (t + 1) later k.taken ended
+turns_more form shows first was now t line later olds news old gained new ended answer h last run wrote = (
   record {
     taken = h.taken ++ run.moves.came;
     stands = run.moves.stands;
-    owns_are = run.moves.owns ∙ h.owns_are;
+    shows_are = run.moves.shows ∙ h.shows_are;
     report = λ given may.
-        subst (λ xs. SinkWrites written.Whole old xs new) (turn_lines form owns first now h.taken t line later olds news gained new answer h.owns_are run given may)
-        (writes_twice written.Whole old gained new (text_until form owns given t) (lines_of (t + 1) run.seen news) (h.report given (run.moves.earlier given may)) wrote.0);
+        subst (λ xs. SinkWrites written.Whole old xs new) (turn_lines form shows first now h.taken t line later olds news gained new answer h.shows_are run given may)
+        (writes_twice written.Whole old gained new (text_until form shows given t) (lines_of t run.seen run.msi news) (h.report given (run.moves.earlier given may)) wrote.0);
     unended = λ given may.
         let earlier = run.moves.earlier given may in
         still_unended (size_of form) (mfas_of given) t (h.unended given earlier) (last given earlier);
@@ -157,39 +159,73 @@ alone : (scrambled : Bool) (ending : Ending) (taken rest : List ℕ) → rest �
 alone scrambled ending taken rest none = record { rest = rest; over = λ _. none; parts = refl }
 
 -- the first lines of the text
-text_first : (form : LineForm) (owns : List Tributary) (ending : Ending) (given : List ℕ) (n : ℕ) → n ≤ 16384
+text_first : (form : LineForm) (shows : List Showing) (ending : Ending) (given : List ℕ) (n : ℕ) → n ≤ 16384
     → ((s : ℕ) → s < n → has_ended (line_state (size_of form) (mfas_of given) s) ≡ false)
-    → (rest : List ℕ) × (text_until form owns given n ++ rest ≡ view_text form owns ending given)
+    → (rest : List ℕ) × (text_until form shows given n ++ rest ≡ view_text form shows ending given)
 unfolding view_text
-text_first form owns ending given n few going =
+text_first form shows ending given n few going =
     let turns = turns_first (size_of form) (mfas_of given) n few going in
     let head = head_line form.kind form.scrambled in
     let end = end_line (length (turns_of (size_of form) (mfas_of given))) (rest_of ending given) in
-    let some = flat_map (turn_text form owns given) (range_with_len 0 n) in
-    let more = flat_map (turn_text form owns given) turns.0 in (
+    let some = flat_map (turn_text form shows given) (range_with_len 0 n) in
+    let more = flat_map (turn_text form shows given) turns.0 in (
       more ++ end,
       append_assoc head some (more ++ end) ∙ ap (λ xs. head ++ xs) (sym (append_assoc some more end))
-          ∙ ap (λ xs. head ++ (xs ++ end)) (sym (flat_map-append (turn_text form owns given) (range_with_len 0 n) turns.0))
-          ∙ ap (λ ts. head ++ (flat_map (turn_text form owns given) ts ++ end)) (sym turns.1),
+          ∙ ap (λ xs. head ++ (xs ++ end)) (sym (flat_map-append (turn_text form shows given) (range_with_len 0 n) turns.0))
+          ∙ ap (λ ts. head ++ (flat_map (turn_text form shows given) ts ++ end)) (sym turns.1),
     )
 
 -- and the whole text
-text_all : (form : LineForm) (owns : List Tributary) (ending : Ending) (given : List ℕ) (n : ℕ) → n ≤ 16384
+text_all : (form : LineForm) (shows : List Showing) (ending : Ending) (given : List ℕ) (n : ℕ) → n ≤ 16384
     → ((s : ℕ) → s < n → has_ended (line_state (size_of form) (mfas_of given) s) ≡ false) → (has_ended (line_state (size_of form) (mfas_of given) n) ≡ true) ⊎ (n ≡ 16384)
-    → text_until form owns given n ++ end_line n (rest_of ending given) ≡ view_text form owns ending given
+    → text_until form shows given n ++ end_line n (rest_of ending given) ≡ view_text form shows ending given
 unfolding view_text
-text_all form owns ending given n few going last =
+text_all form shows ending given n few going last =
     let head = head_line form.kind form.scrambled in
-    let some = flat_map (turn_text form owns given) (range_with_len 0 n) in
+    let some = flat_map (turn_text form shows given) (range_with_len 0 n) in
     append_assoc head some (end_line n (rest_of ending given))
-    ∙ ap (λ ts. head ++ (flat_map (turn_text form owns given) ts ++ end_line n (rest_of ending given))) (sym (turns_all (size_of form) (mfas_of given) n few going last))
-    ∙ ap (λ k. head ++ (flat_map (turn_text form owns given) (turns_of (size_of form) (mfas_of given)) ++ end_line k (rest_of ending given)))
-    (sym (turn_count (size_of form) (mfas_of given) n few going last))
+    ∙ ap (λ ts. head ++ (flat_map (turn_text form shows given) ts ++ end_line n (rest_of ending given))) (sym (turns_all (size_of form) (mfas_of given) n few going last))
+    ∙ ap (λ k. head ++ (flat_map (turn_text form shows given) (turns_of (size_of form) (mfas_of given)) ++ end_line k (rest_of ending given)))
+    (sym (turns_count (size_of form) (mfas_of given) n few going last))
+
+-- ---- a write that failed
+
+nothing_taken : (given : List ℕ) (size : ℕ) → wanted size (mfas_of given) 0 ≡ 0 → 0 ≡ min (length given) (16320 * wanted size (mfas_of given) (min 0 (turn_count size given)))
+nothing_taken given size none =
+    let few : min 0 (turn_count size given) ≡ 0 = omega arith in
+    let zero_frames : wanted size (mfas_of given) (min 0 (turn_count size given)) ≡ 0 = ap (wanted size (mfas_of given)) few ∙ none in
+    omega (arith, zero_frames)
+
+-- as many bytes as the turns up to this one want
+taken_by : (size : ℕ) (given taken : List ℕ) (t n part : ℕ) (r : ReaderView) → length taken ≤ length given → TookFrames (wanted size (mfas_of given) n) given taken r
+    → n ≡ min part (turn_count size given) → length taken ≡ min (length given) (16320 * wanted size (mfas_of given) (min part (turn_count size given)))
+taken_by size given taken t n part r few took same =
+    took_least (wanted size (mfas_of given) n) given taken r few took ∙ ap (λ k. min (length given) (16320 * wanted size (mfas_of given) k)) same
+
+-- the part of a turn that is not the last line
+part_of_turn : (form : LineForm) (shows : List Showing) (ending : Ending) (given : List ℕ) (t : ℕ) → t < turn_count (size_of form) given → turn_text form shows given t ≡ text_part form shows ending given (suc t)
+part_of_turn form shows ending given t less =
+    let other : (t == turn_count (size_of form) given) ≡ false = grind (arith, nat_tests) in
+    sym (ap (λ b. if b then end_line t (rest_of ending given) else turn_text form shows given t) other)
+
+-- and the last line
+part_of_end : (form : LineForm) (shows : List Showing) (ending : Ending) (given : List ℕ) (t : ℕ) → t ≡ turn_count (size_of form) given → end_line t (rest_of ending given) ≡ text_part form shows ending given (suc t)
+part_of_end form shows ending given t same =
+    let here : (t == turn_count (size_of form) given) ≡ true = grind (arith, nat_tests) in
+    sym (ap (λ b. if b then end_line t (rest_of ending given) else turn_text form shows given t) here)
+
+some_frames : (kind : LineKind) → 1 ≤ slots_of kind
+some_frames Otu2 = omega arith
+some_frames Otu3 = omega arith
+
+-- all that was taken may stand in the line
+within_given : (scrambled : Bool) (taken rest : List ℕ) → length taken ≤ length (through_mask scrambled (taken ++ rest))
+within_given scrambled taken rest = let long = length_parts scrambled taken [] rest in omega (arith, long)
 
 -- with a write of the head that failed
-pub head_lost : (form : LineForm) (owns : List Tributary) (first : InView) (old new : SinkView) → SinkWrites written.Lost old (head_line form.kind form.scrambled) new
-    → ViewEnded form owns first first old new ReportFault
-head_lost form owns first old new wrote = record {
+pub head_lost : (form : LineForm) (shows : List Showing) (first : InView) (old new : SinkView) → SinkWrites written.Lost old (head_line form.kind form.scrambled) new
+    → ViewEnded form shows first first old new ReportFault
+head_lost form shows first old new wrote = record {
   taken = [];
   gave = gave_none first;
   more = true;
@@ -198,19 +234,27 @@ head_lost form owns first old new wrote = record {
   ended_as = λ no. absurd (no refl);
   report = λ rest follow.
       let given = through_mask form.scrambled ([] ++ rest) in
-      let text = text_first form owns Open given 0 (omega arith) (λ s less. absurd (omega (arith, less))) in
+      let text = text_first form shows Open given 0 (omega arith) (λ s less. absurd (omega (arith, less))) in
       subst (λ xs. SinkWrites written.Lost old xs new) text.1
-      (part_of_more old new (text_until form owns given 0) text.0
+      (part_of_more old new (text_until form shows given 0) text.0
       (subst (λ xs. SinkWrites written.Lost old xs new) (sym (append-nil (head_line form.kind form.scrambled))) wrote));
   ends = tt;
   took = λ no. absurd (no refl);
+  failed = λ e rest follow. record {
+    part = 0;
+    few = omega arith;
+    took = let none = none_by_turns (size_of form) (mfas_of (through_mask form.scrambled rest)) in nothing_taken (through_mask form.scrambled rest) (size_of form) none;
+    between = old;
+    wrote = writes_none old;
+    lost = wrote;
+  };
 }
 
 -- with a write of a turn that failed
-pub turns_lost : (form : LineForm) (owns : List Tributary) (first was now : InView) (t : ℕ) (line later : LineView) (olds news : List Watched) (old gained new : SinkView)
-    → (h : TurnsSoFar form owns first was t line olds old gained) → HasLast form t line h.taken false → t < 16384
-    → TurnRun form first now h.taken t line later olds news gained new next.ReportFailed → ViewEnded form owns first now old new ReportFault
-turns_lost form owns first was now t line later olds news old gained new h last few run = record {
+pub turns_lost : (form : LineForm) (shows : List Showing) (first was now : InView) (t : ℕ) (line later : LineView) (olds news : List Watched) (old gained new : SinkView)
+    → (h : TurnsSoFar form shows first was t line olds old gained) → HasLast form t line h.taken false → t < 16384 → later.pieces ≡ 0
+    → TurnRun form first now h.taken t line later olds news gained new next.ReportFailed → ViewEnded form shows first now old new ReportFault
+turns_lost form shows first was now t line later olds news old gained new h last few none run = record {
   taken = h.taken ++ run.moves.came;
   gave = run.moves.stands.line_is.gave;
   more = may_come later.reader.ending;
@@ -221,24 +265,43 @@ turns_lost form owns first was now t line later olds news old gained new h last 
       let given = through_mask form.scrambled ((h.taken ++ run.moves.came) ++ rest) in
       let may = follows form.scrambled later.reader.ending (h.taken ++ run.moves.came) rest follow in
       let earlier = run.moves.earlier given may in
-      let text = text_first form owns later.reader.ending given (t + 1) (omega (arith, few)) (still_unended (size_of form) (mfas_of given) t (h.unended given earlier) (last given earlier)) in
+      let text = text_first form shows later.reader.ending given (t + 1) (omega (arith, few)) (still_unended (size_of form) (mfas_of given) t (h.unended given earlier) (last given earlier)) in
       subst (λ xs. SinkWrites written.Lost old xs new) text.1
-      (part_of_more old new (text_until form owns given (t + 1)) text.0
-      (subst (λ xs. SinkWrites written.Lost old xs new) (turn_lines form owns first now h.taken t line later olds news gained new next.ReportFailed h.owns_are run given may)
-      (writes_twice written.Lost old gained new (text_until form owns given t) (lines_of (t + 1) run.seen news) (h.report given earlier) run.wrote)));
+      (part_of_more old new (text_until form shows given (t + 1)) text.0
+      (subst (λ xs. SinkWrites written.Lost old xs new) (turn_lines form shows first now h.taken t line later olds news gained new next.ReportFailed h.shows_are run given may)
+      (writes_twice written.Lost old gained new (text_until form shows given t) (lines_of t run.seen run.msi news) (h.report given earlier) run.wrote)));
   ends = tt;
   took = λ no. absurd (no refl);
+  failed = λ e rest follow.
+      let taken = h.taken ++ run.moves.came in
+      let given = through_mask form.scrambled (taken ++ rest) in
+      let may = follows form.scrambled later.reader.ending taken rest follow in
+      let earlier = run.moves.earlier given may in
+      let going = still_unended (size_of form) (mfas_of given) t (h.unended given earlier) (last given earlier) in
+      let count : t + 1 ≤ turn_count (size_of form) given = turns_least (size_of form) (mfas_of given) (t + 1) (omega (arith, few)) going in
+      record {
+        part = suc t;
+        few = omega (arith, count);
+        took = taken_by (size_of form) given taken t (t + 1) (suc t) later.reader (within_given form.scrambled taken rest)
+            (took_turns (size_of form) given taken (t + 1) later (some_frames form.kind) (run.moves.stands.line_is.is_line given may) none) (omega (arith, count));
+        between = gained;
+        wrote = h.report given earlier;
+        lost = subst (λ xs. SinkWrites written.Lost gained xs new)
+            (turn_is form shows first now h.taken t line later olds news gained new next.ReportFailed run given may ∙ ap (λ os. turn_text form os given t) (run.moves.shows ∙ h.shows_are)
+            ∙ part_of_turn form shows later.reader.ending given t (omega (arith, count)))
+            run.wrote;
+      };
 }
 
 -- the last line is written, or a part of it
-last_line : (result : Written) (form : LineForm) (owns : List Tributary) (first was : InView) (t : ℕ) (line : LineView) (watched : List Watched) (old gained new : SinkView)
-    → (h : TurnsSoFar form owns first was t line watched old gained) → t ≤ 16384
+last_line : (result : Written) (form : LineForm) (shows : List Showing) (first was : InView) (t : ℕ) (line : LineView) (watched : List Watched) (old gained new : SinkView)
+    → (h : TurnsSoFar form shows first was t line watched old gained) → t ≤ 16384
     → ((given : List ℕ) → MayBe form.scrambled line.reader.ending h.taken given → (has_ended (line_state (size_of form) (mfas_of given) t) ≡ true) ⊎ (t ≡ 16384))
     → SinkWrites result gained (end_line t line.reader.rest) new
-    → (given : List ℕ) → MayBe form.scrambled line.reader.ending h.taken given → SinkWrites result old (view_text form owns line.reader.ending given) new
-last_line result form owns first was t line watched old gained new h few last wrote given may =
-    subst (λ xs. SinkWrites result old xs new) (text_all form owns line.reader.ending given t few (h.unended given may) (last given may))
-    (writes_twice result old gained new (text_until form owns given t) (end_line t (rest_of line.reader.ending given)) (h.report given may)
+    → (given : List ℕ) → MayBe form.scrambled line.reader.ending h.taken given → SinkWrites result old (view_text form shows line.reader.ending given) new
+last_line result form shows first was t line watched old gained new h few last wrote given may =
+    subst (λ xs. SinkWrites result old xs new) (text_all form shows line.reader.ending given t few (h.unended given may) (last given may))
+    (writes_twice result old gained new (text_until form shows given t) (end_line t (rest_of line.reader.ending given)) (h.report given may)
     (subst (λ r. SinkWrites result gained (end_line t r) new) (h.stands.line_is.is_line given may).read.rest wrote))
 
 -- so many bytes were taken
@@ -248,15 +311,15 @@ open_count n k e = omega (arith, e)
 one_more : (n m k : ℕ) → n ≡ 16320 * k → m ≡ n + 1 → 0 < m % 16320
 one_more n m k a b = omega (arith, a, b)
 
-taken_open : (form : LineForm) (owns : List Tributary) (first was : InView) (t : ℕ) (line : LineView) (watched : List Watched) (old gained : SinkView)
-    → (h : TurnsSoFar form owns first was t line watched old gained) → line.reader.ending ≡ Open → (k : ℕ) × (length h.taken ≡ 16320 * k)
-taken_open form owns first was t line watched old gained h open_now =
+taken_open : (form : LineForm) (shows : List Showing) (first was : InView) (t : ℕ) (line : LineView) (watched : List Watched) (old gained : SinkView)
+    → (h : TurnsSoFar form shows first was t line watched old gained) → line.reader.ending ≡ Open → (k : ℕ) × (length h.taken ≡ 16320 * k)
+taken_open form shows first was t line watched old gained h open_now =
     let read = (h.stands.line_is.is_line (through_mask form.scrambled (h.taken ++ [])) (alone form.scrambled line.reader.ending h.taken [] refl)).read in
     (_, (read.still open_now).0)
 
-taken_seen : (form : LineForm) (owns : List Tributary) (first was : InView) (t : ℕ) (line : LineView) (watched : List Watched) (old gained : SinkView)
-    → (h : TurnsSoFar form owns first was t line watched old gained) → line.reader.ending ≡ Seen → line.reader.rest ≡ length h.taken % 16320
-taken_seen form owns first was t line watched old gained h seen =
+taken_seen : (form : LineForm) (shows : List Showing) (first was : InView) (t : ℕ) (line : LineView) (watched : List Watched) (old gained : SinkView)
+    → (h : TurnsSoFar form shows first was t line watched old gained) → line.reader.ending ≡ Seen → line.reader.rest ≡ length h.taken % 16320
+taken_seen form shows first was t line watched old gained h seen =
     let given = through_mask form.scrambled (h.taken ++ []) in
     let read = (h.stands.line_is.is_line given (alone form.scrambled line.reader.ending h.taken [] refl)).read in
     let closed : line.reader.ending ≢ Open = λ e. let f : Seen ≡ Open = sym seen ∙ e in absurd (cc) in
@@ -271,29 +334,25 @@ was_alive was now came gave alive dead =
 open_ends : (ending : Ending) (now : InView) → ending ≡ Open → EndedAs ending now
 open_ends ending now e = record { died = λ f. absurd (let g : Open ≡ Died = sym e ∙ f in cc); seen = λ f. absurd (let g : Open ≡ Seen = sym e ∙ f in cc) }
 
-some_frames : (kind : LineKind) → 1 ≤ slots_of kind
-some_frames Otu2 = omega arith
-some_frames Otu3 = omega arith
-
 -- what the turns wanted was taken
-took_of : (form : LineForm) (owns : List Tributary) (first was : InView) (t : ℕ) (line : LineView) (watched : List Watched) (old gained : SinkView)
-    → (h : TurnsSoFar form owns first was t line watched old gained) → t ≤ 16384
+took_of : (form : LineForm) (shows : List Showing) (first was : InView) (t : ℕ) (line : LineView) (watched : List Watched) (old gained : SinkView)
+    → (h : TurnsSoFar form shows first was t line watched old gained) → t ≤ 16384
     → ((given : List ℕ) → MayBe form.scrambled line.reader.ending h.taken given → (has_ended (line_state (size_of form) (mfas_of given) t) ≡ true) ⊎ (t ≡ 16384))
-    → line.pieces ≡ 0 → (given : List ℕ) → MayBe form.scrambled line.reader.ending h.taken given → TookWanted (size_of form) given h.taken line.reader
-took_of form owns first was t line watched old gained h few last none given may =
-    took_wanted (size_of form) given h.taken t line (some_frames form.kind) (h.stands.line_is.is_line given may) none (turn_count (size_of form) (mfas_of given) t few (h.unended given may) (last given may))
+    → line.pieces ≡ 0 → (given : List ℕ) → MayBe form.scrambled line.reader.ending h.taken given → TookFrames (frames_wanted (size_of form) given) given h.taken line.reader
+took_of form shows first was t line watched old gained h few last none given may =
+    took_wanted (size_of form) given h.taken t line (some_frames form.kind) (h.stands.line_is.is_line given may) none (turns_count (size_of form) (mfas_of given) t few (h.unended given may) (last given may))
 
-took_alone : (form : LineForm) (owns : List Tributary) (first was : InView) (t : ℕ) (line : LineView) (watched : List Watched) (old gained : SinkView)
-    → (h : TurnsSoFar form owns first was t line watched old gained) → t ≤ 16384
+took_alone : (form : LineForm) (shows : List Showing) (first was : InView) (t : ℕ) (line : LineView) (watched : List Watched) (old gained : SinkView)
+    → (h : TurnsSoFar form shows first was t line watched old gained) → t ≤ 16384
     → ((given : List ℕ) → MayBe form.scrambled line.reader.ending h.taken given → (has_ended (line_state (size_of form) (mfas_of given) t) ≡ true) ⊎ (t ≡ 16384))
     → line.pieces ≡ 0 → (rest : List ℕ) → rest ≡ [] → length h.taken ≡ bytes_taken (size_of form) (through_mask form.scrambled (h.taken ++ rest))
-took_alone form owns first was t line watched old gained h few last none rest nil = by_ending line.reader.ending refl
+took_alone form shows first was t line watched old gained h few last none rest nil = by_ending line.reader.ending refl
   where
     given : List ℕ
     given = through_mask form.scrambled (h.taken ++ rest)
 
-    took : TookWanted (size_of form) given h.taken line.reader
-    took = took_of form owns first was t line watched old gained h few last none given (alone form.scrambled line.reader.ending h.taken rest nil)
+    took : TookFrames (frames_wanted (size_of form) given) given h.taken line.reader
+    took = took_of form shows first was t line watched old gained h few last none given (alone form.scrambled line.reader.ending h.taken rest nil)
 
     closed : line.reader.ending ≢ Open → length h.taken ≡ bytes_taken (size_of form) given
     closed ended = let o = took.over ended in closed_least (length h.taken) (length given) (frames_wanted (size_of form) given) o.0 o.1
@@ -307,19 +366,19 @@ took_alone form owns first was t line watched old gained h few last none rest ni
     by_ending Died e = closed (λ f. cc)
 
 -- how the view ends with an answer
-pub turns_end : (ended : Ended) (form : LineForm) (owns : List Tributary) (first was now : InView) (t : ℕ) (line : LineView) (watched : List Watched) (old gained new : SinkView)
-    → (h : TurnsSoFar form owns first was t line watched old gained) → t ≤ 16384
+pub turns_end : (ended : Ended) (form : LineForm) (shows : List Showing) (first was now : InView) (t : ℕ) (line : LineView) (watched : List Watched) (old gained new : SinkView)
+    → (h : TurnsSoFar form shows first was t line watched old gained) → t ≤ 16384
     → ((given : List ℕ) → MayBe form.scrambled line.reader.ending h.taken given → (has_ended (line_state (size_of form) (mfas_of given) t) ≡ true) ⊎ (t ≡ 16384))
-    → line.pieces ≡ 0 → FinishRun t line was now gained new ended → ViewEnded form owns first now old new ended
-turns_end Done form owns first was now t line watched old gained new h few last none f = by_end f.answer.ends.2
+    → line.pieces ≡ 0 → FinishRun t line was now gained new ended → ViewEnded form shows first now old new ended
+turns_end Done form shows first was now t line watched old gained new h few last none f = by_end f.answer.ends.2
   where
     gave : Gave first h.taken now
     gave = subst (λ xs. Gave first xs now) (ap (λ xs. h.taken ++ xs) f.answer.ends.1 ∙ append-nil h.taken) (gave_twice first was now h.taken f.answer.came h.stands.line_is.gave f.answer.gave)
 
-    text : (rest : List ℕ) → rest ≡ [] → SinkWrites written.Whole old (view_text form owns line.reader.ending (through_mask form.scrambled (h.taken ++ rest))) new
-    text rest nil = last_line written.Whole form owns first was t line watched old gained new h few last f.wrote (through_mask form.scrambled (h.taken ++ rest)) (alone form.scrambled line.reader.ending h.taken rest nil)
+    text : (rest : List ℕ) → rest ≡ [] → SinkWrites written.Whole old (view_text form shows line.reader.ending (through_mask form.scrambled (h.taken ++ rest))) new
+    text rest nil = last_line written.Whole form shows first was t line watched old gained new h few last f.wrote (through_mask form.scrambled (h.taken ++ rest)) (alone form.scrambled line.reader.ending h.taken rest nil)
 
-    by_end : ((line.reader.ending ≡ Seen) × (line.reader.rest ≡ 0) × (now ≡ was)) ⊎ ((line.reader.ending ≢ Seen) × HasEnded now.left now.ended) → ViewEnded form owns first now old new Done
+    by_end : ((line.reader.ending ≡ Seen) × (line.reader.rest ≡ 0) × (now ≡ was)) ⊎ ((line.reader.ending ≢ Seen) × HasEnded now.left now.ended) → ViewEnded form shows first now old new Done
     by_end (inl s) =
         let closed : line.reader.ending ≢ Open = λ e. let f : Seen ≡ Open = sym s.0 ∙ e in absurd (cc) in
         record {
@@ -330,13 +389,14 @@ turns_end Done form owns first was now t line watched old gained new h few last 
           ending = line.reader.ending;
           ended_as = λ _. subst (EndedAs line.reader.ending) (sym s.2) h.stands.line_is.ending;
           report = text;
-          ends = (f.answer.ends.0, refl, sym (taken_seen form owns first was t line watched old gained h s.0) ∙ s.1);
-          took = λ _ rest nil. took_alone form owns first was t line watched old gained h few last none rest nil;
+          ends = (f.answer.ends.0, refl, sym (taken_seen form shows first was t line watched old gained h s.0) ∙ s.1);
+          took = λ _ rest nil. took_alone form shows first was t line watched old gained h few last none rest nil;
+          failed = λ e. absurd (cc);
         }
     by_end (inr u) =
         let alive = was_alive was now f.answer.came f.answer.gave f.answer.ends.0 in
         let open_now = open_is line.reader.ending u.0 (λ died. alive (h.stands.line_is.ending.died died)) in
-        let count = taken_open form owns first was t line watched old gained h open_now in
+        let count = taken_open form shows first was t line watched old gained h open_now in
         record {
           taken = h.taken;
           gave = gave;
@@ -346,12 +406,13 @@ turns_end Done form owns first was now t line watched old gained new h few last 
           ended_as = λ _. open_ends line.reader.ending now open_now;
           report = text;
           ends = (f.answer.ends.0, refl, open_count (length h.taken) count.0 count.1);
-          took = λ _ rest nil. took_alone form owns first was t line watched old gained h few last none rest nil;
+          took = λ _ rest nil. took_alone form shows first was t line watched old gained h few last none rest nil;
+          failed = λ e. absurd (cc);
         }
-turns_end Unfinished form owns first was now t line watched old gained new h few last none f = by_end f.answer.ends.1
+turns_end Unfinished form shows first was now t line watched old gained new h few last none f = by_end f.answer.ends.1
   where
     by_end : ((line.reader.ending ≡ Seen) × (0 < line.reader.rest) × (f.answer.came ≡ []) × (now ≡ was)) ⊎ ((line.reader.ending ≢ Seen) × (length f.answer.came ≡ 1))
-        → ViewEnded form owns first now old new Unfinished
+        → ViewEnded form shows first now old new Unfinished
     by_end (inl s) =
         let closed : line.reader.ending ≢ Open = λ e. let f : Seen ≡ Open = sym s.0 ∙ e in absurd (cc) in
         record {
@@ -361,14 +422,15 @@ turns_end Unfinished form owns first was now t line watched old gained new h few
           over = λ _ live. subst (λ (v : InView). HasEnded v.left v.ended) (sym s.3) (h.stands.line_is.over closed (ap (λ (v : InView). v.state) (sym s.3) ∙ live));
           ending = line.reader.ending;
           ended_as = λ _. subst (EndedAs line.reader.ending) (sym s.3) h.stands.line_is.ending;
-          report = λ rest nil. last_line written.Whole form owns first was t line watched old gained new h few last f.wrote (through_mask form.scrambled (h.taken ++ rest)) (alone form.scrambled line.reader.ending h.taken rest nil);
-          ends = (f.answer.ends.0, subst (λ n. 0 < n) (taken_seen form owns first was t line watched old gained h s.0) s.1, s.0);
-          took = λ _ rest nil. took_alone form owns first was t line watched old gained h few last none rest nil;
+          report = λ rest nil. last_line written.Whole form shows first was t line watched old gained new h few last f.wrote (through_mask form.scrambled (h.taken ++ rest)) (alone form.scrambled line.reader.ending h.taken rest nil);
+          ends = (f.answer.ends.0, subst (λ n. 0 < n) (taken_seen form shows first was t line watched old gained h s.0) s.1, s.0);
+          took = λ _ rest nil. took_alone form shows first was t line watched old gained h few last none rest nil;
+          failed = λ e. absurd (cc);
         }
     by_end (inr u) =
         let alive = was_alive was now f.answer.came f.answer.gave f.answer.ends.0 in
         let open_now = open_is line.reader.ending u.0 (λ died. alive (h.stands.line_is.ending.died died)) in
-        let count = taken_open form owns first was t line watched old gained h open_now in
+        let count = taken_open form shows first was t line watched old gained h open_now in
         let size : length (h.taken ++ f.answer.came) ≡ length h.taken + 1 = length-append h.taken f.answer.came ∙ ap (λ n. length h.taken + n) u.1 in
         record {
           taken = h.taken ++ f.answer.came;
@@ -378,7 +440,7 @@ turns_end Unfinished form owns first was now t line watched old gained new h few
           ending = line.reader.ending;
           ended_as = λ _. open_ends line.reader.ending now open_now;
           report = λ rest follow.
-              last_line written.Whole form owns first was t line watched old gained new h few last f.wrote (through_mask form.scrambled ((h.taken ++ f.answer.came) ++ rest))
+              last_line written.Whole form shows first was t line watched old gained new h few last f.wrote (through_mask form.scrambled ((h.taken ++ f.answer.came) ++ rest))
               (record {
                 rest = f.answer.came ++ rest;
                 over = λ closed. absurd (closed open_now);
@@ -387,7 +449,7 @@ turns_end Unfinished form owns first was now t line watched old gained new h few
           ends = (f.answer.ends.0, one_more (length h.taken) (length (h.taken ++ f.answer.came)) count.0 count.1 size, open_now);
           took = λ _ rest follow.
               let given = through_mask form.scrambled ((h.taken ++ f.answer.came) ++ rest) in
-              let took = took_of form owns first was t line watched old gained h few last none given
+              let took = took_of form shows first was t line watched old gained h few last none given
               (record {
                 rest = f.answer.came ++ rest;
                 over = λ closed. absurd (closed open_now);
@@ -395,23 +457,25 @@ turns_end Unfinished form owns first was now t line watched old gained new h few
               }) in
               let long = length_parts form.scrambled (h.taken ++ f.answer.came) [] rest in
               more_least (length h.taken) (length (h.taken ++ f.answer.came)) (length given) (frames_wanted (size_of form) given) (took.still open_now) size (omega (arith, long));
+          failed = λ e. absurd (cc);
         }
-turns_end Cut form owns first was now t line watched old gained new h few last none f = record {
+turns_end Cut form shows first was now t line watched old gained new h few last none f = record {
   taken = h.taken;
   gave = subst (λ xs. Gave first xs now) (ap (λ xs. h.taken ++ xs) f.answer.ends.1 ∙ append-nil h.taken) (gave_twice first was now h.taken f.answer.came h.stands.line_is.gave f.answer.gave);
   more = false;
   over = λ _ live. let e : Dead ≡ Live = sym f.answer.ends.0 ∙ live in absurd (cc);
   ending = line.reader.ending;
   ended_as = λ _. record { died = λ _. f.answer.ends.0; seen = λ seen. by_place f.answer.ends.2 seen };
-  report = λ rest nil. last_line written.Whole form owns first was t line watched old gained new h few last f.wrote (through_mask form.scrambled (h.taken ++ rest)) (alone form.scrambled line.reader.ending h.taken rest nil);
+  report = λ rest nil. last_line written.Whole form shows first was t line watched old gained new h few last f.wrote (through_mask form.scrambled (h.taken ++ rest)) (alone form.scrambled line.reader.ending h.taken rest nil);
   ends = f.answer.ends.0;
-  took = λ _ rest nil. took_alone form owns first was t line watched old gained h few last none rest nil;
+  took = λ _ rest nil. took_alone form shows first was t line watched old gained h few last none rest nil;
+  failed = λ e. absurd (cc);
 }
   where
     by_place : (now ≡ was) ⊎ (line.reader.ending ≢ Seen) → line.reader.ending ≡ Seen → now.state ≢ Dead
     by_place (inl same) seen = subst (λ (v : InView). v.state ≢ Dead) (sym same) (h.stands.line_is.ending.seen seen)
     by_place (inr other) seen = absurd (other seen)
-turns_end ReportFault form owns first was now t line watched old gained new h few last none f = record {
+turns_end ReportFault form shows first was now t line watched old gained new h few last none f = record {
   taken = h.taken;
   gave = subst (λ xs. Gave first xs now) (ap (λ xs. h.taken ++ xs) f.answer.ends.0 ∙ append-nil h.taken) (gave_twice first was now h.taken f.answer.came h.stands.line_is.gave f.answer.gave);
   more = may_come line.reader.ending;
@@ -419,8 +483,22 @@ turns_end ReportFault form owns first was now t line watched old gained new h fe
   ending = line.reader.ending;
   ended_as = λ no. absurd (no refl);
   report = λ rest follow.
-      last_line written.Lost form owns first was t line watched old gained new h few last f.wrote (through_mask form.scrambled (h.taken ++ rest)) (follows form.scrambled line.reader.ending h.taken rest follow);
+      last_line written.Lost form shows first was t line watched old gained new h few last f.wrote (through_mask form.scrambled (h.taken ++ rest)) (follows form.scrambled line.reader.ending h.taken rest follow);
   ends = tt;
   took = λ no. absurd (no refl);
+  failed = λ e rest follow.
+      let given = through_mask form.scrambled (h.taken ++ rest) in
+      let may = follows form.scrambled line.reader.ending h.taken rest follow in
+      let is = h.stands.line_is.is_line given may in
+      let count : turn_count (size_of form) given ≡ t = turns_count (size_of form) (mfas_of given) t few (h.unended given may) (last given may) in
+      record {
+        part = suc t;
+        few = omega (arith, count);
+        took = taken_by (size_of form) given h.taken t t (suc t) line.reader (within_given form.scrambled h.taken rest)
+            (took_turns (size_of form) given h.taken t line (some_frames form.kind) is none) (omega (arith, count));
+        between = gained;
+        wrote = h.report given may;
+        lost = subst (λ xs. SinkWrites written.Lost gained xs new) (ap (end_line t) is.read.rest ∙ part_of_end form shows line.reader.ending given t (sym count)) f.wrote;
+      };
 }
-turns_end Memory form owns first was now t line watched old gained new h few last none f = absurd f.answer.ends
+turns_end Memory form shows first was now t line watched old gained new h few last none f = absurd f.answer.ends

@@ -11,7 +11,7 @@ use Rattle.tributary_model.specs.declared.turns.SinkState.{SinkState}
 use Rattle.trib_sink.specs.Pairs.{pair_after}
 use Rattle.line_view.specs.ViewText.{told_of}
 use Rattle.line_view.specs.declared.told.Told.{Told}
-use Rattle.line_view.specs.Watching.{EachWatched, IsSame, own_of}
+use Rattle.line_view.specs.Watching.{EachWatched, IsSame, own_of, showing_of}
 use Rattle.line_view.specs.declared.watched.Watched.{Watched}
 
 drop_all : (list : List Watched) (k : ℕ) → length list ≤ k → drop k list ≡ []
@@ -111,14 +111,17 @@ was_there Goes olds news h i new at =
 pub same_own : (old new : Watched) → IsSame old new → own_of new ≡ own_of old
 same_own old new h = let slots = h.slots in let port = h.sink_port in cc
 
-pub same_owns : (olds news : List Watched) → length news ≡ length olds
-    → ((i : ℕ) (old new : Watched) → slice_get olds i ≡ Some old → slice_get news i ≡ Some new → IsSame old new) → map own_of news ≡ map own_of olds
-same_owns [] [] count each = refl
-same_owns [] (new ∷ news) count each = absurd (omega arith)
-same_owns (old ∷ olds) [] count each = absurd (omega arith)
-same_owns (old ∷ olds) (new ∷ news) count each =
-    ap (λ o. o ∷ map own_of news) (same_own old new (each 0 old new refl refl))
-    ∙ ap (λ os. own_of old ∷ os) (same_owns olds news (omega arith) (λ i a b at_a at_b. each (suc i) a b at_a at_b))
+same_showing : (old new : Watched) → IsSame old new → showing_of new ≡ showing_of old
+same_showing old new h = let own = same_own old new h in let name = h.name in let first = h.first in let stop = h.stop in cc
+
+pub same_shows : (olds news : List Watched) → length news ≡ length olds
+    → ((i : ℕ) (old new : Watched) → slice_get olds i ≡ Some old → slice_get news i ≡ Some new → IsSame old new) → map showing_of news ≡ map showing_of olds
+same_shows [] [] count each = refl
+same_shows [] (new ∷ news) count each = absurd (omega arith)
+same_shows (old ∷ olds) [] count each = absurd (omega arith)
+same_shows (old ∷ olds) (new ∷ news) count each =
+    ap (λ o. o ∷ map showing_of news) (same_showing old new (each 0 old new refl refl))
+    ∙ ap (λ os. showing_of old ∷ os) (same_shows olds news (omega arith) (λ i a b at_a at_b. each (suc i) a b at_a at_b))
 
 -- what is told of a turn, number by number
 pub made_told : (own : Tributary) (past : List (Option View)) (view : Option View) (state : SinkState) (pair : Option (ℕ × ℕ)) (bytes : ℕ)

@@ -1,25 +1,36 @@
 -- What is told of a tributary.
-use Rattle.std.proofs.Common.{◌≡◌, ◌+◌, ◌∙◌, ℕ, List, [], ◌∷◌, length, refl, ap, sym, length-append}
+use Rattle.std.proofs.Common.{◌≡◌, ◌+◌, ◌-◌, ◌∙◌, ℕ, zero, suc, List, [], ◌∷◌, Option, length, refl, ap, sym, length-append}
+use Rattle.std.specs.Prelude.{if◌then◌else◌}
 use Rattle.std.specs.List.{flat_map}
+use Rattle.tributary_model.specs.Carries.{past_of}
 use Rattle.tributary_model.specs.Laws.{IsTributary}
-use Rattle.tributary_model.specs.Places.{Tributary}
-use Rattle.device_model.proofs.LineViews.{same_view, same_views}
+use Rattle.tributary_model.specs.Places.{Tributary, View}
+use Rattle.device_model.proofs.LineViews.{same_view}
 use Rattle.device_model.specs.Agreements.{AgreeOnTributary}
 use Rattle.device_model.specs.LineViews.{view_at, views_until, emitted_at}
 use Rattle.line_view.specs.Laws.{bytes_told, TellsTheSame, TellsAllBytes}
-use Rattle.line_view.specs.ViewText.{told_of, told_at, tributary_line}
+use Rattle.line_view.specs.ViewText.{Showing, is_shown, showing_text, told_of, told_at, tributary_line, views_from}
+use Rattle.line_view.proofs.Begun.{views_all}
 
-same_told : (own : Tributary) (one other : List ℕ) (t : ℕ) → IsTributary own → AgreeOnTributary own one other → told_at own one t ≡ told_at own other t
-unfolding told_at
-same_told own one other t is agree =
-    ap (λ past. told_of own past (view_at own one t)) (same_views own one other t is agree) ∙ ap (told_of own (views_until own other t)) (same_view own one other t is agree)
+-- turns that show the same, from one turn on
+same_past : (one other : ℕ → Option View) → ((t : ℕ) → one t ≡ other t) → (first n : ℕ) → past_of one first n ≡ past_of other first n
+same_past one other same first zero = refl
+same_past one other same first (suc n) =
+    ap (λ v. v ∷ past_of one first n) (same (first + n)) ∙ ap (λ vs. other (first + n) ∷ vs) (same_past one other same first n)
+
+same_told : (own : Tributary) (first : ℕ) (one other : List ℕ) (t : ℕ) → IsTributary own → AgreeOnTributary own one other → told_at own first one t ≡ told_at own first other t
+unfolding told_at views_from
+same_told own first one other t is agree =
+    ap (λ past. told_of own past (view_at own one t)) (same_past (view_at own one) (view_at own other) (λ i. same_view own one other i is agree) first (t - first))
+    ∙ ap (told_of own (past_of (view_at own other) first (t - first))) (same_view own one other t is agree)
 
 pub tells_the_same : TellsTheSame
-tells_the_same = λ own one other t is agree. ap (tributary_line own.port own.slots) (same_told own one other t is agree)
+tells_the_same = λ x one other t is agree.
+    ap (λ told. if is_shown x t then tributary_line x.name x.own.port x.own.slots told else []) (same_told x.own x.first one other t is agree)
 
-told_bytes : (own : Tributary) (given : List ℕ) (t : ℕ) → (told_at own given t).bytes ≡ length (emitted_at own given t)
+told_bytes : (own : Tributary) (given : List ℕ) (t : ℕ) → (told_at own 0 given t).bytes ≡ length (emitted_at own given t)
 unfolding told_at emitted_at
-told_bytes own given t = refl
+told_bytes own given t = ap (λ past. (told_of own past (view_at own given t)).bytes) (views_all own given t)
 
 all_bytes : (own : Tributary) (given : List ℕ) (turns : List ℕ) → bytes_told own given turns ≡ length (flat_map (emitted_at own given) turns)
 all_bytes own given [] = refl

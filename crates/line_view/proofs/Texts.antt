@@ -1,6 +1,6 @@
 -- The text of a view, as it is written.
-use Rattle.std.proofs.Common.{◌≡◌, ◌<◌, ◌≤◌, ◌+◌, ◌∙◌, ℕ, zero, suc, List, [], ◌∷◌, ◌++◌, Some, length, take, drop, get_or, slice_get, refl, sym, ap, subst, arith, append-nil, length-append, add-one}
-use Rattle.std.specs.Prelude.{map}
+use Rattle.std.proofs.Common.{◌≡◌, ◌<◌, ◌≤◌, ◌+◌, ◌∙◌, ℕ, zero, suc, Bool, true, false, List, [], ◌∷◌, ◌++◌, Some, length, take, drop, get_or, slice_get, refl, sym, ap, subst, arith, append-nil, length-append, add-one}
+use Rattle.std.specs.Prelude.{map, nat_lt, ◌&&◌, if◌then◌else◌}
 use Rattle.std.specs.List.{flat_map, range_with_len}
 use Rattle.std.proofs.Math.Seq.{take-append-add, take-length}
 use Rattle.std.proofs.lemmas.Grind.{flat_map-append}
@@ -12,9 +12,9 @@ use Rattle.otn_ports.specs.PortViews.{SinkGot, SinkView, SinkWrites}
 use Rattle.otn_ports.specs.declared.drain.Written.{Written}
 use Rattle.otn_ports.specs.declared.drain.Written.TheVariants as written
 use Rattle.line_side.specs.LineForm.{LineForm}
-use Rattle.line_view.specs.ViewRuns.{lines_of}
-use Rattle.line_view.specs.ViewText.{seen_at, told_at, turn_line, tributary_line, turn_text}
-use Rattle.line_view.specs.Watching.{own_of}
+use Rattle.line_view.specs.ViewRuns.{lines_of, watched_line}
+use Rattle.line_view.specs.ViewText.{is_shown, has_begun, msi_came, msi_line, seen_at, showing_text, told_at, turn_line, tributary_line, turn_text}
+use Rattle.line_view.specs.Watching.{begun, own_of, showing_of}
 use Rattle.line_view.specs.declared.told.TurnSeen.{TurnSeen}
 use Rattle.line_view.specs.declared.watched.Watched.{Watched}
 
@@ -71,26 +71,39 @@ known_item xs i item less is = slice_get_read xs (length xs) i item refl less is
 
 -- ---- the lines of a turn
 
-each_line : (given : List ℕ) (t : ℕ) (watched : List Watched) → ((i : ℕ) (one : Watched) → slice_get watched i ≡ Some one → one.told ≡ told_at (own_of one) given t)
+-- that of one tributary
+one_line : (given : List ℕ) (t : ℕ) (one : Watched) → (begun one t ≡ true → one.told ≡ told_at (own_of one) one.first given t) → one.port ≡ one.sink.port
+    → watched_line t one ≡ showing_text given t (showing_of one)
+one_line given t one told port = by_turn (begun one t) refl
+  where
+    by_turn : (b : Bool) → begun one t ≡ b → watched_line t one ≡ showing_text given t (showing_of one)
+    by_turn true on =
+        ap (λ p. if is_shown (showing_of one) t then tributary_line one.name.bytes p one.sink.slots.list one.told else []) port
+        ∙ ap (λ x. if is_shown (showing_of one) t then tributary_line one.name.bytes one.sink.port one.sink.slots.list x else []) (told on)
+    by_turn false off =
+        let none : is_shown (showing_of one) t ≡ false = ap (λ b. b && nat_lt t one.stop) off in
+        ap (λ b. if b then tributary_line one.name.bytes one.port one.sink.slots.list one.told else []) none
+        ∙ sym (ap (λ b. if b then tributary_line one.name.bytes one.sink.port one.sink.slots.list (told_at (own_of one) one.first given t) else []) none)
+
+each_line : (given : List ℕ) (t : ℕ) (watched : List Watched)
+    → ((i : ℕ) (one : Watched) → slice_get watched i ≡ Some one → begun one t ≡ true → one.told ≡ told_at (own_of one) one.first given t)
     → ((i : ℕ) (one : Watched) → slice_get watched i ≡ Some one → one.port ≡ one.sink.port)
-    → flat_map (λ one. tributary_line one.port one.sink.slots.list one.told) watched ≡ flat_map (λ own. tributary_line own.port own.slots (told_at own given t)) (map own_of watched)
+    → flat_map (watched_line t) watched ≡ flat_map (showing_text given t) (map showing_of watched)
 each_line given t [] told ports = refl
 each_line given t (one ∷ watched) told ports =
-    let rest = flat_map (λ one. tributary_line one.port one.sink.slots.list one.told) watched in
-    ap (λ p. tributary_line p one.sink.slots.list one.told ++ rest) (ports 0 one refl)
-    ∙ ap (λ x. tributary_line one.sink.port one.sink.slots.list x ++ rest) (told 0 one refl)
-    ∙ ap (λ xs. tributary_line one.sink.port one.sink.slots.list (told_at (own_of one) given t) ++ xs)
-    (each_line given t watched (λ i x at. told (suc i) x at) (λ i x at. ports (suc i) x at))
+    ap (λ xs. xs ++ flat_map (watched_line t) watched) (one_line given t one (told 0 one refl) (ports 0 one refl))
+    ∙ ap (λ xs. showing_text given t (showing_of one) ++ xs) (each_line given t watched (λ i x at. told (suc i) x at) (λ i x at. ports (suc i) x at))
 
 -- they are what the definition says
-pub lines_are : (form : LineForm) (given : List ℕ) (t : ℕ) (watched : List Watched) (seen : TurnSeen) → seen ≡ seen_at form given t
-    → ((i : ℕ) (one : Watched) → slice_get watched i ≡ Some one → one.told ≡ told_at (own_of one) given t)
+pub lines_are : (form : LineForm) (given : List ℕ) (t : ℕ) (watched : List Watched) (seen : TurnSeen) (msi : List (ℕ × ℕ)) → seen ≡ seen_at form given t → msi ≡ msi_came form given t
+    → ((i : ℕ) (one : Watched) → slice_get watched i ≡ Some one → begun one t ≡ true → one.told ≡ told_at (own_of one) one.first given t)
     → ((i : ℕ) (one : Watched) → slice_get watched i ≡ Some one → one.port ≡ one.sink.port)
-    → lines_of (t + 1) seen watched ≡ turn_text form (map own_of watched) given t
+    → lines_of t seen msi watched ≡ turn_text form (map showing_of watched) given t
 unfolding lines_of turn_text
-lines_are form given t watched seen same told ports =
-    ap (λ s. turn_line (t + 1) s ++ flat_map (λ one. tributary_line one.port one.sink.slots.list one.told) watched) same
-    ∙ ap (λ xs. turn_line (t + 1) (seen_at form given t) ++ xs) (each_line given t watched told ports)
+lines_are form given t watched seen msi same came told ports =
+    ap (λ s. turn_line (t + 1) s ++ (flat_map msi_line msi ++ flat_map (watched_line t) watched)) same
+    ∙ ap (λ m. turn_line (t + 1) (seen_at form given t) ++ (flat_map msi_line m ++ flat_map (watched_line t) watched)) came
+    ∙ ap (λ xs. turn_line (t + 1) (seen_at form given t) ++ (flat_map msi_line (msi_came form given t) ++ xs)) (each_line given t watched told ports)
 
 -- ---- turns one after another
 

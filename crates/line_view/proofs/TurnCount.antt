@@ -1,5 +1,5 @@
 -- The turns that a view tells, as they are done.
-use Rattle.std.proofs.Common.{◌≡◌, ◌<◌, ◌≤◌, ◌+◌, ◌-◌, ◌∙◌, ◌⊎◌, inl, inr, ℕ, zero, suc, Bool, true, false, cond, not, List, [], ◌∷◌, ◌++◌, length, filter, refl, ap, subst, arith, append-nil}
+use Rattle.std.proofs.Common.{◌≡◌, ◌<◌, ◌≤◌, ◌+◌, ◌-◌, ◌∙◌, ◌⊎◌, inl, inr, ℕ, zero, suc, Bool, true, false, cond, not, List, [], ◌∷◌, ◌++◌, length, filter, refl, ap, subst, arith, append-nil, length-append}
 use Rattle.std.specs.List.{range_with_len}
 use Rattle.std.proofs.lemmas.List.FromFn.{length-range_with_len}
 use Rattle.multiframe.specs.LineTurns.{LineState, Hunting, Locked, Ended, line_state, after_turn, has_ended}
@@ -76,7 +76,14 @@ pub turns_all : (size : ℕ) (ms : List ℕ) (n : ℕ) → n ≤ 16384 → ((s :
     → (has_ended (line_state size ms n) ≡ true) ⊎ (n ≡ 16384) → turns_of size ms ≡ range_with_len 0 n
 turns_all size ms n few going last = turns_of_is size ms ∙ within_all size 16384 ms n few going last
 
+-- they are as many at least
+pub turns_least : (size : ℕ) (ms : List ℕ) (n : ℕ) → n ≤ 16384 → ((s : ℕ) → s < n → has_ended (line_state size ms s) ≡ false) → n ≤ length (turns_of size ms)
+turns_least size ms n few going =
+    let first = turns_first size ms n few going in
+    let long : length (turns_of size ms) ≡ length (range_with_len 0 n) + length first.0 = ap length first.1 ∙ length-append (range_with_len 0 n) first.0 in
+    omega (arith, long, length-range_with_len 0 n)
+
 -- how many these are
-pub turn_count : (size : ℕ) (ms : List ℕ) (n : ℕ) → n ≤ 16384 → ((s : ℕ) → s < n → has_ended (line_state size ms s) ≡ false)
+pub turns_count : (size : ℕ) (ms : List ℕ) (n : ℕ) → n ≤ 16384 → ((s : ℕ) → s < n → has_ended (line_state size ms s) ≡ false)
     → (has_ended (line_state size ms n) ≡ true) ⊎ (n ≡ 16384) → length (turns_of size ms) ≡ n
-turn_count size ms n few going last = ap length (turns_all size ms n few going last) ∙ length-range_with_len 0 n
+turns_count size ms n few going last = ap length (turns_all size ms n few going last) ∙ length-range_with_len 0 n

@@ -4,7 +4,8 @@ use Rattle.std.specs.Prelude.{nat_le, slice_index}
 use Rattle.line_side.specs.LineFile.{mfas_of}
 use Rattle.line_side.specs.LineStands.{LineView, IsLine}
 use Rattle.line_side.specs.Reader.{HasRead, ReaderView}
-use Rattle.line_side.specs.declared.ending.Ending.TheVariants.{Open}
+use Rattle.line_side.specs.declared.ending.Ending.{Ending}
+use Rattle.line_side.specs.declared.ending.Ending.TheVariants.{Open, Seen, Died}
 use Rattle.multiframe.specs.LineTurns.{Lock, LineState, Hunting, Locked, Ended, Outcome, CutShort, Lost, Whole, lock_from, least_start, outcome_of, after_outcome, after_hunt, after_turn, line_state, wanted, wanted_in, wanted_from, wanted_so_far, used_in}
 use Rattle.line_view.specs.ViewText.{turns_of}
 use Rattle.line_view.specs.ViewRuns.{frames_wanted}
@@ -61,24 +62,45 @@ between size ms t some = let none = none_wanted size ms t some in omega (arith, 
 
 -- ---- what was taken
 
--- as many bytes were taken as the turns wanted, or all that there are
-pub record TookWanted (size : ℕ) (given taken : List ℕ) (r : ReaderView) : Type 0 where
-  pub still : r.ending ≡ Open → length taken ≡ 16320 * frames_wanted size given
-  pub over : r.ending ≢ Open → (length taken ≡ length given) × (length given < 16320 * frames_wanted size given)
+-- as many bytes were taken as so many frames have, or all that there are
+pub record TookFrames (frames : ℕ) (given taken : List ℕ) (r : ReaderView) : Type 0 where
+  pub still : r.ending ≡ Open → length taken ≡ 16320 * frames
+  pub over : r.ending ≢ Open → (length taken ≡ length given) × (length given < 16320 * frames)
 
-took_read : (size : ℕ) (given taken : List ℕ) (u : ℕ) (r : ReaderView) → HasRead given (length taken) u (frames_wanted size given) r → TookWanted size given taken r
-took_read size given taken u r h = record {
+took_read : (frames : ℕ) (given taken : List ℕ) (u : ℕ) (r : ReaderView) → HasRead given (length taken) u frames r → TookFrames frames given taken r
+took_read frames given taken u r h = record {
   still = λ on. let s = h.still on in s.0 ∙ ap (λ n. 16320 * n) s.1;
   over = λ closed. let o = h.over closed in (o.1, omega (arith, o.2));
 }
 
-pub took_wanted : (size : ℕ) (given taken : List ℕ) (t : ℕ) (line : LineView) → 1 ≤ size → IsLine size given (length taken) t line → line.pieces ≡ 0 → length (turns_of size (mfas_of given)) ≡ t
-    → TookWanted size given taken line.reader
-took_wanted size given taken t line some is none count =
+-- after t turns
+pub took_turns : (size : ℕ) (given taken : List ℕ) (t : ℕ) (line : LineView) → 1 ≤ size → IsLine size given (length taken) t line → line.pieces ≡ 0
+    → TookFrames (wanted size (mfas_of given) t) given taken line.reader
+took_turns size given taken t line some is none =
     let used = λ (k : ℕ). used_in size (mfas_of given) (line_state size (mfas_of given) t) k in
     let read = subst (λ k. HasRead given (length taken) (used k) (wanted_so_far size (mfas_of given) t k) line.reader) none is.read in
-    let turns = between size (mfas_of given) t some ∙ ap (wanted size (mfas_of given)) (sym count) in
-    took_read size given taken (used 0) line.reader (subst (λ w. HasRead given (length taken) (used 0) w line.reader) turns read)
+    took_read (wanted size (mfas_of given) t) given taken (used 0) line.reader
+    (subst (λ w. HasRead given (length taken) (used 0) w line.reader) (between size (mfas_of given) t some) read)
+
+-- after all of them
+pub took_wanted : (size : ℕ) (given taken : List ℕ) (t : ℕ) (line : LineView) → 1 ≤ size → IsLine size given (length taken) t line → line.pieces ≡ 0 → length (turns_of size (mfas_of given)) ≡ t
+    → TookFrames (frames_wanted size given) given taken line.reader
+took_wanted size given taken t line some is none count =
+    subst (λ n. TookFrames (wanted size (mfas_of given) n) given taken line.reader) (sym count) (took_turns size given taken t line some is none)
+
+-- before any turn nothing is wanted
+pub none_by_turns : (size : ℕ) (ms : List ℕ) → wanted size ms 0 ≡ 0
+unfolding wanted
+none_by_turns size ms = refl
+
+-- so many are the least of both
+pub took_least : (frames : ℕ) (given taken : List ℕ) (r : ReaderView) → length taken ≤ length given → TookFrames frames given taken r → length taken ≡ min (length given) (16320 * frames)
+took_least frames given taken r part h = by_ending r.ending refl
+  where
+    by_ending : (e : Ending) → r.ending ≡ e → length taken ≡ min (length given) (16320 * frames)
+    by_ending Open e = let count = h.still e in omega (arith, count, part)
+    by_ending Seen e = let over = h.over (λ f. let g : Seen ≡ Open = sym e ∙ f in cc) in omega (arith, over.0, over.1)
+    by_ending Died e = let over = h.over (λ f. let g : Died ≡ Open = sym e ∙ f in cc) in omega (arith, over.0, over.1)
 
 -- in numbers
 pub closed_least : (n m frames : ℕ) → n ≡ m → m < 16320 * frames → n ≡ min m (16320 * frames + 1)

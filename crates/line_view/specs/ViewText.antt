@@ -1,6 +1,6 @@
--- What a view says of a line, as text: a line for the line itself, then for each turn one of the turn and one of each tributary, and a
--- last one where the turns are over.
-use Rattle.std.specs.Prelude.{ℕ, ◌+◌, ◌-◌, nat_lt, not, Bool, true, false, List, [], ◌∷◌, ◌++◌, Option, Some, None, codes, length, filter, is_some}
+-- What a view says of a line, as text: a line for the line itself, then for each turn one of the turn, one of each MSI byte that came in it and
+-- one of each tributary that is shown in it, and a last one where the turns are over.
+use Rattle.std.specs.Prelude.{ℕ, ◌+◌, ◌-◌, ◌/◌, ◌%◌, ◌&&◌, nat_le, nat_lt, not, if◌then◌else◌, Bool, true, false, List, [], ◌∷◌, ◌++◌, Option, Some, None, codes, length, filter, is_some}
 use Rattle.std.specs.Fmt.{decimal}
 use Rattle.std.specs.List.{flat_map, range_with_len}
 use Rattle.otn_base.specs.declared.limits.TheConstants.{MOST_TURNS}
@@ -16,16 +16,34 @@ use Rattle.line_side.specs.declared.ending.Ending.TheVariants.{Open}
 use Rattle.maintenance_signals.specs.Stream.{signal_byte}
 use Rattle.maintenance_signals.specs.declared.signal.Signal.TheVariants.{Ais}
 use Rattle.multiframe.specs.LineTurns.{line_state, multiframe, has_ended}
+use Rattle.tributary_model.specs.Carries.{past_of}
 use Rattle.tributary_model.specs.Emission.{emission}
 use Rattle.tributary_model.specs.Places.{Tributary, View}
 use Rattle.tributary_model.specs.Stretches.{state_after}
 use Rattle.tributary_model.specs.declared.turns.SinkState.{SinkState}
 use Rattle.tributary_model.specs.declared.turns.SinkState.TheVariants.{Waiting, Up, Down}
 use Rattle.trib_sink.specs.Pairs.{pair_after}
-use Rattle.device_model.specs.LineViews.{view_at, views_until}
+use Rattle.device_model.specs.LineViews.{view_at}
 use Rattle.line_view.specs.declared.told.Told.{Told}
 use Rattle.line_view.specs.declared.told.TurnCounts.{TurnCounts}
 use Rattle.line_view.specs.declared.told.TurnSeen.{TurnSeen}
+
+-- ---- what is shown
+
+-- A tributary that a view shows: its name, its port and slots, how many turns of the line are past before its first, and its last turn.
+pub record Showing : Type 0 where
+  pub name : List ℕ
+  pub own : Tributary
+  pub first : ℕ
+  pub stop : ℕ
+
+-- its first turn is turn t + 1, or before it
+abbrev pub has_begun : Showing → (t : ℕ) → Bool
+has_begun showing t = nat_le showing.first t
+
+-- turn t + 1 is one of its turns, of which the first and the last are two
+abbrev pub is_shown : Showing → (t : ℕ) → Bool
+is_shown showing t = has_begun showing t && nat_lt t showing.stop
 
 -- ---- what a turn says
 
@@ -57,9 +75,26 @@ told_of own past view = record {
   bytes = length (emission own (signal_byte Ais) past view);
 }
 
--- the same of turn t + 1 of a line of these bytes
-unfoldable pub told_at : Tributary → (given : List ℕ) → (t : ℕ) → Told
-told_at own given t = told_of own (views_until own given t) (view_at own given t)
+-- what the turns first + 1 to t of a line of these bytes show of a tributary, the last first
+unfoldable pub views_from : Tributary → (first : ℕ) → (given : List ℕ) → (t : ℕ) → List (Option View)
+views_from own first given t = past_of (view_at own given) first (t - first)
+
+-- turn t + 1 of a line of these bytes, of a tributary whose sink begins with turn first + 1
+unfoldable pub told_at : Tributary → (first : ℕ) → (given : List ℕ) → (t : ℕ) → Told
+told_at own first given t = told_of own (views_from own first given t) (view_at own given t)
+
+-- all slots of a line of this form, as those of one tributary
+abbrev pub all_slots : LineForm → Tributary
+all_slots form = record { line_slots = size_of form; slots = range_with_len 1 (size_of form); port = 0 }
+
+-- the MSI bytes of a view, each with its slot
+abbrev pub msi_shown : Option View → List (ℕ × ℕ)
+msi_shown None = []
+msi_shown (Some view) = view.msi
+
+-- G.709 clause 19.4.1: the MSI bytes that came in turn t + 1 of a line of these bytes, each with its slot; none where it has no multiframe
+unfoldable pub msi_came : LineForm → (given : List ℕ) → (t : ℕ) → List (ℕ × ℕ)
+msi_came form given t = msi_shown (view_at (all_slots form) given t)
 
 -- ---- words
 
@@ -93,6 +128,14 @@ abbrev pub pair_text : Option (ℕ × ℕ) → List ℕ
 pair_text None = codes " cm - cnd -"
 pair_text (Some pair) = codes " cm " ++ decimal (pair.0) ++ codes " cnd " ++ decimal (pair.1)
 
+-- a digit of a number to the base 16
+abbrev pub hex_digit : ℕ → ℕ
+hex_digit n = if nat_lt n 10 then 48 + n else 87 + n
+
+-- a byte, as two of them
+unfoldable pub hex_text : ℕ → List ℕ
+hex_text byte = hex_digit (byte / 16) ∷ hex_digit (byte % 16) ∷ []
+
 -- ---- lines
 
 -- the line: its kind, and whether it is scrambled
@@ -106,11 +149,18 @@ turn_line number seen =
     ++ codes " frames " ++ decimal seen.counts.frames ++ codes " lead-in " ++ decimal seen.counts.lead_in ++ codes " fas " ++ decimal seen.counts.fas
     ++ codes " sm " ++ decimal seen.counts.sm ++ codes " pm " ++ decimal seen.counts.pm ++ codes "\n"
 
--- a tributary in a turn
-unfoldable pub tributary_line : (port : ℕ) → (slots : List ℕ) → Told → List ℕ
-tributary_line port slots told =
-    codes "tributary - port " ++ decimal port ++ codes " slots " ++ slots_text slots ++ codes " " ++ state_word told.state ++ pair_text told.pair
-    ++ codes " bytes " ++ decimal told.bytes ++ codes "\n"
+-- the MSI byte of a slot
+unfoldable pub msi_line : ℕ × ℕ → List ℕ
+msi_line came = codes "msi " ++ decimal (came.0) ++ codes " " ++ hex_text (came.1) ++ codes "\n"
+
+-- what a turn says of a tributary, behind its name and port
+unfoldable pub told_text : (slots : List ℕ) → Told → List ℕ
+told_text slots told =
+    codes " slots " ++ slots_text slots ++ codes " " ++ state_word told.state ++ pair_text told.pair ++ codes " bytes " ++ decimal told.bytes ++ codes "\n"
+
+-- a tributary in a turn, with its name
+unfoldable pub tributary_line : (name : List ℕ) → (port : ℕ) → (slots : List ℕ) → Told → List ℕ
+tributary_line name port slots told = codes "tributary " ++ name ++ codes " port " ++ decimal port ++ told_text slots told
 
 -- the end: how many turns were done, and how many bytes came after the last whole frame
 abbrev pub end_line : (turns rest : ℕ) → List ℕ
@@ -118,17 +168,26 @@ end_line turns rest = codes "end turns " ++ decimal turns ++ codes " rest " ++ d
 
 -- ---- the whole
 
--- turn t + 1: its line, and one for each tributary
-unfoldable pub turn_text : LineForm → List Tributary → (given : List ℕ) → (t : ℕ) → List ℕ
-turn_text form owns given t = turn_line (t + 1) (seen_at form given t) ++ flat_map (λ own. tributary_line own.port own.slots (told_at own given t)) owns
+-- turn t + 1 of a tributary: its line, where the turn is one of its turns
+abbrev pub showing_text : (given : List ℕ) → (t : ℕ) → Showing → List ℕ
+showing_text given t x = if is_shown x t then tributary_line x.name x.own.port x.own.slots (told_at x.own x.first given t) else []
+
+-- turn t + 1: its line, one for each MSI byte that came in it, and one for each tributary that is shown in it
+unfoldable pub turn_text : LineForm → List Showing → (given : List ℕ) → (t : ℕ) → List ℕ
+turn_text form shows given t =
+    turn_line (t + 1) (seen_at form given t) ++ (flat_map msi_line (msi_came form given t) ++ flat_map (showing_text given t) shows)
 
 -- The turns that are told, each said by the number of turns before it: 16,384 at most, and none after the one in which the line ended.
 -- The list has the MFAS bytes of the line's whole frames.
 unfoldable pub turns_of : (size : ℕ) → (mfas : List ℕ) → List ℕ
 turns_of size ms = filter (λ t. not (has_ended (line_state size ms t))) (range_with_len 0 MOST_TURNS)
 
+-- the lines up to turn t: that of the line, and those of each turn
+abbrev pub text_until : LineForm → List Showing → (given : List ℕ) → (t : ℕ) → List ℕ
+text_until form shows given t = head_line form.kind form.scrambled ++ flat_map (turn_text form shows given) (range_with_len 0 t)
+
 -- What a view says of a line of these bytes, through its mask, that ended so, and of these tributaries on it, in this order.
-unfoldable pub view_text : LineForm → List Tributary → Ending → (given : List ℕ) → List ℕ
-view_text form owns ending given =
-    head_line form.kind form.scrambled ++ (flat_map (turn_text form owns given) (turns_of (size_of form) (mfas_of given))
+unfoldable pub view_text : LineForm → List Showing → Ending → (given : List ℕ) → List ℕ
+view_text form shows ending given =
+    head_line form.kind form.scrambled ++ (flat_map (turn_text form shows given) (turns_of (size_of form) (mfas_of given))
     ++ end_line (length (turns_of (size_of form) (mfas_of given))) (rest_of ending given))

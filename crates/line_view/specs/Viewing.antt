@@ -1,48 +1,63 @@
 -- A line with the tributaries that are watched on it, within a turn and between turns.
-use Rattle.std.specs.Prelude.{◌≡◌, ℕ, ◌+◌, List, ◌++◌, Some, map, slice_get}
+use Rattle.std.specs.Prelude.{◌≡◌, ℕ, ◌+◌, Bool, true, false, List, [], ◌++◌, Some, map, slice_get}
+use Rattle.std.specs.List.{flat_map}
 use Rattle.otn_ports.specs.Views.{InView}
 use Rattle.line_side.specs.LineForm.{LineForm, size_of}
 use Rattle.line_side.specs.LineStands.{LineView, LineStands, frames_taken}
 use Rattle.line_side.specs.MayBe.{MayBe}
+use Rattle.tributary_model.specs.Places.{Taken, msi_in}
 use Rattle.trib_sink.specs.Sink.{StandsAfter}
-use Rattle.device_model.specs.LineViews.{views_until}
 use Rattle.device_model.specs.TurnFrames.{frames_in}
-use Rattle.line_view.specs.ViewText.{seen_at, told_at}
-use Rattle.line_view.specs.Watching.{own_of}
+use Rattle.line_view.specs.ViewText.{all_slots, msi_came, seen_at, told_at, views_from}
+use Rattle.line_view.specs.Watching.{begun, own_of, showing_of}
 use Rattle.line_view.specs.declared.told.TurnSeen.{TurnSeen}
 use Rattle.line_view.specs.declared.watched.Watched.{Watched}
 
--- its sink is one of such a line, and has taken as many frames as the line's turn has come to
-pub record IsInStep (line : LineView) (one : Watched) : Type 0 where
+-- how many frames a sink has taken of a turn, of these that came: none before its first turn
+abbrev pub taken_by : (is_begun : Bool) → ℕ → ℕ
+taken_by true n = n
+taken_by false n = 0
+
+-- and which
+abbrev pub frames_by : (is_begun : Bool) → List Taken → List Taken
+frames_by true frames = frames
+frames_by false frames = []
+
+-- its sink is one of such a line, and has taken as many frames as the line's turn, turn t + 1, has come to
+pub record IsInStep (line : LineView) (t : ℕ) (one : Watched) : Type 0 where
   pub kind : one.sink.slots.kind ≡ line.kind
-  pub taken : one.sink.taken ≡ frames_taken line
+  pub taken : one.sink.taken ≡ taken_by (begun one t) (frames_taken line)
   pub port : one.port ≡ one.sink.port
 
--- its sink has seen the turns 1 to t, and of the next one the frames that so many pieces came to
+-- its sink has seen the turns from its first to turn t, and of the next one the frames that so many pieces came to
 abbrev pub HasSeen : LineForm → (given : List ℕ) → (t pieces : ℕ) → Watched → Type 0
-HasSeen form given t pieces one = StandsAfter (own_of one) (views_until (own_of one) given t) (frames_in (size_of form) given t pieces) one.sink
+HasSeen form given t pieces one =
+    StandsAfter (own_of one) (views_from (own_of one) one.first given t) (frames_by (begun one t) (frames_in (size_of form) given t pieces)) one.sink
 
 -- The line stands in turn t + 1, of whose place these bytes were taken: whatever else may come, each sink has seen the turns before, and of
--- this one the frames that its pieces took.
-pub record ViewStands (form : LineForm) (first now : InView) (taken : List ℕ) (t : ℕ) (line : LineView) (watched : List Watched) : Type 0 where
+-- this one the frames that its pieces took; and these are the MSI bytes of these frames.
+pub record ViewStands (form : LineForm) (first now : InView) (taken : List ℕ) (t : ℕ) (line : LineView) (watched : List Watched) (msi : List (ℕ × ℕ)) : Type 0 where
   pub line_is : LineStands form first now taken t line
-  pub step : (i : ℕ) (one : Watched) → slice_get watched i ≡ Some one → IsInStep line one
+  pub step : (i : ℕ) (one : Watched) → slice_get watched i ≡ Some one → IsInStep line t one
   pub sinks : (given : List ℕ) → MayBe form.scrambled line.reader.ending taken given → (i : ℕ) (one : Watched) → slice_get watched i ≡ Some one
       → HasSeen form given t line.pieces one
+  pub msi_is : (given : List ℕ) → MayBe form.scrambled line.reader.ending taken given
+      → msi ≡ flat_map (msi_in (all_slots form)) (frames_in (size_of form) given t line.pieces)
 
 -- some pieces of a turn went by
-pub record ViewMoves (form : LineForm) (first now : InView) (taken : List ℕ) (t : ℕ) (old new : LineView) (olds news : List Watched) : Type 0 where
+pub record ViewMoves (form : LineForm) (first now : InView) (taken : List ℕ) (t : ℕ) (old new : LineView) (olds news : List Watched) (msi : List (ℕ × ℕ)) : Type 0 where
   pub came : List ℕ
-  pub stands : ViewStands form first now (taken ++ came) t new news
+  pub stands : ViewStands form first now (taken ++ came) t new news msi
   pub earlier : (given : List ℕ) → MayBe form.scrambled new.reader.ending (taken ++ came) given → MayBe form.scrambled old.reader.ending taken given
-  pub owns : map own_of news ≡ map own_of olds
+  pub shows : map showing_of news ≡ map showing_of olds
 
 -- turn t + 1 went by, and this was seen of the line
-pub record TurnMoves (form : LineForm) (first now : InView) (taken : List ℕ) (t : ℕ) (old new : LineView) (olds news : List Watched) (seen : TurnSeen) : Type 0 where
+pub record TurnMoves (form : LineForm) (first now : InView) (taken : List ℕ) (t : ℕ) (old new : LineView) (olds news : List Watched) (seen : TurnSeen) (msi : List (ℕ × ℕ)) : Type 0 where
   pub came : List ℕ
-  pub stands : ViewStands form first now (taken ++ came) (t + 1) new news
+  pub stands : ViewStands form first now (taken ++ came) (t + 1) new news []
   pub earlier : (given : List ℕ) → MayBe form.scrambled new.reader.ending (taken ++ came) given → MayBe form.scrambled old.reader.ending taken given
-  pub owns : map own_of news ≡ map own_of olds
+  pub shows : map showing_of news ≡ map showing_of olds
   pub seen_is : (given : List ℕ) → MayBe form.scrambled new.reader.ending (taken ++ came) given → seen ≡ seen_at form given t
+  pub msi_is : (given : List ℕ) → MayBe form.scrambled new.reader.ending (taken ++ came) given → msi ≡ msi_came form given t
   pub told : (given : List ℕ) → MayBe form.scrambled new.reader.ending (taken ++ came) given → (i : ℕ) (one : Watched) → slice_get news i ≡ Some one
-      → one.told ≡ told_at (own_of one) given t
+      → begun one t ≡ true → one.told ≡ told_at (own_of one) one.first given t

@@ -1,16 +1,16 @@
--- The tributaries of a line that are watched, each by a sink.
-use Rattle.std.specs.Prelude.{◌≡◌, ◌≤◌, ◌<◌, ◌+◌, ℕ, List, [], ◌∷◌, ◌++◌, Bool, IsTrue, Option, Some, length, slice_get}
+-- The tributaries of a line that are watched, each by a sink that begins with its first turn.
+use Rattle.std.specs.Prelude.{◌≡◌, ◌≤◌, ◌<◌, ◌+◌, ℕ, List, [], ◌∷◌, ◌++◌, Bool, true, false, IsTrue, Option, Some, length, slice_get}
 use Rattle.otn_base.specs.LineSlots.{slots_of}
 use Rattle.otn_base.specs.declared.line_kind.LineKind.{LineKind}
 use Rattle.tributary_model.specs.Places.{Tributary, Taken, View, tributary_of}
 use Rattle.trib_sink.specs.Sink.{StandsAfter, ended_view}
-use Rattle.line_view.specs.ViewText.{told_of}
+use Rattle.line_view.specs.ViewText.{Showing, has_begun, told_of}
 use Rattle.line_view.specs.declared.shown.Shown.{Shown}
 use Rattle.line_view.specs.declared.watched.Watched.{Watched}
 
 -- a tributary that is asked for
-abbrev pub asked_of : Shown → Tributary
-asked_of shown = tributary_of shown.slots shown.port
+abbrev pub asked_of : Shown → Showing
+asked_of shown = record { name = shown.name.bytes; own = tributary_of shown.slots shown.port; first = shown.first; stop = shown.stop }
 
 -- it is one of a line of this kind
 pub record IsOnLine (kind : LineKind) (shown : Shown) : Type 0 where
@@ -22,9 +22,17 @@ pub record IsOnLine (kind : LineKind) (shown : Shown) : Type 0 where
 abbrev pub own_of : Watched → Tributary
 own_of one = tributary_of one.sink.slots one.sink.port
 
+-- with its name and its turns
+abbrev pub showing_of : Watched → Showing
+showing_of one = record { name = one.name.bytes; own = own_of one; first = one.first; stop = one.stop }
+
+-- whether its first turn is turn t + 1, or before it
+abbrev pub begun : Watched → (t : ℕ) → Bool
+begun one t = has_begun (showing_of one) t
+
 -- it is watched from before the line's first turn on
 pub record IsNew (shown : Shown) (one : Watched) : Type 0 where
-  pub own : own_of one ≡ asked_of shown
+  pub showing : showing_of one ≡ asked_of shown
   pub port : one.port ≡ one.sink.port
   pub stands : StandsAfter (own_of one) [] [] one.sink
   pub taken : one.sink.taken ≡ 0
@@ -35,22 +43,28 @@ pub record IsSame (old new : Watched) : Type 0 where
   pub slots : new.sink.slots ≡ old.sink.slots
   pub sink_port : new.sink.port ≡ old.sink.port
   pub port : new.port ≡ old.port
+  pub name : new.name ≡ old.name
+  pub first : new.first ≡ old.first
+  pub stop : new.stop ≡ old.stop
 
--- its sink took a frame, where the turn has not all of its frames
-pub record TookFrame (taken : Taken) (old new : Watched) : Type 0 where
+-- A frame of turn t + 1 came. Its sink took it, where the turn has not all of its frames; before its first turn the sink is as it was.
+pub record TookFrame (t : ℕ) (taken : Taken) (old new : Watched) : Type 0 where
   pub same : IsSame old new
-  pub count : old.sink.taken < slots_of old.sink.slots.kind → new.sink.taken ≡ old.sink.taken + 1
-  pub stands : old.sink.taken < slots_of old.sink.slots.kind → (own : Tributary) (past : List (Option View)) (frames : List Taken) → StandsAfter own past frames old.sink
-      → StandsAfter own past (frames ++ taken ∷ []) new.sink
+  pub waits : begun old t ≡ false → new.sink ≡ old.sink
+  pub count : begun old t ≡ true → old.sink.taken < slots_of old.sink.slots.kind → new.sink.taken ≡ old.sink.taken + 1
+  pub stands : begun old t ≡ true → old.sink.taken < slots_of old.sink.slots.kind → (own : Tributary) (past : List (Option View)) (frames : List Taken)
+      → StandsAfter own past frames old.sink → StandsAfter own past (frames ++ taken ∷ []) new.sink
 
--- its sink ended a turn that has its multiframe or not, and this is what the turn says
-pub record EndedTurn (whole : Bool) (old new : Watched) : Type 0 where
+-- Turn t + 1 ended, which has its multiframe or not. Its sink ended it too, and this is what the turn says; before its first turn the sink is
+-- as it was.
+pub record EndedTurn (t : ℕ) (whole : Bool) (old new : Watched) : Type 0 where
   pub same : IsSame old new
-  pub count : new.sink.taken ≡ 0
-  pub stands : (IsTrue whole → old.sink.taken ≡ slots_of old.sink.slots.kind) → (own : Tributary) (past : List (Option View)) (frames : List Taken) → StandsAfter own past frames old.sink
-      → StandsAfter own (ended_view own whole frames ∷ past) [] new.sink
-  pub told : (IsTrue whole → old.sink.taken ≡ slots_of old.sink.slots.kind) → (own : Tributary) (past : List (Option View)) (frames : List Taken) → StandsAfter own past frames old.sink
-      → new.told ≡ told_of own past (ended_view own whole frames)
+  pub waits : begun old t ≡ false → new.sink ≡ old.sink
+  pub count : begun old t ≡ true → new.sink.taken ≡ 0
+  pub stands : begun old t ≡ true → (IsTrue whole → old.sink.taken ≡ slots_of old.sink.slots.kind) → (own : Tributary) (past : List (Option View)) (frames : List Taken)
+      → StandsAfter own past frames old.sink → StandsAfter own (ended_view own whole frames ∷ past) [] new.sink
+  pub told : begun old t ≡ true → (IsTrue whole → old.sink.taken ≡ slots_of old.sink.slots.kind) → (own : Tributary) (past : List (Option View)) (frames : List Taken)
+      → StandsAfter own past frames old.sink → new.told ≡ told_of own past (ended_view own whole frames)
 
 -- each of them went from what it was to what it is in this way
 pub record EachWatched (Goes : Watched → Watched → Type 0) (olds news : List Watched) : Type 0 where

@@ -2,6 +2,7 @@
 //!
 //! - `viewing`: the view of a line, written to a sink.
 //! - `shown`: a tributary that the view is to show.
+//! - `msi`: the MSI bytes of a turn.
 //! - `watched`: its sink on the line, and `told` what a turn says of the line and of it.
 //! - `turns`: the turns of the line with the sinks on it.
 //! - `lines`, `words`: the lines of the text and their words.
@@ -11,6 +12,7 @@
 mod beyond;
 mod laws;
 mod lines;
+mod msi;
 mod shown;
 mod told;
 mod turns;
@@ -20,6 +22,6 @@ mod words;
 
 pub use laws::what_is_told;
 pub use lines::{LINE_BYTES, put_number, put_slots};
-pub use shown::Shown;
+pub use shown::{NAME_BYTES, Shown};
 pub use told::{Told, TurnCounts, TurnSeen};
 pub use viewing::write_view;

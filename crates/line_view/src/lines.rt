@@ -1,15 +1,16 @@
 // The lines of a view.
-ghost use Rattle.std.specs.Prelude.{◌≡◌, ◌≤◌, ◌+◌, ◌*◌, ◌++◌, ◌∷◌, [], length, codes, flat_map};
+ghost use Rattle.std.specs.Prelude.{◌≡◌, ◌≤◌, ◌<◌, ◌+◌, ◌*◌, ◌++◌, ◌∷◌, [], length, codes, flat_map};
 ghost use Rattle.std.specs.Fmt.{decimal};
 ghost use Rattle.arrayvec.specs.ArrayString.{array_string_len};
-ghost use Rattle.otn_base.specs.declared.limits.TheConstants.{MOST_SLOTS};
+ghost use Rattle.otn_base.specs.declared.limits.TheConstants.{MOST_SLOTS, MOST_TURNS};
 ghost use Rattle.otn_ports.specs.PortViews.{SinkWrites, sink_view};
-ghost use Rattle.line_view.specs.ViewText.{head_line, turn_line, tributary_line, end_line, slots_text, pair_text};
-ghost use Rattle.line_view.specs.ViewRuns.{lines_of};
+ghost use Rattle.line_view.specs.ViewText.{head_line, turn_line, hex_text, msi_line, told_text, tributary_line, end_line, slots_text, pair_text};
+ghost use Rattle.line_view.specs.ViewRuns.{lines_of, watched_line};
+ghost use Rattle.line_view.specs.declared.shown.TheConstants.{NAME_BYTES};
 
 use crate::told::{Told, TurnSeen};
 use crate::watched::Watched;
-use crate::words::{word_of_align, word_of_kind, word_of_mask, word_of_state};
+use crate::words::{hex_word, word_of_align, word_of_kind, word_of_mask, word_of_state};
 use arrayvec::ArrayString;
 use itoa::Buffer;
 use otn_base::LineKind;
@@ -45,40 +46,110 @@ pub(crate) fn write_end<K: Sink>(report: &mut K, turns: u32, rest: u64) -> Writt
     write_whole(report, line.as_bytes())
 }
 
-/// Writes the lines of a turn: its own, and one of each tributary.
+/// Writes the lines of turn t + 1: its own, one of each MSI byte that came, and one of each tributary that is shown in it.
 pub(crate) fn write_lines<K: Sink>(
     report: &mut K,
-    number: u32,
+    t: u32,
     seen: TurnSeen,
+    msi: &[(u8, u8)],
     watched: &[Watched],
 ) -> Written
-    ensures { SinkWrites result (sink_view K.Sink report.old) (lines_of number seen watched.now) (sink_view K.Sink report.new) }
+    requires { t < MOST_TURNS }
+    ensures { SinkWrites result (sink_view K.Sink report.old) (lines_of t seen msi.now watched.now) (sink_view K.Sink report.new) }
 {
-    if write_turn_line(report, number, seen) == Written::Lost {
+    if write_turn_line(report, t + 1, seen) == Written::Lost {
         return Written::Lost;
     }
-    write_tributaries(report, watched)
+    write_others(report, t, msi, watched)
 }
 
-// Writes the line of each tributary; the first write that fails ends that.
-fn write_tributaries<K: Sink>(report: &mut K, watched: &[Watched]) -> Written
-    ensures { SinkWrites result (sink_view K.Sink report.old) (flat_map (λ one. tributary_line one.port one.sink.slots.list one.told) watched.now) (sink_view K.Sink report.new) }
+// Writes the lines behind that of the turn.
+fn write_others<K: Sink>(report: &mut K, t: u32, msi: &[(u8, u8)], watched: &[Watched]) -> Written
+    ensures { SinkWrites result (sink_view K.Sink report.old) (flat_map msi_line msi.now ++ flat_map (watched_line t) watched.now) (sink_view K.Sink report.new) }
 {
-    for one in watched {
-        if write_tributary(report, one) == Written::Lost {
+    if write_msi(report, msi) == Written::Lost {
+        return Written::Lost;
+    }
+    write_tributaries(report, t, watched)
+}
+
+// Writes the line of each MSI byte; the first write that fails ends that.
+fn write_msi<K: Sink>(report: &mut K, msi: &[(u8, u8)]) -> Written
+    ensures { SinkWrites result (sink_view K.Sink report.old) (flat_map msi_line msi.now) (sink_view K.Sink report.new) }
+{
+    for i in 0..msi.len() {
+        if write_msi_line(report, &msi[i]) == Written::Lost {
             return Written::Lost;
         }
     }
     Written::Whole
 }
 
-// Writes the line of one tributary.
-fn write_tributary<K: Sink>(report: &mut K, one: &Watched) -> Written
-    ensures { SinkWrites result (sink_view K.Sink report.old) (tributary_line one.now.port one.now.sink.slots.list one.now.told) (sink_view K.Sink report.new) }
+// Writes the line of one MSI byte.
+fn write_msi_line<K: Sink>(report: &mut K, came: &(u8, u8)) -> Written
+    ensures { SinkWrites result (sink_view K.Sink report.old) (msi_line came.now) (sink_view K.Sink report.new) }
+{
+    let mut line = ArrayString::new();
+    put_msi(&mut line, came.0, came.1);
+    write_whole(report, line.as_bytes())
+}
+
+// The line of an MSI byte, of 40 bytes at most.
+fn put_msi(text: &mut ArrayString<LINE_BYTES>, slot: u8, byte: u8)
+    requires room { array_string_len text.old + 40 ≤ 1024 }
+    ensures { text.new.bytes ≡ text.old.bytes ++ msi_line (slot, byte) }
+{
+    put_number(text, "msi ", slot as u64);
+    text.push_str(" ");
+    put_hex(text, byte);
+    text.push_str("\n");
+}
+
+// A byte in two hex digits.
+fn put_hex(text: &mut ArrayString<LINE_BYTES>, byte: u8)
+    requires room { array_string_len text.old + 2 ≤ 1024 }
+    ensures text { text.new.bytes ≡ text.old.bytes ++ hex_text byte }
+    ensures most { array_string_len text.new ≤ array_string_len text.old + 2 }
+{
+    text.push_str(hex_word(byte / 16));
+    text.push_str(hex_word(byte % 16));
+}
+
+// Writes the line of each tributary that is shown in turn t + 1; the first write that fails ends that.
+fn write_tributaries<K: Sink>(report: &mut K, t: u32, watched: &[Watched]) -> Written
+    ensures { SinkWrites result (sink_view K.Sink report.old) (flat_map (watched_line t) watched.now) (sink_view K.Sink report.new) }
+{
+    for one in watched {
+        if write_tributary(report, t, one) == Written::Lost {
+            return Written::Lost;
+        }
+    }
+    Written::Whole
+}
+
+// Writes the line of one tributary, where it is shown in turn t + 1.
+fn write_tributary<K: Sink>(report: &mut K, t: u32, one: &Watched) -> Written
+    ensures { SinkWrites result (sink_view K.Sink report.old) (watched_line t one.now) (sink_view K.Sink report.new) }
+{
+    if one.is_shown(t) {
+        return write_watched(report, one);
+    }
+    Written::Whole
+}
+
+// Writes its line.
+fn write_watched<K: Sink>(report: &mut K, one: &Watched) -> Written
+    ensures { SinkWrites result (sink_view K.Sink report.old) (tributary_line one.now.name.bytes one.now.port one.now.sink.slots.list one.now.told) (sink_view K.Sink report.new) }
 {
     let slots = one.sink.slots();
     let _few = slots.count();
-    write_told(report, one.port, slots.as_slice(), one.told)
+    write_told(
+        report,
+        one.name.as_str(),
+        one.port,
+        slots.as_slice(),
+        one.told,
+    )
 }
 
 // Writes the line of a turn.
@@ -108,23 +179,35 @@ fn put_turn(text: &mut ArrayString<LINE_BYTES>, number: u32, seen: TurnSeen)
 }
 
 // Writes the line of a tributary.
-fn write_told<K: Sink>(report: &mut K, port: u8, slots: &[u8], told: Told) -> Written
-    requires { length slots.now ≤ MOST_SLOTS }
-    ensures { SinkWrites result (sink_view K.Sink report.old) (tributary_line port slots.now told) (sink_view K.Sink report.new) }
+fn write_told<K: Sink>(report: &mut K, name: &str, port: u8, slots: &[u8], told: Told) -> Written
+    requires name { length name.now ≤ NAME_BYTES }
+    requires slots { length slots.now ≤ MOST_SLOTS }
+    ensures { SinkWrites result (sink_view K.Sink report.old) (tributary_line name.now port slots.now told) (sink_view K.Sink report.new) }
 {
     let mut line = ArrayString::new();
-    put_told(&mut line, port, slots, told);
+    put_told(&mut line, name, port, slots, told);
     write_whole(report, line.as_bytes())
 }
 
 // The line of a tributary, of 900 bytes at most.
-fn put_told(text: &mut ArrayString<LINE_BYTES>, port: u8, slots: &[u8], told: Told)
+fn put_told(text: &mut ArrayString<LINE_BYTES>, name: &str, port: u8, slots: &[u8], told: Told)
+    requires name { length name.now ≤ NAME_BYTES }
     requires few { length slots.now ≤ MOST_SLOTS }
     requires room { array_string_len text.old + 900 ≤ 1024 }
-    ensures text { text.new.bytes ≡ text.old.bytes ++ tributary_line port slots.now told }
-    ensures most { array_string_len text.new ≤ array_string_len text.old + 900 }
+    ensures { text.new.bytes ≡ text.old.bytes ++ tributary_line name.now port slots.now told }
 {
-    put_number(text, "tributary - port ", port as u64);
+    text.push_str("tributary ");
+    text.push_str(name);
+    put_number(text, " port ", port as u64);
+    put_rest(text, slots, told);
+}
+
+// What stands behind its name and port, of 800 bytes at most.
+fn put_rest(text: &mut ArrayString<LINE_BYTES>, slots: &[u8], told: Told)
+    requires few { length slots.now ≤ MOST_SLOTS }
+    requires room { array_string_len text.old + 800 ≤ 1024 }
+    ensures { text.new.bytes ≡ text.old.bytes ++ told_text slots.now told }
+{
     text.push_str(" slots ");
     put_slots(text, slots);
     text.push_str(" ");

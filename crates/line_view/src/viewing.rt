@@ -7,13 +7,15 @@ ghost use Rattle.otn_ports.specs.Views.{InView};
 ghost use Rattle.line_side.specs.LineForm.{LineForm};
 ghost use Rattle.line_view.specs.ViewRuns.{ViewEnded, TurnRun, FinishRun, AnswerRun};
 ghost use Rattle.line_view.specs.Viewing.{ViewStands};
-ghost use Rattle.line_view.specs.Watching.{IsOnLine, asked_of, own_of};
+ghost use Rattle.line_view.specs.Watching.{IsOnLine, asked_of, showing_of};
 
 use crate::beyond::ask_for_more;
 use crate::lines::{write_end, write_head, write_lines};
+use crate::msi::MsiBytes;
 use crate::shown::Shown;
 use crate::turns::do_turn;
 use crate::watched::{Watched, new_watched};
+use arrayvec::ArrayVec;
 use otn_base::LineKind;
 use otn_base::limits::{GROUPS, MOST_SLOTS, MOST_TURNS};
 use otn_ports::{Ended, InPlaceOf, Sink, Source, Written};
@@ -82,8 +84,8 @@ fn write_turns<I: Source, K: Sink>(
     requires kind { line.old.kind ≡ kind }
     requires between { line.old.pieces ≡ 0 }
     requires room { length room.old ≡ MOST_SLOTS * (GROUPS + 1) }
-    ensures { ((first : InView) → ViewStands (record { kind = kind; scrambled = scrambled }) first first [] 0 line.old watched.old.items)
-        → ViewEnded (record { kind = kind; scrambled = scrambled }) (map own_of watched.old.items) (in_view I.Source place.old) (in_view I.Source place.new)
+    ensures { ((first : InView) → ViewStands (record { kind = kind; scrambled = scrambled }) first first [] 0 line.old watched.old.items [])
+        → ViewEnded (record { kind = kind; scrambled = scrambled }) (map showing_of watched.old.items) (in_view I.Source place.old) (in_view I.Source place.new)
         (sink_view K.Sink report.old) (sink_view K.Sink report.new) result }
 {
     if write_head(report, kind, scrambled) == Written::Lost {
@@ -113,14 +115,15 @@ fn write_turn<I: Source, K: Sink>(
     requires kind { line.old.kind ≡ kind }
     requires between { line.old.pieces ≡ 0 }
     requires room { length room.old ≡ MOST_SLOTS * (GROUPS + 1) }
-    ensures run { (form : LineForm) (first : InView) (taken : List ℕ) → ViewStands form first (in_view I.Source place.old) taken t line.old watched.old.items
+    ensures run { (form : LineForm) (first : InView) (taken : List ℕ) → ViewStands form first (in_view I.Source place.old) taken t line.old watched.old.items []
         → TurnRun form first (in_view I.Source place.new) taken t line.old line.new watched.old.items watched.new.items (sink_view K.Sink report.old) (sink_view K.Sink report.new) result }
     ensures kind { line.new.kind ≡ kind }
     ensures between { line.new.pieces ≡ 0 }
     ensures room { length room.new ≡ length room.old }
 {
-    let seen = do_turn(kind, line, watched, room, place);
-    if write_lines(report, t + 1, seen, watched.as_slice()) == Written::Lost {
+    let mut msi: MsiBytes = ArrayVec::new();
+    let seen = do_turn(kind, t, line, watched, &mut msi, room, place);
+    if write_lines(report, t, seen, msi.as_slice(), watched.as_slice()) == Written::Lost {
         return After::ReportFailed;
     }
     if seen.ended {

@@ -2,10 +2,12 @@
 ghost use Rattle.std.specs.Prelude.{◌≡◌, ◌≤◌, ◌*◌, ◌+◌, IfOk, IsTrue, length, slice_get, Some, ℕ, [], ◌∷◌};
 ghost use Rattle.otn_base.specs.LineSlots.{slots_of};
 ghost use Rattle.otn_base.specs.declared.limits.TheConstants.{GROUPS, MOST_SLOTS};
-ghost use Rattle.line_view.specs.Watching.{AreNew, EachWatched, EndedTurn, IsNew, IsOnLine, TookFrame};
+ghost use Rattle.line_view.specs.ViewText.{is_shown};
+ghost use Rattle.line_view.specs.Watching.{AreNew, EachWatched, EndedTurn, IsNew, IsOnLine, TookFrame, showing_of};
 
-use crate::shown::Shown;
+use crate::shown::{NAME_BYTES, Shown};
 use crate::told::Told;
+use arrayvec::ArrayString;
 use odtu_columns::TakeFrame;
 use otn_base::{LineKind, Memory};
 use std::alloc::Global;
@@ -16,8 +18,14 @@ use trib_sink::{SinkState, TribSink};
 pub(crate) struct Watched {
     /// Its sink on the line.
     pub(crate) sink: TribSink,
+    /// Its name.
+    pub(crate) name: ArrayString<NAME_BYTES>,
     /// Its tributary port.
     pub(crate) port: u8,
+    /// How many turns of the line are past before its first.
+    pub(crate) first: u32,
+    /// Its last turn.
+    pub(crate) stop: u32,
     /// What the last turn said.
     pub(crate) told: Told,
 }
@@ -31,7 +39,10 @@ impl Watched {
         let sink = TribSink::new(alloc, &shown.slots, shown.port)?;
         Ok(Watched {
             sink,
+            name: shown.name,
             port: shown.port,
+            first: shown.first,
+            stop: shown.stop,
             told: Told {
                 state: SinkState::Waiting,
                 pair: None,
@@ -40,10 +51,14 @@ impl Watched {
         })
     }
 
-    /// Takes the next frame of the turn, with the MFAS that is expected of it; nothing where all are taken.
-    pub(crate) fn take_frame<F: TakeFrame>(&mut self, frame: &F, expected: u8)
-        ensures { TookFrame (record { frame = F.bytes frame.now; expected = expected }) self.old self.new }
+    /// Takes the next frame of turn t + 1, with the MFAS that is expected of it; nothing where all are taken, and nothing
+    /// before its first turn.
+    pub(crate) fn take_frame<F: TakeFrame>(&mut self, t: u32, frame: &F, expected: u8)
+        ensures { TookFrame t (record { frame = F.bytes frame.now; expected = expected }) self.old self.new }
     {
+        if t < self.first {
+            return;
+        }
         let n = self.sink.taken();
         if n >= self.sink.slots().kind().slots() {
             return;
@@ -51,12 +66,15 @@ impl Watched {
         self.sink.take_frame(n, frame, expected);
     }
 
-    /// Ends the turn, which has its multiframe or not.
-    pub(crate) fn end_turn(&mut self, whole: bool, room: &mut [u8])
+    /// Ends turn t + 1, which has its multiframe or not; nothing before its first turn.
+    pub(crate) fn end_turn(&mut self, t: u32, whole: bool, room: &mut [u8])
         requires { length room.old ≡ MOST_SLOTS * (GROUPS + 1) }
-        ensures turn { EndedTurn whole self.old self.new }
+        ensures turn { EndedTurn t whole self.old self.new }
         ensures room { length room.new ≡ length room.old }
     {
+        if t < self.first {
+            return;
+        }
         let whole = self.has_all(whole);
         let _few = self.sink.slots().count();
         let bytes = self.sink.end_turn(whole, room);
@@ -65,6 +83,13 @@ impl Watched {
             pair: self.sink.pair(),
             bytes,
         };
+    }
+
+    /// Whether turn t + 1 is one of those in which it is shown.
+    pub(crate) fn is_shown(&self, t: u32) -> bool
+        ensures { result ≡ is_shown (showing_of self.now) t }
+    {
+        self.first <= t && t < self.stop
     }
 
     // Whether the turn has its multiframe and all of its frames are taken.
@@ -92,22 +117,22 @@ pub(crate) fn new_watched(
     Ok(watched)
 }
 
-/// Each takes a frame.
-pub(crate) fn take_each<F: TakeFrame>(watched: &mut Vec<Watched>, frame: &F, expected: u8)
-    ensures { EachWatched (TookFrame (record { frame = F.bytes frame.now; expected = expected })) watched.old.items watched.new.items }
+/// Each takes a frame of turn t + 1.
+pub(crate) fn take_each<F: TakeFrame>(watched: &mut Vec<Watched>, t: u32, frame: &F, expected: u8)
+    ensures { EachWatched (TookFrame t (record { frame = F.bytes frame.now; expected = expected })) watched.old.items watched.new.items }
 {
     for one in watched.iter_mut() {
-        one.take_frame(frame, expected);
+        one.take_frame(t, frame, expected);
     }
 }
 
-/// Each ends the turn.
-pub(crate) fn end_each(watched: &mut Vec<Watched>, whole: bool, room: &mut [u8])
+/// Each ends turn t + 1.
+pub(crate) fn end_each(watched: &mut Vec<Watched>, t: u32, whole: bool, room: &mut [u8])
     requires { length room.old ≡ MOST_SLOTS * (GROUPS + 1) }
-    ensures turn { EachWatched (EndedTurn whole) watched.old.items watched.new.items }
+    ensures turn { EachWatched (EndedTurn t whole) watched.old.items watched.new.items }
     ensures room { length room.new ≡ length room.old }
 {
     for one in watched.iter_mut() {
-        one.end_turn(whole, room);
+        one.end_turn(t, whole, room);
     }
 }

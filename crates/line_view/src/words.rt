@@ -1,6 +1,6 @@
 // The words of a view.
-ghost use Rattle.std.specs.Prelude.{◌≡◌, ◌≤◌, length};
-ghost use Rattle.line_view.specs.ViewText.{kind_word, mask_word, align_word, state_word};
+ghost use Rattle.std.specs.Prelude.{◌≡◌, ◌≤◌, ◌<◌, ◌∷◌, [], length};
+ghost use Rattle.line_view.specs.ViewText.{kind_word, mask_word, align_word, state_word, hex_digit};
 
 use otn_base::LineKind;
 use tributary_model::SinkState;
@@ -46,5 +46,51 @@ pub(crate) fn word_of_state(state: SinkState) -> &'static str
         SinkState::Waiting => "waiting",
         SinkState::Up => "up",
         SinkState::Down => "down",
+    }
+}
+
+/// A digit of a number to the base 16.
+pub(crate) fn hex_word(n: u8) -> &'static str
+    requires { n < 16 }
+    ensures word { result.now ≡ hex_digit n ∷ [] }
+    ensures short { length result.now ≡ 1 }
+{
+    if n < 8 { low_hex(n) } else { high_hex(n) }
+}
+
+// One of the first eight.
+fn low_hex(n: u8) -> &'static str
+    requires { n < 8 }
+    ensures word { result.now ≡ hex_digit n ∷ [] }
+    ensures short { length result.now ≡ 1 }
+{
+    match n {
+        0 => "0",
+        1 => "1",
+        2 => "2",
+        3 => "3",
+        4 => "4",
+        5 => "5",
+        6 => "6",
+        _ => "7",
+    }
+}
+
+// One of the others.
+fn high_hex(n: u8) -> &'static str
+    requires low { 8 ≤ n }
+    requires high { n < 16 }
+    ensures word { result.now ≡ hex_digit n ∷ [] }
+    ensures short { length result.now ≡ 1 }
+{
+    match n {
+        8 => "8",
+        9 => "9",
+        10 => "a",
+        11 => "b",
+        12 => "c",
+        13 => "d",
+        14 => "e",
+        _ => "f",
     }
 }

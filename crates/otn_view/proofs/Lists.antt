@@ -5,9 +5,8 @@ use Rattle.std.specs.declared.alloc.Global.{Global}
 use Rattle.std.proofs.Math.Seq.{take-length}
 use Rattle.std.proofs.lemmas.Option.{same_Some, slice_get_read, slice_get_within}
 use Rattle.otn_base.specs.declared.line_kind.LineKind.{LineKind}
-use Rattle.line_view.specs.Watching.{IsOnLine}
 use Rattle.line_view.specs.declared.shown.Shown.{Shown}
-use Rattle.otn_view.specs.Words.{AreShown, texts, word_of}
+use Rattle.otn_view.specs.Words.{AreShown, IsAllAlong, texts, word_of}
 
 -- the first word, and those behind it
 pub first_word : (words : List (String Global)) (first : String Global) (word : List ℕ) → 1 ≤ length words → first ≡ get_or words 0 first → string_bytes first ≡ word
@@ -39,19 +38,19 @@ last_or (z ∷ zs) x y (suc i) e = last_or zs x y i e
 pub shown_none : (kind : LineKind) (shown : List Shown) → shown ≡ [] → AreShown kind [] shown
 shown_none kind shown none = record {
   words_are = sym (ap (map word_of) none);
-  on_line = λ i x at. absurd (let less = slice_get_within shown i x at in let size : length shown ≡ 0 = ap length none in omega (arith, less, size));
+  each = λ i x at. absurd (let less = slice_get_within shown i x at in let size : length shown ≡ 0 = ap length none in omega (arith, less, size));
 }
 
 -- one word more says one more
 pub shown_more : (kind : LineKind) (words : List (String Global)) (i : ℕ) (w : String Global) (shown : List Shown) (one : Shown) → slice_get words i ≡ Some w → string_bytes w ≡ word_of one
-    → IsOnLine kind one → AreShown kind (texts (take i words)) shown → AreShown kind (texts (take (i + 1) words)) (shown ++ one ∷ [])
+    → IsAllAlong kind one → AreShown kind (texts (take i words)) shown → AreShown kind (texts (take (i + 1) words)) (shown ++ one ∷ [])
 shown_more kind words i w shown one known said on h = record {
   words_are =
       ap texts (take_on words i w known) ∙ maps string_bytes (take i words) (w ∷ []) ∙ ap (λ t. t ++ string_bytes w ∷ []) h.words_are
       ∙ ap (λ t. map word_of shown ++ t ∷ []) said ∙ sym (maps word_of shown (one ∷ []));
-  on_line = λ k x at. elim (last_or shown one x k at) [
-    | inl t ↦ h.on_line k x t
-    | inr t ↦ subst (IsOnLine kind) t on
+  each = λ k x at. elim (last_or shown one x k at) [
+    | inl t ↦ h.each k x t
+    | inr t ↦ subst (IsAllAlong kind) t on
   ];
 }
 

@@ -1,22 +1,26 @@
-//! `otn_view`, what a line carries, turn by turn: hands the file of the line and standard output to the one call that does all the
-//! work, and ends with the code of its answer.
+//! `otn_view`, what a line carries, turn by turn: hands the files of the line and of the plan, and standard output, to the one call
+//! that does all the work, and ends with the code of its answer.
 //!
 //! `otn_view FILE [otu3] [scrambled] PORT:K,K ..` shows the line of the file, an OTU2 that is not scrambled where the words
-//! do not say otherwise, and the tributaries of these ports and slots.
+//! do not say otherwise, and the tributaries of these ports and slots. `otn_view FILE in N` and `otn_view FILE out N` show it
+//! as line N, 0 to 3, of the plan in `plan.toml`: of the kind that the plan says, with its connections on it.
 #![tactic(auto)]
 
 ghost use Rattle.std.specs.Prelude.{◌≡◌};
-ghost use Rattle.command_base.specs.Ends.{line_status};
+ghost use Rattle.otn_view.specs.Answers.{viewed_status};
 
-use command_base::Status;
+use command_base::{Status, status_of};
 use line_view::write_view;
 use otn_base::Memory;
-use otn_ports::{Ended, FileSource, InPlaceOf, StdoutSink};
-use program_words::{exit_code, given_words};
+use otn_ports::{FileSource, InPlaceOf, Sink, Source, StdoutSink};
+use plan_views::{Side, Viewed, view_by_plan};
+use program_words::{exit_code, given_words, status_of_page};
+use std::alloc::Global;
 use std::fs;
 use std::process::ExitCode;
-use words::asked_of;
+use words::{Asked, asked_of};
 
+mod tributary;
 mod words;
 
 fn main(rt: HostRuntime) -> ExitCode {
@@ -27,35 +31,61 @@ fn main(rt: HostRuntime) -> ExitCode {
     exit_code(&status)
 }
 
-// Shows the line that the words name. A file that cannot be opened fails at its first read.
+/// The page that `otn_view --help` writes.
+const HELP: &str = "\
+what an OTN line carries, turn by turn, in words and numbers (docs/VIEW.md)
+
+  otn_view FILE [otu3] [scrambled] PORT:K,K ..   the line of FILE, and the tributaries of these ports and slots on it
+  otn_view FILE in N                             the same as line input N of plan.toml, with its connections
+  otn_view FILE out N                            the same as line output N
+
+A file named --help is ./--help.";
+
+// Whether the words ask for the page.
+fn asks_for_help(words: &[String]) -> bool {
+    match words {
+        [word] => word.as_str() == "--help",
+        _ => false,
+    }
+}
+
+// Shows the line that the words name, or writes the page. A file that cannot be opened fails at its first read.
 fn serve(rt: &HostRuntime) -> Result<Status, Memory> {
     let words = given_words(rt, rt.alloc())?;
+    if asks_for_help(&words) {
+        let text = HELP;
+        return Ok(status_of_page(println!(rt; "{text}")));
+    }
     let Some(asked) = asked_of(rt.alloc(), &words)? else {
         return Ok(Status::Words);
     };
     let file = fs::open(rt, words[0].as_str()).ok();
     let mut line = InPlaceOf::Live(FileSource::of(file), 0);
     let mut report = StdoutSink::of(rt.stdout());
-    let ended = write_view(
-        rt.alloc(),
-        asked.kind,
-        asked.scrambled,
-        asked.shown.as_slice(),
-        &mut line,
-        &mut report,
-    );
-    Ok(status_of(ended))
+    match asked {
+        Asked::Given(kind, scrambled, shown) => Ok(status_of(write_view(
+            rt.alloc(),
+            kind,
+            scrambled,
+            shown.as_slice(),
+            &mut line,
+            &mut report,
+        ))),
+        Asked::Planned(side, number) => {
+            let mut plan = FileSource::of(fs::open(rt, "plan.toml").ok());
+            let viewed = view_by_plan(rt.alloc(), &mut plan, side, number, &mut line, &mut report)?;
+            Ok(status_of_view(viewed))
+        }
+    }
 }
 
-// The answer of the program.
-fn status_of(ended: Ended) -> Status
-    ensures { result ≡ line_status ended }
+// The answer of the program to a view by a plan that ended so.
+fn status_of_view(viewed: Viewed) -> Status
+    ensures { result ≡ viewed_status viewed }
 {
-    match ended {
-        Ended::Done => Status::Done,
-        Ended::Unfinished => Status::Unfinished,
-        Ended::Cut => Status::Cut,
-        Ended::ReportFault => Status::ReportFault,
-        Ended::Memory => Status::Memory,
+    match viewed {
+        Viewed::Shown(ended) => status_of(ended),
+        Viewed::Refused(error, place) => Status::Plan(error, place),
+        Viewed::PlanFault => Status::PlanFault,
     }
 }

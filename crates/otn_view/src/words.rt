@@ -1,40 +1,92 @@
 // The words after the program's name.
-ghost use Rattle.std.specs.Prelude.{◌≡◌, ◌++◌, ◌∷◌, [], ℕ, IfOk, IfSome, IsTrue, Some, if◌then◌else◌, map, slice_get};
-ghost use Rattle.line_view.specs.Watching.{IsOnLine};
-ghost use Rattle.otn_view.specs.Words.{IsForm, AreShown, texts, word_of, kind_by};
+ghost use Rattle.std.specs.Prelude.{◌≡◌, ◌<◌, ◌+◌, ◌++◌, ◌∷◌, [], ℕ, IfNone, IfOk, IfSome, if◌then◌else◌};
+ghost use Rattle.otn_base.specs.declared.limits.TheConstants.{LINES};
+ghost use Rattle.otn_view.specs.Words.{AreOnLine, IsAsked, IsForm, IsPlanned, AreShown, texts, kind_by, side_word};
+ghost use Rattle.plan_views.specs.declared.side.Side.{Side};
 
-use arrayvec::{ArrayString, ArrayVec};
-use line_view::{LINE_BYTES, Shown, put_number, put_slots};
-use otn_base::limits::MOST_SLOTS;
-use otn_base::{LineKind, Memory, Slots};
+use crate::tributary::tributary_of;
+use line_view::Shown;
+use otn_base::{LineKind, Memory};
+use plan_views::Side;
 use std::alloc::Global;
 
-/// What the words ask for: the form of the line, and the tributaries to show.
+/// What the words ask for.
 #[derive(Drop)]
-pub(crate) struct Asked {
-    pub(crate) kind: LineKind,
-    pub(crate) scrambled: bool,
-    pub(crate) shown: Vec<Shown>,
+pub(crate) enum Asked {
+    /// A line of this kind, scrambled or not, and these tributaries on it.
+    Given(LineKind, bool, Vec<Shown>),
+    /// The line of this side and number of the plan.
+    Planned(Side, u8),
 }
 
-/// What these words ask for: `FILE [otu3] [scrambled] PORT:K,K ..`. None where they have another form.
+/// What these words ask for: `FILE [otu3] [scrambled] PORT:K,K ..`, `FILE in N` or `FILE out N`. None where they have another
+/// form.
 pub(crate) fn asked_of(alloc: Global, words: &[String]) -> Result<Option<Asked>, Memory>
     ensures form { IfOk result (λ asked. IfSome asked (IsForm (texts words.now))) }
-    ensures on_line { IfOk result (λ asked. IfSome asked (λ a. (i : ℕ) (x : Shown) → slice_get a.shown.items i ≡ Some x → IsOnLine a.kind x)) }
+    ensures on_line { IfOk result (λ asked. IfSome asked AreOnLine) }
 {
     let [_file, rest @ ..] = words else {
         return Ok(None);
     };
-    let (otu3, rest) = behind("otu3", rest);
+    match planned_of(rest) {
+        Some((side, number)) => Ok(Some(Asked::Planned(side, number))),
+        None => given_of(alloc, rest),
+    }
+}
+
+// The side and the number of a line of the plan.
+fn planned_of(words: &[String]) -> Option<(Side, u8)>
+    ensures line { IfSome result (λ line. IsPlanned (texts words.now) line.0 line.1) }
+    ensures none { IfNone result ((side : Side) (line : ℕ) → IsPlanned (texts words.now) side line → ⊥) }
+{
+    match words {
+        [side, number] => planned_line(side.as_str(), number.as_str()),
+        _ => None,
+    }
+}
+
+fn planned_line(side: &str, number: &str) -> Option<(Side, u8)>
+    ensures line { IfSome result (λ line. IsPlanned (side.now ∷ number.now ∷ []) line.0 line.1) }
+    ensures none { IfNone result ((s : Side) (line : ℕ) → IsPlanned (side.now ∷ number.now ∷ []) s line → ⊥) }
+{
+    let side = side_of(side)?;
+    Some((side, number_of(number.as_bytes())?))
+}
+
+// The side of this word.
+fn side_of(word: &str) -> Option<Side>
+    ensures side { IfSome result (λ side. word.now ≡ side_word side) }
+    ensures none { IfNone result ((side : Side) → word.now ≡ side_word side → ⊥) }
+{
+    match word {
+        "in" => Some(Side::In),
+        "out" => Some(Side::Out),
+        _ => None,
+    }
+}
+
+// The number of a line of which this is the digit.
+fn number_of(text: &[u8]) -> Option<u8>
+    ensures number { IfSome result (λ n. (text.now ≡ (48 + n) ∷ []) × (n < LINES)) }
+    ensures none { IfNone result ((n : ℕ) → text.now ≡ (48 + n) ∷ [] → n < LINES → ⊥) }
+{
+    match text {
+        [digit @ b'0'..=b'3'] => Some(*digit - b'0'),
+        _ => None,
+    }
+}
+
+// The form of the line, and the tributaries to show.
+fn given_of(alloc: Global, words: &[String]) -> Result<Option<Asked>, Memory>
+    ensures form { IfOk result (λ asked. IfSome asked (IsAsked (texts words.now))) }
+    ensures on_line { IfOk result (λ asked. IfSome asked AreOnLine) }
+{
+    let (otu3, rest) = behind("otu3", words);
     let (scrambled, rest) = behind("scrambled", rest);
     let kind = kind_by(otu3);
     match shown_of(alloc, kind, rest)? {
         None => Ok(None),
-        Some(shown) => Ok(Some(Asked {
-            kind,
-            scrambled,
-            shown,
-        })),
+        Some(shown) => Ok(Some(Asked::Given(kind, scrambled, shown))),
     }
 }
 
@@ -62,50 +114,10 @@ fn shown_of(alloc: Global, kind: LineKind, words: &[String]) -> Result<Option<Ve
 {
     let mut shown = Vec::new(alloc);
     for i in 0..words.len() {
-        match one_of(words[i].as_str(), kind) {
+        match tributary_of(words[i].as_str(), kind) {
             None => return Ok(None),
             Some(one) => shown.push(one)?,
         }
     }
     Ok(Some(shown))
-}
-
-// The tributary of this word: its port, a colon, and its slots with commas between them.
-fn one_of(word: &str, kind: LineKind) -> Option<Shown>
-    ensures { IfSome result (λ one. (word.now ≡ word_of one) × IsOnLine kind one) }
-{
-    let (port, slots) = word.split_once(':')?;
-    let port: u8 = port.parse().ok()?;
-    if port < 1 || port > kind.slots() {
-        return None;
-    }
-    let slots = slots_of(slots, kind)?;
-    let one = Shown { port, slots };
-    if !is_word(word, &one) {
-        return None;
-    }
-    Some(one)
-}
-
-// Slots of a line of this kind that this text may mean.
-fn slots_of(text: &str, kind: LineKind) -> Option<Slots>
-    ensures { IfSome result (λ slots. slots.kind ≡ kind) }
-{
-    let mut list: ArrayVec<u8, MOST_SLOTS> = ArrayVec::new();
-    for slot in text.split(',') {
-        list.try_push(slot.parse().ok()?).ok()?;
-    }
-    Slots::new(list.as_slice(), kind)
-}
-
-// Whether this is the word of the tributary.
-fn is_word(word: &str, one: &Shown) -> bool
-    ensures { IsTrue result → word.now ≡ word_of one.now }
-{
-    let _few = one.slots.count();
-    let mut text: ArrayString<LINE_BYTES> = ArrayString::new();
-    put_number(&mut text, "", one.port as u64);
-    text.push_str(":");
-    put_slots(&mut text, one.slots.as_slice());
-    text.as_str() == word
 }

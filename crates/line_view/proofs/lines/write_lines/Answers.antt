@@ -1,9 +1,8 @@
-use Rattle.std.proofs.Common.{◌≡◌, rules, subst, flat_map}
+use Rattle.std.proofs.Common.{◌≡◌, ◌+◌, ◌++◌, rules, subst, flat_map}
 use Rattle.otn_ports.specs.PortViews.{SinkWrites, sink_view}
 use Rattle.otn_ports.specs.declared.drain.Written.TheVariants as written
-use Rattle.line_view.specs.ViewRuns.{lines_of}
-use Rattle.line_view.specs.ViewText.{turn_line, tributary_line}
-use Rattle.line_view.specs.declared.watched.Watched.{Watched}
+use Rattle.line_view.specs.ViewRuns.{lines_of, watched_line}
+use Rattle.line_view.specs.ViewText.{turn_line, msi_line}
 use Rattle.line_view.proofs.Texts.{writes_twice, part_of_more}
 use Rattle.line_view.proofs.lines.write_lines.Goals as goal
 
@@ -12,15 +11,16 @@ unfolding lines_of
 returns-then-eq g c =
     let first = sink_view g.K.Sink c.args.report.now in
     let is = sink_view g.K.Sink c.write_turn_line.new.report in
+    let line = turn_line (c.args.t + 1) c.args.seen in
     let lost : c.write_turn_line.result ≡ written.Lost = search rules in
-    part_of_more first is (turn_line c.args.number c.args.seen) (flat_map (λ (one : Watched). tributary_line one.port one.sink.slots.list one.told) c.args.watched.now)
-    (subst (λ r. SinkWrites r first (turn_line c.args.number c.args.seen) is) lost c.write_turn_line.ensures)
+    part_of_more first is line (flat_map msi_line c.args.msi.now ++ flat_map (watched_line c.args.t) c.args.watched.now) (subst (λ r. SinkWrites r first line is) lost c.write_turn_line.ensures)
 
 pub returns : goal.returns
 unfolding lines_of
 returns g c =
     let first = sink_view g.K.Sink c.args.report.now in
     let was = sink_view g.K.Sink c.write_turn_line.new.report in
+    let line = turn_line (c.args.t + 1) c.args.seen in
     let whole : c.write_turn_line.result ≡ written.Whole = search rules in
-    writes_twice c.write_tributaries.result first was (sink_view g.K.Sink c.write_tributaries.new.report) (turn_line c.args.number c.args.seen) (flat_map (λ (one : Watched). tributary_line one.port one.sink.slots.list one.told) c.args.watched.now)
-    (subst (λ r. SinkWrites r first (turn_line c.args.number c.args.seen) was) whole c.write_turn_line.ensures) c.write_tributaries.ensures
+    writes_twice c.write_others.result first was (sink_view g.K.Sink c.write_others.new.report) line (flat_map msi_line c.args.msi.now ++ flat_map (watched_line c.args.t) c.args.watched.now)
+    (subst (λ r. SinkWrites r first line was) whole c.write_turn_line.ensures) c.write_others.ensures

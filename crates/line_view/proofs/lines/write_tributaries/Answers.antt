@@ -1,8 +1,7 @@
 use Rattle.std.proofs.Common.{◌≡◌, ◌++◌, ◌+◌, flat_map, take, drop, arith, rules, subst, sym}
 use Rattle.otn_ports.specs.PortViews.{SinkWrites, sink_view}
 use Rattle.otn_ports.specs.declared.drain.Written.TheVariants as written
-use Rattle.line_view.specs.ViewText.{tributary_line}
-use Rattle.line_view.specs.declared.watched.Watched.{Watched}
+use Rattle.line_view.specs.ViewRuns.{watched_line}
 use Rattle.line_view.proofs.Texts.{writes_none, writes_twice, part_of_more, flat_on, flat_all, flat_parts, known_item}
 use Rattle.line_view.proofs.lines.write_tributaries.Goals as goal
 
@@ -11,7 +10,7 @@ loop-one-init g c = writes_none (sink_view g.K.Sink c.args.report.now)
 
 pub loop-one-preserved : goal.loop-one-preserved
 loop-one-preserved g c =
-    let f = λ (one : Watched). tributary_line one.port one.sink.slots.list one.told in
+    let f = watched_line c.args.t in
     let all = c.args.watched.now in
     let i = c.loop-one.one-index in
     let one = c.one-item.result in
@@ -25,7 +24,7 @@ loop-one-preserved g c =
 
 pub returns-then-eq : goal.returns-then-eq
 returns-then-eq g c =
-    let f = λ (one : Watched). tributary_line one.port one.sink.slots.list one.told in
+    let f = watched_line c.args.t in
     let all = c.args.watched.now in
     let i = c.loop-one.one-index in
     let one = c.one-item.result in
@@ -40,7 +39,7 @@ returns-then-eq g c =
 
 pub returns : goal.returns
 returns g c =
-    let f = λ (one : Watched). tributary_line one.port one.sink.slots.list one.told in
+    let f = watched_line c.args.t in
     let all = c.args.watched.now in
     let i = c.loop-one.one-index in
     subst (λ t. SinkWrites written.Whole (sink_view g.K.Sink c.args.report.now) t (sink_view g.K.Sink c.loop-one.report))

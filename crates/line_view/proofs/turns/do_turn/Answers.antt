@@ -3,24 +3,26 @@ use Rattle.otn_base.specs.LineSlots.{slots_of}
 use Rattle.otn_ports.specs.InPlace.{in_view}
 use Rattle.line_side.specs.LineNumbers.{numbers_of}
 use Rattle.line_side.specs.MayBe.{MayBe}
+use Rattle.line_view.specs.Viewing.{ViewStands}
 use Rattle.line_view.specs.declared.told.TurnCounts.{TurnCounts}
 use Rattle.line_view.specs.declared.told.TurnSeen.{TurnSeen}
 use Rattle.line_view.proofs.TurnMoving.{seen_is, turn_ends}
 use Rattle.line_view.proofs.turns.do_turn.Goals as goal
 
 pub returns-clause-moves : goal.returns-clause-moves
-returns-clause-moves g c = λ form first taken t h.
+returns-clause-moves g c = λ form first taken h.
+    let t = c.args.t in
     let now = in_view g.I.Source c.take_frames.new.place in
     let old = c.args.line.now in
     let mid = c.take_frames.new.line in
     let new = c.end_turn-whole.new.self in
-    let m = c.take_frames.ensures.moves form first taken t h in
+    let m = c.take_frames.ensures.moves form first taken (subst (λ xs. ViewStands form first (in_view g.I.Source c.args.place.now) taken t old c.args.watched.now.items xs) (sym c.requires.none) h) in
     let line = c.end_turn-whole.ensures in
     let stands = line.stands now form first (taken ++ m.came) t m.stands.line_is in
     let pieces : mid.pieces ≡ slots_of mid.kind = c.take_frames.ensures.pieces ∙ ap slots_of (sym c.take_frames.ensures.kind) in
-    turn_ends form first now taken t old mid new c.args.watched.now.items c.take_frames.new.watched.items c.end_each.new.watched.items c.end_turn-whole.result
+    turn_ends form first now taken t old mid new c.args.watched.now.items c.take_frames.new.watched.items c.end_each.new.watched.items c.take_frames.new.msi.items c.keep_whole.new.msi.items c.end_turn-whole.result
     (record { ended = c.ended.result; whole = c.end_turn-whole.result; counts = c.counts_between.result })
-    m pieces line.pieces line.kind line.frames_taken line.ending line.whole stands (λ given may. line.turn now form first (taken ++ m.came) t m.stands.line_is given may) c.end_each.ensures.turn
+    m pieces line.pieces line.kind line.frames_taken line.ending line.whole stands (λ given may. line.turn now form first (taken ++ m.came) t m.stands.line_is given may) c.end_each.ensures.turn c.keep_whole.ensures
     (λ given may.
     let mid_may = subst (λ e. MayBe form.scrambled e (taken ++ m.came) given) line.ending may in
     let before = m.earlier given mid_may in

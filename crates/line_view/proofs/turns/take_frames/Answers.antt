@@ -1,4 +1,4 @@
-use Rattle.std.proofs.Common.{◌∙◌, ◌+◌, ◌++◌, ap}
+use Rattle.std.proofs.Common.{◌≤◌, ◌∙◌, ◌+◌, ◌++◌, ap, length, arith}
 use Rattle.otn_ports.specs.InPlace.{in_view}
 use Rattle.line_view.proofs.Pieces.{moves_none, moves_twice}
 use Rattle.line_view.proofs.turns.take_frames.Goals as goal
@@ -7,7 +7,8 @@ pub loop-init : goal.loop-init
 loop-init g c = record {
   pieces = c.requires.between;
   kind = c.requires.kind;
-  moves = λ form first taken t h. moves_none form first (in_view g.I.Source c.args.place.now) taken t c.args.line.now c.args.watched.now.items h;
+  few = let none = ap length c.requires.none in omega (arith, none);
+  moves = λ form first taken h. moves_none form first (in_view g.I.Source c.args.place.now) taken c.args.t c.args.line.now c.args.watched.now.items c.args.msi.now.items h;
 }
 
 pub loop-preserved : goal.loop-preserved
@@ -16,8 +17,9 @@ loop-preserved g c =
     record {
       pieces = piece.pieces ∙ ap (λ n. n + 1) c.loop.invariant.pieces;
       kind = piece.kind ∙ c.loop.invariant.kind;
-      moves = λ form first taken t h.
-          moves_twice form first (in_view g.I.Source c.loop.place) (in_view g.I.Source c.take_piece.new.place) taken t c.args.line.now c.loop.line c.take_piece.new.line
-          c.args.watched.now.items c.loop.watched.items c.take_piece.new.watched.items
-          (c.loop.invariant.moves form first taken t h) (λ stands. piece.moves form first (taken ++ (c.loop.invariant.moves form first taken t h).came) t stands);
+      few = piece.few;
+      moves = λ form first taken h.
+          moves_twice form first (in_view g.I.Source c.loop.place) (in_view g.I.Source c.take_piece.new.place) taken c.args.t c.args.line.now c.loop.line c.take_piece.new.line
+          c.args.watched.now.items c.loop.watched.items c.take_piece.new.watched.items c.loop.msi.items c.take_piece.new.msi.items
+          (c.loop.invariant.moves form first taken h) (λ stands. piece.moves form first (taken ++ (c.loop.invariant.moves form first taken h).came) stands);
     }

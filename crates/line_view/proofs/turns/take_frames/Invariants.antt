@@ -1,4 +1,4 @@
-use Rattle.std.proofs.Common.{◌≡◌, ℕ, List}
+use Rattle.std.proofs.Common.{◌≡◌, ◌≤◌, ℕ, List, length}
 use Rattle.otn_ports.specs.InPlace.{in_view}
 use Rattle.otn_ports.specs.Views.{InView}
 use Rattle.line_side.specs.LineForm.{LineForm}
@@ -10,6 +10,7 @@ abbrev pub invariant-loop : goal.invariant-loop
 invariant-loop g l = record {
   pieces : l.line.pieces ≡ l.counter;
   kind : l.line.kind ≡ l.fn.kind;
-  moves : (form : LineForm) (first : InView) (taken : List ℕ) (t : ℕ) → ViewStands form first (in_view g.I.Source l.fn.place) taken t l.fn.line l.fn.watched.items
-      → ViewMoves form first (in_view g.I.Source l.place) taken t l.fn.line l.line l.fn.watched.items l.watched.items;
+  few : length l.msi.items ≤ l.line.pieces;
+  moves : (form : LineForm) (first : InView) (taken : List ℕ) → ViewStands form first (in_view g.I.Source l.fn.place) taken l.t l.fn.line l.fn.watched.items l.fn.msi.items
+      → ViewMoves form first (in_view g.I.Source l.place) taken l.t l.fn.line l.line l.fn.watched.items l.watched.items l.msi.items;
 }

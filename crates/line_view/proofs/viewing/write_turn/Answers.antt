@@ -12,8 +12,10 @@ returns-then-eq-clause-run g c = λ form first taken h.
     let lost : c.write_lines.result ≡ written.Lost = search rules in
     record {
       seen = seen;
-      moves = c.do_turn-seen.ensures.moves form first taken c.args.t h;
+      msi = c.do_turn-seen.new.msi.items;
+      moves = c.do_turn-seen.ensures.moves form first taken h;
       wrote =
-          subst (λ r. SinkWrites r old (lines_of (c.args.t + 1) seen c.do_turn-seen.new.watched.items) new) lost
-          (subst (λ xs. SinkWrites c.write_lines.result old (lines_of (c.args.t + 1) seen xs) new) c.as_slice.ensures.value c.write_lines.ensures);
+          subst (λ r. SinkWrites r old (lines_of c.args.t seen c.do_turn-seen.new.msi.items c.do_turn-seen.new.watched.items) new) lost
+          (subst (λ xs. SinkWrites c.write_lines.result old (lines_of c.args.t seen c.do_turn-seen.new.msi.items xs) new) c.as_slice-2.ensures.value
+          (subst (λ ms. SinkWrites c.write_lines.result old (lines_of c.args.t seen ms c.as_slice-2.result.now) new) c.as_slice.ensures.value c.write_lines.ensures));
     }

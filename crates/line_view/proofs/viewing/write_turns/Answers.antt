@@ -5,7 +5,7 @@ use Rattle.otn_ports.specs.PortViews.{SinkWrites, sink_view}
 use Rattle.otn_ports.specs.declared.drain.Written.TheVariants as written
 use Rattle.line_side.specs.LineForm.{LineForm}
 use Rattle.line_view.specs.ViewText.{head_line}
-use Rattle.line_view.specs.Watching.{own_of}
+use Rattle.line_view.specs.Watching.{showing_of}
 use Rattle.line_view.specs.declared.viewing.After.TheVariants as next
 use Rattle.line_view.proofs.Runs.{TurnsSoFar, turns_none, turns_more, head_lost, turns_lost, turns_end}
 use Rattle.line_view.proofs.viewing.write_turns.Goals as goal
@@ -14,7 +14,7 @@ pub returns-then-eq : goal.returns-then-eq
 returns-then-eq g c = λ stands.
     let form : LineForm = record { kind = c.args.kind; scrambled = c.args.scrambled } in
     let lost : c.write_head.result ≡ written.Lost = search rules in
-    head_lost form (map own_of c.args.watched.now.items) (in_view g.I.Source c.args.place.now) (sink_view g.K.Sink c.args.report.now) (sink_view g.K.Sink c.write_head.new.report)
+    head_lost form (map showing_of c.args.watched.now.items) (in_view g.I.Source c.args.place.now) (sink_view g.K.Sink c.args.report.now) (sink_view g.K.Sink c.write_head.new.report)
     (subst (λ r. SinkWrites r (sink_view g.K.Sink c.args.report.now) (head_line c.args.kind c.args.scrambled) (sink_view g.K.Sink c.write_head.new.report)) lost c.write_head.ensures)
 
 pub loop-t-init : goal.loop-t-init
@@ -42,7 +42,7 @@ loop-t-preserved g c =
           let first = in_view g.I.Source c.args.place.now in
           let h = c.loop-t.invariant.so_far stands in
           let run = step.run form first h.0.taken h.0.stands in
-          turns_more form (map own_of c.args.watched.now.items) first (in_view g.I.Source c.loop-t.place) (in_view g.I.Source c.write_turn.new.place) c.loop-t.t c.loop-t.line c.write_turn.new.line
+          turns_more form (map showing_of c.args.watched.now.items) first (in_view g.I.Source c.loop-t.place) (in_view g.I.Source c.write_turn.new.place) c.loop-t.t c.loop-t.line c.write_turn.new.line
           c.loop-t.watched.items c.write_turn.new.watched.items
           (sink_view g.K.Sink c.args.report.now) (sink_view g.K.Sink c.loop-t.report) (sink_view g.K.Sink c.write_turn.new.report) false next.NextTurn h.0 h.1 run run.wrote;
     }
@@ -52,9 +52,9 @@ returns-in-ReportFailed g c = λ stands.
     let form : LineForm = record { kind = c.args.kind; scrambled = c.args.scrambled } in
     let first = in_view g.I.Source c.args.place.now in
     let h = c.loop-t.invariant.so_far stands in
-    turns_lost form (map own_of c.args.watched.now.items) first (in_view g.I.Source c.loop-t.place) (in_view g.I.Source c.write_turn.new.place) c.loop-t.t c.loop-t.line c.write_turn.new.line
+    turns_lost form (map showing_of c.args.watched.now.items) first (in_view g.I.Source c.loop-t.place) (in_view g.I.Source c.write_turn.new.place) c.loop-t.t c.loop-t.line c.write_turn.new.line
     c.loop-t.watched.items c.write_turn.new.watched.items
-    (sink_view g.K.Sink c.args.report.now) (sink_view g.K.Sink c.loop-t.report) (sink_view g.K.Sink c.write_turn.new.report) h.0 h.1 c.loop-t-test.true
+    (sink_view g.K.Sink c.args.report.now) (sink_view g.K.Sink c.loop-t.report) (sink_view g.K.Sink c.write_turn.new.report) h.0 h.1 c.loop-t-test.true c.in-ReportFailed.ensures.between
     (c.in-ReportFailed.ensures.run form first h.0.taken h.0.stands)
 
 pub returns-in-LineEnded : goal.returns-in-LineEnded
@@ -64,10 +64,10 @@ returns-in-LineEnded g c = λ stands.
     let now = in_view g.I.Source c.write_turn.new.place in
     let h = c.loop-t.invariant.so_far stands in
     let run = c.in-LineEnded.ensures.run form first h.0.taken h.0.stands in
-    let k = turns_more form (map own_of c.args.watched.now.items) first (in_view g.I.Source c.loop-t.place) now c.loop-t.t c.loop-t.line c.write_turn.new.line
+    let k = turns_more form (map showing_of c.args.watched.now.items) first (in_view g.I.Source c.loop-t.place) now c.loop-t.t c.loop-t.line c.write_turn.new.line
     c.loop-t.watched.items c.write_turn.new.watched.items
     (sink_view g.K.Sink c.args.report.now) (sink_view g.K.Sink c.loop-t.report) (sink_view g.K.Sink c.write_turn.new.report) true next.LineEnded h.0 h.1 run run.wrote in
-    turns_end c.finish.result form (map own_of c.args.watched.now.items) first now (in_view g.I.Source c.finish.new.place) (c.loop-t.t + 1) c.write_turn.new.line c.write_turn.new.watched.items
+    turns_end c.finish.result form (map showing_of c.args.watched.now.items) first now (in_view g.I.Source c.finish.new.place) (c.loop-t.t + 1) c.write_turn.new.line c.write_turn.new.watched.items
     (sink_view g.K.Sink c.args.report.now) (sink_view g.K.Sink c.write_turn.new.report) (sink_view g.K.Sink c.finish.new.report) k.0 (omega (arith, c.loop-t-test.true)) (λ given may. inl (k.1 given may)) c.in-LineEnded.ensures.between c.finish.ensures
 
 pub returns : goal.returns
@@ -77,7 +77,7 @@ returns g c = λ stands.
     let now = in_view g.I.Source c.loop-t.place in
     let h = c.loop-t.invariant.so_far stands in
     let last : c.loop-t.t ≡ 16384 = omega (arith, c.loop-t-test.false, c.loop-t.auto.t-end) in
-    turns_end c.finish-2.result form (map own_of c.args.watched.now.items) first now (in_view g.I.Source c.finish-2.new.place) 16384 c.loop-t.line c.loop-t.watched.items
+    turns_end c.finish-2.result form (map showing_of c.args.watched.now.items) first now (in_view g.I.Source c.finish-2.new.place) 16384 c.loop-t.line c.loop-t.watched.items
     (sink_view g.K.Sink c.args.report.now) (sink_view g.K.Sink c.loop-t.report) (sink_view g.K.Sink c.finish-2.new.report)
-    (subst (λ n. TurnsSoFar form (map own_of c.args.watched.now.items) first now n c.loop-t.line c.loop-t.watched.items (sink_view g.K.Sink c.args.report.now) (sink_view g.K.Sink c.loop-t.report)) last h.0)
+    (subst (λ n. TurnsSoFar form (map showing_of c.args.watched.now.items) first now n c.loop-t.line c.loop-t.watched.items (sink_view g.K.Sink c.args.report.now) (sink_view g.K.Sink c.loop-t.report)) last h.0)
     (omega arith) (λ given may. inr refl) c.loop-t.invariant.between c.finish-2.ensures

@@ -4,7 +4,7 @@ use Rattle.otn_ports.specs.InPlace.{in_view}
 use Rattle.otn_ports.specs.PortViews.{sink_view}
 use Rattle.otn_ports.specs.Views.{InView}
 use Rattle.line_view.specs.Viewing.{ViewStands}
-use Rattle.line_view.specs.Watching.{own_of}
+use Rattle.line_view.specs.Watching.{showing_of}
 use Rattle.line_view.proofs.Runs.{TurnsSoFar, HasLast}
 use Rattle.line_view.proofs.viewing.write_turns.Given as goal
 
@@ -14,8 +14,8 @@ invariant-loop-t g l = record {
   kind : l.line.kind ≡ l.fn.kind;
   between : l.line.pieces ≡ 0;
   room : length l.room ≡ length l.fn.room;
-  so_far : ((first : InView) → ViewStands (record { kind = l.fn.kind; scrambled = l.fn.scrambled }) first first [] 0 l.fn.line l.fn.watched.items)
-      → (h : TurnsSoFar (record { kind = l.fn.kind; scrambled = l.fn.scrambled }) (map own_of l.fn.watched.items) (in_view g.I.Source l.fn.place) (in_view g.I.Source l.place) l.t l.line l.watched.items
+  so_far : ((first : InView) → ViewStands (record { kind = l.fn.kind; scrambled = l.fn.scrambled }) first first [] 0 l.fn.line l.fn.watched.items [])
+      → (h : TurnsSoFar (record { kind = l.fn.kind; scrambled = l.fn.scrambled }) (map showing_of l.fn.watched.items) (in_view g.I.Source l.fn.place) (in_view g.I.Source l.place) l.t l.line l.watched.items
       (sink_view g.K.Sink l.fn.report) (sink_view g.K.Sink l.report))
       × HasLast (record { kind = l.fn.kind; scrambled = l.fn.scrambled }) l.t l.line h.taken false;
 }

@@ -8,7 +8,7 @@ loop-one-preserved c =
     let olds = c.args.watched.now.items in
     let news = c.loop-one.one-items in
     let i = c.loop-one.one-index in
-    let Goes = EndedTurn c.args.whole in
+    let Goes = EndedTurn c.args.t c.args.whole in
     let count : length news ≡ length olds = c.loop-one.invariant.gone.count in
     let less : i < length olds = (let test = c.loop-one-test.true in omega arith) in
     record {
@@ -21,7 +21,7 @@ returns-clause-turn c =
     let olds = c.args.watched.now.items in
     let news = c.loop-one.one-items in
     let i = c.loop-one.one-index in
-    let Goes = EndedTurn c.args.whole in
+    let Goes = EndedTurn c.args.t c.args.whole in
     let count : length news ≡ length olds = c.loop-one.invariant.gone.count in
     let most : length olds ≤ i = (let test = c.loop-one-test.false in omega arith) in
     let whole : take c.args.watched.now.len (news ++ drop (length news) olds) ≡ news = put_back news olds c.args.watched.now.len (search rules) count in
