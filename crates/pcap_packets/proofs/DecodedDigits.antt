@@ -1,11 +1,11 @@
 -- Digits that are decoded block by block, and the record that is made of them.
-use Rattle.std.proofs.Common.{◌≡◌, ◌≢◌, ℕ, zero, suc, ◌+◌, ◌-◌, ◌*◌, ◌/◌, ◌%◌, ◌<◌, ◌≤◌, ◌⊎◌, inl, inr, not, nat_lt, Bool, true, false, List, [], ◌∷◌, ◌++◌, map, length, take, drop, get_or, slice_index, replicate, refl, sym, ap, ◌∙◌, arith, length-drop, length-append, append_assoc, append-nil}
+use Rattle.std.proofs.Common.{◌≡◌, ℕ, zero, suc, ◌+◌, ◌-◌, ◌*◌, ◌/◌, ◌%◌, ◌<◌, ◌≤◌, ◌⊎◌, inl, inr, not, nat_lt, true, List, [], ◌∷◌, ◌++◌, map, length, take, drop, get_or, replicate, refl, sym, ap, ◌∙◌, arith, length-drop, length-append, append_assoc}
 use Rattle.std.specs.List.{prefix_len}
 use Rattle.std.specs.Int.{to_le_bytes, w32}
 use Rattle.std.proofs.lemmas.Bool.{and_parts, cases_lt}
-use Rattle.std.proofs.lemmas.List.{take_all, ext_get_or, length-map, length-take-le, take-take, drop-take, drop-drop, get_or-take, get_or-drop, get_or-append_right, take-append-le, take_at, drop_at, take-append-drop}
+use Rattle.std.proofs.lemmas.List.{ext_get_or, length-map, length-take-le, take-take, drop-take, drop-drop, get_or-take, get_or-drop, get_or-append_right, take-append-le, take_at, drop_at}
 use Rattle.std.proofs.Math.Seq.{take-add}
-use Rattle.std.proofs.lemmas.Simd.{put_chunk_is, length-replicate, get_or-replicate}
+use Rattle.std.proofs.lemmas.Simd.{put_chunk_is, get_or-replicate}
 use lib.Lanes.{put_chunk}
 use Rattle.packet_text.specs.DigitMarks.{sixteen, byte_of}
 use Rattle.packet_text.proofs.DigitLanes.{get_sixteen}
@@ -13,10 +13,10 @@ use Rattle.pcap_packets.specs.Written.{is_lower_digit, all_lower, packet_of, rec
 use Rattle.pcap_packets.specs.Gathering.{is_whole_line, OneMore}
 use Rattle.pcap_packets.specs.HeldBytes.{held}
 use Rattle.pcap_packets.specs.declared.held.Held.{Held}
-use Rattle.pcap_packets.specs.Decoding.{worth, thirty_two, Decoded, header_of}
+use Rattle.pcap_packets.specs.Decoding.{worth, Decoded, header_of}
 use Rattle.pcap_packets.proofs.Digits.{all_lower-none, length-packet_of}
 use Rattle.pcap_packets.proofs.ManyLines.{lower_block, whole_line-is}
-use Rattle.pcap_packets.proofs.LowerLanes.{run_lower, few_run, bytes_of, packet_bytes, bytes-append, length-bytes_of, bytes_at, get_thirty_two}
+use Rattle.pcap_packets.proofs.LowerLanes.{run_lower, few_run, bytes_of, packet_bytes, bytes-append, length-bytes_of, bytes_at}
 
 -- ---- nothing, and more
 

@@ -1,22 +1,20 @@
 -- What vectors of bytes are worth as digits of lower case, and the bytes that their pairs say.
-use Rattle.std.proofs.Common.{◌≡◌, ℕ, zero, suc, ◌+◌, ◌-◌, ◌*◌, ◌/◌, ◌%◌, ◌^◌, ◌<◌, ◌≤◌, ◌==◌, ◌&&◌, ◌≢◌, nat_lt, Bool, true, false, not, cond, ltb, if◌then◌else◌, List, [], ◌∷◌, ◌++◌, map, length, take, drop, get_or, slice_index, replicate, Option, Some, None, Ok, unwrap_or, refl, sym, ap, ◌∙◌, arith, w8, Fits}
+use Rattle.std.proofs.Common.{◌≡◌, ℕ, zero, suc, ◌+◌, ◌*◌, ◌/◌, ◌%◌, ◌^◌, ◌<◌, ◌≤◌, ◌==◌, ◌&&◌, ◌≢◌, nat_lt, Bool, true, false, not, cond, ltb, if◌then◌else◌, List, [], ◌∷◌, ◌++◌, map, length, take, get_or, replicate, Ok, unwrap_or, refl, sym, ap, ◌∙◌, arith, w8, Fits}
 use Rattle.std.specs.List.{prefix_len}
 use Rattle.std.proofs.lemmas.Bool.{and_parts, and_from, agree_below_at, eqb-true}
-use Rattle.std.proofs.lemmas.Bool.Decides.{nat_tests}
 use Rattle.std.proofs.lemmas.List.Sums.{prefix_len-le-length}
-use Rattle.std.proofs.lemmas.List.{ext_get_or, get_or-map, length-map, length-take-le, get_or-take}
+use Rattle.std.proofs.lemmas.List.{length-map}
 use Rattle.std.proofs.lemmas.Simd.{zip2_splat, tops_compared, map-map, splat_is_map, zip2_splat_left, mask_l-mod, leading_from_mask_l, trailing_mask_l}
 use lib.Count.{count_trailing_zeros}
 use lib.Lanes.{zip2, sel_l, mask_l, top, Each1}
-use Rattle.hex.specs.Hex.{decode_of, decode_pairs, hex_digit_value, pair_value}
+use Rattle.hex.specs.Hex.{decode_pairs, pair_value}
 use Rattle.hex.proofs.Pairs.{decode_pairs-ok_pair, cons_byte}
 use Rattle.hex.proofs.HexLemmas.{decode_of-even}
 use Rattle.packet_text.specs.PacketText.{decoded}
-use Rattle.packet_text.specs.DigitMarks.{sixteen, byte_of}
-use Rattle.packet_text.proofs.DigitLanes.{get_sixteen}
+use Rattle.packet_text.specs.DigitMarks.{byte_of}
 use Rattle.pcap_packets.specs.Written.{is_lower_digit, all_lower, packet_of}
 use Rattle.pcap_packets.specs.Decoding.{worth, less_by, thirty_two}
-use Rattle.pcap_packets.proofs.Digits.{LowerDigit, lower_digit}
+use Rattle.pcap_packets.proofs.Digits.{lower_digit}
 
 -- ---- what one byte is worth
 

@@ -1,4 +1,4 @@
-use Rattle.std.proofs.Common.{◌≡◌, ◌∙◌, ◌≤◌, ap, not, nat_lt, length, take, map, slice_index, arith}
+use Rattle.std.proofs.Common.{◌≡◌, ◌∙◌, ap, not, nat_lt, length, take, slice_index, arith}
 use Rattle.std.specs.List.{prefix_len}
 use Rattle.std.proofs.lemmas.List.{length-map, length-take-le}
 use Rattle.pcap_packets.specs.Decoding.{worth}
