@@ -1,5 +1,6 @@
 pub mod Agreements
 pub mod LineAnswers
+pub mod OfAvailable
 pub mod PullCarried
 pub mod PullDamaged
 pub mod PullReport

@@ -11,6 +11,7 @@ ghost use Rattle.command_base.specs.Device.{Device, line_zero};
 ghost use Rattle.command_base.specs.declared.status.Status.{Status};
 ghost use Rattle.line_commands.specs.Agreements.{AgreeOnSlot};
 ghost use Rattle.line_commands.specs.LineAnswers.{PullRan, SlotRan};
+ghost use Rattle.line_commands.specs.OfAvailable.{OfAllAvailable, OfAvailable};
 ghost use Rattle.line_commands.specs.PullCarried.{BeginsWithWhatIsCarried, IsTheWholeGroups, HasWhatIsCarriedAfterDamage};
 ghost use Rattle.line_commands.specs.PullDamaged.{WritesAsIfRepeated};
 ghost use Rattle.line_commands.specs.PullReport.{LeavesBytes, StoppedInTurn, bytes_taken, pull_report, tributary};
@@ -22,22 +23,18 @@ ghost use Rattle.line_commands.specs.SlotReport.{HasBytesBehind, StoppedInFrame,
 /// most frames and one byte more at most (`took`). After ReportFault the last frame taken is the one whose slot was
 /// being written (`stopped`).
 pub fn slot_of_given()
-    ensures report { (slot : ℕ) (old new : Device) (answer : Status) (given : List ℕ) → SlotRan slot old new answer
-        → HadToGive (line_zero old) (line_zero new) given
-        → Reports answer old.report.got new.report.got (slot_report slot given) }
-    ensures unfinished { (slot : ℕ) (old new : Device) (answer : Status) (given : List ℕ) → SlotRan slot old new answer
-        → answer ≢ Status.ReportFault
-        → HadToGive (line_zero old) (line_zero new) given
-        → (answer ≡ Status.Unfinished) ↔ (((line_zero new).state ≢ Dead) × HasBytesBehind (length given)) }
+    ensures report { (slot : ℕ) → OfAvailable (SlotRan slot) (λ old new answer available.
+        Reports answer old.report.got new.report.got (slot_report slot available)) }
+    ensures unfinished { (slot : ℕ) → OfAllAvailable (SlotRan slot) (λ old new answer available.
+        (answer ≡ Status.Unfinished) ↔ (((line_zero new).state ≢ Dead) × HasBytesBehind (length available))) }
     ensures counted { (slot : ℕ) (old new : Device) (answer : Status) → SlotRan slot old new answer
         → answer ≢ Status.ReportFault
         → (line_zero new).number < 2 ^ 64 - 1
         → (answer ≡ Status.Unfinished) ↔ (((line_zero new).state ≢ Dead)
         × HasBytesBehind ((line_zero new).number - (line_zero old).number)) }
-    ensures took { (slot : ℕ) (old new : Device) (answer : Status) (given : List ℕ) → SlotRan slot old new answer
-        → answer ≢ Status.ReportFault
-        → HadToGive (line_zero old) (line_zero new) given → (line_zero new).number < 2 ^ 64 - 1
-        → (line_zero new).number - (line_zero old).number ≡ min (length given) most_taken }
+    ensures took { (slot : ℕ) → OfAllAvailable (SlotRan slot) (λ old new answer available.
+        (line_zero new).number < 2 ^ 64 - 1
+        → (line_zero new).number - (line_zero old).number ≡ min (length available) most_taken) }
     ensures stopped { (slot : ℕ) (old new : Device) (given : List ℕ) → SlotRan slot old new Status.ReportFault
         → HadToGive (line_zero old) (line_zero new) given → (line_zero new).number < 2 ^ 64 - 1
         → StoppedInFrame slot given ((line_zero new).number - (line_zero old).number) old.report.got new.report.got }
@@ -47,23 +44,18 @@ pub fn slot_of_given()
 /// (`unfinished`), or where a part of a frame was taken (`counted`). After ReportFault the last turn carried out is the
 /// one whose bytes were being written (`stopped`).
 pub fn pull_of_given()
-    ensures report { (own : Tributary) (old new : Device) (answer : Status) (given : List ℕ)
-        → PullRan own old new answer
-        → HadToGive (line_zero old) (line_zero new) given
-        → Reports answer old.report.got new.report.got (pull_report own given) }
-    ensures unfinished { (own : Tributary) (old new : Device) (answer : Status) (given : List ℕ)
-        → PullRan own old new answer → answer ≢ Status.ReportFault
-        → HadToGive (line_zero old) (line_zero new) given
-        → (answer ≡ Status.Unfinished) ↔ (((line_zero new).state ≢ Dead) × LeavesBytes given) }
+    ensures report { (own : Tributary) → OfAvailable (PullRan own) (λ old new answer available.
+        Reports answer old.report.got new.report.got (pull_report own available)) }
+    ensures unfinished { (own : Tributary) → OfAllAvailable (PullRan own) (λ old new answer available.
+        (answer ≡ Status.Unfinished) ↔ (((line_zero new).state ≢ Dead) × LeavesBytes available)) }
     ensures counted { (own : Tributary) (old new : Device) (answer : Status) → PullRan own old new answer
         → answer ≢ Status.ReportFault
         → (line_zero new).number < 2 ^ 64 - 1
         → (answer ≡ Status.Unfinished) ↔ (((line_zero new).state ≢ Dead)
         × (0 < ((line_zero new).number - (line_zero old).number) % LINE_FRAME_BYTES)) }
-    ensures took { (own : Tributary) (old new : Device) (answer : Status) (given : List ℕ) → PullRan own old new answer
-        → answer ≢ Status.ReportFault
-        → HadToGive (line_zero old) (line_zero new) given → (line_zero new).number < 2 ^ 64 - 1
-        → (line_zero new).number - (line_zero old).number ≡ bytes_taken given }
+    ensures took { (own : Tributary) → OfAllAvailable (PullRan own) (λ old new answer available.
+        (line_zero new).number < 2 ^ 64 - 1
+        → (line_zero new).number - (line_zero old).number ≡ bytes_taken available) }
     ensures stopped { (own : Tributary) (old new : Device) (given : List ℕ) → PullRan own old new Status.ReportFault
         → HadToGive (line_zero old) (line_zero new) given → (line_zero new).number < 2 ^ 64 - 1
         → (t : ℕ) × StoppedInTurn own given

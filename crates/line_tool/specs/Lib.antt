@@ -1,4 +1,5 @@
 pub mod Answers
+pub mod FaultlessLaws
 pub mod ProtectLaws
 pub mod BundleLaws
 pub mod UnbundleLaws

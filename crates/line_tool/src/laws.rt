@@ -1,18 +1,12 @@
 // Laws over what the commands answer for.
-ghost use Rattle.std.specs.Prelude.{◌≡◌, ◌≢◌, ◌⊎◌, ℕ};
-ghost use Rattle.otn_ports.specs.PortViews.{SinkView};
-ghost use Rattle.otn_ports.specs.Views.{Dead};
-ghost use Rattle.plan_file.specs.declared.error.PlanError.{PlanError};
+ghost use Rattle.std.specs.Prelude.{ℕ};
 ghost use Rattle.tributary_model.specs.Places.{Tributary};
-ghost use Rattle.command_base.specs.AnswerWords.{IsWell};
-ghost use Rattle.command_base.specs.Device.{Device, line_zero};
-ghost use Rattle.command_base.specs.declared.status.Status.{Status};
-ghost use Rattle.line_tool.specs.Answers.{CheckAnswers, LineAnswers, PullRan, SlotRan};
+ghost use Rattle.line_tool.specs.Answers.{PullRan, SlotRan};
+ghost use Rattle.line_tool.specs.FaultlessLaws.{CheckIsComplete, LineIsComplete, TrialIsComplete};
 ghost use Rattle.line_tool.specs.ProtectLaws.{ProtectIsComplete, ProtectsWhatWasGiven};
 ghost use Rattle.line_tool.specs.BundleLaws.{BundleIsComplete, BundlesWhatWasGiven};
 ghost use Rattle.line_tool.specs.UnbundleLaws.{UnbundleIsComplete, UnbundlesWhatWasGiven};
 ghost use Rattle.run_command.specs.RunLaws.{RunEndsByInputs, RunIsComplete};
-ghost use Rattle.trial_command.specs.TrialAnswers.{TrialAnswers};
 
 /// `protect`, by all bytes that line inputs 0 and 1 had to give, where they tell them: what was due to line output 0,
 /// what the report got, how the command ended, and how many bytes of each line were taken.
@@ -38,24 +32,13 @@ pub fn unbundle_of_given()
 /// its three places, `bundle`, of its clients and its line output, and `unbundle`, of its line and all client outputs.
 /// `trial` is Done, or there was no memory.
 pub fn without_faults()
-    ensures slot { (slot : ℕ) (old new : Device) (answer : Status) → LineAnswers (SlotRan slot) old new answer
-        → IsWell old.report.faults new.report.faults → IsWell (line_zero old).faults (line_zero new).faults
-        → (line_zero old).state ≢ Dead
-        → (answer ≡ Status.Done) ⊎ (answer ≡ Status.Unfinished) ⊎ (answer ≡ Status.Memory) }
-    ensures pull { (own : Tributary) (old new : Device) (answer : Status) → LineAnswers (PullRan own) old new answer
-        → IsWell old.report.faults new.report.faults → IsWell (line_zero old).faults (line_zero new).faults
-        → (line_zero old).state ≢ Dead
-        → (answer ≡ Status.Done) ⊎ (answer ≡ Status.Unfinished) ⊎ (answer ≡ Status.Memory) }
-    ensures check { (old new : Device) (answer : Status) → CheckAnswers old new answer
-        → IsWell old.report.faults new.report.faults → IsWell old.plan.faults new.plan.faults
-        → (answer ≡ Status.Done) ⊎ ((error : PlanError) × (place : ℕ) × (answer ≡ Status.Plan error place))
-        ⊎ (answer ≡ Status.Memory) }
+    ensures slot { (slot : ℕ) → LineIsComplete (SlotRan slot) }
+    ensures pull { (own : Tributary) → LineIsComplete (PullRan own) }
+    ensures check { CheckIsComplete }
     ensures run { RunIsComplete }
     ensures ends { RunEndsByInputs }
     ensures protect { ProtectIsComplete }
     ensures bundle { BundleIsComplete }
     ensures unbundle { UnbundleIsComplete }
-    ensures trial { (number : ℕ) (old new : SinkView) (asked asked_now : ℕ) (answer : Status)
-        → TrialAnswers number old new asked asked_now answer
-        → IsWell old.faults new.faults → (answer ≡ Status.Done) ⊎ (answer ≡ Status.Memory) }
+    ensures trial { TrialIsComplete }
 {}

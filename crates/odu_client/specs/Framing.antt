@@ -11,7 +11,7 @@ use Rattle.packet_text.specs.PacketText.{packets_of}
 use Rattle.packet_text.specs.declared.line.Line.{Line}
 use Rattle.packet_text.specs.declared.line.Line.TheVariants.{Packet, End, Lost}
 use Rattle.odu_client.specs.ClientFrames.{client_frames, frames_begun, stream_part}
-use Rattle.odu_client.specs.ClientInput.{gfp_length}
+use Rattle.odu_client.specs.ClientInput.{ClientInput, input_of, gfp_length}
 use Rattle.otn_base.specs.declared.limits.TheConstants.{CLIENT_COLUMNS, CLIENT_PAYLOAD_BYTES}
 
 -- what is seen of a stream of GFP frames: its maker, whether its packets have FCS, the last answer of the text's lines,
@@ -87,3 +87,15 @@ pub record Fills (first now : InView) (taken gone bytes : List ℕ) (old new : L
 pub record MayDie (answer : Line) (died : Bool) : Type 0 where
   pub ended : answer ≡ End → died ≡ false
   pub lost : answer ≡ Lost → died ≡ true
+
+-- What holds of a framer wherever it stands in its client's stream: of every text that it may be, as far as its lines
+-- were read, and of how many bytes of the stream were emitted.
+abbrev pub OfItsText : FramerState → ((text : List ℕ) → (emitted : ℕ) → Type 0) → Type 0
+OfItsText framer Holds = (first now : InView) (read emitted : List ℕ) (lines : LinesView) (text : List ℕ)
+    → ClientStands first now read emitted lines framer → MayBe lines read text → Holds text (length emitted)
+
+-- the same of the client's input, which is such a text and whether its place died
+abbrev pub OfItsInput : FramerState → ((input : ClientInput) → (emitted : ℕ) → Type 0) → Type 0
+OfItsInput framer Holds = (first now : InView) (read emitted : List ℕ) (lines : LinesView) (died : Bool) (text : List ℕ)
+    → ClientStands first now read emitted lines framer → MayBe lines read text → MayDie lines.answer died
+    → Holds (input_of died text) (length emitted)

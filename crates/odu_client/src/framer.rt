@@ -1,12 +1,12 @@
 // The frames of a client out of its text.
-ghost use Rattle.std.specs.Prelude.{◌≡◌, ◌≢◌, ◌<◌, ◌≤◌, ◌+◌, ◌⊎◌, ℕ, Bool, List, [], ◌∷◌, ◌++◌, true, false, length, take, drop, IfOk, Option, option_map};
+ghost use Rattle.std.specs.Prelude.{◌≡◌, ◌≢◌, ◌<◌, ◌≤◌, ◌+◌, ◌⊎◌, ℕ, List, [], ◌∷◌, ◌++◌, true, false, length, take, drop, IfOk, Option, option_map};
 ghost use Rattle.otn_ports.specs.InPlace.{in_view};
 ghost use Rattle.otn_ports.specs.Views.{InView};
-ghost use Rattle.packet_text.specs.LinesStand.{LinesView, lines_view, fresh_lines, LinesStand, MayBe};
+ghost use Rattle.packet_text.specs.LinesStand.{lines_view, fresh_lines};
 ghost use Rattle.otn_base.specs.Counts.{saturated};
 ghost use Rattle.packet_text.specs.PacketText.{packets_of};
-ghost use Rattle.odu_client.specs.ClientInput.{input_of, is_spent, bad_line, packets_begun};
-ghost use Rattle.odu_client.specs.Framing.{FramerState, ClientStands, Fills, MayDie, TextStands};
+ghost use Rattle.odu_client.specs.ClientInput.{is_spent, bad_line, packets_begun};
+ghost use Rattle.odu_client.specs.Framing.{FramerState, ClientStands, Fills, OfItsInput, OfItsText};
 ghost use Rattle.odu_client.specs.FramerSteps.{fresh_framer};
 ghost use Rattle.odu_client.specs.Steps.FramerSteps.{FramedSome, Makes, Gives};
 ghost use Rattle.otn_base.specs.declared.limits.TheConstants.{CLIENT_FRAME_BYTES};
@@ -105,10 +105,7 @@ impl ClientFramer {
 
     /// Whether the text has ended, and the frame in which that was seen is gone whole.
     pub fn spent(&self) -> bool
-        ensures { (first now : InView) (taken gone : List ℕ) (lines : LinesView) (died : Bool) (text : List ℕ)
-            → ClientStands first now taken gone lines self.now
-            → MayBe lines taken text → MayDie lines.answer died
-            → result ≡ is_spent (input_of died text) self.now.stream.fcs (length gone) }
+        ensures { OfItsInput self.now (λ input emitted. result ≡ is_spent input self.now.stream.fcs emitted) }
     {
         match self.stream.answer() {
             Line::End => self.is_gone(),
@@ -119,20 +116,16 @@ impl ClientFramer {
     /// How many packets are begun: the first byte of their GFP frame stands in a frame that was made. The count stops
     /// at 2^64-1.
     pub fn packets(&self) -> u64
-        ensures { (first now : InView) (taken gone : List ℕ) (lines : LinesView) (text : List ℕ)
-            → ClientStands first now taken gone lines self.now
-            → MayBe lines taken text → result
-            ≡ saturated (packets_begun (packets_of text).packets self.now.stream.fcs (length gone)) }
+        ensures { OfItsText self.now (λ text emitted.
+            result ≡ saturated (packets_begun (packets_of text).packets self.now.stream.fcs emitted)) }
     {
         self.stream.packets()
     }
 
     /// The number of the bad line, from 1, once it is seen.
     pub fn bad(&self) -> Option<u64>
-        ensures { (first now : InView) (taken gone : List ℕ) (lines : LinesView) (died : Bool) (text : List ℕ)
-            → ClientStands first now taken gone lines self.now
-            → MayBe lines taken text → MayDie lines.answer died
-            → result ≡ option_map saturated (bad_line (input_of died text) self.now.stream.fcs (length gone)) }
+        ensures { OfItsInput self.now (λ input emitted.
+            result ≡ option_map saturated (bad_line input self.now.stream.fcs emitted)) }
     {
         match self.stream.answer() {
             Line::Bad(number) => Some(number),

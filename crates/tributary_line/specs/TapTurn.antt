@@ -26,6 +26,13 @@ pub record TapStands (own : Tributary) (first now : InView) (taken : List ℕ) (
   pub sink : (given : List ℕ) → MayBe false tap.line.reader.ending taken given
       → StandsAfter own (views_until own given t) (frames_in OTU2_SLOTS given t tap.line.pieces) tap.sink
 
+-- What holds of a tap in the turn in which it stands, t + 1, whichever that is and whatever its line may turn out to
+-- have: `available` are all bytes of the line.
+abbrev pub OfItsTurn : TapView → ((own : Tributary) → (available : List ℕ) → (t : ℕ) → Type 0) → Type 0
+OfItsTurn tap Holds = (own : Tributary) (first now : InView) (read : List ℕ) (t : ℕ)
+    → TapStands own first now read t tap
+    → (available : List ℕ) → MayBe false tap.line.reader.ending read available → Holds own available t
+
 -- the line is an OTU2 line, the sink one of such a line, and as many frames were taken by it as the line's turn has
 -- come to
 pub record IsInStep (n : ℕ) (tap : TapView) : Type 0 where

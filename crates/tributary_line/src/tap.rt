@@ -4,7 +4,6 @@ ghost use Rattle.otn_ports.specs.InPlace.{in_view};
 ghost use Rattle.otn_ports.specs.Views.{InView};
 ghost use Rattle.tributary_model.specs.Places.{Tributary, tributary_of};
 ghost use Rattle.tributary_model.specs.Stretches.{state_after};
-ghost use Rattle.line_side.specs.MayBe.{MayBe};
 ghost use Rattle.otn_ports.specs.Asked.{ByteAnswer};
 ghost use Rattle.device_model.specs.LineAsked.{is_seen};
 ghost use Rattle.device_model.specs.LineViews.{views_until};
@@ -27,7 +26,7 @@ pub struct Tap {
     sink: TribSink,
 }
 
-ghost use Rattle.tributary_line.specs.TapTurn.{TapStands, TurnMoves, IsInStep, IsBetweenTurns};
+ghost use Rattle.tributary_line.specs.TapTurn.{TapStands, TurnMoves, OfItsTurn, IsInStep, IsBetweenTurns};
 ghost use Rattle.tributary_line.specs.Steps.TapTurn.{TapMoves};
 
 impl Model for Tap {
@@ -112,10 +111,7 @@ impl Tap {
 
     /// How the sink stands after the turns that it has seen whole.
     pub fn state(&self) -> SinkState
-        ensures { (own : Tributary) (first now : InView) (taken : List ℕ) (t : ℕ)
-            → TapStands own first now taken t self.now
-            → (given : List ℕ) → MayBe false self.now.line.reader.ending taken given
-            → result ≡ state_after own (views_until own given t) }
+        ensures { OfItsTurn self.now (λ own available t. result ≡ state_after own (views_until own available t)) }
     {
         self.sink.state()
     }
