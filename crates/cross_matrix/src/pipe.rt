@@ -22,13 +22,8 @@ ghost use Rattle.cross_matrix.specs.Pipes.{PipeView, IsPipeOf, PipeStands, Clien
 
 use crate::FromState;
 use crate::burst::Burst;
-use crate::giving::{
-    GivingPart, begin_turn, fill_line, give_text, receiver_numbers, restart_giving,
-};
-use crate::taking::{
-    TakingPart, emit_signal, end_line, pace_at, restart_taking, state_of, take_line, take_text,
-    text_numbers,
-};
+use crate::giving::GivingPart;
+use crate::taking::{TakingPart, pace_at};
 use odtu_columns::{FillFrame, TakeFrame};
 use otn_ports::{InPlaceOf, OutPlaceOf, Sink, Source};
 use std::marker::Model;
@@ -72,8 +67,8 @@ impl Pipe {
         ensures filled { frames_filled self.new.giving ≡ 0 }
         ensures begun { IsBegun self.new.giving }
     {
-        restart_taking(&mut self.taking);
-        restart_giving(&mut self.giving);
+        self.taking.start();
+        self.giving.start();
         self.came.clear();
         self.gives.clear();
     }
@@ -90,7 +85,7 @@ impl Pipe {
         ensures taken { frames_taken self.new.taking ≡ frames_taken self.old.taking + 1 }
         ensures giving { self.new.giving ≡ self.old.giving }
     {
-        take_line(&mut self.taking, n, frame, expected);
+        self.taking.take_frame(n, frame, expected);
     }
 
     /// Ends the turn of the connection's line: `whole` says that it has a multiframe, all of whose frames were taken.
@@ -105,7 +100,7 @@ impl Pipe {
         ensures taken { frames_taken self.new.taking ≡ 0 }
         ensures giving { self.new.giving ≡ self.old.giving }
     {
-        end_line(&mut self.taking, whole, &mut self.came);
+        self.taking.end_frames(whole, &mut self.came);
     }
 
     /// Takes from the connection's client what turn `turn` of the plan emits. The place is the same in every turn.
@@ -123,7 +118,7 @@ impl Pipe {
         ensures giving { self.new.giving ≡ self.old.giving }
     {
         let count = pace_at(&self.paces, turn - self.start);
-        take_text(&mut self.taking, count, place, &mut self.came);
+        self.taking.take_client(count, place, &mut self.came);
     }
 
     /// Fills the connection's own places in frame `n`, from 0, of the turn of its output line. Every other byte stays.
@@ -145,7 +140,7 @@ impl Pipe {
         ensures begun { IsBegun self.new.giving }
         ensures taking { self.new.taking ≡ self.old.taking }
     {
-        fill_line(&mut self.giving, n, frame);
+        self.giving.fill_frame(n, frame);
     }
 
     /// Gives the connection's client what this turn brings it: each packet that is delivered, as a line of text.
@@ -161,7 +156,7 @@ impl Pipe {
         ensures entry { (x : Connection) → IsPipeOf x self.old → IsPipeOf x self.new }
         ensures taking { self.new.taking ≡ self.old.taking }
     {
-        give_text(&mut self.giving, self.gives.bytes(), place);
+        self.giving.give_client(self.gives.bytes(), place);
     }
 
     /// Ends turn `turn` of the plan: a signal emits what the turn brings, and what came is handed on to the next turn.
@@ -178,10 +173,10 @@ impl Pipe {
         ensures begun { IsBegun self.new.giving }
     {
         let count = pace_at(&self.paces, turn - self.start);
-        emit_signal(&mut self.taking, count, &mut self.came);
+        self.taking.fence(count, &mut self.came);
         mem::swap(&mut self.came, &mut self.gives);
         self.came.clear();
-        begin_turn(&mut self.giving, &mut self.gives);
+        self.giving.fence(&mut self.gives);
     }
 
     /// What the connection comes from is, after the turns that it took.
@@ -190,7 +185,7 @@ impl Pipe {
             → PipeStands x input j frames ended filled self.now
             → result ≡ state_in x input (turns_taken j ended) }
     {
-        state_of(&self.taking)
+        self.taking.from_state()
     }
 
     /// Of the connection's client input: how many packets were begun, whether it is spent, and the number of its bad
@@ -207,7 +202,7 @@ impl Pipe {
               option_map saturated (bad_line input x.fcs (emitted_before x.pace n)),
             ) }
     {
-        text_numbers(&self.taking)
+        self.taking.client_in()
     }
 
     /// Of the connection's client output: how many whole frames were handed on, and how many packets delivered and
@@ -216,6 +211,6 @@ impl Pipe {
         requires client { IsToClient self.now.giving }
         ensures { IsReceived self.now.giving result }
     {
-        receiver_numbers(&self.giving)
+        self.giving.client_out()
     }
 }

@@ -7,8 +7,8 @@ use Rattle.cross_matrix.proofs.pipe.Pipe.start.Goals as goal
 
 pub invariant_of-self : goal.invariant_of-self
 invariant_of-self c = record {
-  sink = c.restart_taking.ensures.slots c.self.inside.slots c.self.invariant.sink;
-  source = c.restart_giving.ensures.slots c.self.inside.slots c.self.invariant.source;
+  sink = c.start.ensures.slots c.self.inside.slots c.self.invariant.sink;
+  source = c.start-2.ensures.slots c.self.inside.slots c.self.invariant.source;
   fit = c.self.invariant.fit;
   came = ap (λ (b : BurstView). b.room) c.clear.ensures ∙ c.self.invariant.came;
   gives = ap (λ (b : BurstView). b.room) c.clear-2.ensures ∙ c.self.invariant.gives;
@@ -19,11 +19,11 @@ returns-clause-client_in c = λ x n first entry e.
     let i = c.self.inside in
     let old : PipeView = record { taking = i.taking; giving = i.giving; paces = i.paces.items; start = i.start; slots = i.slots; came = i.came.bytes; gives = i.gives.bytes } in
     let of : IsPipeOf x old = subst (IsPipeOf x) (sym c.self.view_is) entry in
-    c.restart_taking.ensures.text x n first (subst (λ from. TakesFrom from x i.taking) e of.taking)
+    c.start.ensures.text x n first (subst (λ from. TakesFrom from x i.taking) e of.taking)
 
 pub returns-clause-client_out : goal.returns-clause-client_out
 returns-clause-client_out c = λ x n input first entry e.
     let i = c.self.inside in
     let old : PipeView = record { taking = i.taking; giving = i.giving; paces = i.paces.items; start = i.start; slots = i.slots; came = i.came.bytes; gives = i.gives.bytes } in
     let of : IsPipeOf x old = subst (IsPipeOf x) (sym c.self.view_is) entry in
-    out_fresh x n input first i.giving c.restart_giving.new.part e of.giving (c.restart_giving.ensures.text first)
+    out_fresh x n input first i.giving c.start-2.new.self e of.giving (c.start-2.ensures.text first)

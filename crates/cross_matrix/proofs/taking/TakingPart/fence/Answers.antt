@@ -1,7 +1,7 @@
 use Rattle.std.proofs.Common.{[], subst}
 use Rattle.cross_matrix.specs.Parts.{TakesFrom, TakingStands}
 use Rattle.cross_matrix.proofs.PartMoves.{signal_went_on, signal_from}
-use Rattle.cross_matrix.proofs.taking.emit_signal.Goals as goal
+use Rattle.cross_matrix.proofs.taking.TakingPart.fence.Goals as goal
 
 pub returns-in-Signal-clause-stands : goal.returns-in-Signal-clause-stands
 returns-in-Signal-clause-stands c = λ from x input j ended e over h.

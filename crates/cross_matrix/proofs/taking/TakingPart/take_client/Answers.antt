@@ -4,10 +4,10 @@ use Rattle.cross_matrix.specs.Parts.{ClientInStands}
 use Rattle.cross_matrix.specs.Steps.Parts.{TextTook}
 use Rattle.cross_matrix.specs.declared.taking.TakingPart.TheVariants as taking
 use Rattle.cross_matrix.proofs.PartMoves.{text_took}
-use Rattle.cross_matrix.proofs.taking.take_text.Goals as goal
+use Rattle.cross_matrix.proofs.taking.TakingPart.take_client.Goals as goal
 
-pub returns-clause-took : goal.returns-clause-took
-returns-clause-took g c = λ x first taken n e h.
+pub returns-in-Client-clause-took : goal.returns-in-Client-clause-took
+returns-in-Client-clause-took g c = λ x first taken n e h.
     let e' = c.take_client.ensures in
     let now = in_view g.P.Source c.take_client.new.place in
     let was = in_view g.P.Source c.args.place.now in

@@ -3,10 +3,10 @@ use Rattle.packet_text.specs.LinesStand.{lines_view}
 use Rattle.device_model.specs.Through.{of_client}
 use Rattle.cross_matrix.specs.Parts.{ClientInStands, MayShow}
 use Rattle.cross_matrix.proofs.PartMoves.{text_counted}
-use Rattle.cross_matrix.proofs.taking.text_numbers.Goals as goal
+use Rattle.cross_matrix.proofs.taking.TakingPart.client_in.Goals as goal
 
-pub returns : goal.returns
-returns c = λ x first now taken n input h may.
+pub returns-in-Client : goal.returns-in-Client
+returns-in-Client c = λ x first now taken n input h may.
     let client = c.in-Client.client in
     let view = lines_view client.lines in
     text_counted x first now taken n input client c.packets.result c.spent.result c.bad.result
