@@ -1,5 +1,5 @@
 // The part of a pipe that gives to the connection's output.
-ghost use Rattle.std.specs.Prelude.{◌≡◌, ◌<◌, ◌≤◌, ◌+◌, ◌-◌, ◌*◌, ◌/◌, ℕ, List, [], ◌∷◌, ◌++◌, IsSome, length};
+ghost use Rattle.std.specs.Prelude.{◌≡◌, ◌<◌, ◌≤◌, ◌+◌, ◌-◌, ◌*◌, ◌/◌, ◌&&◌, ℕ, List, [], ◌∷◌, ◌++◌, IsSome, is_some, length, nat_lt};
 ghost use Rattle.otn_base.specs.LineSlots.{slots_of};
 ghost use Rattle.otn_base.specs.declared.limits.TheConstants.{GROUPS, LINE_COLUMNS as COLUMNS, ROWS};
 ghost use Rattle.otn_ports.specs.OutPlace.{out_view};
@@ -11,6 +11,7 @@ ghost use Rattle.tributary_model.specs.Carries.{sent};
 ghost use Rattle.tributary_model.specs.Places.{Tributary, tributary_of, byte_at};
 ghost use Rattle.tributary_model.specs.Puts.{WasPut, IsSourcePlace, lengths_of};
 ghost use Rattle.device_model.specs.Through.{OwnInput};
+ghost use Rattle.cross_matrix.specs.InTurn.{some_if, next_filled};
 ghost use Rattle.cross_matrix.specs.Receiving.{ReceiverStands};
 ghost use Rattle.cross_matrix.specs.Parts.{OnSource, OnReceiver, IsToClient, GivesTo, GivesSlots, GivingStands, frames_filled, IsBegun, IsReceived};
 
@@ -111,6 +112,28 @@ impl GivingPart {
             GivingPart::Client(receiver) => (receiver.frames(), receiver.packets()),
             GivingPart::Line(_) => (0, 0),
         }
+    }
+
+    /// The number of the next frame of its line that it fills in the turn, where there is one.
+    pub(crate) fn next_filled(&self) -> Option<u8>
+        ensures { result ≡ next_filled self.now }
+    {
+        match self {
+            GivingPart::Line(source) => next_of_source(source),
+            GivingPart::Client(_) => None,
+        }
+    }
+}
+
+fn next_of_source(source: &TribSource) -> Option<u8>
+    ensures { result ≡ some_if (is_some source.now.said && nat_lt source.now.filled (slots_of source.now.slots.kind))
+        source.now.filled }
+{
+    let n = source.filled();
+    if source.has_begun() && n < source.slots().kind().slots() {
+        Some(n)
+    } else {
+        None
     }
 }
 

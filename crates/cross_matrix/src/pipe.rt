@@ -17,6 +17,7 @@ ghost use Rattle.tributary_model.specs.Places.{Taken, View, tributary_of, byte_a
 ghost use Rattle.tributary_model.specs.Puts.{WasPut, IsSourcePlace};
 ghost use Rattle.device_model.specs.Entries.{first_turn};
 ghost use Rattle.device_model.specs.Through.{OwnInput, of_line, of_client, got_by, state_in};
+ghost use Rattle.cross_matrix.specs.InTurn.{next_taken, may_end, takes_one_slot, next_filled};
 ghost use Rattle.cross_matrix.specs.Parts.{OnSink, OnSource, IsOfClient, IsTextOver, IsToClient, frames_taken, frames_filled, turns_taken, ClientInStands, ClientOutStands, MayShow, IsInputOf, IsBegun, IsReceived, IsOver};
 ghost use Rattle.cross_matrix.specs.Pipes.{PipeView, IsPipeOf, PipeStands, ClientTook};
 
@@ -212,5 +213,35 @@ impl Pipe {
         ensures { IsReceived self.now.giving result }
     {
         self.giving.client_out()
+    }
+
+    /// The number of the next frame that it takes of its line in the turn, from 0: none where it has taken all, or
+    /// takes of no line.
+    pub fn next_taken(&self) -> Option<u8>
+        ensures { result ≡ next_taken self.now.taking }
+    {
+        self.taking.next_taken()
+    }
+
+    /// Whether the turn of its line may end so: with a multiframe only where all frames of it were taken.
+    pub fn may_end(&self, whole: bool) -> bool
+        ensures { result ≡ may_end whole self.now.taking }
+    {
+        self.taking.may_end(whole)
+    }
+
+    /// Whether it takes of an OTU2, one slot alone.
+    pub fn takes_one_slot(&self) -> bool
+        ensures { result ≡ takes_one_slot self.now.taking }
+    {
+        self.taking.takes_one_slot()
+    }
+
+    /// The number of the next frame of its line that it fills in the turn, from 0: none where it has filled all, or
+    /// gives to no line.
+    pub fn next_filled(&self) -> Option<u8>
+        ensures { result ≡ next_filled self.now.giving }
+    {
+        self.giving.next_filled()
     }
 }

@@ -1,8 +1,8 @@
 // The part of a pipe that takes from the connection's input.
-ghost use Rattle.std.specs.Prelude.{◌≡◌, ◌<◌, ◌≤◌, ◌+◌, ◌*◌, ℕ, suc, Bool, true, false, List, [], ◌∷◌, ◌++◌, Option, IsTrue, length, option_map};
+ghost use Rattle.std.specs.Prelude.{◌≡◌, ◌<◌, ◌≤◌, ◌+◌, ◌*◌, ◌&&◌, ◌==◌, if◌then◌else◌, ℕ, suc, Bool, true, false, List, [], ◌∷◌, ◌++◌, Option, IsTrue, length, nat_lt, option_map};
 ghost use Rattle.odu_client.specs.ClientInput.{ClientInput, packets_begun, is_spent, bad_line, emitted_before, pace_of};
 ghost use Rattle.otn_base.specs.LineSlots.{LineSlots, slots_of};
-ghost use Rattle.otn_base.specs.declared.limits.TheConstants.{GROUPS};
+ghost use Rattle.otn_base.specs.declared.limits.TheConstants.{GROUPS, OTU2_SLOTS};
 ghost use Rattle.otn_ports.specs.InPlace.{in_view};
 ghost use Rattle.otn_ports.specs.Views.{InView};
 ghost use Rattle.otn_base.specs.Counts.{saturated};
@@ -13,6 +13,7 @@ ghost use Rattle.trib_sink.specs.Sink.{ended_view};
 ghost use Rattle.tributary_model.specs.Places.{Taken, View, tributary_of};
 ghost use Rattle.device_model.specs.Entries.{first_turn};
 ghost use Rattle.device_model.specs.Through.{OwnInput, of_line, of_client, emits_by, state_by, sink_state};
+ghost use Rattle.cross_matrix.specs.InTurn.{some_if, next_taken, may_end, takes_one_slot};
 ghost use Rattle.cross_matrix.specs.Parts.{OnSink, IsOfClient, IsTextOver, TakesFrom, HasSlots, IsInputOf, IsOver, frames_taken, turns_taken, TakingStands, TextStands, ClientInStands, MayShow};
 ghost use Rattle.cross_matrix.specs.Steps.Parts.{TextTook};
 
@@ -22,6 +23,7 @@ use maintenance_signals::SignalBytes;
 use odtu_columns::TakeFrame;
 use odu_client::ClientFramer;
 use otn_base::Trace;
+use otn_base::limits::OTU2_SLOTS;
 use otn_ports::{InPlaceOf, Source};
 use packet_text::PacketLines;
 use trib_sink::TribSink;
@@ -191,6 +193,39 @@ impl TakingPart {
             TakingPart::Signal(_) => (0, false, None),
         }
     }
+
+    /// The number of the next frame that it takes of its line in the turn, where there is one.
+    pub(crate) fn next_taken(&self) -> Option<u8>
+        ensures { result ≡ next_taken self.now }
+    {
+        match self {
+            TakingPart::Line(sink) => next_of_sink(sink),
+            TakingPart::Client(_) => None,
+            TakingPart::Signal(_) => None,
+        }
+    }
+
+    /// Whether it takes of a line, whose turn may end so.
+    pub(crate) fn may_end(&self, whole: bool) -> bool
+        ensures { result ≡ may_end whole self.now }
+    {
+        match self {
+            TakingPart::Line(sink) => sink_may_end(sink, whole),
+            TakingPart::Client(_) => false,
+            TakingPart::Signal(_) => false,
+        }
+    }
+
+    /// Whether it takes of an OTU2, one slot alone.
+    pub(crate) fn takes_one_slot(&self) -> bool
+        ensures { result ≡ takes_one_slot self.now }
+    {
+        match self {
+            TakingPart::Line(sink) => sink_takes_one_slot(sink),
+            TakingPart::Client(_) => false,
+            TakingPart::Signal(_) => false,
+        }
+    }
 }
 
 impl ClientText {
@@ -204,6 +239,30 @@ impl ClientText {
         self.framer.restart(&self.trace, self.fcs);
         self.lines.restart();
     }
+}
+
+fn next_of_sink(sink: &TribSink) -> Option<u8>
+    ensures { result ≡ some_if (nat_lt sink.now.taken (slots_of sink.now.slots.kind)) sink.now.taken }
+{
+    let n = sink.taken();
+    if n < sink.slots().kind().slots() {
+        Some(n)
+    } else {
+        None
+    }
+}
+
+fn sink_may_end(sink: &TribSink, whole: bool) -> bool
+    ensures { result ≡ (if whole then sink.now.taken == slots_of sink.now.slots.kind else true) }
+{
+    !whole || sink.taken() == sink.slots().kind().slots()
+}
+
+fn sink_takes_one_slot(sink: &TribSink) -> bool
+    ensures { result ≡ (slots_of sink.now.slots.kind == OTU2_SLOTS && length sink.now.slots.list == 1) }
+{
+    let slots = sink.slots();
+    slots.kind().slots() as usize == OTU2_SLOTS && slots.count() == 1
 }
 
 fn of_sink(state: SinkState) -> FromState

@@ -14,7 +14,7 @@ invariant_of-self c = record {
   gives = c.fence-2.ensures.room_stays ∙ ap (λ (b : BurstView). b.room) c.swap.ensures.y_after ∙ c.fence.ensures.room_stays ∙ c.self.invariant.came;
 }
 
-pub fence-requires-2 : goal.fence-2-requires
+pub fence-requires-2 : goal.fence-requires-2
 fence-requires-2 c = record {
   room = (c.self.inside.slots, c.self.invariant.source, ap (λ (b : BurstView). b.room) c.swap.ensures.y_after ∙ c.fence.ensures.room_stays ∙ c.self.invariant.came);
 }

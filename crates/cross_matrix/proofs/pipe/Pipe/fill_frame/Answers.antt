@@ -17,10 +17,7 @@ invariant_of-self g c = record {
 
 pub returns-clause-put : goal.returns-clause-put
 returns-clause-put g c = λ x b port slots input j frames ended e h.
-    let i = c.self.inside in
-    let old : PipeView = record { taking = i.taking; giving = i.giving; paces = i.paces.items; start = i.start; slots = i.slots; came = i.came.bytes; gives = i.gives.bytes } in
-    let now : PipeStands x input j frames ended c.args.n old = subst (PipeStands x input j frames ended c.args.n) (sym c.self.view_is) h in
-    was_put x b port slots input j c.args.n i.giving _ _ e now.giving c.fill_frame.ensures.put
+    was_put x b port slots input j c.args.n c.self.inside.giving _ _ e (subst (PipeStands x input j frames ended c.args.n) (sym c.self.view_is) h).giving c.fill_frame.ensures.put
 
 pub returns-clause-stands : goal.returns-clause-stands
 returns-clause-stands g c = λ x input j frames ended h.
