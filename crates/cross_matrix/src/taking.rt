@@ -23,7 +23,6 @@ use maintenance_signals::SignalBytes;
 use odtu_columns::TakeFrame;
 use odu_client::ClientFramer;
 use otn_base::Trace;
-use otn_base::limits::OTU2_SLOTS;
 use otn_ports::{InPlaceOf, Source};
 use packet_text::PacketLines;
 use trib_sink::TribSink;
@@ -261,8 +260,7 @@ fn sink_may_end(sink: &TribSink, whole: bool) -> bool
 fn sink_takes_one_slot(sink: &TribSink) -> bool
     ensures { result ≡ (slots_of sink.now.slots.kind == OTU2_SLOTS && length sink.now.slots.list == 1) }
 {
-    let slots = sink.slots();
-    slots.kind().slots() as usize == OTU2_SLOTS && slots.count() == 1
+    sink.slots().is_otu2_slot()
 }
 
 fn of_sink(state: SinkState) -> FromState
