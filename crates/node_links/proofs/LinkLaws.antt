@@ -1,5 +1,5 @@
 -- What follows of a link and its entry, and links that a call leaves as they were.
-use Rattle.std.proofs.Common.{◌≡◌, ◌≤◌, ◌+◌, ◌∙◌, ◌&&◌, ◌==◌, ℕ, Bool, true, false, List, [], length, Option, refl, sym, ap, subst, arith, true≢false}
+use Rattle.std.proofs.Common.{◌≡◌, ◌≤◌, ◌+◌, ◌∙◌, ◌&&◌, ◌==◌, ℕ, Bool, true, false, refl, sym, ap, subst, arith, true≢false}
 use Rattle.std.specs.Prelude.{nat_le}
 use Rattle.std.proofs.lemmas.Bool.Decides.{nat_tests}
 use Rattle.std.proofs.Math.Logic.{∥∥₁_elim, ∥∥₁_map}
@@ -18,9 +18,7 @@ use Rattle.cross_matrix.specs.declared.taking.TakingPart.{TakingPart}
 use Rattle.cross_matrix.specs.declared.taking.TakingPart.TheVariants as taking
 use Rattle.cross_matrix.specs.declared.giving.GivingPart.{GivingPart}
 use Rattle.cross_matrix.specs.declared.giving.GivingPart.TheVariants as giving
-use Rattle.node_links.specs.declared.link.Origin.{Origin}
 use Rattle.node_links.specs.declared.link.Origin.TheVariants as origin
-use Rattle.node_links.specs.declared.link.Target.{Target}
 use Rattle.node_links.specs.Ends.{Joined, origin_of, target_of}
 use Rattle.node_links.specs.Links.{IsLinkOf, SameEntry, is_on}
 use Rattle.node_links.specs.Moves.{TookFrame, is_from_client, is_to_client, has_client_in, has_client_out}

@@ -2,14 +2,13 @@
 use Rattle.std.specs.Prelude.{◌≡◌, ◌<◌, ◌+◌, ℕ, suc, Bool, true, false, List, [], length, Option, Some, None, slice_get}
 use Rattle.otn_base.specs.LineSlots.{LineSlots, slots_of}
 use Rattle.otn_ports.specs.Views.{InView, OutView}
-use Rattle.maintenance_signals.specs.declared.signal.Signal.{Signal}
 use Rattle.plan_file.specs.declared.connection.Connection.{Connection}
 use Rattle.plan_file.specs.declared.connection.FromEnd.TheVariants as from_end
 use Rattle.trib_sink.specs.Sink.{ended_view}
 use Rattle.tributary_model.specs.Places.{Taken, View, tributary_of}
 use Rattle.device_model.specs.Entries.{first_turn, own_turn}
 use Rattle.device_model.specs.Through.{OwnInput, of_line}
-use Rattle.cross_matrix.specs.Parts.{IsOfClient, IsToClient, ClientInStands, ClientOutStands}
+use Rattle.cross_matrix.specs.Parts.{ClientInStands, ClientOutStands}
 use Rattle.cross_matrix.specs.Pipes.{PipeView, IsPipeOf, PipeStands, ClientTook}
 use Rattle.node_links.specs.Links.{IsLinkOf, SameEntry, is_on}
 use Rattle.node_links.specs.declared.link.Link.{Link}

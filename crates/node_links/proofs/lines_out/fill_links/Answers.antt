@@ -1,6 +1,6 @@
-use Rattle.std.proofs.Common.{◌≡◌, ◌<◌, ◌≤◌, ◌++◌, ℕ, List, length, take, drop, subst, sym, arith, rules}
+use Rattle.std.proofs.Common.{◌≡◌, ◌<◌, ◌≤◌, ℕ, List, length, subst, arith, rules}
 use Rattle.node_links.specs.Steps.LineFrames.{PutsOwn}
-use Rattle.node_links.specs.Moves.{EachLink, GaveFrame, gives_line}
+use Rattle.node_links.specs.Moves.{GaveFrame, gives_line}
 use Rattle.node_links.specs.declared.link.Link.{Link}
 use Rattle.node_links.proofs.LinkSteps.{step_more, one_gone, all_gone_back, as_it_was}
 use Rattle.node_links.proofs.lines_out.fill_links.Goals as goal

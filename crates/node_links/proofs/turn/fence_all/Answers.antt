@@ -1,5 +1,5 @@
-use Rattle.std.proofs.Common.{◌≡◌, ◌<◌, ◌≤◌, ◌++◌, length, take, drop, subst, sym, arith, rules}
-use Rattle.node_links.specs.Moves.{EachLink, Fences}
+use Rattle.std.proofs.Common.{◌≡◌, ◌<◌, ◌≤◌, length, arith, rules}
+use Rattle.node_links.specs.Moves.{Fences}
 use Rattle.node_links.specs.LinkEnds.{whole_for}
 use Rattle.node_links.specs.declared.link.Link.{Link}
 use Rattle.node_links.proofs.LinkSteps.{one_gone, all_gone_back}

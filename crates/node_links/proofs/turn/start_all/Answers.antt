@@ -1,5 +1,4 @@
-use Rattle.std.proofs.Common.{◌≡◌, ◌<◌, ◌≤◌, ◌++◌, length, take, drop, subst, sym, arith, rules}
-use Rattle.node_links.specs.Moves.{EachLink}
+use Rattle.std.proofs.Common.{◌≡◌, ◌<◌, ◌≤◌, length, arith, rules}
 use Rattle.node_links.specs.LinkEnds.{Starts}
 use Rattle.node_links.specs.declared.link.Link.{Link}
 use Rattle.node_links.proofs.LinkSteps.{one_gone, all_gone_back}

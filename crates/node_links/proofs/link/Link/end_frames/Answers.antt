@@ -1,4 +1,4 @@
-use Rattle.std.proofs.Common.{◌≡◌, ◌∙◌, sym, ap, subst}
+use Rattle.std.proofs.Common.{◌∙◌, sym, ap, subst}
 use Rattle.node_links.specs.LinkEnds.{whole_for}
 use Rattle.node_links.specs.Steps.LinkMoves.{EndsFrames}
 use Rattle.node_links.proofs.LinkLaws.{joins_on}
