@@ -8,7 +8,7 @@ use Rattle.tributary_model.specs.Carries.{former_of}
 use Rattle.tributary_model.specs.Places.{Taken}
 use Rattle.tributary_model.specs.Puts.{lengths_of}
 use Rattle.device_model.specs.Through.{OwnInput, got_by}
-use Rattle.cross_matrix.specs.Steps.InTurn.{next_filled}
+use Rattle.cross_matrix.specs.InTurn.{next_filled}
 use Rattle.cross_matrix.specs.Parts.{GivesTo, GivingStands}
 use Rattle.cross_matrix.specs.Pipes.{PipeView, PipeStands}
 use Rattle.cross_matrix.specs.declared.giving.GivingPart.{GivingPart}

@@ -2,4 +2,3 @@
 pub mod Receiving
 pub mod Parts
 pub mod Pipes
-pub mod InTurn

@@ -1,7 +1,7 @@
 //! The pipes of a node: the parts of each connection, joined. A pipe takes from the connection's input what
 //! a turn brings, and gives to its output what the turn before brought.
 //!
-//! - `pipe`: a connection's pipe; `in_turn`: its calls for a caller that keeps no count of frames.
+//! - `pipe`: a connection's pipe.
 //! - `build`: the pipe of an entry of a plan.
 //! - `taking`, `giving`: its two parts.
 //! - `receiver`: a client's output, from arriving bytes to lines of text; `held_lines`: the lines until they leave.
@@ -12,7 +12,6 @@ mod build;
 mod burst;
 mod giving;
 mod held_lines;
-mod in_turn;
 mod pipe;
 mod receiver;
 mod taking;

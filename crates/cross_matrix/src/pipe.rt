@@ -17,18 +17,14 @@ ghost use Rattle.tributary_model.specs.Places.{Taken, View, tributary_of, byte_a
 ghost use Rattle.tributary_model.specs.Puts.{WasPut, IsSourcePlace};
 ghost use Rattle.device_model.specs.Entries.{first_turn};
 ghost use Rattle.device_model.specs.Through.{OwnInput, of_line, of_client, got_by, state_in};
+ghost use Rattle.cross_matrix.specs.InTurn.{next_taken, may_end, takes_one_slot, next_filled};
 ghost use Rattle.cross_matrix.specs.Parts.{OnSink, OnSource, IsOfClient, IsTextOver, IsToClient, frames_taken, frames_filled, turns_taken, ClientInStands, ClientOutStands, MayShow, IsInputOf, IsBegun, IsReceived, IsOver};
 ghost use Rattle.cross_matrix.specs.Pipes.{PipeView, IsPipeOf, PipeStands, ClientTook};
 
 use crate::FromState;
 use crate::burst::Burst;
-use crate::giving::{
-    GivingPart, begin_turn, fill_line, give_text, receiver_numbers, restart_giving,
-};
-use crate::taking::{
-    TakingPart, emit_signal, end_line, pace_at, restart_taking, state_of, take_line, take_text,
-    text_numbers,
-};
+use crate::giving::GivingPart;
+use crate::taking::{TakingPart, pace_at};
 use odtu_columns::{FillFrame, TakeFrame};
 use otn_ports::{InPlaceOf, OutPlaceOf, Sink, Source};
 use std::marker::Model;
@@ -72,8 +68,8 @@ impl Pipe {
         ensures filled { frames_filled self.new.giving ≡ 0 }
         ensures begun { IsBegun self.new.giving }
     {
-        restart_taking(&mut self.taking);
-        restart_giving(&mut self.giving);
+        self.taking.start();
+        self.giving.start();
         self.came.clear();
         self.gives.clear();
     }
@@ -90,7 +86,7 @@ impl Pipe {
         ensures taken { frames_taken self.new.taking ≡ frames_taken self.old.taking + 1 }
         ensures giving { self.new.giving ≡ self.old.giving }
     {
-        take_line(&mut self.taking, n, frame, expected);
+        self.taking.take_frame(n, frame, expected);
     }
 
     /// Ends the turn of the connection's line: `whole` says that it has a multiframe, all of whose frames were taken.
@@ -105,7 +101,7 @@ impl Pipe {
         ensures taken { frames_taken self.new.taking ≡ 0 }
         ensures giving { self.new.giving ≡ self.old.giving }
     {
-        end_line(&mut self.taking, whole, &mut self.came);
+        self.taking.end_frames(whole, &mut self.came);
     }
 
     /// Takes from the connection's client what turn `turn` of the plan emits. The place is the same in every turn.
@@ -123,7 +119,7 @@ impl Pipe {
         ensures giving { self.new.giving ≡ self.old.giving }
     {
         let count = pace_at(&self.paces, turn - self.start);
-        take_text(&mut self.taking, count, place, &mut self.came);
+        self.taking.take_client(count, place, &mut self.came);
     }
 
     /// Fills the connection's own places in frame `n`, from 0, of the turn of its output line. Every other byte stays.
@@ -145,7 +141,7 @@ impl Pipe {
         ensures begun { IsBegun self.new.giving }
         ensures taking { self.new.taking ≡ self.old.taking }
     {
-        fill_line(&mut self.giving, n, frame);
+        self.giving.fill_frame(n, frame);
     }
 
     /// Gives the connection's client what this turn brings it: each packet that is delivered, as a line of text.
@@ -161,7 +157,7 @@ impl Pipe {
         ensures entry { (x : Connection) → IsPipeOf x self.old → IsPipeOf x self.new }
         ensures taking { self.new.taking ≡ self.old.taking }
     {
-        give_text(&mut self.giving, self.gives.bytes(), place);
+        self.giving.give_client(self.gives.bytes(), place);
     }
 
     /// Ends turn `turn` of the plan: a signal emits what the turn brings, and what came is handed on to the next turn.
@@ -178,10 +174,10 @@ impl Pipe {
         ensures begun { IsBegun self.new.giving }
     {
         let count = pace_at(&self.paces, turn - self.start);
-        emit_signal(&mut self.taking, count, &mut self.came);
+        self.taking.fence(count, &mut self.came);
         mem::swap(&mut self.came, &mut self.gives);
         self.came.clear();
-        begin_turn(&mut self.giving, &mut self.gives);
+        self.giving.fence(&mut self.gives);
     }
 
     /// What the connection comes from is, after the turns that it took.
@@ -190,7 +186,7 @@ impl Pipe {
             → PipeStands x input j frames ended filled self.now
             → result ≡ state_in x input (turns_taken j ended) }
     {
-        state_of(&self.taking)
+        self.taking.from_state()
     }
 
     /// Of the connection's client input: how many packets were begun, whether it is spent, and the number of its bad
@@ -207,7 +203,7 @@ impl Pipe {
               option_map saturated (bad_line input x.fcs (emitted_before x.pace n)),
             ) }
     {
-        text_numbers(&self.taking)
+        self.taking.client_in()
     }
 
     /// Of the connection's client output: how many whole frames were handed on, and how many packets delivered and
@@ -216,6 +212,36 @@ impl Pipe {
         requires client { IsToClient self.now.giving }
         ensures { IsReceived self.now.giving result }
     {
-        receiver_numbers(&self.giving)
+        self.giving.client_out()
+    }
+
+    /// The number of the next frame that it takes of its line in the turn, from 0: none where it has taken all, or
+    /// takes of no line.
+    pub fn next_taken(&self) -> Option<u8>
+        ensures { result ≡ next_taken self.now.taking }
+    {
+        self.taking.next_taken()
+    }
+
+    /// Whether the turn of its line may end so: with a multiframe only where all frames of it were taken.
+    pub fn may_end(&self, whole: bool) -> bool
+        ensures { result ≡ may_end whole self.now.taking }
+    {
+        self.taking.may_end(whole)
+    }
+
+    /// Whether it takes of an OTU2, one slot alone.
+    pub fn takes_one_slot(&self) -> bool
+        ensures { result ≡ takes_one_slot self.now.taking }
+    {
+        self.taking.takes_one_slot()
+    }
+
+    /// The number of the next frame of its line that it fills in the turn, from 0: none where it has filled all, or
+    /// gives to no line.
+    pub fn next_filled(&self) -> Option<u8>
+        ensures { result ≡ next_filled self.now.giving }
+    {
+        self.giving.next_filled()
     }
 }

@@ -1,8 +1,8 @@
 // The part of a pipe that takes from the connection's input.
-ghost use Rattle.std.specs.Prelude.{◌≡◌, ◌<◌, ◌≤◌, ◌+◌, ◌*◌, ℕ, suc, Bool, true, false, List, [], ◌∷◌, ◌++◌, Option, IsTrue, length, option_map};
+ghost use Rattle.std.specs.Prelude.{◌≡◌, ◌<◌, ◌≤◌, ◌+◌, ◌*◌, ◌&&◌, ◌==◌, if◌then◌else◌, ℕ, suc, Bool, true, false, List, [], ◌∷◌, ◌++◌, Option, IsTrue, length, nat_lt, option_map};
 ghost use Rattle.odu_client.specs.ClientInput.{ClientInput, packets_begun, is_spent, bad_line, emitted_before, pace_of};
 ghost use Rattle.otn_base.specs.LineSlots.{LineSlots, slots_of};
-ghost use Rattle.otn_base.specs.declared.limits.TheConstants.{GROUPS};
+ghost use Rattle.otn_base.specs.declared.limits.TheConstants.{GROUPS, OTU2_SLOTS};
 ghost use Rattle.otn_ports.specs.InPlace.{in_view};
 ghost use Rattle.otn_ports.specs.Views.{InView};
 ghost use Rattle.otn_base.specs.Counts.{saturated};
@@ -13,6 +13,7 @@ ghost use Rattle.trib_sink.specs.Sink.{ended_view};
 ghost use Rattle.tributary_model.specs.Places.{Taken, View, tributary_of};
 ghost use Rattle.device_model.specs.Entries.{first_turn};
 ghost use Rattle.device_model.specs.Through.{OwnInput, of_line, of_client, emits_by, state_by, sink_state};
+ghost use Rattle.cross_matrix.specs.InTurn.{some_if, next_taken, may_end, takes_one_slot};
 ghost use Rattle.cross_matrix.specs.Parts.{OnSink, IsOfClient, IsTextOver, TakesFrom, HasSlots, IsInputOf, IsOver, frames_taken, turns_taken, TakingStands, TextStands, ClientInStands, MayShow};
 ghost use Rattle.cross_matrix.specs.Steps.Parts.{TextTook};
 
@@ -44,140 +45,222 @@ pub(crate) enum TakingPart {
     Signal(SignalBytes),
 }
 
-/// Begins anew, as for another run of the connection.
-pub(crate) fn restart_taking(part: &mut TakingPart)
-    ensures stands { (from : FromEnd) (x : Connection) (input : OwnInput) → TakesFrom from x part.old
-        → IsInputOf from input → TakingStands from x input 0 [] false part.new }
-    ensures text { (x : Connection) (n : ℕ) (first : InView) → TakesFrom (from_end.Client n) x part.old
-        → ClientInStands x first first [] 0 part.new }
-    ensures entry { (from : FromEnd) (x : Connection) → TakesFrom from x part.old → TakesFrom from x part.new }
-    ensures taken { frames_taken part.new ≡ 0 }
-    ensures slots { (m : ℕ) → HasSlots m part.old → HasSlots m part.new }
-{
-    match part {
-        TakingPart::Line(sink) => sink.restart(),
-        TakingPart::Client(client) => restart_text(client),
-        TakingPart::Signal(stream) => stream.restart(),
+impl TakingPart {
+    /// Begins anew, as for another run of the connection.
+    pub(crate) fn start(&mut self)
+        ensures stands { (from : FromEnd) (x : Connection) (input : OwnInput) → TakesFrom from x self.old
+            → IsInputOf from input → TakingStands from x input 0 [] false self.new }
+        ensures text { (x : Connection) (n : ℕ) (first : InView) → TakesFrom (from_end.Client n) x self.old
+            → ClientInStands x first first [] 0 self.new }
+        ensures entry { (from : FromEnd) (x : Connection) → TakesFrom from x self.old → TakesFrom from x self.new }
+        ensures taken { frames_taken self.new ≡ 0 }
+        ensures slots { (m : ℕ) → HasSlots m self.old → HasSlots m self.new }
+    {
+        match self {
+            TakingPart::Line(sink) => sink.restart(),
+            TakingPart::Client(client) => client.start(),
+            TakingPart::Signal(stream) => stream.restart(),
+        }
+    }
+
+    /// Takes frame `n` of the turn of the connection's line.
+    pub(crate) fn take_frame<F: TakeFrame>(&mut self, n: u8, frame: &F, expected: u8)
+        requires line { OnSink self.old (λ sink. (n < slots_of sink.slots.kind) × (n ≡ sink.taken)) }
+        ensures stands { (from : FromEnd) (x : Connection) (input : OwnInput) (j : ℕ) (frames : List Taken)
+            → TakingStands from x input j frames false self.old
+            → TakingStands from x input j (frames ++ record { frame = F.bytes frame.now; expected = expected } ∷ [])
+            false self.new }
+        ensures entry { (from : FromEnd) (x : Connection) → TakesFrom from x self.old → TakesFrom from x self.new }
+        ensures taken { frames_taken self.new ≡ frames_taken self.old + 1 }
+        ensures slots { (m : ℕ) → HasSlots m self.old → HasSlots m self.new }
+    {
+        match self {
+            TakingPart::Line(sink) => sink.take_frame(n, frame, expected),
+            TakingPart::Client(_) => {}
+            TakingPart::Signal(_) => {}
+        }
+    }
+
+    /// Ends a turn of the connection's line: what its sink emits came.
+    pub(crate) fn end_frames(&mut self, whole: bool, came: &mut Burst)
+        requires line { OnSink self.old (λ sink. IsTrue whole → sink.taken ≡ slots_of sink.slots.kind) }
+        requires room { OnSink self.old (λ sink. came.old.room ≡ length sink.slots.list * (GROUPS + 1)) }
+        ensures stands { (x : Connection) (a port : ℕ) (slots : LineSlots) (shows : ℕ → Option View) (j : ℕ)
+            (frames : List Taken)
+            → TakingStands (from_end.Line a port slots) x (of_line shows) j frames false self.old
+            → ended_view (tributary_of slots port) whole frames ≡ shows (first_turn x + j)
+            → TakingStands (from_end.Line a port slots) x (of_line shows) j [] true self.new }
+        ensures bytes { (x : Connection) (a port : ℕ) (slots : LineSlots) (shows : ℕ → Option View) (j : ℕ)
+            (frames : List Taken)
+            → TakingStands (from_end.Line a port slots) x (of_line shows) j frames false self.old
+            → ended_view (tributary_of slots port) whole frames ≡ shows (first_turn x + j)
+            → came.new.bytes ≡ emits_by (from_end.Line a port slots) x (of_line shows) j }
+        ensures entry { (from : FromEnd) (x : Connection) → TakesFrom from x self.old → TakesFrom from x self.new }
+        ensures taken { frames_taken self.new ≡ 0 }
+        ensures slots { (m : ℕ) → HasSlots m self.old → HasSlots m self.new }
+        ensures room_stays { came.new.room ≡ came.old.room }
+    {
+        match self {
+            TakingPart::Line(sink) => came.take_turn(sink, whole),
+            TakingPart::Client(_) => {}
+            TakingPart::Signal(_) => {}
+        }
+    }
+
+    /// Takes so many bytes of a client's stream.
+    pub(crate) fn take_client<P: Source>(
+        &mut self,
+        count: usize,
+        place: &mut InPlaceOf<P>,
+        came: &mut Burst,
+    )
+        requires room { count ≤ came.old.room }
+        ensures took { (x : Connection) (first : InView) (taken : List ℕ) (n : ℕ) → count ≡ pace_of x.pace n
+            → ClientInStands x first (in_view P.Source place.old) taken n self.old
+            → TextTook x first (in_view P.Source place.new) taken n self.old self.new came.new.bytes }
+        ensures quiet { IsTextOver self.old → place.new ≡ place.old }
+        ensures entry { (from : FromEnd) (x : Connection) → TakesFrom from x self.old → TakesFrom from x self.new }
+        ensures slots { (m : ℕ) → HasSlots m self.old → HasSlots m self.new }
+        ensures room_stays { came.new.room ≡ came.old.room }
+    {
+        match self {
+            TakingPart::Client(client) => came.take_client(
+                &mut client.framer,
+                &mut client.lines,
+                place,
+                count,
+            ),
+            TakingPart::Line(_) => {}
+            TakingPart::Signal(_) => {}
+        }
+    }
+
+    /// Ends a turn: a signal emits so many bytes; a line and a client have had their part of it.
+    pub(crate) fn fence(&mut self, count: usize, came: &mut Burst)
+        requires room { count ≤ came.old.room }
+        ensures stands { (from : FromEnd) (x : Connection) (input : OwnInput) (j : ℕ) (ended : Bool)
+            → count ≡ pace_of x.pace j → IsOver from ended
+            → TakingStands from x input j [] ended self.old → TakingStands from x input (suc j) [] false self.new }
+        ensures bytes { (from : FromEnd) (x : Connection) (input : OwnInput) (j : ℕ) (ended : Bool)
+            → count ≡ pace_of x.pace j → IsOver from ended
+            → TakingStands from x input j [] ended self.old → (ended ≡ true → came.old.bytes ≡ emits_by from x input j)
+            → came.new.bytes ≡ emits_by from x input j }
+        ensures client { IsOfClient self.old → self.new ≡ self.old }
+        ensures entry { (from : FromEnd) (x : Connection) → TakesFrom from x self.old → TakesFrom from x self.new }
+        ensures taken { frames_taken self.new ≡ frames_taken self.old }
+        ensures slots { (m : ℕ) → HasSlots m self.old → HasSlots m self.new }
+        ensures room_stays { came.new.room ≡ came.old.room }
+    {
+        match self {
+            TakingPart::Signal(stream) => came.take_signal(stream, count),
+            TakingPart::Line(_) => {}
+            TakingPart::Client(_) => {}
+        }
+    }
+
+    /// What the part takes from is.
+    pub(crate) fn from_state(&self) -> FromState
+        ensures { (from : FromEnd) (x : Connection) (input : OwnInput) (j : ℕ) (frames : List Taken) (ended : Bool)
+            → TakingStands from x input j frames ended self.now
+            → result ≡ state_by from x input (turns_taken j ended) }
+    {
+        match self {
+            TakingPart::Line(sink) => of_sink(sink.state()),
+            TakingPart::Client(_) => FromState::Client,
+            TakingPart::Signal(_) => FromState::Signal,
+        }
+    }
+
+    /// A client's packets begun, whether it is spent, and its bad line: none where the part takes from no client.
+    pub(crate) fn client_in(&self) -> (u64, bool, Option<u64>)
+        ensures { (x : Connection) (first now : InView) (taken : List ℕ) (n : ℕ) (input : ClientInput)
+            → ClientInStands x first now taken n self.now → MayShow self.now taken (of_client input)
+            → result ≡ (
+              saturated (packets_begun input.packets x.fcs (emitted_before x.pace n)),
+              is_spent input x.fcs
+                  (emitted_before x.pace n),
+              option_map saturated (bad_line input x.fcs (emitted_before x.pace n)),
+            ) }
+    {
+        match self {
+            TakingPart::Client(client) => (
+                client.framer.packets(),
+                client.framer.spent(),
+                client.framer.bad(),
+            ),
+            TakingPart::Line(_) => (0, false, None),
+            TakingPart::Signal(_) => (0, false, None),
+        }
+    }
+
+    /// The number of the next frame that it takes of its line in the turn, where there is one.
+    pub(crate) fn next_taken(&self) -> Option<u8>
+        ensures { result ≡ next_taken self.now }
+    {
+        match self {
+            TakingPart::Line(sink) => next_of_sink(sink),
+            TakingPart::Client(_) => None,
+            TakingPart::Signal(_) => None,
+        }
+    }
+
+    /// Whether it takes of a line, whose turn may end so.
+    pub(crate) fn may_end(&self, whole: bool) -> bool
+        ensures { result ≡ may_end whole self.now }
+    {
+        match self {
+            TakingPart::Line(sink) => sink_may_end(sink, whole),
+            TakingPart::Client(_) => false,
+            TakingPart::Signal(_) => false,
+        }
+    }
+
+    /// Whether it takes of an OTU2, one slot alone.
+    pub(crate) fn takes_one_slot(&self) -> bool
+        ensures { result ≡ takes_one_slot self.now }
+    {
+        match self {
+            TakingPart::Line(sink) => sink_takes_one_slot(sink),
+            TakingPart::Client(_) => false,
+            TakingPart::Signal(_) => false,
+        }
     }
 }
 
-fn restart_text(client: &mut ClientText)
-    ensures stands { (x : Connection) (first : InView) → client.old.trace ≡ x.trace → client.old.fcs ≡ x.fcs
-        → TextStands x first first [] 0 client.new }
-    ensures trace { client.new.trace ≡ client.old.trace }
-    ensures fcs { client.new.fcs ≡ client.old.fcs }
-{
-    client.framer.restart(&client.trace, client.fcs);
-    client.lines.restart();
-}
-
-/// Takes a frame of the connection's line.
-pub(crate) fn take_line<F: TakeFrame>(part: &mut TakingPart, n: u8, frame: &F, expected: u8)
-    requires line { OnSink part.old (λ sink. (n < slots_of sink.slots.kind) × (n ≡ sink.taken)) }
-    ensures stands { (from : FromEnd) (x : Connection) (input : OwnInput) (j : ℕ) (frames : List Taken)
-        → TakingStands from x input j frames false part.old
-        → TakingStands from x input j (frames ++ record { frame = F.bytes frame.now; expected = expected } ∷ []) false
-        part.new }
-    ensures entry { (from : FromEnd) (x : Connection) → TakesFrom from x part.old → TakesFrom from x part.new }
-    ensures taken { frames_taken part.new ≡ frames_taken part.old + 1 }
-    ensures slots { (m : ℕ) → HasSlots m part.old → HasSlots m part.new }
-{
-    match part {
-        TakingPart::Line(sink) => sink.take_frame(n, frame, expected),
-        TakingPart::Client(_) => unreachable!(),
-        TakingPart::Signal(_) => unreachable!(),
+impl ClientText {
+    // Begins anew.
+    fn start(&mut self)
+        ensures stands { (x : Connection) (first : InView) → self.old.trace ≡ x.trace → self.old.fcs ≡ x.fcs
+            → TextStands x first first [] 0 self.new }
+        ensures trace { self.new.trace ≡ self.old.trace }
+        ensures fcs { self.new.fcs ≡ self.old.fcs }
+    {
+        self.framer.restart(&self.trace, self.fcs);
+        self.lines.restart();
     }
 }
 
-/// Ends a turn of the connection's line: what its sink emits came.
-pub(crate) fn end_line(part: &mut TakingPart, whole: bool, came: &mut Burst)
-    requires line { OnSink part.old (λ sink. IsTrue whole → sink.taken ≡ slots_of sink.slots.kind) }
-    requires room { OnSink part.old (λ sink. came.old.room ≡ length sink.slots.list * (GROUPS + 1)) }
-    ensures stands { (x : Connection) (a port : ℕ) (slots : LineSlots) (shows : ℕ → Option View) (j : ℕ)
-        (frames : List Taken)
-        → TakingStands (from_end.Line a port slots) x (of_line shows) j frames false part.old
-        → ended_view (tributary_of slots port) whole frames ≡ shows (first_turn x + j)
-        → TakingStands (from_end.Line a port slots) x (of_line shows) j [] true part.new }
-    ensures bytes { (x : Connection) (a port : ℕ) (slots : LineSlots) (shows : ℕ → Option View) (j : ℕ)
-        (frames : List Taken)
-        → TakingStands (from_end.Line a port slots) x (of_line shows) j frames false part.old
-        → ended_view (tributary_of slots port) whole frames ≡ shows (first_turn x + j)
-        → came.new.bytes ≡ emits_by (from_end.Line a port slots) x (of_line shows) j }
-    ensures entry { (from : FromEnd) (x : Connection) → TakesFrom from x part.old → TakesFrom from x part.new }
-    ensures taken { frames_taken part.new ≡ 0 }
-    ensures slots { (m : ℕ) → HasSlots m part.old → HasSlots m part.new }
-    ensures room_stays { came.new.room ≡ came.old.room }
+fn next_of_sink(sink: &TribSink) -> Option<u8>
+    ensures { result ≡ some_if (nat_lt sink.now.taken (slots_of sink.now.slots.kind)) sink.now.taken }
 {
-    match part {
-        TakingPart::Line(sink) => came.take_turn(sink, whole),
-        TakingPart::Client(_) => unreachable!(),
-        TakingPart::Signal(_) => unreachable!(),
+    let n = sink.taken();
+    if n < sink.slots().kind().slots() {
+        Some(n)
+    } else {
+        None
     }
 }
 
-/// Takes so many bytes of a client's stream.
-pub(crate) fn take_text<P: Source>(
-    part: &mut TakingPart,
-    count: usize,
-    place: &mut InPlaceOf<P>,
-    came: &mut Burst,
-)
-    requires client { IsOfClient part.old }
-    requires room { count ≤ came.old.room }
-    ensures took { (x : Connection) (first : InView) (taken : List ℕ) (n : ℕ) → count ≡ pace_of x.pace n
-        → ClientInStands x first (in_view P.Source place.old) taken n part.old
-        → TextTook x first (in_view P.Source place.new) taken n part.old part.new came.new.bytes }
-    ensures quiet { IsTextOver part.old → place.new ≡ place.old }
-    ensures entry { (from : FromEnd) (x : Connection) → TakesFrom from x part.old → TakesFrom from x part.new }
-    ensures slots { (m : ℕ) → HasSlots m part.old → HasSlots m part.new }
-    ensures room_stays { came.new.room ≡ came.old.room }
+fn sink_may_end(sink: &TribSink, whole: bool) -> bool
+    ensures { result ≡ (if whole then sink.now.taken == slots_of sink.now.slots.kind else true) }
 {
-    match part {
-        TakingPart::Client(client) => came.take_client(
-            &mut client.framer,
-            &mut client.lines,
-            place,
-            count,
-        ),
-        TakingPart::Line(_) => unreachable!(),
-        TakingPart::Signal(_) => unreachable!(),
-    }
+    !whole || sink.taken() == sink.slots().kind().slots()
 }
 
-/// A signal emits so many bytes; a line and a client have had their turn.
-pub(crate) fn emit_signal(part: &mut TakingPart, count: usize, came: &mut Burst)
-    requires room { count ≤ came.old.room }
-    ensures stands { (from : FromEnd) (x : Connection) (input : OwnInput) (j : ℕ) (ended : Bool)
-        → count ≡ pace_of x.pace j → IsOver from ended
-        → TakingStands from x input j [] ended part.old → TakingStands from x input (suc j) [] false part.new }
-    ensures bytes { (from : FromEnd) (x : Connection) (input : OwnInput) (j : ℕ) (ended : Bool)
-        → count ≡ pace_of x.pace j → IsOver from ended
-        → TakingStands from x input j [] ended part.old → (ended ≡ true → came.old.bytes ≡ emits_by from x input j)
-        → came.new.bytes ≡ emits_by from x input j }
-    ensures client { IsOfClient part.old → part.new ≡ part.old }
-    ensures entry { (from : FromEnd) (x : Connection) → TakesFrom from x part.old → TakesFrom from x part.new }
-    ensures taken { frames_taken part.new ≡ frames_taken part.old }
-    ensures slots { (m : ℕ) → HasSlots m part.old → HasSlots m part.new }
-    ensures room_stays { came.new.room ≡ came.old.room }
+fn sink_takes_one_slot(sink: &TribSink) -> bool
+    ensures { result ≡ (slots_of sink.now.slots.kind == OTU2_SLOTS && length sink.now.slots.list == 1) }
 {
-    match part {
-        TakingPart::Signal(stream) => came.take_signal(stream, count),
-        TakingPart::Line(_) => {}
-        TakingPart::Client(_) => {}
-    }
-}
-
-/// What the part takes from is.
-pub(crate) fn state_of(part: &TakingPart) -> FromState
-    ensures { (from : FromEnd) (x : Connection) (input : OwnInput) (j : ℕ) (frames : List Taken) (ended : Bool)
-        → TakingStands from x input j frames ended part.now
-        → result ≡ state_by from x input (turns_taken j ended) }
-{
-    match part {
-        TakingPart::Line(sink) => of_sink(sink.state()),
-        TakingPart::Client(_) => FromState::Client,
-        TakingPart::Signal(_) => FromState::Signal,
-    }
+    sink.slots().is_otu2_slot()
 }
 
 fn of_sink(state: SinkState) -> FromState
@@ -187,29 +270,6 @@ fn of_sink(state: SinkState) -> FromState
         SinkState::Waiting => FromState::Waiting,
         SinkState::Up => FromState::Up,
         SinkState::Down => FromState::Down,
-    }
-}
-
-/// A client's packets begun, whether it is spent, and its bad line.
-pub(crate) fn text_numbers(part: &TakingPart) -> (u64, bool, Option<u64>)
-    requires client { IsOfClient part.now }
-    ensures { (x : Connection) (first now : InView) (taken : List ℕ) (n : ℕ) (input : ClientInput)
-        → ClientInStands x first now taken n part.now → MayShow part.now taken (of_client input)
-        → result ≡ (
-          saturated (packets_begun input.packets x.fcs (emitted_before x.pace n)),
-          is_spent input x.fcs
-              (emitted_before x.pace n),
-          option_map saturated (bad_line input x.fcs (emitted_before x.pace n)),
-        ) }
-{
-    match part {
-        TakingPart::Client(client) => (
-            client.framer.packets(),
-            client.framer.spent(),
-            client.framer.bad(),
-        ),
-        TakingPart::Line(_) => unreachable!(),
-        TakingPart::Signal(_) => unreachable!(),
     }
 }
 

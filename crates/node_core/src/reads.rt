@@ -36,7 +36,7 @@ impl Node {
         ensures { IsClientInCount self.now n (record { packets = result.0; spent = result.1; bad = result.2 }) }
     {
         match link_from_client(n, &self.links) {
-            Some(i) => self.links[i].text_counts(self.past),
+            Some(i) => self.links[i].client_in(self.past),
             None => (0, false, None),
         }
     }
@@ -47,7 +47,7 @@ impl Node {
         ensures { IsClientOutCount self.now n (record { frames = result.0; packets = result.1 }) }
     {
         match link_to_client(n, &self.links) {
-            Some(i) => self.links[i].pipe.output_counts(),
+            Some(i) => self.links[i].pipe.client_out(),
             None => (0, 0),
         }
     }

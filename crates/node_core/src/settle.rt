@@ -124,7 +124,7 @@ fn is_open(link: &Link) -> bool
     ensures { OpenAnswer link.now result }
 {
     match link.from {
-        Origin::Client(_) => !link.pipe.text_counts().1,
+        Origin::Client(_) => !link.pipe.client_in().1,
         Origin::Line(_) => false,
         Origin::Signal => false,
     }

@@ -1,5 +1,5 @@
 -- Client places that are emptied, one connection after the other.
-use Rattle.std.proofs.Common.{◌≡◌, ◌<◌, ◌≤◌, ◌+◌, ℕ, zero, suc, false, ◌&&◌, ◌||◌, List, [], ◌∷◌, length, drop, get_or, Some, slice_get, arith, refl, sym, ap, subst, ◌∙◌, inl, inr}
+use Rattle.std.proofs.Common.{◌≡◌, ◌<◌, ◌≤◌, ◌+◌, ℕ, false, ◌&&◌, ◌||◌, List, [], ◌∷◌, length, drop, get_or, Some, slice_get, refl, sym, ap, subst, ◌∙◌, inl, inr}
 use Rattle.std.proofs.lemmas.Bool.Decides.{eqb_tells}
 use Rattle.std.proofs.lemmas.List.{drop_more}
 use Rattle.otn_ports.specs.InPlace.{in_view}
@@ -22,6 +22,7 @@ use Rattle.node_links.specs.declared.link.Origin.{Origin}
 use Rattle.node_links.specs.declared.link.Origin.TheVariants as origin
 use Rattle.node_links.specs.declared.link.Target.{Target}
 use Rattle.node_links.specs.declared.link.Target.TheVariants as target
+use Rattle.node_links.proofs.LinkSteps.{drop_all}
 use Rattle.device_model.proofs.RetiredPlaces.{after_or, out_after_or}
 
 -- ---- one end
@@ -73,12 +74,6 @@ pub record RestRetires (past j : ℕ) (links : List Link) (was is : BaysView) : 
   pub line_out : is.line_out ≡ was.line_out
   pub client_in : (n : ℕ) → after_retire (retires_in past n (drop j links)) (client_in_at is n) ≡ after_retire (retires_in past n links) (client_in_at was n)
   pub client_out : (n : ℕ) → out_after_retire (retires_out past n (drop j links)) (client_out_at is n) ≡ out_after_retire (retires_out past n links) (client_out_at was n)
-
-drop_all : (links : List Link) (k : ℕ) → length links ≤ k → drop k links ≡ []
-drop_all [] zero most = refl
-drop_all [] (suc k) most = refl
-drop_all (link ∷ links) zero most = absurd (omega arith)
-drop_all (link ∷ links) (suc k) most = drop_all links k (omega arith)
 
 none_in : (past n : ℕ) → retires_in past n [] ≡ false
 unfolding retires_in

@@ -1,17 +1,12 @@
 -- The first of some connections that meets a test.
-use Rattle.std.proofs.Common.{◌≡◌, ◌⊎◌, inl, inr, ◌<◌, ◌≤◌, ◌+◌, ◌∙◌, ◌&&◌, ℕ, zero, suc, Bool, true, false, List, Some, None, length, slice_get, get_or, refl, sym, ap, subst, arith}
+use Rattle.std.proofs.Common.{◌≡◌, inl, inr, ◌<◌, ◌≤◌, ◌+◌, ◌∙◌, ◌&&◌, ℕ, Bool, true, false, List, Some, None, length, slice_get, get_or, refl, sym, ap, subst, arith}
 use Rattle.std.proofs.lemmas.Option.{same_Some, slice_get_within, slice_get-get_or}
 use Rattle.tributary_model.specs.Places.{Taken}
 use Rattle.node_links.specs.Steps.LinkMoves.{FirstOf}
 use Rattle.node_links.specs.Moves.{EachLink, TookFrame, takes_line}
 use Rattle.node_links.specs.declared.link.Link.{Link}
 use Rattle.node_links.proofs.LinkLaws.{frame_passed}
-
-below_or_here : (k i : ℕ) → k < i + 1 → (k < i) ⊎ (k ≡ i)
-below_or_here zero zero less = inr refl
-below_or_here zero (suc i) less = inl (omega arith)
-below_or_here (suc k) zero less = absurd (omega arith)
-below_or_here (suc k) (suc i) less = elim (below_or_here k i (omega arith)) [ inl l ↦ inl (omega arith) | inr e ↦ inr (ap suc e) ]
+use Rattle.node_links.proofs.LinkSteps.{below_or_here}
 
 pub found_here : (test : Link → Bool) (links : List Link) (i : ℕ) (d : Link) → i < length links → d ≡ get_or links i d → test d ≡ true → FirstOf test links (Some i)
 found_here test links i d less at t =

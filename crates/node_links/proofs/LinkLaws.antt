@@ -1,32 +1,39 @@
 -- What follows of a link and its entry, and links that a call leaves as they were.
-use Rattle.std.proofs.Common.{◌≡◌, ◌≤◌, ◌+◌, ◌∙◌, ◌&&◌, ℕ, Bool, true, false, List, [], length, Option, refl, sym, ap, subst, arith, true≢false}
+use Rattle.std.proofs.Common.{◌≡◌, ◌≤◌, ◌+◌, ◌∙◌, ◌&&◌, ◌==◌, ℕ, Bool, true, false, refl, sym, ap, subst, arith, true≢false}
 use Rattle.std.specs.Prelude.{nat_le}
 use Rattle.std.proofs.lemmas.Bool.Decides.{nat_tests}
-use Rattle.otn_ports.specs.Views.{InView}
+use Rattle.std.proofs.Math.Logic.{∥∥₁_elim, ∥∥₁_map}
+use Rattle.std.specs.Coded.{Unit-prop, le_prop}
+use mathlib.Core.HLevel.{⊥_prop}
 use Rattle.plan_file.specs.declared.connection.Connection.{Connection}
-use Rattle.otn_base.specs.LineSlots.{LineSlots, slots_of}
+use Rattle.plan_file.specs.declared.connection.FromEnd.{FromEnd}
 use Rattle.plan_file.specs.declared.connection.FromEnd.TheVariants as from_end
+use Rattle.plan_file.specs.declared.connection.ToEnd.{ToEnd}
 use Rattle.plan_file.specs.declared.connection.ToEnd.TheVariants as to_end
-use Rattle.trib_sink.specs.Sink.{ended_view}
-use Rattle.tributary_model.specs.Places.{Taken, View, tributary_of}
+use Rattle.tributary_model.specs.Places.{Taken}
 use Rattle.device_model.specs.Entries.{first_turn, own_turn}
-use Rattle.device_model.specs.Through.{of_line}
 use Rattle.cross_matrix.specs.Parts.{TakesFrom, GivesTo, IsOfClient, IsToClient}
-use Rattle.cross_matrix.specs.Pipes.{PipeView, IsPipeOf, PipeStands}
+use Rattle.cross_matrix.specs.Pipes.{PipeView, IsPipeOf}
 use Rattle.cross_matrix.specs.declared.taking.TakingPart.{TakingPart}
 use Rattle.cross_matrix.specs.declared.taking.TakingPart.TheVariants as taking
 use Rattle.cross_matrix.specs.declared.giving.GivingPart.{GivingPart}
 use Rattle.cross_matrix.specs.declared.giving.GivingPart.TheVariants as giving
-use Rattle.node_links.specs.Steps.LinkMoves.{TookText, EndsFrames}
-use Rattle.node_links.specs.declared.link.Origin.{Origin}
 use Rattle.node_links.specs.declared.link.Origin.TheVariants as origin
+use Rattle.node_links.specs.Ends.{Joined, origin_of, target_of}
 use Rattle.node_links.specs.Links.{IsLinkOf, SameEntry, is_on}
-use Rattle.node_links.specs.Moves.{TookFrame, GaveFrame, Fences}
+use Rattle.node_links.specs.Moves.{TookFrame, is_from_client, is_to_client, has_client_in, has_client_out}
 use Rattle.node_links.specs.declared.link.Link.{Link}
 
 pub both_left : (a b : Bool) → (a && b) ≡ true → a ≡ true
 both_left true b h = refl
 both_left false b h = h
+
+pub both_right : (a b : Bool) → (a && b) ≡ true → b ≡ true
+both_right true b h = h
+both_right false b h = cc
+
+pub same_number : (n : ℕ) → (n == n) ≡ true
+same_number n = grind (arith, nat_tests)
 
 pub same_entry : (link : Link) → SameEntry link link
 same_entry link = record { from = refl; to = refl; start = refl; stop = refl; retire = refl; pipe = λ x h. h }
@@ -59,51 +66,6 @@ both b t f = absurd (true≢false (sym t ∙ f))
 pub frame_passed : (takes : Bool) (frame : Taken) (link : Link) → takes ≡ false → TookFrame takes frame link link
 frame_passed takes frame link off = record { same = same_entry link; other = λ e. refl; giving = refl; took = λ on. both takes on off }
 
-pub frame_not_filled : (gives : Bool) (n : ℕ) (link : Link) → gives ≡ false → GaveFrame gives n link link
-frame_not_filled gives n link off = record { same = same_entry link; other = λ e. refl; taking = refl; gave = λ on. both gives on off }
-
-pub text_not_taken : (past : ℕ) (link : Link) (place : InView) → is_on past link ≡ false → TookText past link place link place
-text_not_taken past link place off = record { same = same_entry link; giving = refl; took = λ on. both (is_on past link) on off }
-
-pub not_fenced : (past : ℕ) (whole : Bool) (link : Link) → is_on past link ≡ false → Fences past whole link link
-not_fenced past whole link off = record {
-  same = same_entry link;
-  other = λ e. refl;
-  line = λ on. both (is_on past link) on off;
-  client = λ on. both (is_on past link) on off;
-  text = λ x n h e. refl;
-  signal = λ on. both (is_on past link) on off;
-  receiver = λ x n h e. refl;
-}
-
--- ---- the end of a turn
-
-abbrev is_line : Origin → Bool
-is_line (origin.Line a) = true
-is_line (origin.Client n) = false
-is_line origin.Signal = false
-
-pub frames_ended : (from : Origin) (a : ℕ) (whole w : Bool) (old new : PipeView) → from ≡ origin.Line a → w ≡ whole → ((x : Connection) → IsPipeOf x old → IsPipeOf x new) → new.giving ≡ old.giving
-    → ((x : Connection) (a port : ℕ) (slots : LineSlots) (shows : ℕ → Option View) (j filled : ℕ) (frames : List Taken) → x.from ≡ from_end.Line a port slots
-    → (w ≡ true → length frames ≡ slots_of slots.kind) → PipeStands x (of_line shows) j frames false filled old
-    → ended_view (tributary_of slots port) w frames ≡ shows (first_turn x + j) → PipeStands x (of_line shows) j [] true filled new)
-    → EndsFrames from whole old new
-frames_ended from a whole w old new at same entry giving stands = record {
-  entry = entry;
-  giving = giving;
-  line = λ line e. subst (λ b. (x : Connection) (a port : ℕ) (slots : LineSlots) (shows : ℕ → Option View) (j filled : ℕ) (frames : List Taken) → x.from ≡ from_end.Line a port slots
-      → (b ≡ true → length frames ≡ slots_of slots.kind) → PipeStands x (of_line shows) j frames false filled old
-      → ended_view (tributary_of slots port) b frames ≡ shows (first_turn x + j) → PipeStands x (of_line shows) j [] true filled new) same stands;
-  client = λ n e. absurd (true≢false (ap is_line (sym at ∙ e)));
-  signal = λ e. absurd (true≢false (ap is_line (sym at ∙ e)));
-}
-
-pub no_frames_client : (from : Origin) (n : ℕ) (whole : Bool) (pipe : PipeView) → from ≡ origin.Client n → EndsFrames from whole pipe pipe
-no_frames_client from n whole pipe at = record { entry = λ x h. h; giving = refl; line = λ line e. absurd (true≢false (ap is_line (sym e ∙ at))); client = λ m e. refl; signal = λ e. refl }
-
-pub no_frames_signal : (from : Origin) (whole : Bool) (pipe : PipeView) → from ≡ origin.Signal → EndsFrames from whole pipe pipe
-no_frames_signal from whole pipe at = record { entry = λ x h. h; giving = refl; line = λ line e. absurd (true≢false (ap is_line (sym e ∙ at))); client = λ m e. refl; signal = λ e. refl }
-
 -- the parts of the pipe of an entry
 pub takes_text : (x : Connection) (n : ℕ) (pipe : PipeView) → IsPipeOf x pipe → x.from ≡ from_end.Client n → IsOfClient pipe.taking
 takes_text x n pipe h e = on pipe.taking (subst (λ from. TakesFrom from x pipe.taking) e h.taking)
@@ -119,3 +81,39 @@ gives_text x n pipe h e = on pipe.giving (subst (λ to. GivesTo to pipe.giving) 
     on : (part : GivingPart) → GivesTo (to_end.Client n) part → IsToClient part
     on (giving.Line source) of = absurd of
     on (giving.Client receiver) of = tt
+
+-- ---- the calls that a link may make of its pipe
+
+-- where its pipe goes on, a link has one of the same entry
+pub joins_on : (link : Link) (new : PipeView) → ((x : Connection) → IsPipeOf x link.pipe → IsPipeOf x new) → ∥ Joined link.from link.to link.start new ∥₁
+joins_on link new entry = ∥∥₁_map link.joined (λ j. record { entry = j.entry; from = j.from; to = j.to; start = j.start; pipe = entry j.entry j.pipe })
+
+of_client_prop : (part : TakingPart) → IsProp (IsOfClient part)
+of_client_prop (taking.Line sink) = ⊥_prop
+of_client_prop (taking.Client client) = Unit-prop
+of_client_prop (taking.Signal stream) = ⊥_prop
+
+to_client_prop : (part : GivingPart) → IsProp (IsToClient part)
+to_client_prop (giving.Line source) = ⊥_prop
+to_client_prop (giving.Client receiver) = Unit-prop
+
+pub is_its_client : (link : Link) (n : ℕ) → link.from ≡ origin.Client n → has_client_in n link ≡ true
+is_its_client link n e = ap (is_from_client n) e ∙ same_number n
+
+pub takes_from_client : (link : Link) (n : ℕ) → has_client_in n link ≡ true → IsOfClient link.pipe.taking
+takes_from_client link n h = ∥∥₁_elim link.joined (of_client_prop link.pipe.taking) (λ j. on j j.entry.from refl (ap (is_from_client n) (sym j.from) ∙ h))
+  where
+    on : (j : Joined link.from link.to link.start link.pipe) (end : FromEnd) → j.entry.from ≡ end → is_from_client n (origin_of j.entry.from) ≡ true → IsOfClient link.pipe.taking
+    on j (from_end.Line a port slots) e t = absurd (true≢false (sym t ∙ ap (λ from. is_from_client n (origin_of from)) e))
+    on j (from_end.Client m) e t = takes_text j.entry m link.pipe j.pipe e
+    on j (from_end.Signal signal) e t = absurd (true≢false (sym t ∙ ap (λ from. is_from_client n (origin_of from)) e))
+
+pub gives_to_client : (link : Link) (n : ℕ) → has_client_out n link ≡ true → IsToClient link.pipe.giving
+gives_to_client link n h = ∥∥₁_elim link.joined (to_client_prop link.pipe.giving) (λ j. on j j.entry.to refl (ap (is_to_client n) (sym j.to) ∙ h))
+  where
+    on : (j : Joined link.from link.to link.start link.pipe) (end : ToEnd) → j.entry.to ≡ end → is_to_client n (target_of j.entry.to) ≡ true → IsToClient link.pipe.giving
+    on j (to_end.Line b port slots) e t = absurd (true≢false (sym t ∙ ap (λ to. is_to_client n (target_of to)) e))
+    on j (to_end.Client m) e t = gives_text j.entry m link.pipe j.pipe e
+
+pub has_started : (link : Link) (past : ℕ) → is_on past link ≡ true → link.pipe.start ≤ past + 1
+has_started link past on = ∥∥₁_elim link.joined le_prop (λ j. let same = j.start in let own = j.pipe.start in let from = on_from past link.start link.stop on in omega arith)

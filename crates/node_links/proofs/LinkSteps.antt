@@ -1,5 +1,6 @@
 -- Connections one by one: what each does to a list, and what becomes of each.
 use Rattle.std.proofs.Common.{◌≡◌, ◌⊎◌, inl, inr, ◌<◌, ◌≤◌, ◌+◌, ℕ, zero, suc, List, [], ◌∷◌, ◌++◌, Some, length, slice_get, get_or, set, take, drop, refl, sym, ap, ◌∙◌, subst, arith, add-one, drop-cons}
+use Rattle.std.proofs.lemmas.List.{length-set}
 use Rattle.std.proofs.lemmas.Option.{same_Some, slice_get_within, slice_get-get_or}
 use Rattle.node_links.specs.Steps.LineFrames.{LinkByLink}
 use Rattle.node_links.specs.Moves.{EachLink}
@@ -35,7 +36,7 @@ step_more Step links k d old next new less step rest =
     let split : drop k links ≡ get_or links k d ∷ drop (k + 1) links = rw (add-one, drop-cons links k d) refl in
     subst (λ ls. LinkByLink Step ls old new) (sym split) (next, (step, rest))
 
-drop_all : (links : List Link) (k : ℕ) → length links ≤ k → drop k links ≡ []
+pub drop_all : (links : List Link) (k : ℕ) → length links ≤ k → drop k links ≡ []
 drop_all [] zero most = refl
 drop_all [] (suc k) most = refl
 drop_all (link ∷ links) zero most = absurd (omega arith)
@@ -56,7 +57,7 @@ pub record Gone (Goes : Link → Link → Type 0) (done : ℕ) (olds news : List
 pub none_gone : (Goes : Link → Link → Type 0) (links : List Link) → Gone Goes 0 links links
 none_gone Goes links = record { count = refl; past = λ k old new less. absurd (omega arith); ahead = λ k least. refl }
 
-set_here : (links : List Link) (k : ℕ) (link : Link) → k < length links → slice_get (set links k link) k ≡ Some link
+pub set_here : (links : List Link) (k : ℕ) (link : Link) → k < length links → slice_get (set links k link) k ≡ Some link
 set_here [] k link less = absurd (omega arith)
 set_here (x ∷ links) zero link less = refl
 set_here (x ∷ links) (suc k) link less = set_here links k link (omega arith)
@@ -73,12 +74,7 @@ set_above (x ∷ links) i zero link less = absurd (omega arith)
 set_above (x ∷ links) zero (suc k) link less = refl
 set_above (x ∷ links) (suc i) (suc k) link less = set_above links i k link (omega arith)
 
-set_length : (links : List Link) (i : ℕ) (link : Link) → length (set links i link) ≡ length links
-set_length [] i link = refl
-set_length (x ∷ links) zero link = refl
-set_length (x ∷ links) (suc i) link = ap suc (set_length links i link)
-
-below_or_here : (k i : ℕ) → k < i + 1 → (k < i) ⊎ (k ≡ i)
+pub below_or_here : (k i : ℕ) → k < i + 1 → (k < i) ⊎ (k ≡ i)
 below_or_here zero zero less = inr refl
 below_or_here zero (suc i) less = inl (omega arith)
 below_or_here (suc k) zero less = absurd (omega arith)
@@ -87,7 +83,7 @@ below_or_here (suc k) (suc i) less = elim (below_or_here k i (omega arith)) [ in
 pub one_gone : (Goes : Link → Link → Type 0) (i : ℕ) (olds news : List Link) (d link : Link) → i < length olds → Gone Goes i olds news → Goes (get_or news i d) link
     → Gone Goes (i + 1) olds (set news i link)
 one_gone Goes i olds news d link less h goes = record {
-  count = set_length news i link ∙ h.count;
+  count = length-set news i link ∙ h.count;
   past = λ k old new lt at_old at_new. elim (below_or_here k i lt) [
     | inl l ↦ h.past k old new l at_old (sym (set_below news i k link l) ∙ at_new)
     | inr e ↦
@@ -99,7 +95,7 @@ one_gone Goes i olds news d link less h goes = record {
   ahead = λ k least. set_above news i k link (omega arith) ∙ h.ahead k (omega arith);
 }
 
-pub all_gone : (Goes : Link → Link → Type 0) (i : ℕ) (olds news : List Link) → length olds ≤ i → Gone Goes i olds news → EachLink Goes olds news
+all_gone : (Goes : Link → Link → Type 0) (i : ℕ) (olds news : List Link) → length olds ≤ i → Gone Goes i olds news → EachLink Goes olds news
 all_gone Goes i olds news most h = record {
   count = h.count;
   each = λ k old new at_old at_new. h.past k old new (let within = slice_get_within olds k old at_old in omega arith) at_old at_new;
@@ -111,7 +107,7 @@ as_it_was Goes i olds news d less h =
     same_Some (get_or news i d) (get_or olds i d)
     (sym (slice_get-get_or news i d (let count = h.count in omega arith)) ∙ h.ahead i (omega arith) ∙ slice_get-get_or olds i d less)
 
-pub put_back : (news olds : List Link) (n : ℕ) → n ≡ length olds → length news ≡ length olds → take n (news ++ drop (length news) olds) ≡ news
+put_back : (news olds : List Link) (n : ℕ) → n ≡ length olds → length news ≡ length olds → take n (news ++ drop (length news) olds) ≡ news
 put_back news olds n all count =
     let gone : drop (length news) olds ≡ [] = drop_all olds (length news) (omega arith) in
     ap (λ rest. take n (news ++ rest)) gone ∙ front news n (omega arith)
@@ -121,3 +117,7 @@ put_back news olds n all count =
     front [] (suc n) same = refl
     front (link ∷ links) zero same = absurd (omega arith)
     front (link ∷ links) (suc n) same = ap (λ rest. link ∷ rest) (front links n (omega arith))
+
+-- and so after the loop, where the list is put together
+pub all_gone_back : (Goes : Link → Link → Type 0) (i n : ℕ) (olds news : List Link) → n ≡ length olds → length olds ≤ i → Gone Goes i olds news → EachLink Goes olds (take n (news ++ drop (length news) olds))
+all_gone_back Goes i n olds news all most h = subst (EachLink Goes olds) (sym (put_back news olds n all h.count)) (all_gone Goes i olds news most h)

@@ -13,6 +13,7 @@ use Rattle.device_model.specs.SoundPlans.{IsSender}
 use Rattle.node_links.specs.Links.{IsLinkOf, is_on, target_of}
 use Rattle.node_links.specs.Moves.{gives_line, is_to_line}
 use Rattle.node_links.specs.declared.link.Link.{Link}
+use Rattle.node_links.proofs.LinkLaws.{both_left, both_right, same_number}
 
 pub either : (v : Bool) → (v ≡ true) ⊎ (v ≡ false)
 either true = inl refl
@@ -21,13 +22,6 @@ either false = inr refl
 both : (a b : Bool) → a ≡ true → b ≡ true → (a && b) ≡ true
 both true b h k = k
 both false b h k = cc
-
-parts : (a b : Bool) → (a && b) ≡ true → (a ≡ true) × (b ≡ true)
-parts true b h = (refl, h)
-parts false b h = cc
-
-same_number : (b : ℕ) → (b == b) ≡ true
-same_number b = grind (arith, nat_tests)
 
 one_number : (a b : ℕ) → (a == b) ≡ true → a ≡ b
 one_number a b h = grind (arith, nat_tests)
@@ -59,13 +53,12 @@ sends_to x b past (to_end.Client n) is active gives = cc
 
 pub giver_sends : (x : Connection) (b past : ℕ) (link : Link) → IsLinkOf x link → gives_line past b link ≡ true → Sending x b past
 giver_sends x b past link is gives =
-    let two = parts (is_on past link) (is_to_line b link.to) gives in
-    let span = parts (nat_le link.start (past + 1)) (nat_le (past + 1) link.stop) two.0 in
-    let from = leb-true link.start (past + 1) span.0 in
-    let until = leb-true (past + 1) link.stop span.1 in
+    let on = both_left (is_on past link) (is_to_line b link.to) gives in
+    let from = leb-true link.start (past + 1) (both_left (nat_le link.start (past + 1)) (nat_le (past + 1) link.stop) on) in
+    let until = leb-true (past + 1) link.stop (both_right (nat_le link.start (past + 1)) (nat_le (past + 1) link.stop) on) in
     let start = is.start in
     let stop = is.stop in
-    sends_to x b past x.to refl (record { start = omega arith; stop = omega arith }) (ap (is_to_line b) (sym is.to) ∙ two.1)
+    sends_to x b past x.to refl (record { start = omega arith; stop = omega arith }) (ap (is_to_line b) (sym is.to) ∙ both_right (is_on past link) (is_to_line b link.to) gives)
 
 -- a connection of the plan is known by its place there
 pub sender_of : (plan : Plan) (b past : ℕ) (x : Connection) (port : ℕ) (slots : LineSlots) → (s : IsSentOn plan b past x port slots) → slice_get plan.connections s.is_of.0 ≡ Some x

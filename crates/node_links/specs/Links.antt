@@ -1,26 +1,9 @@
 -- API: the connections of a node: for each, which ports it joins and in which turns, and its pipe.
 use Rattle.std.specs.Prelude.{◌≡◌, ◌+◌, ◌≤◌, ℕ, Bool, ◌&&◌, nat_le, nat_lt}
 use Rattle.plan_file.specs.declared.connection.Connection.{Connection}
-use Rattle.plan_file.specs.declared.connection.FromEnd.{FromEnd}
-use Rattle.plan_file.specs.declared.connection.FromEnd.TheVariants as from_end
-use Rattle.plan_file.specs.declared.connection.ToEnd.{ToEnd}
-use Rattle.plan_file.specs.declared.connection.ToEnd.TheVariants as to_end
 use Rattle.cross_matrix.specs.Pipes.{IsPipeOf}
 use Rattle.node_links.specs.declared.link.Link.{Link}
-use Rattle.node_links.specs.declared.link.Origin.{Origin}
-use Rattle.node_links.specs.declared.link.Origin.TheVariants as origin
-use Rattle.node_links.specs.declared.link.Target.{Target}
-use Rattle.node_links.specs.declared.link.Target.TheVariants as target
-
--- what the node keeps of a from end, and of a to end
-abbrev pub origin_of : FromEnd → Origin
-origin_of (from_end.Line a port slots) = origin.Line a
-origin_of (from_end.Client n) = origin.Client n
-origin_of (from_end.Signal signal) = origin.Signal
-
-abbrev pub target_of : ToEnd → Target
-target_of (to_end.Line b port slots) = target.Line b port slots
-target_of (to_end.Client n) = target.Client n
+pub use Rattle.node_links.specs.Ends.{origin_of, target_of}
 
 -- it is the link of this entry, whose first turn is one of a plan
 pub record IsLinkOf (x : Connection) (link : Link) : Type 0 where

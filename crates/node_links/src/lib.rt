@@ -1,11 +1,12 @@
 //! The connections of a node: a piece of each kind of port, and the end of a turn, over the list of all of them.
 //!
-//! - `link`: a connection of a node, with its pipe.
+//! - `link`: a connection of a node, with its pipe; `ends`: where it comes from and goes.
 //! - `lines_in`, `lines_out`, `clients`: a piece of each kind of port.
 //! - `turn`: the end of a turn; `retire`: client places at the stop of their connection.
 #![tactic(auto)]
 
 mod clients;
+mod ends;
 mod lines_in;
 mod lines_out;
 mod link;

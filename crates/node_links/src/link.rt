@@ -1,5 +1,5 @@
 // A connection of a node: which ports it joins, in which turns, and its pipe.
-ghost use Rattle.std.specs.Prelude.{◌≡◌, ◌<◌, ◌≤◌, ◌+◌, ◌&&◌, ◌==◌, ◌^◌, ℕ, Bool, true, false, None, Some, IfOk, length, slice_get, get_or, is_some, option_map, List, Option};
+ghost use Rattle.std.specs.Prelude.{◌≡◌, ◌<◌, ◌≤◌, ◌+◌, ◌==◌, ◌^◌, ℕ, Bool, true, false, None, Some, IfOk, length, slice_get, is_some, option_map, List, Option};
 ghost use Rattle.otn_base.specs.Counts.{saturated};
 ghost use Rattle.otn_ports.specs.InPlace.{in_view};
 ghost use Rattle.otn_ports.specs.OutPlace.{out_view};
@@ -11,19 +11,18 @@ ghost use Rattle.tributary_model.specs.Places.{Taken};
 ghost use Rattle.device_model.specs.Through.{OwnInput, of_client, state_in};
 ghost use Rattle.cross_matrix.specs.Parts.{ClientInStands, MayShow, turns_taken};
 ghost use Rattle.cross_matrix.specs.Pipes.{PipeStands};
-ghost use Rattle.node_links.specs.Steps.LineFrames.{PutsOwn};
-ghost use Rattle.node_links.specs.Links.{IsLinkOf, is_later, is_on, was_on, origin_of, target_of};
-ghost use Rattle.node_links.specs.Moves.{TookFrame, GaveFrame, Fences, is_from_line, is_from_client, is_to_line, is_to_client, has_client_in, has_client_out, takes_line, takes_client, gives_line, gives_client};
-ghost use Rattle.node_links.specs.Steps.LinkMoves.{TookText, GaveText, EndsFrames, EndsPipe};
-ghost use Rattle.node_links.specs.LinkEnds.{Starts, whole_for};
-ghost use Rattle.node_links.specs.Retiring.{ends_here};
+ghost use Rattle.node_links.specs.Ends.{Joined};
 
+use crate::ends::{
+    comes_from_client, comes_from_line, goes_to_client, goes_to_line, is_whole, origin_of,
+    target_of,
+};
 use cross_matrix::Pipe;
 use device_model::{FromState, accepted_plans};
 use odtu_columns::{FillFrame, TakeFrame};
 use otn_base::{Memory, Slots};
 use otn_ports::{InPlaceOf, OutPlaceOf, Sink, Source};
-use plan_file::{FromEnd, Plan, ToEnd};
+use plan_file::Plan;
 use std::alloc::Global;
 
 /// Where a connection comes from: a line input, a client input, or a signal.
@@ -41,7 +40,8 @@ pub enum Target {
     Client(u8),
 }
 
-/// A connection of a node.
+/// A connection of a node. Its pipe is the one of an entry with these ends: so it makes those calls of the pipe that
+/// belong to them, and tests no more than its ports and turns.
 #[derive(Drop)]
 pub struct Link {
     /// Where it comes from.
@@ -56,9 +56,17 @@ pub struct Link {
     pub retire: bool,
     /// What carries its bytes.
     pub pipe: Pipe,
+    pub ghost joined: { ∥ Joined from to start pipe ∥₁ },
 }
 
 impl Link {
+    ghost use Rattle.node_links.specs.Steps.LineFrames.{PutsOwn};
+    ghost use Rattle.node_links.specs.Links.{IsLinkOf, SameEntry, is_later, is_on, was_on};
+    ghost use Rattle.node_links.specs.Moves.{TookFrame, GaveFrame, Fences, has_client_in, has_client_out, takes_line, takes_client, gives_line, gives_client};
+    ghost use Rattle.node_links.specs.Steps.LinkMoves.{TookText, GaveText, EndsFrames};
+    ghost use Rattle.node_links.specs.LinkEnds.{Starts, whole_for};
+    ghost use Rattle.node_links.specs.Retiring.{ends_here};
+
     /// The link of entry `i`, from 0, of an accepted plan, which is to be started. Takes all memory that it will ever
     /// need; answers `Memory` where there is none.
     pub fn new(alloc: Global, plan: &Plan, i: u32) -> Result<Link, Memory>
@@ -135,8 +143,11 @@ impl Link {
         ensures { TookFrame (takes_line past a self.old)
             (record { frame = F.bytes frame.now; expected = expected }) self.old self.new }
     {
-        if self.takes_line(a, past) {
-            self.pipe.take_next(frame, expected);
+        if !self.takes_line(a, past) {
+            return;
+        }
+        if let Some(n) = self.pipe.next_taken() {
+            self.pipe.take_frame(n, frame, expected);
         }
     }
 
@@ -145,25 +156,29 @@ impl Link {
         ensures gave { (n : ℕ) → GaveFrame (gives_line past b self.old) n self.old self.new }
         ensures puts { PutsOwn (gives_line past b self.old) self.old (F.bytes frame.old) (F.bytes frame.new) }
     {
-        if self.gives_line(b, past) {
-            self.pipe.fill_next(frame);
+        if !self.gives_line(b, past) {
+            return;
+        }
+        if let Some(n) = self.pipe.next_filled() {
+            self.pipe.fill_frame(n, frame);
         }
     }
 
     /// Takes from its client what turn past + 1, in which it is active, brings.
     pub(crate) fn take_client<P: Source>(&mut self, past: u32, place: &mut InPlaceOf<P>)
+        requires on { is_on past self.old ≡ true }
+        requires client { (n : ℕ) × (has_client_in n self.old ≡ true) }
         ensures { TookText past self.old (in_view P.Source place.old) self.new (in_view P.Source place.new) }
     {
-        if self.is_on(past) {
-            self.pipe.take_text(past + 1, place);
-        }
+        self.pipe.take_client(past + 1, place);
     }
 
     /// Gives its client what turn past + 1 brings it.
     pub(crate) fn give_client<K: Sink>(&mut self, place: &mut OutPlaceOf<K>)
+        requires client { (n : ℕ) × (has_client_out n self.old ≡ true) }
         ensures { GaveText self.old (out_view K.Sink place.old) self.new (out_view K.Sink place.new) }
     {
-        self.pipe.give_text(place);
+        self.pipe.give_client(place);
     }
 
     /// Ends turn past + 1: `wholes` says of each line input whether it has a multiframe in it.
@@ -171,13 +186,30 @@ impl Link {
         ensures { Fences past (whole_for self.old.from wholes.now) self.old self.new }
     {
         if self.is_on(past) {
-            end_pipe(self.from, &mut self.pipe, past, wholes);
+            self.end_frames(wholes);
+            self.pipe.fence(past + 1);
         }
     }
 
-    /// The numbers of its client input so far, in turn past + 1: none before its first turn, nor where it comes from no
-    /// client.
-    pub fn text_counts(&self, past: u32) -> (u64, bool, Option<u64>)
+    // The turn of its line ends, where it comes from one.
+    fn end_frames(&mut self, wholes: &[bool])
+        ensures same { SameEntry self.old self.new }
+        ensures ends { EndsFrames self.old.from (whole_for self.old.from wholes.now) self.old.pipe self.new.pipe }
+    {
+        let a = match self.from {
+            Origin::Line(a) => a,
+            Origin::Client(_) => return,
+            Origin::Signal => return,
+        };
+        let whole = is_whole(a, wholes);
+        if self.pipe.may_end(whole) {
+            self.pipe.end_frames(whole);
+        }
+    }
+
+    /// The numbers of its client input so far, in turn past + 1: none before its first turn.
+    pub fn client_in(&self, past: u32) -> (u64, bool, Option<u64>)
+        requires client { (n : ℕ) × (has_client_in n self.now ≡ true) }
         ensures later { is_later past self.now ≡ true → result ≡ (0, false, None) }
         ensures started { is_later past self.now ≡ false
             → (x : Connection) (first now : InView) (taken : List ℕ) (n : ℕ) (input : ClientInput)
@@ -193,7 +225,7 @@ impl Link {
         if self.is_later(past) {
             (0, false, None)
         } else {
-            self.pipe.text_counts()
+            self.pipe.client_in()
         }
     }
 
@@ -248,89 +280,4 @@ impl Link {
     {
         self.retire && (past < self.stop && self.stop - past == 1)
     }
-}
-
-// Where an end of an entry comes from.
-fn origin_of(from: &FromEnd) -> Origin
-    ensures { result ≡ origin_of from.now }
-{
-    match from {
-        FromEnd::Line(a, _, _) => Origin::Line(*a),
-        FromEnd::Client(n) => Origin::Client(*n),
-        FromEnd::Signal(_) => Origin::Signal,
-    }
-}
-
-// Where an end of an entry goes.
-fn target_of(to: &ToEnd) -> Result<Target, Memory>
-    ensures { IfOk result (λ target. target ≡ target_of to.now) }
-{
-    match to {
-        ToEnd::Line(b, port, slots) => Ok(Target::Line(*b, *port, slots.clone()?)),
-        ToEnd::Client(n) => Ok(Target::Client(*n)),
-    }
-}
-
-fn comes_from_line(a: u8, from: Origin) -> bool
-    ensures { result ≡ is_from_line a from }
-{
-    match from {
-        Origin::Line(line) => line == a,
-        Origin::Client(_) => false,
-        Origin::Signal => false,
-    }
-}
-
-fn comes_from_client(n: u8, from: Origin) -> bool
-    ensures { result ≡ is_from_client n from }
-{
-    match from {
-        Origin::Client(client) => client == n,
-        Origin::Line(_) => false,
-        Origin::Signal => false,
-    }
-}
-
-fn goes_to_line(b: u8, to: &Target) -> bool
-    ensures { result ≡ is_to_line b to.now }
-{
-    match to {
-        Target::Line(line, _, _) => *line == b,
-        Target::Client(_) => false,
-    }
-}
-
-fn goes_to_client(n: u8, to: &Target) -> bool
-    ensures { result ≡ is_to_client n to.now }
-{
-    match to {
-        Target::Client(client) => *client == n,
-        Target::Line(..) => false,
-    }
-}
-
-// Ends turn past + 1 of the pipe of an active connection.
-fn end_pipe(from: Origin, pipe: &mut Pipe, past: u32, wholes: &[bool])
-    requires { past + 1 < 2 ^ 32 }
-    ensures { EndsPipe past from (whole_for from wholes.now) pipe.old pipe.new }
-{
-    end_frames(from, pipe, wholes);
-    pipe.end_turn(past + 1);
-}
-
-// The turn of its line ends, where it comes from one.
-fn end_frames(from: Origin, pipe: &mut Pipe, wholes: &[bool])
-    ensures { EndsFrames from (whole_for from wholes.now) pipe.old pipe.new }
-{
-    match from {
-        Origin::Line(a) => pipe.end_line(is_whole(a, wholes)),
-        Origin::Client(_) => {}
-        Origin::Signal => {}
-    }
-}
-
-fn is_whole(a: u8, wholes: &[bool]) -> bool
-    ensures { result ≡ get_or wholes.now a false }
-{
-    (a as usize) < wholes.len() && wholes[a as usize]
 }

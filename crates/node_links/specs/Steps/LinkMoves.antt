@@ -1,15 +1,14 @@
--- Steps of `end_frames`, `end_pipe` and others: what a connection of a node does in a turn, and at its end.
+-- Steps of `end_frames`, `take_client` and others: what a connection of a node does in a turn, and at its end.
 use Rattle.std.specs.Prelude.{◌≡◌, ◌<◌, ◌+◌, ℕ, suc, Bool, true, false, List, [], length, Option, Some, None, slice_get}
 use Rattle.otn_base.specs.LineSlots.{LineSlots, slots_of}
 use Rattle.otn_ports.specs.Views.{InView, OutView}
-use Rattle.maintenance_signals.specs.declared.signal.Signal.{Signal}
 use Rattle.plan_file.specs.declared.connection.Connection.{Connection}
 use Rattle.plan_file.specs.declared.connection.FromEnd.TheVariants as from_end
 use Rattle.trib_sink.specs.Sink.{ended_view}
 use Rattle.tributary_model.specs.Places.{Taken, View, tributary_of}
 use Rattle.device_model.specs.Entries.{first_turn, own_turn}
 use Rattle.device_model.specs.Through.{OwnInput, of_line}
-use Rattle.cross_matrix.specs.Parts.{IsOfClient, IsToClient, ClientInStands, ClientOutStands}
+use Rattle.cross_matrix.specs.Parts.{ClientInStands, ClientOutStands}
 use Rattle.cross_matrix.specs.Pipes.{PipeView, IsPipeOf, PipeStands, ClientTook}
 use Rattle.node_links.specs.Links.{IsLinkOf, SameEntry, is_on}
 use Rattle.node_links.specs.declared.link.Link.{Link}
@@ -47,24 +46,6 @@ pub record EndsFrames (from : Origin) (whole : Bool) (old new : PipeView) : Type
       → PipeStands x (of_line shows) j [] true filled new
   pub client : (n : ℕ) → from ≡ origin.Client n → new ≡ old
   pub signal : from ≡ origin.Signal → new ≡ old
-
--- turn past + 1 of the pipe of a connection ends
-pub record EndsPipe (past : ℕ) (from : Origin) (whole : Bool) (old new : PipeView) : Type 0 where
-  pub entry : (x : Connection) → IsPipeOf x old → IsPipeOf x new
-  pub line : (line : ℕ) → from ≡ origin.Line line
-      → (x : Connection) (a number : ℕ) (slots : LineSlots) (shows : ℕ → Option View) (j filled : ℕ)
-      (frames : List Taken) → past + 1 ≡ x.start + j
-      → x.from ≡ from_end.Line a number slots → (whole ≡ true → length frames ≡ slots_of slots.kind)
-      → ended_view (tributary_of slots number) whole frames ≡ shows (first_turn x + j)
-      → PipeStands x (of_line shows) j frames false filled old → PipeStands x (of_line shows) (suc j) [] false 0 new
-  pub client : (n : ℕ) → from ≡ origin.Client n → (x : Connection) (m j filled : ℕ) (input : OwnInput)
-      → past + 1 ≡ x.start + j → x.from ≡ from_end.Client m
-      → PipeStands x input j [] true filled old → PipeStands x input (suc j) [] false 0 new
-  pub signal : from ≡ origin.Signal → (x : Connection) (signal : Signal) (j filled : ℕ) (input : OwnInput)
-      → past + 1 ≡ x.start + j → x.from ≡ from_end.Signal signal
-      → PipeStands x input j [] false filled old → PipeStands x input (suc j) [] false 0 new
-  pub text : (n : ℕ) → from ≡ origin.Client n → IsOfClient old.taking → new.taking ≡ old.taking
-  pub receiver : IsToClient old.giving → new.giving ≡ old.giving
 
 -- of some connections, one that meets the test, or none does
 abbrev pub first_of : (test : Link → Bool) → List Link → Option ℕ → Type 0

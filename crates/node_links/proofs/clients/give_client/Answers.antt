@@ -1,19 +1,18 @@
-use Rattle.std.proofs.Common.{◌≡◌, List, Some, length, slice_get, refl, subst}
-use Rattle.std.proofs.lemmas.Option.{slice_get_read}
 use Rattle.otn_ports.specs.OutPlace.{out_view}
-use Rattle.node_links.specs.Steps.LinkMoves.{FirstOf}
-use Rattle.node_links.specs.Moves.{gives_client}
-use Rattle.node_links.specs.declared.link.Link.{Link}
-use Rattle.node_links.proofs.ClientPieces.{one_gives}
+use Rattle.node_links.specs.Links.{is_on}
+use Rattle.node_links.specs.Moves.{gives_client, has_client_out}
+use Rattle.node_links.proofs.ClientPieces.{found_at, one_gives}
+use Rattle.node_links.proofs.LinkLaws.{both_right}
 use Rattle.node_links.proofs.clients.give_client.Goals as goal
+
+pub give_client-requires : goal.give_client-requires
+give_client-requires g c =
+    let old = c.index_mut.result.now in
+    let at = found_at (gives_client c.args.past c.args.n) c.deref.result.now c.args.links.now.items c.giver.result c.in-Some.i old c.deref.ensures.value c.in-Some.is c.giver.ensures c.index_mut.ensures.value in
+    record { client = (c.args.n, both_right (is_on c.args.past old) (has_client_out c.args.n old) at.2) }
 
 pub returns : goal.returns
 returns g c =
-    let links = c.args.links.now.items in
-    let test = gives_client c.args.past c.args.n in
-    let i = c.in-Some.i in
     let old = c.index_mut.result.now in
-    let said : FirstOf test c.deref.result.now (Some i) = subst (λ o. FirstOf test c.deref.result.now o) c.in-Some.is c.giver.ensures in
-    let found : FirstOf test links (Some i) = subst (λ (ls : List Link). FirstOf test ls (Some i)) c.deref.ensures.value said in
-    let known : slice_get links i ≡ Some old = slice_get_read links (length links) i old refl found.is.0 c.index_mut.ensures.value in
-    one_gives c.args.past c.args.n i links old c.give_client.new.self (out_view g.K.Sink c.args.place.now) (out_view g.K.Sink c.give_client.new.place) found known c.give_client.ensures
+    let at = found_at (gives_client c.args.past c.args.n) c.deref.result.now c.args.links.now.items c.giver.result c.in-Some.i old c.deref.ensures.value c.in-Some.is c.giver.ensures c.index_mut.ensures.value in
+    one_gives c.args.past c.args.n c.in-Some.i c.args.links.now.items old c.give_client.new.self (out_view g.K.Sink c.args.place.now) (out_view g.K.Sink c.give_client.new.place) at.0 at.1 c.give_client.ensures

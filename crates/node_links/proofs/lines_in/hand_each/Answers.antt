@@ -1,7 +1,7 @@
-use Rattle.std.proofs.Common.{◌≡◌, ◌<◌, ◌≤◌, ◌++◌, length, take, drop, subst, sym, arith, rules}
-use Rattle.node_links.specs.Moves.{EachLink, TookFrame, takes_line}
+use Rattle.std.proofs.Common.{◌≡◌, ◌<◌, ◌≤◌, length, arith, rules}
+use Rattle.node_links.specs.Moves.{TookFrame, takes_line}
 use Rattle.node_links.specs.declared.link.Link.{Link}
-use Rattle.node_links.proofs.LinkSteps.{one_gone, all_gone, put_back}
+use Rattle.node_links.proofs.LinkSteps.{one_gone, all_gone_back}
 use Rattle.node_links.proofs.lines_in.hand_each.Goals as goal
 
 pub loop-link-preserved : goal.loop-link-preserved
@@ -22,5 +22,4 @@ returns g c =
     let Goes = λ (link then : Link). TookFrame (takes_line c.args.past c.args.a link) (record { frame = g.F.TakeFrame.bytes c.args.frame.now; expected = c.args.expected }) link then in
     let count : length news ≡ length olds = c.loop-link.invariant.count in
     let most : length olds ≤ i = (let test = c.loop-link-test.false in omega arith) in
-    let whole : take c.args.links.now.len (news ++ drop (length news) olds) ≡ news = put_back news olds c.args.links.now.len (search rules) count in
-    subst (EachLink Goes olds) (sym whole) (all_gone Goes i olds news most c.loop-link.invariant)
+    all_gone_back Goes i c.args.links.now.len olds news (search rules) most c.loop-link.invariant

@@ -1,4 +1,4 @@
-use Rattle.std.proofs.Common.{List, ℕ, subst, sym}
+use Rattle.std.proofs.Common.{subst, sym}
 use Rattle.node_links.specs.Steps.LineFrames.{PutsOwn, LinkByLink}
 use Rattle.node_links.specs.Moves.{gives_line}
 use Rattle.node_links.proofs.lines_out.fill_by_slots.Goals as goal

@@ -1,8 +1,8 @@
-use Rattle.std.proofs.Common.{◌≡◌, ◌<◌, ◌≤◌, ◌++◌, ℕ, List, length, take, drop, subst, sym, arith, rules}
+use Rattle.std.proofs.Common.{◌≡◌, ◌<◌, ◌≤◌, ℕ, List, length, subst, arith, rules}
 use Rattle.node_links.specs.Steps.LineFrames.{PutsOwn}
-use Rattle.node_links.specs.Moves.{EachLink, GaveFrame, gives_line}
+use Rattle.node_links.specs.Moves.{GaveFrame, gives_line}
 use Rattle.node_links.specs.declared.link.Link.{Link}
-use Rattle.node_links.proofs.LinkSteps.{step_more, one_gone, all_gone, as_it_was, put_back}
+use Rattle.node_links.proofs.LinkSteps.{step_more, one_gone, all_gone_back, as_it_was}
 use Rattle.node_links.proofs.lines_out.fill_links.Goals as goal
 
 pub loop-link-preserved : goal.loop-link-preserved
@@ -31,5 +31,4 @@ returns-clause-gave g c =
     let Goes = λ (n : ℕ) (link new : Link). GaveFrame (gives_line c.args.past c.args.b link) n link new in
     let count : length news ≡ length olds = (c.loop-link.invariant.gone 0).count in
     let most : length olds ≤ i = (let test = c.loop-link-test.false in omega arith) in
-    let whole : take c.args.links.now.len (news ++ drop (length news) olds) ≡ news = put_back news olds c.args.links.now.len (search rules) count in
-    λ n. subst (EachLink (Goes n) olds) (sym whole) (all_gone (Goes n) i olds news most (c.loop-link.invariant.gone n))
+    λ n. all_gone_back (Goes n) i c.args.links.now.len olds news (search rules) most (c.loop-link.invariant.gone n)

@@ -1,8 +1,8 @@
-use Rattle.std.proofs.Common.{◌≡◌, ◌<◌, ◌≤◌, ◌++◌, length, take, drop, subst, sym, arith, rules}
-use Rattle.node_links.specs.Moves.{EachLink, Fences}
+use Rattle.std.proofs.Common.{◌≡◌, ◌<◌, ◌≤◌, length, arith, rules}
+use Rattle.node_links.specs.Moves.{Fences}
 use Rattle.node_links.specs.LinkEnds.{whole_for}
 use Rattle.node_links.specs.declared.link.Link.{Link}
-use Rattle.node_links.proofs.LinkSteps.{one_gone, all_gone, put_back}
+use Rattle.node_links.proofs.LinkSteps.{one_gone, all_gone_back}
 use Rattle.node_links.proofs.turn.fence_all.Goals as goal
 
 pub loop-link-preserved : goal.loop-link-preserved
@@ -23,5 +23,4 @@ returns c =
     let Goes = λ (link then : Link). Fences c.args.past (whole_for link.from c.args.wholes.now) link then in
     let count : length news ≡ length olds = c.loop-link.invariant.count in
     let most : length olds ≤ i = (let test = c.loop-link-test.false in omega arith) in
-    let whole : take c.args.links.now.len (news ++ drop (length news) olds) ≡ news = put_back news olds c.args.links.now.len (search rules) count in
-    subst (EachLink Goes olds) (sym whole) (all_gone Goes i olds news most c.loop-link.invariant)
+    all_gone_back Goes i c.args.links.now.len olds news (search rules) most c.loop-link.invariant

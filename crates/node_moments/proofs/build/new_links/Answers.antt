@@ -1,4 +1,4 @@
-use Rattle.std.proofs.Common.{◌≡◌, Some, slice_get, length, arith, rules}
+use Rattle.std.proofs.Common.{◌≡◌, List, Some, slice_get, length, ap, arith, rules}
 use Rattle.std.proofs.lemmas.Grind.{common_steps}
 use Rattle.plan_file.specs.declared.connection.Connection.{Connection}
 use Rattle.node_moments.specs.Built.{IsNewLink}
@@ -23,3 +23,11 @@ loop-i-preserved c =
       len = grind (arith, common_steps);
       each = rw c.in_ok-push.ensures.items (each_more (λ k link. (x : Connection) → slice_get c.args.plan.now.connections k ≡ Some x → IsNewLink x link) items _ c.loop-i.i len i.each c.in_ok-new_link.ensures);
     }
+
+pub returns : goal.returns
+returns c =
+    let i = c.loop-i.invariant in
+    let test = c.loop-i-test.false in
+    let end = c.loop-i.auto.i-end in
+    let size : length c.as_slice.result.now ≡ length c.args.plan.now.connections = ap (λ (xs : List Connection). length xs) c.as_slice.ensures in
+    record { count = omega (arith, i.len, c.loop-i.links.ok, test, end, size); each = λ k x link at here. i.each k link here x at }

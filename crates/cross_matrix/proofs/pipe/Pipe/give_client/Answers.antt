@@ -8,9 +8,8 @@ use Rattle.cross_matrix.proofs.pipe.Pipe.give_client.Goals as goal
 pub returns-clause-gave : goal.returns-clause-gave
 returns-clause-gave g c = λ x input first j filled frames ended h out.
     let i = c.self.inside in
-    let old : PipeView = record { taking = i.taking; giving = i.giving; paces = i.paces.items; start = i.start; slots = i.slots; came = i.came.bytes; gives = i.gives.bytes } in
-    let now : PipeStands x input j frames ended filled old = subst (PipeStands x input j frames ended filled) (sym c.self.view_is) h in
+    let now = subst (PipeStands x input j frames ended filled) (sym c.self.view_is) h in
     let client : IsToClient i.giving = subst (λ (p : PipeView). IsToClient p.giving) (sym c.self.view_is) c.requires.client in
     let was = out_view g.K.Sink c.args.place.now in
-    client_gave x input first was (out_view g.K.Sink c.give_text.new.place) j i.giving c.give_text.new.part c.bytes.result.now (c.bytes.ensures ∙ now.gives client)
-    (λ arrived. c.give_text.ensures.gave first arrived) (subst (λ (p : PipeView). ClientOutStands x input first was j p.giving) (sym c.self.view_is) out)
+    client_gave x input first was (out_view g.K.Sink c.give_client.new.place) j i.giving c.give_client.new.self c.bytes.result.now (c.bytes.ensures ∙ now.gives client)
+    (λ arrived. c.give_client.ensures.gave first arrived) (subst (λ (p : PipeView). ClientOutStands x input first was j p.giving) (sym c.self.view_is) out)

@@ -1,14 +1,14 @@
 use Rattle.std.proofs.Common.{◌∙◌, ap, sym, subst}
 use Rattle.cross_matrix.specs.Bursts.{BurstView}
 use Rattle.cross_matrix.specs.Parts.{TakesFrom}
-use Rattle.cross_matrix.specs.Pipes.{PipeView, IsPipeOf}
+use Rattle.cross_matrix.specs.Pipes.{IsPipeOf}
 use Rattle.cross_matrix.proofs.PipeMoves.{out_fresh}
 use Rattle.cross_matrix.proofs.pipe.Pipe.start.Goals as goal
 
 pub invariant_of-self : goal.invariant_of-self
 invariant_of-self c = record {
-  sink = c.restart_taking.ensures.slots c.self.inside.slots c.self.invariant.sink;
-  source = c.restart_giving.ensures.slots c.self.inside.slots c.self.invariant.source;
+  sink = c.start.ensures.slots c.self.inside.slots c.self.invariant.sink;
+  source = c.start-2.ensures.slots c.self.inside.slots c.self.invariant.source;
   fit = c.self.invariant.fit;
   came = ap (λ (b : BurstView). b.room) c.clear.ensures ∙ c.self.invariant.came;
   gives = ap (λ (b : BurstView). b.room) c.clear-2.ensures ∙ c.self.invariant.gives;
@@ -16,14 +16,8 @@ invariant_of-self c = record {
 
 pub returns-clause-client_in : goal.returns-clause-client_in
 returns-clause-client_in c = λ x n first entry e.
-    let i = c.self.inside in
-    let old : PipeView = record { taking = i.taking; giving = i.giving; paces = i.paces.items; start = i.start; slots = i.slots; came = i.came.bytes; gives = i.gives.bytes } in
-    let of : IsPipeOf x old = subst (IsPipeOf x) (sym c.self.view_is) entry in
-    c.restart_taking.ensures.text x n first (subst (λ from. TakesFrom from x i.taking) e of.taking)
+    c.start.ensures.text x n first (subst (λ from. TakesFrom from x c.self.inside.taking) e (subst (IsPipeOf x) (sym c.self.view_is) entry).taking)
 
 pub returns-clause-client_out : goal.returns-clause-client_out
 returns-clause-client_out c = λ x n input first entry e.
-    let i = c.self.inside in
-    let old : PipeView = record { taking = i.taking; giving = i.giving; paces = i.paces.items; start = i.start; slots = i.slots; came = i.came.bytes; gives = i.gives.bytes } in
-    let of : IsPipeOf x old = subst (IsPipeOf x) (sym c.self.view_is) entry in
-    out_fresh x n input first i.giving c.restart_giving.new.part e of.giving (c.restart_giving.ensures.text first)
+    out_fresh x n input first c.self.inside.giving c.start-2.new.self e (subst (IsPipeOf x) (sym c.self.view_is) entry).giving (c.start-2.ensures.text first)

@@ -8,10 +8,10 @@ use Rattle.cross_matrix.proofs.pipe.Pipe.take_client.Goals as goal
 
 pub invariant_of-self : goal.invariant_of-self
 invariant_of-self g c = record {
-  sink = c.take_text.ensures.slots c.self.inside.slots c.self.invariant.sink;
+  sink = c.take_client.ensures.slots c.self.inside.slots c.self.invariant.sink;
   source = c.self.invariant.source;
   fit = c.self.invariant.fit;
-  came = c.take_text.ensures.room_stays ∙ c.self.invariant.came;
+  came = c.take_client.ensures.room_stays ∙ c.self.invariant.came;
   gives = c.self.invariant.gives;
 }
 
@@ -23,6 +23,6 @@ returns-clause-took g c = λ x first taken j entry at h.
     let client : IsOfClient i.taking = subst (λ (p : PipeView). IsOfClient p.taking) (sym c.self.view_is) c.requires.client in
     let stands : ClientInStands x first (in_view g.P.Source c.args.place.now) taken j i.taking = subst (λ (p : PipeView). ClientInStands x first (in_view g.P.Source c.args.place.now) taken j p.taking) (sym c.self.view_is) h in
     let pace : c.pace_at-count.result ≡ pace_of x.pace j = own_pace x old c.args.turn j c.pace_at-count.result of at (c.pace_at-count.ensures ∙ ap (λ paces. pace_of paces (c.args.turn - i.start)) c.deref.ensures.value) in
-    subst (λ (p : PipeView). ClientTook x first (in_view g.P.Source c.take_text.new.place) taken j p (record { taking = c.take_text.new.part; giving = i.giving; paces = i.paces.items; start = i.start; slots = i.slots; came = c.take_text.new.came.bytes; gives = i.gives.bytes }))
+    subst (λ (p : PipeView). ClientTook x first (in_view g.P.Source c.take_client.new.place) taken j p (record { taking = c.take_client.new.self; giving = i.giving; paces = i.paces.items; start = i.start; slots = i.slots; came = c.take_client.new.came.bytes; gives = i.gives.bytes }))
     c.self.view_is
-    (client_took x first (in_view g.P.Source c.take_text.new.place) taken j old c.take_text.new.part c.take_text.new.came.bytes client of (c.take_text.ensures.entry x.from x) (c.take_text.ensures.took x first taken j pace stands))
+    (client_took x first (in_view g.P.Source c.take_client.new.place) taken j old c.take_client.new.self c.take_client.new.came.bytes client of (c.take_client.ensures.entry x.from x) (c.take_client.ensures.took x first taken j pace stands))

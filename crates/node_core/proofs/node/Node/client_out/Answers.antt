@@ -1,24 +1,26 @@
 use Rattle.std.proofs.Common.{◌≡◌, List, Some, None, length, slice_get, refl, subst}
-use Rattle.std.proofs.lemmas.Option.{slice_get_read}
 use Rattle.node_links.specs.Steps.LinkMoves.{FirstOf}
 use Rattle.node_links.specs.Moves.{has_client_out}
 use Rattle.node_moments.specs.NodeView.{NodeView}
 use Rattle.node_core.specs.Settling.{IsClientOutCount}
 use Rattle.node_links.specs.declared.link.Link.{Link}
+use Rattle.node_links.proofs.ClientPieces.{found_at}
+use Rattle.node_links.proofs.LinkLaws.{gives_to_client}
 use Rattle.node_core.proofs.NodeReads.{client_out_told, client_out_none}
 use Rattle.node_core.proofs.node.Node.client_out.Goals as goal
 
+pub client_out-requires : goal.client_out-requires
+client_out-requires c =
+    let link = c.index.result.now in
+    let at = found_at (has_client_out c.args.n) c.deref.result.now c.self.inside.links.items c.link_to_client.result c.in-Some.i link c.deref.ensures.value c.in-Some.is c.link_to_client.ensures c.index.ensures in
+    record { client = gives_to_client link c.args.n at.2 }
+
 pub returns-in-Some : goal.returns-in-Some
 returns-in-Some c =
-    let inside = c.self.inside in
-    let links = inside.links.items in
-    let i = c.in-Some.i in
     let link = c.index.result.now in
-    let said : FirstOf (has_client_out c.args.n) c.deref.result.now (Some i) = subst (λ o. FirstOf (has_client_out c.args.n) c.deref.result.now o) c.in-Some.is c.link_to_client.ensures in
-    let found : FirstOf (has_client_out c.args.n) links (Some i) = subst (λ (ls : List Link). FirstOf (has_client_out c.args.n) ls (Some i)) c.deref.ensures.value said in
-    let known : slice_get links i ≡ Some link = slice_get_read links (length links) i link refl found.is.0 c.index.ensures in
-    subst (λ (node : NodeView). IsClientOutCount node c.args.n (record { frames = c.output_counts.result.0; packets = c.output_counts.result.1 })) c.self.view_is
-    (client_out_told _ c.args.n i link c.output_counts.result found known c.output_counts.ensures)
+    let at = found_at (has_client_out c.args.n) c.deref.result.now c.self.inside.links.items c.link_to_client.result c.in-Some.i link c.deref.ensures.value c.in-Some.is c.link_to_client.ensures c.index.ensures in
+    subst (λ (node : NodeView). IsClientOutCount node c.args.n (record { frames = c.client_out.result.0; packets = c.client_out.result.1 })) c.self.view_is
+    (client_out_told _ c.args.n c.in-Some.i link c.client_out.result at.0 at.1 (λ client. c.client_out.ensures))
 
 pub returns-in-None : goal.returns-in-None
 returns-in-None c =

@@ -1,10 +1,8 @@
-use Rattle.std.proofs.Common.{refl}
+use Rattle.node_links.proofs.LinkLaws.{joins_on, gives_to_client}
 use Rattle.node_links.proofs.link.Link.give_client.Goals as goal
 
-pub returns : goal.returns
-returns g c = record {
-  same = record { from = refl; to = refl; start = refl; stop = refl; retire = refl; pipe = λ x h. c.give_text.ensures.entry x h };
-  taking = c.give_text.ensures.taking;
-  stands = λ x input j filled frames ended h. c.give_text.ensures.stands x input j filled frames ended h;
-  gave = λ x input first j filled frames ended h out. c.give_text.ensures.gave x input first j filled frames ended h out;
-}
+pub invariant_of-self : goal.invariant_of-self
+invariant_of-self g c = record { joined = joins_on c.args.self.now c.give_client.new.self c.give_client.ensures.entry }
+
+pub give_client-requires : goal.give_client-requires
+give_client-requires g c = record { client = gives_to_client c.args.self.now c.requires.client.0 c.requires.client.1 }

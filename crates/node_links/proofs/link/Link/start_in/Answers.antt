@@ -1,6 +1,10 @@
 use Rattle.std.proofs.Common.{◌≡◌, ◌+◌, ◌∙◌, true, refl, sym, arith, nat_eq}
 use Rattle.std.proofs.lemmas.Bool.Decides.{nat_tests}
+use Rattle.node_links.proofs.LinkLaws.{joins_on}
 use Rattle.node_links.proofs.link.Link.start_in.Goals as goal
+
+pub invariant_of-self : goal.invariant_of-self
+invariant_of-self c = record { joined = joins_on c.args.self.now c.start.new.self c.start.ensures.entry }
 
 pub returns-then-starts_in : goal.returns-then-starts_in
 returns-then-starts_in c =

@@ -1,9 +1,0 @@
-use Rattle.std.proofs.Common.{subst}
-use Rattle.tributary_model.specs.Places.{tributary_of}
-use Rattle.tributary_model.specs.Puts.{IsSourcePlace}
-use Rattle.cross_matrix.specs.Parts.{OnSource}
-use Rattle.cross_matrix.proofs.giving.fill_line.Goals as goal
-
-pub returns-clause-kept : goal.returns-clause-kept
-returns-clause-kept g c = λ port row column low high left right other.
-    c.fill.ensures.kept port row column low high left right (subst (λ part. OnSource part (λ source. IsSourcePlace (tributary_of source.slots port) c.args.n row column → ⊥)) c.in-Line.is other)

@@ -1,8 +1,0 @@
-use Rattle.std.proofs.Common.{subst}
-use Rattle.otn_ports.specs.OutPlace.{out_view}
-use Rattle.cross_matrix.specs.Receiving.{ReceiverStands}
-use Rattle.cross_matrix.specs.Parts.{OnReceiver}
-use Rattle.cross_matrix.proofs.giving.give_text.Goals as goal
-
-pub returns-clause-gave : goal.returns-clause-gave
-returns-clause-gave g c = λ first arrived h. c.take.ensures first arrived (subst (λ part. OnReceiver part (ReceiverStands first (out_view g.K.Sink c.args.place.now) arrived)) c.in-Client.is h)

@@ -1,6 +1,0 @@
-use Rattle.cross_matrix.proofs.PartMoves.{text_restarted}
-use Rattle.cross_matrix.proofs.taking.restart_text.Goals as goal
-
-pub returns-clause-stands : goal.returns-clause-stands
-returns-clause-stands c = λ x first trace fcs.
-    text_restarted x first c.args.client.now.trace c.args.client.now.fcs c.restart-2.new.self c.restart.new.self trace fcs c.restart-2.ensures.fresh c.restart.ensures.fresh (c.restart.ensures.stands first)

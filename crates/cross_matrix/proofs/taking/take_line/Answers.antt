@@ -1,8 +1,0 @@
-use Rattle.std.proofs.Common.{false, subst}
-use Rattle.cross_matrix.specs.Parts.{TakingStands}
-use Rattle.cross_matrix.proofs.PartMoves.{line_took}
-use Rattle.cross_matrix.proofs.taking.take_line.Goals as goal
-
-pub returns-clause-stands : goal.returns-clause-stands
-returns-clause-stands g c = λ from x input j frames h.
-    line_took from x input j frames _ c.in-Line.sink c.take_frame.new.self (λ own past s. c.take_frame.ensures.stands own past frames s) (subst (TakingStands from x input j frames false) c.in-Line.is h)
