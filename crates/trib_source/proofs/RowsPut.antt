@@ -55,7 +55,7 @@ rows_more line slots bytes before mid now byte r list even rows row laid = recor
 -- ---- the bytes that are laid out
 
 -- those of a data group are among them
-bytes_inside : (m c a x w i : ℕ) → x < w → i < m → IsData c (a + x + 1) → data_bytes m c a x + i < data_bytes m c a w
+pub bytes_inside : (m c a x w i : ℕ) → x < w → i < m → IsData c (a + x + 1) → data_bytes m c a x + i < data_bytes m c a w
 bytes_inside m c a x w i l h d =
     let more : m * data_count c (a + x + 1) ≡ m * data_count c (a + x) + m = ap (λ k. m * k) (data_next c (a + x) d) ∙ omega arith in
     let most : m * data_count c (a + x + 1) ≤ m * data_count c (a + w) =
