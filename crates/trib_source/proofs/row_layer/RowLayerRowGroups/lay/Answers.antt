@@ -1,5 +1,4 @@
 use Rattle.std.proofs.Common.{◌≡◌, ◌+◌, ◌*◌, ◌∙◌, length, get_or, ap, sym, subst}
-use Rattle.gmp_rule.specs.DataRule.{Progress}
 use Rattle.trib_source.specs.Steps.Rows.{data_bytes, byte_laid}
 use Rattle.trib_source.proofs.RowsLaid.{length-groups_laid, laid_all}
 use Rattle.trib_source.proofs.row_layer.RowLayerRowGroups.lay.Goals as goal
