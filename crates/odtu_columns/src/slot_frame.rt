@@ -245,7 +245,7 @@ fn lay_in_row<G: RowGroups>(rows: &mut FilledRow, slots: &Slots, groups: &G, scr
 {
     let kind = slots.kind();
     let list = slots.as_slice();
-    if kind.slots() as usize == OTU2_SLOTS && list.len() == 1 {
+    if slots.is_otu2_slot() {
         rows.lay_slot(list[0], groups);
         return;
     }

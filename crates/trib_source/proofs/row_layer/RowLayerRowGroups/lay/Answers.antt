@@ -19,7 +19,7 @@ pub returns : goal.returns
 returns c =
     let i = c.self.inside in
     let into = c.lay_groups.new.into in
-    let size : length into ≡ i.m * i.cycles = 
+    let size : length into ≡ i.m * i.cycles =
     c.lay_groups.auto.into ∙ c.requires ∙ sym (ap length c.self.view_is) ∙ length-groups_laid i.m i.number i.asked i.cycles i.fresh.now in
     laid_all i.m i.number i.asked i.cycles i.fresh.now into c.self.invariant.some size
     (λ x k l h. subst (λ n. get_or into (i.m * x + k) 0 ≡ byte_laid i.m n i.asked i.fresh.now x k) c.at-runner.ensures.number
