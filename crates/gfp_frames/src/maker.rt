@@ -17,8 +17,9 @@ use std::marker::Model;
 /// Bytes of a frame at most: a core header and an area of 65,535 bytes.
 const MOST_FRAME: usize = 65_539;
 
-/// So many bytes of idle frames are put one by one.
-const FEW_IDLES: usize = 512;
+/// So many bytes of idle frames are put one by one, as many at least as the payload of a row has: sixteen at a time,
+/// they are stored without a load.
+const FEW_IDLES: usize = 4_096;
 
 /// Bytes of a core header, and of an idle frame.
 const HEADER: usize = 4;

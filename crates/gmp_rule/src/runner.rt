@@ -41,6 +41,20 @@ impl Runner {
         }
     }
 
+    /// A runner behind so many groups of a multiframe with `c` data groups.
+    pub fn at(c: u32, asked: u32) -> Self
+        requires number { c ≤ GROUPS }
+        requires asked { asked ≤ GROUPS }
+        ensures number { result.number ≡ c }
+        ensures asked { result.asked ≡ asked }
+    {
+        Runner {
+            number: c,
+            remainder: asked * c % ALL,
+            asked,
+        }
+    }
+
     /// Whether the next group carries data: the first call answers for group 1. A multiframe has
     /// 15,232 groups, and no more calls than that.
     pub fn next(&mut self) -> bool

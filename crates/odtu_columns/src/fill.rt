@@ -7,8 +7,9 @@ ghost use Rattle.odtu_columns.specs.Groups.{row_groups_of};
 ghost use Rattle.odtu_columns.specs.Message.{message_of};
 ghost use Rattle.odtu_columns.specs.Put.{RowWasPut};
 
+use crate::RowGroups;
 use crate::justification::put_message;
-use crate::put::put_row_groups;
+use crate::put::{lay_row_groups, put_row_groups};
 use frame_geometry::Frame;
 use otn_base::Slots;
 use otn_base::limits::LINE_COLUMNS;
@@ -29,6 +30,24 @@ pub trait FillFrame: Drop {
             (bytes self.new) }
         ensures groups { row_groups_of (slots_of slots.now.kind) slots.now.list row (bytes self.new) ≡ groups.now };
 
+    /// Writes all groups of a row (1 to 4) for these slots, as `fill_row_groups` does, out of what lays them out: where
+    /// they stand together in the row, at their place in it. What the scratch bytes are is of no account, before and
+    /// behind the call.
+    fn lay_row_groups<G: RowGroups>(
+        &mut self,
+        row: u32,
+        slots: &Slots,
+        groups: &G,
+        scratch: &mut [u8],
+    )
+        requires row_low { 1 ≤ row }
+        requires row_high { row ≤ 4 }
+        requires size { length (G.groups groups.now)
+            ≡ length slots.now.list * (PAYLOAD_COLUMNS / slots_of slots.now.kind) }
+        requires scratch { length scratch.old ≡ length (G.groups groups.now) }
+        ensures { RowWasPut (slots_of slots.now.kind) slots.now.list row (G.groups groups.now) (bytes self.old)
+            (bytes self.new) };
+
     /// Writes JC1 to JC6, in this order; every other byte stays.
     fn fill_message(&mut self, message: [u8; 6])
         ensures message { message_of (bytes self.new) ≡ message }
@@ -42,6 +61,16 @@ impl FillFrame for Frame<LINE_COLUMNS> {
 
     fn fill_row_groups(&mut self, row: u32, slots: &Slots, groups: &[u8]) {
         put_row_groups(self, row, slots, groups);
+    }
+
+    fn lay_row_groups<G: RowGroups>(
+        &mut self,
+        row: u32,
+        slots: &Slots,
+        groups: &G,
+        scratch: &mut [u8],
+    ) {
+        lay_row_groups(self, row, slots, groups, scratch);
     }
 
     fn fill_message(&mut self, message: [u8; 6]) {

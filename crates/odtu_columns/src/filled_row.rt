@@ -4,6 +4,7 @@ ghost use Rattle.lane_kernels.specs.SlotPlaces.{slot_bytes};
 ghost use Rattle.otn_base.specs.declared.limits.TheConstants.{OTU2_SLOTS, PAYLOAD_COLUMNS};
 ghost use Rattle.odtu_columns.specs.BySlots.{joined_byte};
 
+use crate::RowGroups;
 use lane_kernels::{SlotRows, join8, split8};
 use otn_base::Memory;
 use otn_base::limits::{OTU2_SLOTS, PAYLOAD_COLUMNS};
@@ -75,6 +76,20 @@ impl FilledRow {
     {
         self.filled[k as usize - 1] = true;
         self.rows.slot_mut(k).copy_from_slice(bytes);
+    }
+
+    /// Puts the bytes of slot `k` (1 to 8) out of what lays them out; every other byte stays.
+    pub fn lay_slot<G: RowGroups>(&mut self, k: u8, groups: &G)
+        requires low { 1 ≤ k }
+        requires high { k ≤ OTU2_SLOTS }
+        requires size { length (G.groups groups.now) ≡ PAYLOAD_COLUMNS / OTU2_SLOTS }
+        ensures here { (x : ℕ) → x < PAYLOAD_COLUMNS → x % OTU2_SLOTS + 1 ≡ k
+            → joined_byte self.new x ≡ slice_index (G.groups groups.now) (x / OTU2_SLOTS) }
+        ensures others { (x : ℕ) → x < PAYLOAD_COLUMNS → x % OTU2_SLOTS + 1 ≢ k
+            → joined_byte self.new x ≡ joined_byte self.old x }
+    {
+        self.filled[k as usize - 1] = true;
+        groups.lay(self.rows.slot_mut(k));
     }
 
     /// Takes over the payload of a row, 3,808 bytes in the order of their columns.

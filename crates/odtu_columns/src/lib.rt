@@ -5,6 +5,7 @@
 //! - `put`: the same, written.
 //! - `justification`: its justification bytes.
 //! - `fill`: `FillFrame`, a frame that sources fill.
+//! - `laying`: `RowGroups`, the groups of a row before they are in one.
 //! - `slot_frame`: `SlotFrame`, such a frame that is kept by slots.
 //! - `filled_row`: a row of it, of which some slots are filled.
 //! - `take`: `TakeFrame`, a frame of which sinks take.
@@ -16,6 +17,7 @@ mod fill;
 mod filled_row;
 mod groups;
 mod justification;
+mod laying;
 mod line;
 mod put;
 mod slot;
@@ -26,6 +28,7 @@ mod take;
 pub use fill::FillFrame;
 pub use groups::{cycle_group, cycle_groups, group, row_groups};
 pub use justification::{message, put_message};
+pub use laying::RowGroups;
 pub use put::{put_group, put_row_groups, put_slot_row};
 pub use slot::slot_row;
 pub use slot_frame::SlotFrame;

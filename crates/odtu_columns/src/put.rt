@@ -8,6 +8,7 @@ ghost use Rattle.odtu_columns.specs.Columns.{slot_row_of};
 ghost use Rattle.odtu_columns.specs.Groups.{frame_group, row_groups_of};
 ghost use Rattle.odtu_columns.specs.Put.{slot_place, RowWasPut};
 
+use crate::RowGroups;
 use crate::line::{cycles_in_row, put_one, put_several};
 use frame_geometry::Frame;
 use otn_base::limits::{LINE_COLUMNS, OVERHEAD_COLUMNS};
@@ -24,6 +25,31 @@ pub fn put_row_groups(frame: &mut Frame<LINE_COLUMNS>, row: u32, slots: &Slots, 
 {
     let kind = slots.kind();
     put_groups(kind, slots.as_slice(), bytes, frame.payload_row_mut(row));
+}
+
+/// Writes all groups of a row (1 to 4) for these slots out of what lays them out; every byte that is not of the slots
+/// stays.
+pub(crate) fn lay_row_groups<G: RowGroups>(
+    frame: &mut Frame<LINE_COLUMNS>,
+    row: u32,
+    slots: &Slots,
+    groups: &G,
+    scratch: &mut [u8],
+)
+    requires row_low { 1 ≤ row }
+    requires row_high { row ≤ 4 }
+    requires size { length (G.groups groups.now) ≡ length slots.now.list * (PAYLOAD_COLUMNS / slots_of slots.now.kind) }
+    requires scratch { length scratch.old ≡ length (G.groups groups.now) }
+    ensures { RowWasPut (slots_of slots.now.kind) slots.now.list row (G.groups groups.now) frame.old frame.new }
+{
+    let kind = slots.kind();
+    lay_groups(
+        kind,
+        slots.as_slice(),
+        groups,
+        scratch,
+        frame.payload_row_mut(row),
+    );
 }
 
 /// Writes the bytes of a slot (1 to 8 on an OTU2, 1 to 32 on an OTU3) in a row (1 to 4), 476 or 119, in the
@@ -106,4 +132,30 @@ pub(crate) fn put_groups(kind: LineKind, slots: &[u8], bytes: &[u8], payload: &m
         return;
     }
     put_several(kind, bytes, cycles_in_row(kind), slots, payload);
+}
+
+// Writes the groups of a row into its payload out of what lays them out: where they are of all slots, at their place.
+fn lay_groups<G: RowGroups>(
+    kind: LineKind,
+    slots: &[u8],
+    groups: &G,
+    scratch: &mut [u8],
+    payload: &mut [u8],
+)
+    requires list { IsSlotList (slots_of kind) slots.now }
+    requires size { length (G.groups groups.now) ≡ length slots.now * (PAYLOAD_COLUMNS / slots_of kind) }
+    requires scratch { length scratch.old ≡ length (G.groups groups.now) }
+    requires payload { length payload.old ≡ PAYLOAD_COLUMNS }
+    ensures put { (cycle i : ℕ) → cycle < PAYLOAD_COLUMNS / slots_of kind → i < length slots.now
+        → slice_index payload.new (slots_of kind * cycle + (slice_index slots.now i - 1))
+        ≡ slice_index (G.groups groups.now) (length slots.now * cycle + i) }
+    ensures kept { (n : ℕ) → ((i : ℕ) → i < length slots.now → n % slots_of kind + 1 ≢ slice_index slots.now i)
+        → slice_index payload.new n ≡ slice_index payload.old n }
+{
+    if slots.len() == kind.slots() as usize {
+        groups.lay(payload);
+        return;
+    }
+    groups.lay(scratch);
+    put_groups(kind, slots, scratch, payload);
 }

@@ -7,6 +7,7 @@ ghost use Rattle.otn_base.specs.declared.limits.TheConstants.{LINE_COLUMNS, LINE
 ghost use Rattle.odtu_columns.specs.BySlots.{joined_byte, HasPayloadOf};
 ghost use Rattle.odtu_columns.specs.Steps.BySlots.{IsOutside, RowJoined};
 
+use crate::RowGroups;
 use crate::fill::FillFrame;
 use crate::filled_row::FilledRow;
 use crate::justification::put_message;
@@ -126,6 +127,21 @@ impl FillFrame for SlotFrame {
         }
     }
 
+    fn lay_row_groups<G: RowGroups>(
+        &mut self,
+        row: u32,
+        slots: &Slots,
+        groups: &G,
+        scratch: &mut [u8],
+    ) {
+        match row {
+            1 => lay_in_row(&mut self.row1, slots, groups, scratch),
+            2 => lay_in_row(&mut self.row2, slots, groups, scratch),
+            3 => lay_in_row(&mut self.row3, slots, groups, scratch),
+            _ => lay_in_row(&mut self.row4, slots, groups, scratch),
+        }
+    }
+
     fn fill_message(&mut self, message: [u8; 6]) {
         self.message = message;
     }
@@ -212,6 +228,29 @@ fn put_in_row(rows: &mut FilledRow, slots: &Slots, bytes: &[u8])
         return;
     }
     put_joined(kind, rows, list, bytes);
+}
+
+// Puts all groups of a row for these slots out of what lays them out: for one slot of an OTU2, at its place.
+fn lay_in_row<G: RowGroups>(rows: &mut FilledRow, slots: &Slots, groups: &G, scratch: &mut [u8])
+    requires size { length (G.groups groups.now)
+        ≡ length slots.now.list * (PAYLOAD_COLUMNS / slots_of slots.now.kind) }
+    requires scratch { length scratch.old ≡ length (G.groups groups.now) }
+    ensures list { IsSlotList (slots_of slots.now.kind) slots.now.list }
+    ensures put { (cycle i : ℕ) → cycle < PAYLOAD_COLUMNS / slots_of slots.now.kind → i < length slots.now.list
+        → joined_byte rows.new (slots_of slots.now.kind * cycle + (slice_index slots.now.list i - 1))
+        ≡ slice_index (G.groups groups.now) (length slots.now.list * cycle + i) }
+    ensures kept { (x : ℕ) → x < PAYLOAD_COLUMNS
+        → ((i : ℕ) → i < length slots.now.list → x % slots_of slots.now.kind + 1 ≢ slice_index slots.now.list i)
+        → joined_byte rows.new x ≡ joined_byte rows.old x }
+{
+    let kind = slots.kind();
+    let list = slots.as_slice();
+    if slots.is_otu2_slot() {
+        rows.lay_slot(list[0], groups);
+        return;
+    }
+    groups.lay(scratch);
+    put_joined(kind, rows, list, scratch);
 }
 
 // Puts the groups of any slots into the payload of the row itself.

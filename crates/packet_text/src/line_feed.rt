@@ -1,5 +1,5 @@
 // The end of a line.
-ghost use Rattle.std.specs.Prelude.{◌≡◌, ◌<◌, ◌≤◌, true, false, length, take, slice_index, MatchOption};
+ghost use Rattle.std.specs.Prelude.{◌≡◌, ◌≢◌, ◌<◌, ◌≤◌, true, false, length, take, slice_index, MatchOption};
 ghost use Rattle.packet_text.specs.TextLines.{has_lf};
 ghost use Rattle.packet_text.specs.Steps.Carrying.{IsFirstLf, lf_bits};
 
@@ -35,14 +35,36 @@ fn clean_bytes(piece: &[u8]) -> usize
     ensures clean { has_lf (take result piece.now) ≡ false }
     ensures stops { result < 64 → slice_index piece.now result ≡ 10 }
 {
-    let found = lf_lanes(piece);
-    if found == 0 {
+    if is_clean(piece) {
         return PIECE;
     }
-    found.trailing_zeros() as usize
+    before_lf(piece)
+}
+
+// Whether a piece has no LF.
+fn is_clean(piece: &[u8]) -> bool
+    requires { length piece.now ≡ 64 }
+    ensures none { result ≡ true → lf_bits piece.now ≡ 0 }
+    ensures some { result ≡ false → lf_bits piece.now ≢ 0 }
+{
+    lf_lanes(piece) == 0
+}
+
+// How many bytes of a piece are before its first LF, where it has one. It is called apart, since whether there is any
+// is told by less than where it stands.
+#[inline(never)]
+fn before_lf(piece: &[u8]) -> usize
+    requires long { length piece.now ≡ 64 }
+    requires some { lf_bits piece.now ≢ 0 }
+    ensures within { result ≤ 64 }
+    ensures clean { has_lf (take result piece.now) ≡ false }
+    ensures stops { result < 64 → slice_index piece.now result ≡ 10 }
+{
+    lf_lanes(piece).trailing_zeros() as usize
 }
 
 // A bit for each LF of a piece.
+#[inline(always)]
 fn lf_lanes(piece: &[u8]) -> u64
     requires { length piece.now ≡ 64 }
     ensures { result ≡ lf_bits piece.now }

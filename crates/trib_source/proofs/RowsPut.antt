@@ -1,7 +1,7 @@
 -- The groups of a frame, row by row.
-use Rattle.std.proofs.Common.{◌≡◌, ◌⊎◌, inl, inr, ℕ, ◌+◌, ◌*◌, ◌/◌, ◌%◌, ◌-◌, ◌<◌, ◌≤◌, Bool, true, false, cond, List, length, take, drop, refl, ap, ◌∙◌, sym, subst, arith, get_or}
+use Rattle.std.proofs.Common.{◌≡◌, ◌⊎◌, inl, inr, ℕ, ◌+◌, ◌*◌, ◌/◌, ◌%◌, ◌-◌, ◌<◌, ◌≤◌, Bool, true, false, cond, List, length, take, refl, ap, ◌∙◌, sym, subst, arith, get_or}
 use Rattle.std.proofs.lemmas.Bool.{ltb-true}
-use Rattle.std.proofs.lemmas.List.{get_or-drop, get_or-take}
+use Rattle.std.proofs.lemmas.List.{get_or-take}
 use Rattle.std.proofs.Math.Nat.{mul-le-mul_left}
 use Rattle.otn_base.specs.SlotList.{IsSlotList}
 use Rattle.gmp_rule.specs.DataRule.{IsData, is_data_at, data_count}
@@ -55,7 +55,7 @@ rows_more line slots bytes before mid now byte r list even rows row laid = recor
 -- ---- the bytes that are laid out
 
 -- those of a data group are among them
-bytes_inside : (m c a x w i : ℕ) → x < w → i < m → IsData c (a + x + 1) → data_bytes m c a x + i < data_bytes m c a w
+pub bytes_inside : (m c a x w i : ℕ) → x < w → i < m → IsData c (a + x + 1) → data_bytes m c a x + i < data_bytes m c a w
 bytes_inside m c a x w i l h d =
     let more : m * data_count c (a + x + 1) ≡ m * data_count c (a + x) + m = ap (λ k. m * k) (data_next c (a + x) d) ∙ omega arith in
     let most : m * data_count c (a + x + 1) ≤ m * data_count c (a + w) =
@@ -78,18 +78,6 @@ pub group_byte : (m w x i : ℕ) → x < w → i < m → m * x + i < m * w
 group_byte m w x i l h =
     let wide : m * (x + 1) ≤ m * w = mul-le-mul_left m (let e : x + 1 ≤ w = omega arith in e) in
     omega arith
-
--- a byte of row r, from 0, among those that are laid out for a frame, row by row
-pub row_part : (m w r x i from to : ℕ) (laid : List ℕ) → from ≡ m * w * r → to ≡ from + m * w → x < w → i < m
-    → get_or (take (to - from) (drop from laid)) (m * x + i) 0 ≡ get_or laid (m * (w * r + x) + i) 0
-row_part m w r x i from to laid from_is to_is l h =
-    let inside = group_byte m w x i l h in
-    get_or-take (to - from) (drop from laid) (m * x + i) 0 (let k : m * x + i < to - from = omega (arith, inside, to_is) in k)
-    ∙ get_or-drop from laid (m * x + i) 0
-    ∙ ap (λ k. get_or laid k 0) (from_is_row (ap (λ k. k + (m * x + i)) from_is))
-  where
-    from_is_row : from + (m * x + i) ≡ m * w * r + (m * x + i) → from + (m * x + i) ≡ m * (w * r + x) + i
-    from_is_row e = e ∙ omega arith
 
 -- ---- what is taken for a row
 

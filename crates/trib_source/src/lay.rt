@@ -29,7 +29,7 @@ pub(crate) fn lay_groups(
     ensures runner { runner.new ≡ record runner.old { asked = runner.old.asked + cycles } }
 {
     if runs {
-        lay_runs(runner, fresh, m, cycles, into);
+        lay_by_runs(runner, fresh, m, cycles, into);
         return;
     }
     into.fill(0);
@@ -69,7 +69,27 @@ fn lay_each(runner: &mut Runner, fresh: &[u8], m: usize, cycles: usize, into: &m
     *runner = own;
 }
 
+// Lays them out by runs of data groups. The groups of one slot and of eight have bodies of their own, in which a stuff
+// group is cleared at once.
+fn lay_by_runs(runner: &mut Runner, fresh: &[u8], m: usize, cycles: usize, into: &mut [u8])
+    requires some { 1 ≤ m }
+    requires number { runner.old.number ≤ GROUPS }
+    requires asked { runner.old.asked + cycles ≤ GROUPS }
+    requires fresh { length fresh.now ≡ data_bytes m runner.old.number runner.old.asked cycles }
+    requires size { length into.old ≡ m * cycles }
+    ensures bytes { (x i : ℕ) → x < cycles → i < m
+        → slice_index into.new (m * x + i) ≡ byte_laid m runner.old.number runner.old.asked fresh.now x i }
+    ensures runner { runner.new ≡ record runner.old { asked = runner.old.asked + cycles } }
+{
+    match m {
+        1 => lay_runs(runner, fresh, 1, cycles, into),
+        8 => lay_runs(runner, fresh, 8, cycles, into),
+        _ => lay_runs(runner, fresh, m, cycles, into),
+    }
+}
+
 // Lays them out by runs of data groups. Before a run stands a stuff group, but for the first.
+#[inline(always)]
 fn lay_runs(runner: &mut Runner, fresh: &[u8], m: usize, cycles: usize, into: &mut [u8])
     requires some { 1 ≤ m }
     requires number { runner.old.number ≤ GROUPS }

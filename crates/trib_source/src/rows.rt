@@ -1,5 +1,5 @@
 // The rows of a frame.
-ghost use Rattle.std.specs.Prelude.{◌≡◌, ℕ, ◌+◌, ◌*◌, ◌<◌, ◌≤◌, length, drop, slice_index};
+ghost use Rattle.std.specs.Prelude.{◌≡◌, ℕ, ◌+◌, ◌-◌, ◌*◌, ◌<◌, ◌≤◌, List, length, drop, slice_index};
 ghost use Rattle.otn_base.specs.declared.limits.TheConstants.{GROUPS, ROWS};
 ghost use Rattle.otn_base.specs.LineSlots.{slots_of};
 ghost use Rattle.gmp_rule.specs.DataRule.{data_count};
@@ -8,20 +8,14 @@ ghost use Rattle.trib_source.specs.Steps.Rows.{data_bytes, byte_laid, AreEnough,
 ghost use Rattle.trib_source.specs.Source.{groups_in_frames};
 
 use crate::backlog::Backlog;
-use crate::lay::lay_groups;
+use crate::row_layer::RowLayer;
 use gmp_rule::{Runner, data_groups};
 use odtu_columns::FillFrame;
-use otn_base::limits::{GROUPS, OTU2_SLOTS, OTU3_SLOTS, PAYLOAD_COLUMNS, ROWS};
+use otn_base::limits::{OTU2_SLOTS, OTU3_SLOTS, PAYLOAD_COLUMNS, ROWS};
 use otn_base::{LineKind, Slots};
 
 // The rows of a frame, in the type of their numbers.
 const ALL: u32 = ROWS as u32;
-
-// From so many data groups of a multiframe on they are laid out by runs: nine of ten, where a group has one
-// byte, and three of four, where it has more.
-const BY_RUNS_OF_BYTES: u32 = GROUPS as u32 * 9 / 10;
-
-const BY_RUNS: u32 = GROUPS as u32 * 3 / 4;
 
 /// Puts the groups of a frame, behind so many groups of a turn with so many data groups, into the columns
 /// of the slots, row by row: out of the backlog what is data. The next group that the runner is asked about
@@ -56,68 +50,112 @@ pub(crate) fn put_rows<F: FillFrame>(
     } }
 {
     let m = slots.count() as usize;
-    let cycles = ALL * cycles_in_row(slots.kind());
-    let (fresh, laid) = scratch.split_at_mut(m * cycles as usize);
-    lay_front(runner, backlog, number, asked, cycles, m, fresh, laid);
-    fill_rows(slots, laid, frame);
+    let row = cycles_in_row(slots.kind());
+    let cycles = ALL * row;
+    let (fresh, scratch) = scratch.split_at_mut(m * cycles as usize);
+    let (scratch, _) = scratch.split_at_mut(m * row as usize);
+    put_front(
+        backlog, number, asked, cycles, m, slots, fresh, scratch, frame,
+    );
+    *runner = Runner::at(number, asked + cycles);
 }
 
-// Lays out the next `cycles` groups, behind `asked`, of `m` bytes each, and moves the bytes of the data groups among
-// them out of the backlog: where they do not stand together there, through `fresh`, which has room for them.
-fn lay_front(
-    runner: &mut Runner,
+// Puts the next `cycles` groups, those of a frame, behind `asked`, of `m` bytes each, row by row, and moves the bytes of
+// the data groups among them out of the backlog: where they do not stand together there, through `fresh`, which has room
+// for them. What the bytes of `fresh` and `scratch` are is of no account.
+fn put_front<F: FillFrame>(
     backlog: &mut Backlog,
     number: u32,
     asked: u32,
     cycles: u32,
     m: usize,
+    slots: &Slots,
     fresh: &mut [u8],
-    laid: &mut [u8],
+    scratch: &mut [u8],
+    frame: &mut F,
 )
-    requires some { 1 ≤ m }
-    requires number { number ≡ runner.old.number }
+    requires m { m ≡ length slots.now.list }
+    requires cycles { cycles ≡ ROWS * groups_in_row (slots_of slots.now.kind) }
     requires most { number ≤ GROUPS }
-    requires asked { asked ≡ runner.old.asked }
     requires high { asked + cycles ≤ GROUPS }
     requires fresh { length fresh.old ≡ m * cycles }
-    requires laid { length laid.old ≡ m * cycles }
+    requires scratch { length scratch.old ≡ m * groups_in_row (slots_of slots.now.kind) }
     requires enough { AreEnough m number asked backlog.old }
-    ensures laid { (x i : ℕ) → x < cycles → i < m
-        → slice_index laid.new (m * x + i) ≡ byte_laid m number asked backlog.old.items x i }
+    ensures rows { RowsWerePut (slots_of slots.now.kind) slots.now.list
+        (byte_laid m number asked backlog.old.items) ROWS (F.bytes frame.old) (F.bytes frame.new) }
     ensures backlog { backlog.new ≡ record backlog.old {
       items = drop
           (data_bytes m number asked cycles) backlog.old.items;
     } }
-    ensures runner { runner.new ≡ record runner.old { asked = runner.old.asked + cycles } }
 {
     let count = m * data_between(number, asked, cycles) as usize;
-    let runs = goes_by_runs(number, m);
     let front = backlog.front();
     if count <= front.len() {
-        lay_groups(runner, &front[..count], m, cycles as usize, runs, laid);
+        fill_rows(number, asked, &front[..count], m, slots, scratch, frame);
         backlog.drop_front(count);
         return;
     }
     backlog.read_front(fresh, count);
-    lay_groups(runner, &fresh[..count], m, cycles as usize, runs, laid);
+    fill_rows(number, asked, &fresh[..count], m, slots, scratch, frame);
 }
 
-// Fills the rows of a frame with the groups that are laid out for them.
-fn fill_rows<F: FillFrame>(slots: &Slots, laid: &[u8], frame: &mut F)
-    requires laid { length laid.now ≡ length slots.now.list * (ROWS * groups_in_row (slots_of slots.now.kind)) }
-    ensures { RowsWerePut (slots_of slots.now.kind) slots.now.list
-        (λ x i. slice_index laid.now (length slots.now.list * x + i)) ROWS (F.bytes frame.old) (F.bytes frame.new) }
+// Fills the rows of a frame with its groups, behind `asked`, of `m` bytes each: into the data groups go these bytes.
+fn fill_rows<F: FillFrame>(
+    number: u32,
+    asked: u32,
+    fresh: &[u8],
+    m: usize,
+    slots: &Slots,
+    scratch: &mut [u8],
+    frame: &mut F,
+)
+    requires m { m ≡ length slots.now.list }
+    requires most { number ≤ GROUPS }
+    requires high { asked + ROWS * groups_in_row (slots_of slots.now.kind) ≤ GROUPS }
+    requires fresh { length fresh.now ≡ data_bytes m number asked (ROWS * groups_in_row (slots_of slots.now.kind)) }
+    requires scratch { length scratch.old ≡ m * groups_in_row (slots_of slots.now.kind) }
+    ensures { RowsWerePut (slots_of slots.now.kind) slots.now.list (byte_laid m number asked fresh.now) ROWS
+        (F.bytes frame.old) (F.bytes frame.new) }
 {
-    let row = slots.count() as usize * cycles_in_row(slots.kind()) as usize;
-    frame.fill_row_groups(1, slots, &laid[..row]);
-    frame.fill_row_groups(2, slots, &laid[row..2 * row]);
-    frame.fill_row_groups(3, slots, &laid[2 * row..3 * row]);
-    frame.fill_row_groups(4, slots, &laid[3 * row..4 * row]);
+    let one = fill_row(number, asked, 1, fresh, 0, m, slots, scratch, frame);
+    let two = fill_row(number, asked, 2, fresh, one, m, slots, scratch, frame);
+    let three = fill_row(number, asked, 3, fresh, two, m, slots, scratch, frame);
+    let _end = fill_row(number, asked, 4, fresh, three, m, slots, scratch, frame);
 }
 
-// Whether it is best to lay out groups of `m` bytes by runs where so many are data. The frame is the same.
-fn goes_by_runs(number: u32, m: usize) -> bool {
-    number >= if m == 1 { BY_RUNS_OF_BYTES } else { BY_RUNS }
+// Fills row `row` (1 to 4), whose bytes stand from `at` on, and says where they end.
+fn fill_row<F: FillFrame>(
+    number: u32,
+    asked: u32,
+    row: u32,
+    fresh: &[u8],
+    at: usize,
+    m: usize,
+    slots: &Slots,
+    scratch: &mut [u8],
+    frame: &mut F,
+) -> usize
+    requires low { 1 ≤ row }
+    requires last { row ≤ ROWS }
+    requires m { m ≡ length slots.now.list }
+    requires most { number ≤ GROUPS }
+    requires high { asked + ROWS * groups_in_row (slots_of slots.now.kind) ≤ GROUPS }
+    requires fresh { length fresh.now ≡ data_bytes m number asked (ROWS * groups_in_row (slots_of slots.now.kind)) }
+    requires at { at ≡ data_bytes m number asked (groups_in_row (slots_of slots.now.kind) * (row - 1)) }
+    requires scratch { length scratch.old ≡ m * groups_in_row (slots_of slots.now.kind) }
+    ensures next { result ≡ data_bytes m number asked (groups_in_row (slots_of slots.now.kind) * row) }
+    ensures rows { (before : List ℕ)
+        → RowsWerePut (slots_of slots.now.kind) slots.now.list (byte_laid m number asked fresh.now) (row - 1) before
+        (F.bytes frame.old)
+        → RowsWerePut (slots_of slots.now.kind) slots.now.list (byte_laid m number asked fresh.now) row before
+        (F.bytes frame.new) }
+{
+    let cycles = cycles_in_row(slots.kind());
+    let first = asked + cycles * (row - 1);
+    let next = at + m * data_between(number, first, cycles) as usize;
+    let groups = RowLayer::new(number, first, &fresh[at..next], m, cycles as usize);
+    frame.lay_row_groups(row, slots, &groups, scratch);
+    next
 }
 
 /// How many groups a row has: 476, or 119.

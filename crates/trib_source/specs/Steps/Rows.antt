@@ -1,7 +1,9 @@
--- Steps of `put_rows`, `lay_front` and others: what private contracts alone cite, beside the definitions of `Rows`.
-use Rattle.std.specs.Prelude.{◌≡◌, ℕ, ◌+◌, ◌-◌, ◌*◌, ◌<◌, ◌≤◌, List, if◌then◌else◌, length, slice_index}
+-- Steps of `put_rows`, `fill_rows` and others: what private contracts alone cite, beside the definitions of `Rows`.
+use Rattle.std.specs.Prelude.{◌≡◌, ℕ, ◌+◌, ◌-◌, ◌*◌, ◌/◌, ◌%◌, ◌<◌, ◌≤◌, List, if◌then◌else◌, length, map, slice_index}
+use Rattle.std.specs.List.{range_with_len}
 use Rattle.gmp_rule.specs.DataRule.{is_data_at, data_count}
 use Rattle.odtu_columns.specs.Put.{slot_place}
+use Rattle.otn_base.specs.declared.limits.TheConstants.{GROUPS}
 use Rattle.trib_source.specs.Backlog.{BacklogView}
 use Rattle.trib_source.specs.Rows.{groups_in_row}
 
@@ -29,3 +31,14 @@ pub record RowsWerePut (line_slots : ℕ) (slots : List ℕ) (byte : (x i : ℕ)
   pub kept : (place : ℕ) → ((row cycle i : ℕ) → 1 ≤ row → row ≤ rows → cycle < groups_in_row line_slots
       → i < length slots → place ≡ slot_place line_slots slots row cycle i → ⊥)
       → slice_index now place ≡ slice_index before place
+
+-- All bytes of so many groups behind those, one group after the other.
+unfoldable pub groups_laid : (m c asked : ℕ) → (left : List ℕ) → (cycles : ℕ) → List ℕ
+groups_laid m c asked left cycles = map (λ n. byte_laid m c asked left (n / m) (n % m)) (range_with_len 0 (m * cycles))
+
+-- So many bytes are those of the data groups among so many groups of a turn.
+pub record CanLay (m c asked long cycles : ℕ) : Type 0 where
+  pub some : 1 ≤ m
+  pub number : c ≤ GROUPS
+  pub asked_high : asked + cycles ≤ GROUPS
+  pub fresh : long ≡ data_bytes m c asked cycles
