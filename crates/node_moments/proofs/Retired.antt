@@ -1,5 +1,5 @@
 -- Which places are emptied at the end of a turn.
-use Rattle.std.proofs.Common.{◌≡◌, ◌<◌, ◌+◌, ℕ, zero, suc, Bool, true, false, ◌&&◌, ◌||◌, ◌==◌, nat_le, List, [], ◌∷◌, Some, length, slice_get, arith, refl, sym, ap, ◌∙◌}
+use Rattle.std.proofs.Common.{◌≡◌, ◌<◌, ◌≤◌, ◌+◌, ℕ, zero, suc, Bool, true, false, ◌&&◌, ◌||◌, ◌==◌, nat_le, List, [], ◌∷◌, Some, length, slice_get, arith, refl, sym, ap, ◌∙◌}
 use Rattle.std.proofs.lemmas.Bool.{eq-eqb}
 use Rattle.std.proofs.lemmas.Bool.Decides.{nat_tests}
 use Rattle.std.specs.List.{list_any}
@@ -125,3 +125,7 @@ not_retired x past h = let late : nat_le x.stop past ≡ false = grind (arith, n
 
 pub not_ending : (x : Connection) (past : ℕ) → past + 1 < x.stop → (x.retire && (x.stop == past + 1)) ≡ false
 not_ending x past h = let late : (x.stop == past + 1) ≡ false = grind (arith, nat_tests) in rw late (and_false x.retire)
+
+-- and from then on where it says so
+pub at_stop : (x : Connection) (past : ℕ) → x.stop ≤ past → is_retired x past ≡ x.retire
+at_stop x past over = let late : nat_le x.stop past ≡ true = grind (arith, nat_tests) in rw late (and_true x.retire)
