@@ -2,32 +2,25 @@
 use Rattle.std.proofs.Common.{◌≡◌, ◌≤◌, ◌+◌, ◌*◌, ℕ, Bool, true, false, None, [], arith, refl, sym, ap, subst, ◌∙◌}
 use Rattle.otn_base.specs.declared.kind.PortName.{PortName}
 use Rattle.otn_base.specs.declared.kind.PortName.TheVariants as port
-use Rattle.otn_ports.specs.Views.{InView, OutView, BaysView, line_in_at, line_out_at, client_in_at, client_out_at}
+use Rattle.otn_ports.specs.Views.{BaysView, line_in_at, line_out_at, client_in_at, client_out_at}
 use Rattle.line_side.specs.LineForm.{size_of}
 use Rattle.line_side.specs.LineStands.{LineStands}
 use Rattle.plan_file.specs.Answer.{fault_in}
 use Rattle.plan_file.specs.declared.connection.Connection.{Connection}
-use Rattle.plan_file.specs.declared.connection.FromEnd.TheVariants as from_end
-use Rattle.plan_file.specs.declared.connection.ToEnd.TheVariants as to_end
 use Rattle.plan_file.specs.declared.plan.Plan.{Plan}
 use Rattle.device_model.specs.Entries.{form_in, form_out, own_turn}
 use Rattle.device_model.specs.LineFiles.{AreFramesOf}
 use Rattle.device_model.specs.Moments.{touches, pieces_of, turns_done}
 use Rattle.device_model.specs.Through.{Inputs, own_input}
 use Rattle.device_model.proofs.SoundPlans.{sound_plan}
-use Rattle.cross_matrix.specs.Parts.{ClientInStands, ClientOutStands}
 use Rattle.cross_matrix.specs.Pipes.{PipeStands}
 use Rattle.node_moments.specs.Built.{AreNewLinesIn, AreNewLinesOut, IsNewLink, AreNewLinks}
 use Rattle.node_moments.specs.NodeView.{NodeView, done_at, taken_pieces, given_pieces}
 use Rattle.turn_pieces.specs.Pieces.{wanted_of, IsFresh}
 use Rattle.turn_pieces.specs.Ports.{index_of}
 use Rattle.device_model.specs.RetiredPlaces.{after_retire, out_after_retire}
-use Rattle.node_moments.specs.Stands.{PlanStands, PipesStand, ClientAt, ClientStands, GivesText, GetsText, PortStands, StandsAt, no_bytes}
+use Rattle.node_moments.specs.Stands.{PlanStands, PipesStand, ClientStands, GivesText, GetsText, PortStands, StandsAt, no_bytes}
 use Rattle.node_links.specs.declared.link.Link.{Link}
-use Rattle.node_links.specs.declared.link.Origin.{Origin}
-use Rattle.node_links.specs.declared.link.Origin.TheVariants as origin
-use Rattle.node_links.specs.declared.link.Target.{Target}
-use Rattle.node_links.specs.declared.link.Target.TheVariants as target
 use Rattle.node_moments.proofs.ClientTurns.{none_done}
 use Rattle.node_links.proofs.LinkLaws.{still_link}
 use Rattle.node_moments.proofs.LinkPorts.{from_client, to_client, none_taken, none_given}

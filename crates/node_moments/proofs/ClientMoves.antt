@@ -1,5 +1,5 @@
 -- A piece of a client, input or output, leads to the next moment.
-use Rattle.std.proofs.Common.{◌≡◌, ◌≢◌, ◌<◌, ◌≤◌, ◌+◌, ◌==◌, ℕ, suc, Bool, true, false, ◌&&◌, if◌then◌else◌, nat_le, List, [], ◌++◌, length, Some, slice_get, arith, refl, sym, ap, subst, ◌∙◌, inl, inr}
+use Rattle.std.proofs.Common.{◌≡◌, ◌≢◌, ◌<◌, ◌≤◌, ◌+◌, ◌==◌, ℕ, Bool, true, false, if◌then◌else◌, List, [], ◌++◌, length, Some, slice_get, arith, refl, sym, ap, subst, ◌∙◌, inl, inr}
 use Rattle.std.proofs.lemmas.Bool.{eq-eqb}
 use Rattle.std.proofs.lemmas.Bool.Decides.{eqb_tells}
 use Rattle.std.proofs.lemmas.Option.{slice_get_within}
@@ -18,23 +18,23 @@ use Rattle.device_model.specs.Entries.{own_turn, IsActive}
 use Rattle.device_model.specs.Moments.{touches, turns_done, is_retired}
 use Rattle.device_model.specs.RetiredPlaces.{after_retire, out_after_retire}
 use Rattle.device_model.specs.Through.{Inputs, OwnInput, of_client, own_of, own_input}
-use Rattle.cross_matrix.specs.Parts.{GivingStands, ClientInStands, ClientOutStands, MayShow}
+use Rattle.cross_matrix.specs.Parts.{GivingStands, ClientInStands, MayShow}
 use Rattle.cross_matrix.specs.Pipes.{PipeView, PipeStands, ClientTook}
 use Rattle.cross_matrix.specs.declared.giving.GivingPart.{GivingPart}
 use Rattle.cross_matrix.specs.declared.giving.GivingPart.TheVariants as giving
 use Rattle.node_links.specs.Links.{IsLinkOf, is_on, origin_of}
 use Rattle.node_links.specs.declared.link.Origin.TheVariants as origin
-use Rattle.node_links.specs.Moves.{EachLink, takes_client, gives_client, TakesClient, GivesClient}
+use Rattle.node_links.specs.Moves.{EachLink, TakesClient, GivesClient}
 use Rattle.node_links.specs.declared.link.Link.{Link}
-use Rattle.node_moments.specs.Stands.{InputBytes, MayGive, frames_by, ended_by, PlanStands, ClientAt, ClientStands, GivesText, GetsText, PortStands, StandsAt, Later}
-use Rattle.node_moments.specs.Steps.NodeMoves.{OnePiece, ClientInMove, ClientOutMove}
+use Rattle.node_moments.specs.Stands.{InputBytes, MayGive, frames_by, ended_by, PlanStands, ClientStands, GivesText, GetsText, PortStands, StandsAt, Later}
+use Rattle.node_moments.specs.Steps.NodeMoves.{ClientInMove, ClientOutMove}
 use Rattle.node_moments.specs.NodeView.{NodeView, HasLink, is_ready, done_at, taken_pieces, given_pieces}
 use Rattle.turn_pieces.proofs.PieceCounts.{done_more}
 use Rattle.node_links.proofs.LinkLaws.{both, both_left}
 use Rattle.node_moments.proofs.ClientLinks.{HasSome, one_or_none, both_right, left_off, active_on, active_retired, active_turns, idle_turns}
 use Rattle.node_moments.proofs.LinkPorts.{is_client_port, joins, takes_part, joins_as, touched_in, from_client, to_client, sole, given_in, taken_out, LinkMoved}
-use Rattle.node_moments.proofs.Parts.{one_at, known_at, each_goes, link_after, ready, ready_less}
-use Rattle.node_moments.proofs.PieceMoves.{Step, done_but, MayAt, earlier_by, PipeAt, PipeThen, PipeMoves, client_kept, later_by}
+use Rattle.node_moments.proofs.Parts.{one_at, known_at, link_after, ready, ready_less}
+use Rattle.node_moments.proofs.PieceMoves.{Step, done_but, MayAt, earlier_by, PipeAt, PipeMoves, client_kept, later_by}
 
 -- ---- no connection has a part in the piece
 

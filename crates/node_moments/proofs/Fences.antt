@@ -32,10 +32,6 @@ use Rattle.turn_pieces.specs.Ports.{index_of}
 use Rattle.device_model.specs.RetiredPlaces.{after_retire, out_after_retire}
 use Rattle.node_moments.specs.Stands.{InputBytes, MayGive, PlanStands, PipesStand, LineInAt, LineOutAt, ClientAt, ClientStands, GivesText, GetsText, PortStands, StandsAt, Later}
 use Rattle.node_links.specs.declared.link.Link.{Link}
-use Rattle.node_links.specs.declared.link.Origin.{Origin}
-use Rattle.node_links.specs.declared.link.Origin.TheVariants as origin
-use Rattle.node_links.specs.declared.link.Target.{Target}
-use Rattle.node_links.specs.declared.link.Target.TheVariants as target
 use Rattle.node_moments.proofs.ClientTurns.{place_kept, client_starts, client_goes_on}
 use Rattle.node_moments.proofs.LinkPorts.{is_client_port, joins, from_client, to_client, none_taken, none_given}
 use Rattle.node_moments.proofs.LinkTurns.{Turned, turned, not_started, on_link, all_done, some_wanted, used_line, input_kind, at_start, at_end, pieces_from, next_pipe, own_next}

@@ -5,7 +5,6 @@ use Rattle.std.proofs.lemmas.Bool.{eq-eqb}
 use Rattle.std.proofs.lemmas.Bool.Decides.{nat_tests, eqb_tells}
 use Rattle.std.proofs.lemmas.List.{length-append, append-nil}
 use Rattle.otn_base.specs.LineSlots.{LineSlots, slots_of}
-use Rattle.otn_base.specs.declared.kind.PortName.{PortName}
 use Rattle.otn_base.specs.declared.kind.PortName.TheVariants as port
 use Rattle.otn_ports.specs.Places.{OnlyPort}
 use Rattle.otn_ports.specs.Views.{InView, BaysView, line_in_at}
@@ -20,17 +19,16 @@ use Rattle.plan_file.specs.declared.connection.FromEnd.{FromEnd}
 use Rattle.plan_file.specs.declared.connection.FromEnd.TheVariants as from_end
 use Rattle.plan_file.specs.declared.plan.Plan.{Plan}
 use Rattle.tributary_model.specs.Places.{Taken}
-use Rattle.device_model.specs.Entries.{form_in, own_turn, IsActive}
-use Rattle.device_model.specs.Moments.{uses}
+use Rattle.device_model.specs.Entries.{form_in, own_turn}
 use Rattle.device_model.specs.Through.{Inputs, OwnInput, own_input}
 use Rattle.device_model.proofs.SoundPlans.{sound_plan}
 use Rattle.cross_matrix.specs.Pipes.{PipeStands}
-use Rattle.node_links.specs.Links.{IsLinkOf, is_on, origin_of}
+use Rattle.node_links.specs.Links.{is_on, origin_of}
 use Rattle.node_links.specs.Moves.{EachLink, TookFrame, ReadsLine, is_from_line, takes_line}
-use Rattle.node_moments.specs.Steps.NodeMoves.{OnePiece, LineInMove}
+use Rattle.node_moments.specs.Steps.NodeMoves.{LineInMove}
 use Rattle.node_moments.specs.NodeView.{NodeView, is_ready, done_at, taken_pieces, given_pieces}
 use Rattle.device_model.specs.TurnFrames.{member_of, frames_in}
-use Rattle.node_moments.specs.Stands.{InputBytes, MayGive, frames_by, ended_by, PlanStands, LineInAt, PortStands, StandsAt, Later}
+use Rattle.node_moments.specs.Stands.{InputBytes, frames_by, ended_by, PlanStands, LineInAt, PortStands, StandsAt, Later}
 use Rattle.node_links.specs.declared.link.Link.{Link}
 use Rattle.turn_pieces.proofs.PieceCounts.{done_more}
 use Rattle.node_moments.proofs.ClientLinks.{both_right}

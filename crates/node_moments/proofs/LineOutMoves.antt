@@ -1,13 +1,12 @@
 -- A piece of an output line leads to the next moment.
-use Rattle.std.proofs.Common.{◌≡◌, ◌≢◌, ◌<◌, ◌+◌, ◌*◌, ◌/◌, ◌%◌, ◌⊎◌, ℕ, zero, suc, Bool, true, false, ◌&&◌, List, [], ◌∷◌, ◌++◌, Some, length, slice_get, arith, refl, sym, ap, ◌∙◌, inl, inr}
+use Rattle.std.proofs.Common.{◌≡◌, ◌<◌, ◌+◌, ◌*◌, ◌/◌, ◌%◌, ◌⊎◌, ℕ, zero, suc, Bool, true, List, [], ◌∷◌, ◌++◌, Some, length, slice_get, arith, refl, sym, ap, ◌∙◌, inl, inr}
 use Rattle.std.proofs.lemmas.Bool.Decides.{nat_tests}
 use Rattle.std.proofs.lemmas.List.{length-append}
 use Rattle.std.proofs.lemmas.Nat.{div-mul-add, mod-mul-add}
 use Rattle.otn_base.specs.LineSlots.{LineSlots, slots_of}
-use Rattle.otn_base.specs.declared.kind.PortName.{PortName}
 use Rattle.otn_base.specs.declared.kind.PortName.TheVariants as port
 use Rattle.otn_ports.specs.Places.{OnlyPort}
-use Rattle.otn_ports.specs.Views.{OutView, BaysView, line_out_at}
+use Rattle.otn_ports.specs.Views.{BaysView, line_out_at}
 use Rattle.line_side.specs.LineForm.{size_of}
 use Rattle.line_side.specs.LineOutput.{FramePut}
 use Rattle.plan_file.specs.declared.connection.Connection.{Connection}
@@ -15,23 +14,22 @@ use Rattle.plan_file.specs.declared.connection.ToEnd.{ToEnd}
 use Rattle.plan_file.specs.declared.connection.ToEnd.TheVariants as to_end
 use Rattle.plan_file.specs.declared.plan.Plan.{Plan}
 use Rattle.tributary_model.specs.Places.{Taken}
-use Rattle.device_model.specs.Entries.{form_out, own_turn, IsActive}
+use Rattle.device_model.specs.Entries.{form_out, own_turn}
 use Rattle.device_model.specs.LineFiles.{IsFrameOf, AreFramesOf}
-use Rattle.device_model.specs.Moments.{uses}
 use Rattle.device_model.specs.Through.{Inputs, OwnInput, own_input}
 use Rattle.device_model.proofs.SoundPlans.{sound_plan}
 use Rattle.cross_matrix.specs.Pipes.{PipeStands}
-use Rattle.node_links.specs.Links.{IsLinkOf, is_on, target_of}
+use Rattle.node_links.specs.Links.{is_on, target_of}
 use Rattle.node_links.specs.Moves.{EachLink, GaveFrame, FillLine, is_to_line, gives_line}
-use Rattle.node_moments.specs.Steps.NodeMoves.{OnePiece, LineOutMove}
-use Rattle.node_moments.specs.NodeView.{NodeView, HasLineOut, is_ready, done_at, taken_pieces, given_pieces}
+use Rattle.node_moments.specs.Steps.NodeMoves.{LineOutMove}
+use Rattle.node_moments.specs.NodeView.{NodeView, is_ready, done_at, taken_pieces, given_pieces}
 use Rattle.node_moments.specs.Stands.{InputBytes, MayGive, frames_by, ended_by, PlanStands, PipesStand, LineOutAt, PortStands, StandsAt, Later}
 use Rattle.node_links.specs.declared.link.Link.{Link}
 use Rattle.node_links.specs.declared.link.Target.TheVariants as target
 use Rattle.turn_pieces.proofs.PieceCounts.{done_more}
 use Rattle.node_moments.proofs.ClientLinks.{both_right}
 use Rattle.node_moments.proofs.LinkPorts.{taken_out, LinkMoved}
-use Rattle.node_moments.proofs.Parts.{one_at, ready, ready_used, ready_less}
+use Rattle.node_moments.proofs.Parts.{one_at, ready, ready_less}
 use Rattle.node_moments.proofs.PieceMoves.{Step, done_but, earlier_by, PipeMoves, later_by}
 
 -- ---- a connection to the line

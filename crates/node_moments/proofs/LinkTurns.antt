@@ -1,5 +1,5 @@
 -- A connection, and a line, from one turn to the next.
-use Rattle.std.proofs.Common.{◌≡◌, ◌≢◌, ◌<◌, ◌≤◌, ◌+◌, ℕ, zero, suc, Bool, true, false, nat_lt, nat_le, List, [], ◌∷◌, Some, length, slice_get, get_or, arith, refl, sym, ap, subst, ◌∙◌}
+use Rattle.std.proofs.Common.{◌≡◌, ◌≢◌, ◌<◌, ◌≤◌, ◌+◌, ℕ, suc, Bool, true, false, nat_lt, nat_le, List, [], Some, slice_get, get_or, arith, refl, sym, ap, subst, ◌∙◌}
 use Rattle.std.specs.Prelude.{is_some}
 use Rattle.std.proofs.lemmas.Bool.Decides.{nat_tests}
 use Rattle.otn_base.specs.LineSlots.{LineSlots, slots_of}
@@ -21,7 +21,7 @@ use Rattle.device_model.specs.SoundPlans.{IsSoundEntry}
 use Rattle.device_model.specs.Through.{Inputs, of_client, of_signal, own_of, own_input}
 use Rattle.cross_matrix.specs.Parts.{IsInputOf}
 use Rattle.cross_matrix.specs.Pipes.{PipeView, PipeStands}
-use Rattle.node_links.specs.Links.{IsLinkOf, SameEntry, origin_of, is_on}
+use Rattle.node_links.specs.Links.{IsLinkOf, origin_of, is_on}
 use Rattle.node_links.specs.Moves.{LineEnds, Fences}
 use Rattle.node_links.specs.LinkEnds.{TurnsOver, whole_for}
 use Rattle.node_moments.specs.NodeMoves.{FenceMove}

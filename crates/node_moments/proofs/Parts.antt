@@ -4,20 +4,14 @@ use Rattle.std.proofs.lemmas.Bool.Decides.{nat_tests, eqb_tells}
 use Rattle.std.proofs.lemmas.List.{get_or-set_same, get_or-set_other}
 use Rattle.std.proofs.lemmas.Option.{slice_get_within}
 use Rattle.otn_base.specs.declared.kind.PortName.{PortName}
-use Rattle.otn_base.specs.declared.kind.PortName.TheVariants as port
-use Rattle.otn_ports.specs.Views.{InView, OutView, BaysView, line_in_at, line_out_at, client_in_at, client_out_at}
 use Rattle.plan_file.specs.declared.connection.Connection.{Connection}
-use Rattle.plan_file.specs.declared.connection.FromEnd.TheVariants as from_end
-use Rattle.plan_file.specs.declared.connection.ToEnd.TheVariants as to_end
 use Rattle.plan_file.specs.declared.plan.Plan.{Plan}
 use Rattle.device_model.specs.Entries.{IsActive}
 use Rattle.device_model.specs.Moments.{uses, pieces_by}
-use Rattle.device_model.specs.Through.{Inputs, of_client}
-use Rattle.cross_matrix.specs.Parts.{MayShow}
 use Rattle.turn_pieces.specs.Ports.{index_of}
 use Rattle.turn_pieces.specs.Pieces.{wanted_of, is_open, IsCounted}
 use Rattle.node_links.specs.Links.{IsLinkOf, SameEntry, is_on}
-use Rattle.node_moments.specs.NodeView.{NodeView, HasLink, is_ready, done_at}
+use Rattle.node_moments.specs.NodeView.{NodeView, is_ready, done_at}
 use Rattle.node_moments.specs.Stands.{PlanStands}
 use Rattle.node_links.specs.Moves.{EachLink}
 use Rattle.node_links.specs.declared.link.Link.{Link}

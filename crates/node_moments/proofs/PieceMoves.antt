@@ -1,10 +1,10 @@
 -- A piece of any port leads to the next moment: what it leaves as it was, and what is then left to show of its own port.
-use Rattle.std.proofs.Common.{◌≡◌, ◌≢◌, ◌⊎◌, ◌<◌, ◌≤◌, ◌+◌, ℕ, Bool, true, false, ◌&&◌, List, [], Some, length, slice_get, refl, sym, ap, subst, ◌∙◌, inl, inr}
+use Rattle.std.proofs.Common.{◌≡◌, ◌≢◌, ◌≤◌, ◌+◌, ℕ, Bool, true, false, ◌&&◌, List, [], Some, length, slice_get, refl, sym, ap, subst, ◌∙◌, inl, inr}
 use Rattle.std.specs.Prelude.{⊤}
 use Rattle.otn_base.specs.declared.kind.PortName.{PortName}
 use Rattle.otn_base.specs.declared.kind.PortName.TheVariants as port
-use Rattle.otn_ports.specs.Places.{OnlyPort, place_at, input_of, output_of}
-use Rattle.otn_ports.specs.Views.{InView, OutView, BaysView, line_in_at, line_out_at, client_in_at, client_out_at}
+use Rattle.otn_ports.specs.Places.{OnlyPort, input_of, output_of}
+use Rattle.otn_ports.specs.Views.{BaysView, line_in_at, line_out_at, client_in_at, client_out_at}
 use Rattle.line_side.specs.MayBe.{MayBe}
 use Rattle.line_side.specs.LineStands.{LineView}
 use Rattle.plan_file.specs.declared.connection.Connection.{Connection}
@@ -14,16 +14,16 @@ use Rattle.device_model.specs.Entries.{form_in, own_turn, IsActive}
 use Rattle.device_model.specs.Moments.{touches, uses, turns_done, is_retired}
 use Rattle.device_model.specs.RetiredPlaces.{after_retire, out_after_retire}
 use Rattle.device_model.specs.Through.{Inputs, of_client, own_input}
-use Rattle.cross_matrix.specs.Parts.{ClientInStands, ClientOutStands, MayShow}
+use Rattle.cross_matrix.specs.Parts.{MayShow}
 use Rattle.cross_matrix.specs.Pipes.{PipeView, PipeStands}
 use Rattle.node_links.specs.Links.{IsLinkOf, SameEntry, is_on, origin_of, target_of}
 use Rattle.node_links.specs.Moves.{EachLink}
 use Rattle.node_links.specs.declared.link.Link.{Link}
-use Rattle.node_moments.specs.Stands.{InputBytes, MayGive, frames_by, ended_by, PlanStands, PipesStand, ClientAt, ClientStands, GivesText, GetsText, PortStands, StandsAt, Later}
+use Rattle.node_moments.specs.Stands.{InputBytes, MayGive, frames_by, ended_by, PipesStand, ClientStands, GivesText, GetsText, PortStands, StandsAt, Later}
 use Rattle.node_moments.specs.Steps.NodeMoves.{OnePiece}
 use Rattle.node_moments.specs.NodeView.{NodeView, HasLineIn, HasLink, done_at, taken_pieces, given_pieces}
 use Rattle.turn_pieces.proofs.PieceCounts.{done_same}
-use Rattle.node_moments.proofs.LinkPorts.{is_input_port, same_port, joins, takes_part, from_client, to_client, taken_other, given_other, LinkMoved, taking_kept, giving_kept}
+use Rattle.node_moments.proofs.LinkPorts.{same_port, joins, takes_part, from_client, to_client, taken_other, given_other, LinkMoved, taking_kept, giving_kept}
 use Rattle.node_moments.proofs.Parts.{none_and, off_stopped, each_goes, link_before, link_after, on_active, IsReady, ready_used, plan_counted}
 use Rattle.node_moments.proofs.Retired.{known_at}
 
