@@ -5,6 +5,7 @@ use Rattle.std.specs.List.{Contains}
 use Rattle.std.proofs.lemmas.Bool.{eq-eqb}
 use Rattle.std.proofs.lemmas.Bool.Decides.{nat_tests, eqb_tells}
 use Rattle.std.proofs.lemmas.Option.{slice_get_within, slice_get_read}
+use Rattle.otn_base.specs.declared.kind.PortName.{PortName}
 use Rattle.otn_base.specs.declared.kind.PortName.TheVariants as port
 use Rattle.otn_ports.specs.Views.{InView, BaysView, line_in_at, client_in_at}
 use Rattle.line_side.specs.LineNumbers.{numbers_of}
@@ -20,7 +21,7 @@ use Rattle.plan_file.specs.declared.connection.ToEnd.TheVariants as to_end
 use Rattle.plan_file.specs.declared.plan.Plan.{Plan}
 use Rattle.tributary_model.specs.Places.{Taken}
 use Rattle.device_model.specs.Entries.{first_turn, form_in, own_turn, IsActive}
-use Rattle.device_model.specs.Moments.{turns_done, emitted_by}
+use Rattle.device_model.specs.Moments.{touches, turns_done, emitted_by}
 use Rattle.device_model.specs.Numbers.{client_numbers, client_numbers_by, last_state, state_after_turn}
 use Rattle.device_model.specs.Report.{ClientInNumbers}
 use Rattle.device_model.specs.Through.{Inputs, OwnInput, of_client, own_of, own_input, state_by, state_in}
@@ -37,7 +38,9 @@ use Rattle.node_moments.specs.NodeView.{NodeView, HasLineIn, HasLineOut, HasLink
 use Rattle.node_core.specs.Settling.{IsLineCounts, IsFrameCount, IsClientInCount, IsClientOutCount, IsLastState}
 use Rattle.node_moments.specs.Stands.{InputBytes, MayGive, PlanStands, StandsAt, frames_by, ended_by}
 use Rattle.node_links.specs.declared.link.Link.{Link}
-use Rattle.node_moments.proofs.ClientLinks.{from_client, to_client, client_from, client_to}
+use Rattle.node_links.proofs.LinkLaws.{both}
+use Rattle.node_moments.proofs.LinkPorts.{is_client_port, joins, joins_as, touched_in, touched_out, sole}
+use Rattle.node_moments.proofs.Retired.{entry_at}
 use Rattle.node_moments.proofs.Parts.{one_at, known_at, and_none, none_and}
 
 -- ---- lines
@@ -46,7 +49,7 @@ pub counts_told : (node : NodeView) (a : ℕ) (line : LineView) (counts : LineCo
     → InItsTurn line (λ form given t. counts ≡ numbers_of form line.reader.ending given t line.pieces) → IsLineCounts node a counts
 counts_told node a line counts has told = λ plan first taken now inputs other h may used at.
     let same : other ≡ line = one_at node.lines_in a other line at has in
-    let stood = h.lines_in.used a line has used in
+    let stood = h.ports (port.LineIn a) line has used in
     rw same (told (line_in_at now a) (form_in plan a) (line_in_at first a) (taken.line a) node.past stood.0 (inputs.line a) (may.lines a line has used))
 
 pub frames_told : (node : NodeView) (b : ℕ) (line : LineOutView) (frames : ℕ) → HasLineOut node b line → frames ≡ line.frames → IsFrameCount node b frames
@@ -70,46 +73,17 @@ link_at plan node i x p at =
     let k = known_at node.links i (let count = p.count in omega arith) in
     record { link = k.0; has = k.1; is = p.links i x k.0 at k.1 }
 
--- the entry of a link
-pub record EntryAt (plan : Plan) (node : NodeView) (i : ℕ) (link : Link) : Type 0 where
-  pub x : Connection
-  pub at_i : slice_get plan.connections i ≡ Some x
-  pub is : IsLinkOf x link
-
-pub entry_at : (plan : Plan) (node : NodeView) (i : ℕ) (link : Link) → PlanStands plan node → HasLink node i link → EntryAt plan node i link
-entry_at plan node i link p has =
-    let within : i < length node.links = slice_get_within node.links i link has in
-    let k = known_at plan.connections i (let count = p.count in omega arith) in
-    record { x = k.0; at_i = k.1; is = p.links i k.0 link k.1 has }
-
-pub found_in : (plan : Plan) (node : NodeView) (n i j : ℕ) (x : Connection) (link : Link) → PlanStands plan node → HasLink node i link → has_client_in n link ≡ true
-    → slice_get plan.connections j ≡ Some x → x.from ≡ from_end.Client n → i ≡ j
-found_in plan node n i j x link p has mine at from =
+-- the connection of the plan at a client's port is the one that is found
+pub found_at : (plan : Plan) (node : NodeView) (name : PortName) (i j : ℕ) (x : Connection) (link : Link) → is_client_port name ≡ true → PlanStands plan node → HasLink node i link → joins name link ≡ true
+    → slice_get plan.connections j ≡ Some x → touches name x ≡ true → i ≡ j
+found_at plan node name i j x link client p has mine at touched =
     let e = entry_at plan node i link p has in
-    let comes : e.x.from ≡ from_end.Client n = from_client n e.x.from (ap (is_from_client n) (sym e.is.from) ∙ mine) in
-    (sound_plan plan p.accepted).clients_in i j n e.x x e.at_i at comes from
+    sole plan name i j e.0 x p.accepted client e.1.0 at (sym (joins_as name e.0 link e.1.1) ∙ mine) touched
 
-pub found_out : (plan : Plan) (node : NodeView) (n i j : ℕ) (x : Connection) (link : Link) → PlanStands plan node → HasLink node i link → has_client_out n link ≡ true
-    → slice_get plan.connections j ≡ Some x → x.to ≡ to_end.Client n → i ≡ j
-found_out plan node n i j x link p has mine at to =
-    let e = entry_at plan node i link p has in
-    let goes : e.x.to ≡ to_end.Client n = to_client n e.x.to (ap (is_to_client n) (sym e.is.to) ∙ mine) in
-    (sound_plan plan p.accepted).clients_out i j n e.x x e.at_i at goes to
-
--- a client of the plan has one
-pub none_in : (plan : Plan) (node : NodeView) (n j : ℕ) (x : Connection) → PlanStands plan node → ((i : ℕ) (link : Link) → HasLink node i link → has_client_in n link ≡ false)
-    → slice_get plan.connections j ≡ Some x → x.from ≡ from_end.Client n → ⊥
-none_in plan node n j x p none at from =
-    let l = link_at plan node j x p at in
-    let mine : has_client_in n l.link ≡ true = ap (is_from_client n) (client_from n x l.link l.is from) ∙ eq-eqb n n refl in
-    absurd (cc (mine, none j l.link l.has))
-
-pub none_out : (plan : Plan) (node : NodeView) (n j : ℕ) (x : Connection) → PlanStands plan node → ((i : ℕ) (link : Link) → HasLink node i link → has_client_out n link ≡ false)
-    → slice_get plan.connections j ≡ Some x → x.to ≡ to_end.Client n → ⊥
-none_out plan node n j x p none at to =
-    let l = link_at plan node j x p at in
-    let mine : has_client_out n l.link ≡ true = ap (is_to_client n) (client_to n x l.link l.is to) ∙ eq-eqb n n refl in
-    absurd (cc (mine, none j l.link l.has))
+-- where none is found it has none
+pub none_at : (plan : Plan) (node : NodeView) (name : PortName) (j : ℕ) (x : Connection) → PlanStands plan node → ((i : ℕ) (link : Link) → HasLink node i link → joins name link ≡ false)
+    → slice_get plan.connections j ≡ Some x → touches name x ≡ true → ⊥
+none_at plan node name j x p none at touched = let l = link_at plan node j x p at in both (joins name l.link) (joins_as name x l.link l.is ∙ touched) (none j l.link l.has)
 
 -- ---- the turns that are done
 
@@ -164,7 +138,7 @@ pub client_in_told : (node : NodeView) (n i : ℕ) (link : Link) (t : ℕ × Boo
     → IsClientInCount node n (record { packets = t.0; spent = t.1; bad = t.2 })
 client_in_told node n i link t found has later told = λ plan first taken now inputs x h may is_of from.
     let p = h.plan_stands in
-    let same : is_of.0 ≡ i = sym (found_in plan node n i is_of.0 x link p has (found.is.1 link has) (entry_of plan x is_of) from) in
+    let same : is_of.0 ≡ i = sym (found_at plan node (port.ClientIn n) i is_of.0 x link refl p has (found.is.1 link has) (entry_of plan x is_of) (touched_in n x from)) in
     let at_i : slice_get plan.connections i ≡ Some x = subst (λ k. slice_get plan.connections k ≡ Some x) same (entry_of plan x is_of) in
     let is = p.links i x link at_i has in
     let pieces = done_at node (port.ClientIn n) in
@@ -183,12 +157,12 @@ client_in_told node n i link t found has later told = λ plan first taken now in
     by_start plan first taken now inputs x h may at_i is pieces k from false e =
         let start = is.start in
         let begun : x.start ≤ node.past + 1 = grind (arith, nat_tests) in
-        let s = h.clients_in.started i n x link at_i has from begun in
+        let s = (h.ports (port.ClientIn n)).started i x link at_i has (touched_in n x from) begun in
         text_numbers x (inputs.client n) (emitted_before x.pace (turns_done x node.past (done_at node (port.ClientIn n)))) t
         (told e x (client_in_at first n) s.was (taken.client n) (turns_done x node.past (done_at node (port.ClientIn n))) (inputs.client n) s.stands (may.clients i n x link at_i has from begun))
 
 pub client_in_none : (node : NodeView) (n : ℕ) (counts : ClientInNumbers) → FirstOf (has_client_in n) node.links None → IsClientInCount node n counts
-client_in_none node n counts found = λ plan first taken now inputs x h may is_of from. absurd (none_in plan node n is_of.0 x h.plan_stands found.is (entry_of plan x is_of) from)
+client_in_none node n counts found = λ plan first taken now inputs x h may is_of from. absurd (none_at plan node (port.ClientIn n) is_of.0 x h.plan_stands found.is (entry_of plan x is_of) (touched_in n x from))
 
 to_part : (n : ℕ) (part : GivingPart) → GivesTo (to_end.Client n) part → IsToClient part
 to_part n (giving.Line source) h = absurd h
@@ -198,13 +172,13 @@ pub client_out_told : (node : NodeView) (n i : ℕ) (link : Link) (t : ℕ × �
     → (IsToClient link.pipe.giving → IsReceived link.pipe.giving t) → IsClientOutCount node n (record { frames = t.0; packets = t.1 })
 client_out_told node n i link t found has told = λ plan first taken now j x other h at_j had to.
     let p = h.plan_stands in
-    let same : j ≡ i = sym (found_out plan node n i j x link p has (found.is.1 link has) at_j to) in
+    let same : j ≡ i = sym (found_at plan node (port.ClientOut n) i j x link refl p has (found.is.1 link has) at_j (touched_out n x to)) in
     let one : other ≡ link = one_at node.links i other link (subst (λ k. slice_get node.links k ≡ Some other) same had) has in
     let gives : IsToClient other.pipe.giving = to_part n other.pipe.giving (subst (λ e. GivesTo e other.pipe.giving) to (p.links j x other at_j had).pipe.giving) in
     rw one (told (subst (λ (l : Link). IsToClient l.pipe.giving) one gives))
 
 pub client_out_none : (node : NodeView) (n : ℕ) (t : ℕ × ℕ) → FirstOf (has_client_out n) node.links None → IsClientOutCount node n (record { frames = t.0; packets = t.1 })
-client_out_none node n t found = λ plan first taken now j x other h at_j had to. absurd (none_out plan node n j x h.plan_stands found.is at_j to)
+client_out_none node n t found = λ plan first taken now j x other h at_j had to. absurd (none_at plan node (port.ClientOut n) j x h.plan_stands found.is at_j (touched_out n x to))
 
 -- ---- connections
 

@@ -53,7 +53,7 @@ line_in_numbers plan first taken node was last inputs numbers lines h over may t
     let within : a < 4 = line_in_within a (used_within plan (port.LineIn a) p.accepted used) in
     let line = known_at node.lines_in a (omega (arith, lines)) in
     let past : node.past ≡ plan.turns = (let turns = p.turns in let most = p.past in omega arith) in
-    let none : line.0.pieces ≡ 0 = (h.lines_in.used a line.0 line.1 used).1 ∙ p.over over (port.LineIn a) in
+    let none : line.0.pieces ≡ 0 = (h.ports (port.LineIn a) line.0 line.1 used).1 ∙ p.over over (port.LineIn a) in
     let given = inputs.line a in
     told.line_in a used plan first taken was inputs line.0 h may used line.1
     ∙ ap (λ t. numbers_of (form_in plan a) line.0.reader.ending given t line.0.pieces) past

@@ -22,16 +22,18 @@ use Rattle.cross_matrix.specs.Parts.{OnReceiver, ClientOutStands, IsReceived}
 use Rattle.cross_matrix.specs.Receiving.{ReceiverView, ReceiverStands}
 use Rattle.cross_matrix.specs.declared.giving.GivingPart.{GivingPart}
 use Rattle.cross_matrix.specs.declared.giving.GivingPart.TheVariants as giving
-use Rattle.node_links.specs.Moves.{is_to_client, has_client_out}
+use Rattle.node_links.specs.Moves.{has_client_out}
 use Rattle.node_moments.specs.NodeView.{NodeView, HasLineOut, HasLink, done_at}
 use Rattle.turn_pieces.specs.Ports.{index_of}
 use Rattle.device_model.specs.RunLeft.{OutputLeft, LineOutLeft, ClientOutLeft, OutputsLeft}
 use Rattle.device_model.specs.RetiredPlaces.{out_after_retire}
 use Rattle.node_moments.specs.Stands.{InputBytes, MayGive, StandsAt}
 use Rattle.node_links.specs.declared.link.Link.{Link}
-use Rattle.node_moments.proofs.ClientLinks.{to_client, one_or_none}
-use Rattle.node_core.proofs.NodeReads.{entry_of, entry_at, found_out, none_out, all_turns, is_past}
-use Rattle.node_moments.proofs.Parts.{known_at}
+use Rattle.node_moments.proofs.ClientLinks.{one_or_none}
+use Rattle.node_moments.proofs.LinkPorts.{joins_as, to_client, touched_out}
+use Rattle.node_moments.proofs.Retired.{entry_at, at_stop}
+use Rattle.node_core.proofs.NodeReads.{entry_of, found_at, none_at, all_turns, is_past}
+use Rattle.node_moments.proofs.Parts.{one_at, known_at}
 use Rattle.turn_pieces.proofs.UsedPorts.{used_within}
 
 -- what went to the outputs of a node past its last turn, whatever its inputs may turn out to be
@@ -65,7 +67,7 @@ line_at_end plan first taken node now inputs lines h over may b used =
     let within : b < 4 = line_within b (used_within plan (port.LineOut b) p.accepted used) in
     let line = known_at node.lines_out b (omega (arith, lines)) in
     let past : node.past ≡ plan.turns = (let turns = p.turns in let most = p.past in omega arith) in
-    let stood = h.lines_out.used inputs may b line.0 line.1 used in
+    let stood = h.ports (port.LineOut b) inputs may line.0 line.1 used in
     record {
       line = line.0;
       has = line.1;
@@ -131,28 +133,21 @@ pub record ClientAtEnd (plan : Plan) (inputs : Inputs) (i : ℕ) (x : Connection
   pub at : ReceiverAt link.pipe.giving first was (arrived_by x (own_input inputs x) (turns_done x plan.turns 0))
   pub place : now ≡ out_after_retire x.retire was
 
-retired_is : (x : Connection) (past : ℕ) → x.stop ≤ past → is_retired x past ≡ x.retire
-retired_is x past over = let late : nat_le x.stop past ≡ true = grind (arith, nat_tests) in last x.retire (nat_le x.stop past) late
-  where
-    last : (b c : Bool) → c ≡ true → (b && c) ≡ b
-    last true c e = e
-    last false c e = refl
-
 pub client_at_end : (plan : Plan) (first : BaysView) (taken : InputBytes) (node : NodeView) (now : BaysView) (inputs : Inputs) → StandsAt plan first taken node now → node.turns ≤ node.past → MayGive plan taken node inputs
     → (i n : ℕ) (x : Connection) (link : Link) → slice_get plan.connections i ≡ Some x → HasLink node i link → x.to ≡ to_end.Client n
     → ClientAtEnd plan inputs i x link (client_out_at first n) (client_out_at now n)
 client_at_end plan first taken node now inputs h over may i n x link at has to =
     let p = h.plan_stands in
     let end = is_past plan node i x p over at in
-    let s = h.clients_out.started inputs may i n x link at has to end.start in
+    let s = (h.ports (port.ClientOut n)).started i x link at has (touched_out n x to) end.start in
     let done = done_at node (port.ClientOut n) in
     let turns : turns_done x node.past done ≡ turns_done x plan.turns 0 =
     all_turns x node.past done end.stop ∙ sym (all_turns x plan.turns 0 (subst (λ k. x.stop ≤ k) end.past end.stop)) in
     record {
       was = s.was;
       at = receiver_at link.pipe.giving (client_out_at first n) s.was (arrived_by x (own_input inputs x) (turns_done x plan.turns 0))
-          (subst (λ k. ClientOutStands x (own_input inputs x) (client_out_at first n) s.was k link.pipe.giving) turns s.stands);
-      place = s.place ∙ ap (λ b. out_after_retire b s.was) (retired_is x node.past end.stop);
+          (subst (λ k. ClientOutStands x (own_input inputs x) (client_out_at first n) s.was k link.pipe.giving) turns (s.stands inputs may));
+      place = s.place ∙ ap (λ b. out_after_retire b s.was) (at_stop x node.past end.stop);
     }
 
 client_left : (plan : Plan) (inputs : Inputs) (i : ℕ) (x : Connection) (link : Link) (first now : OutView) → (c : ClientAtEnd plan inputs i x link first now)
@@ -195,21 +190,18 @@ some_client plan first taken node now inputs h over may n = elim (one_or_none (h
   | inl s ↦
       let p = h.plan_stands in
       let e = entry_at plan node s.i s.link p s.known in
-      let goes : e.x.to ≡ to_end.Client n = to_client n e.x.to (ap (is_to_client n) (sym e.is.to) ∙ s.passes) in
-      let c = client_at_end plan first taken node now inputs h over may s.i n e.x s.link e.at_i s.known goes in (
+      let goes : e.0.to ≡ to_end.Client n = to_client n e.0.to (sym (joins_as (port.ClientOut n) e.0 s.link e.1.1) ∙ s.passes) in
+      let c = client_at_end plan first taken node now inputs h over may s.i n e.0 s.link e.1.0 s.known goes in (
         c.at.stands.sent.went,
         λ x is_of to.
-            let same : is_of.0 ≡ s.i = sym (found_out plan node n s.i is_of.0 x s.link p s.known s.passes (entry_of plan x is_of) to) in
+            let same : is_of.0 ≡ s.i = sym (found_at plan node (port.ClientOut n) s.i is_of.0 x s.link refl p s.known s.passes (entry_of plan x is_of) (touched_out n x to)) in
             let at_i : slice_get plan.connections s.i ≡ Some x = subst (λ k. slice_get plan.connections k ≡ Some x) same (entry_of plan x is_of) in
-            let one : e.x ≡ x = one_entry plan s.i e.x x e.at_i at_i in
+            let one : e.0 ≡ x = one_at plan.connections s.i e.0 x e.1.0 at_i in
             subst (λ y. ClientWent plan inputs y (client_out_at first n) (client_out_at now n) node c.at.stands.sent.went) one
-            (client_went plan inputs s.i e.x s.link (client_out_at first n) (client_out_at now n) node e.at_i s.known c),
+            (client_went plan inputs s.i e.0 s.link (client_out_at first n) (client_out_at now n) node e.1.0 s.known c),
       )
-  | inr none ↦ ([], λ x is_of to. absurd (none_out plan node n is_of.0 x h.plan_stands none (entry_of plan x is_of) to))
+  | inr none ↦ ([], λ x is_of to. absurd (none_at plan node (port.ClientOut n) is_of.0 x h.plan_stands none (entry_of plan x is_of) (touched_out n x to)))
 ]
-  where
-    one_entry : (plan : Plan) (i : ℕ) (x y : Connection) → slice_get plan.connections i ≡ Some x → slice_get plan.connections i ≡ Some y → x ≡ y
-    one_entry plan i x y e f = cc
 
 -- ---- all
 

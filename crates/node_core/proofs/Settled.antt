@@ -8,7 +8,8 @@ use Rattle.std.proofs.lemmas.Option.{slice_get_read, slice_get_within, get_or_fr
 use Rattle.otn_base.specs.declared.kind.PortName.{PortName}
 use Rattle.otn_base.specs.declared.kind.PortName.TheVariants as port
 use Rattle.otn_base.specs.declared.limits.TheConstants.{LINES}
-use Rattle.otn_ports.specs.Views.{is_dead, BaysView, line_in_at, client_in_at, no_input, no_output}
+use Rattle.otn_ports.specs.Places.{input_of, output_of}
+use Rattle.otn_ports.specs.Views.{State, Empty, Live, Dead, is_dead, BaysView, line_in_at, client_in_at, no_input, no_output}
 use Rattle.line_side.specs.LineStands.{LineView, LineStands}
 use Rattle.packet_text.specs.LinesStand.{ReadAsNeeded}
 use Rattle.odu_client.specs.ClientInput.{is_spent, emitted_before, input_given, packets_asked}
@@ -35,16 +36,18 @@ use Rattle.turn_pieces.specs.Ports.{index_of, port_count}
 use Rattle.device_model.specs.RunLeft.{Takings, MayBeInputs, ClientInLeft, SamePlace}
 use Rattle.node_core.specs.Settling.{Settled}
 use Rattle.device_model.specs.RetiredPlaces.{after_retire}
-use Rattle.node_moments.specs.Stands.{InputBytes, MayGive, PlanStands, ClientInAt, StandsAt}
+use Rattle.node_moments.specs.Stands.{InputBytes, MayGive, PlanStands, ClientAt, GivesText, StandsAt}
 use Rattle.node_links.specs.declared.link.Link.{Link}
 use Rattle.node_links.specs.declared.link.Origin.TheVariants as origin
 use Rattle.node_moments.proofs.Parts.{known_at}
 use Rattle.turn_pieces.proofs.PortNumbers.{line_in_index}
-use Rattle.node_moments.proofs.Retired.{entry_at, from_as, is_client}
+use Rattle.node_moments.proofs.LinkPorts.{joins_as, from_client, touched_in}
+use Rattle.node_moments.proofs.Retired.{entry_at, sole_passes, at_stop}
+use Rattle.node_core.proofs.NodeReads.{entry_of, link_at, all_turns}
 use Rattle.device_model.proofs.ConnectionPorts.{from_client_used}
 use Rattle.turn_pieces.proofs.UsedPorts.{used_within, used_pieces}
 use Rattle.device_model.proofs.SettledLines.{may_at_end, EndOfLine, end_of_line, line_left}
-use Rattle.node_core.proofs.SettledClients.{more_of, goes_on_of, text_left, text_may, all_done, retires_at_end, more_before, died_before, text_read}
+use Rattle.node_core.proofs.SettledClients.{goes_on, more_of, text_left, text_may, more_before, died_before, text_read}
 
 -- ---- the plan
 
@@ -55,9 +58,6 @@ wanted_used plan node name p = ap (nat_lt 0) (p.wants name) ∙ used_pieces plan
 -- all turns are past
 pub turns_past : (plan : Plan) (node : NodeView) → PlanStands plan node → node.turns ≤ node.past → node.past ≡ plan.turns
 turns_past plan node p over = let e = p.turns in let few = p.past in omega (arith, e, few, over)
-
-listed : (xs : List Connection) (x : Connection) → Contains xs x → (i : ℕ) × (slice_get xs i ≡ Some x)
-listed xs x has = (has.0, slice_get_read xs (length xs) has.0 x refl has.1 (sym has.2))
 
 contains : (xs : List Connection) (i : ℕ) (x : Connection) → slice_get xs i ≡ Some x → Contains xs x
 contains xs i x at = (i, slice_get_within xs i x at, get_or_from_slice_get xs i x x at)
@@ -73,7 +73,7 @@ pub used_line_at : (plan : Plan) (first was is : BaysView) (taken : InputBytes) 
     → (asked : LinesAsked LINES node.pieces node.lines_in was is) → uses plan (port.LineIn a) ≡ true → HasLineIn node a line → LineUsed plan first was is taken node a (asked.came a) line
 used_line_at plan first was is taken node a line over st asked used has =
     let p = st.plan_stands in
-    let h = st.lines_in.used a line has used in
+    let h = st.ports (port.LineIn a) line has used in
     let less : a < LINES = (line_in_index a (used_within plan (port.LineIn a) p.accepted used)).0 in
     let asks : asks_line node.pieces a line ≡ not (is_seen line.reader.ending) = ap (λ b. b && not (is_seen line.reader.ending)) (wanted_used plan node (port.LineIn a) p ∙ used) in
     record {
@@ -126,7 +126,7 @@ came_used plan was is node a n p asked less came = go (uses plan (port.LineIn a)
 
 -- what is known of the client of a connection
 pub record UsedClient (plan : Plan) (first was : BaysView) (taken : InputBytes) (node : NodeView) (x : Connection) (n : ℕ) (link : Link) : Type 0 where
-  pub at_end : ClientInAt (client_in_at first n) (client_in_at was n) (taken.client n) x node.past (done_at node (port.ClientIn n)) link
+  pub at_end : ClientAt after_retire (GivesText first taken n x link) (client_in_at was n) x node.past (done_at node (port.ClientIn n))
   pub retired : is_retired x node.past ≡ x.retire
   pub done : turns_done x node.past (done_at node (port.ClientIn n)) ≡ x.stop - first_turn x
 
@@ -140,14 +140,10 @@ used_client plan first was taken node i n x link over st at has from =
     let turns = turns_past plan node p over in
     let most : x.stop ≤ node.past = omega (arith, stop, turns) in
     record {
-      at_end = st.clients_in.started i n x link at has from (omega (arith, span, most));
-      retired = retires_at_end x node.past most;
-      done = all_done x node.past (done_at node (port.ClientIn n)) most;
+      at_end = (st.ports (port.ClientIn n)).started i x link at has (touched_in n x from) (omega (arith, span, most));
+      retired = at_stop x node.past most;
+      done = all_turns x node.past (done_at node (port.ClientIn n)) most;
     }
-
--- the link of an entry
-link_at : (plan : Plan) (node : NodeView) (i : ℕ) (x : Connection) → PlanStands plan node → slice_get plan.connections i ≡ Some x → (link : Link) × HasLink node i link
-link_at plan node i x p at = let within = slice_get_within plan.connections i x at in let count = p.count in known_at node.links i (omega (arith, within, count))
 
 -- its place at the end
 client_place : (plan : Plan) (first was is : BaysView) (taken : InputBytes) (node : NodeView) (x : Connection) (n : ℕ) (link : Link) → is.client_in ≡ was.client_in → (u : UsedClient plan first was taken node x n link)
@@ -173,7 +169,7 @@ client_left_at plan first was is taken node i n x link over st same at has from 
     record {
       was = u.at_end.was;
       left = text_left x (client_in_at first n) u.at_end.was (taken.client n) (turns_done x node.past (done_at node (port.ClientIn n))) link.pipe.taking (more_of n node.links (client_in_at first n) (client_in_at is n)) u.at_end.stands
-          (more_before n node.links (client_in_at first n) u.at_end.was (client_in_at is n) x.retire link.pipe.taking place (goes_on_of plan node i n x link st.plan_stands at has from));
+          (more_before n node.links (client_in_at first n) u.at_end.was (client_in_at is n) x.retire link.pipe.taking place (sole_passes (λ l. goes_on l.pipe.taking) plan node (port.ClientIn n) i x link refl st.plan_stands at has (touched_in n x from)));
       place = place;
     }
 
@@ -186,7 +182,7 @@ client_may_at plan first was is taken came node inputs i n x link over st same m
     let m = may.client n (from_client_used plan i n x at from) in
     text_may x (client_in_at first n) u.at_end.was (taken.client n) m.0 (turns_done x node.past (done_at node (port.ClientIn n))) link.pipe.taking (more_of n node.links (client_in_at first n) (client_in_at is n)) (inputs.client n)
     u.at_end.stands
-    (more_before n node.links (client_in_at first n) u.at_end.was (client_in_at is n) x.retire link.pipe.taking place (goes_on_of plan node i n x link st.plan_stands at has from))
+    (more_before n node.links (client_in_at first n) u.at_end.was (client_in_at is n) x.retire link.pipe.taking place (sole_passes (λ l. goes_on l.pipe.taking) plan node (port.ClientIn n) i x link refl st.plan_stands at has (touched_in n x from)))
     m.1
     (m.2 ∙ ap (λ d. input_given d m.0) (died_before (client_in_at first n) u.at_end.was (client_in_at is n) x.retire place))
 
@@ -234,7 +230,7 @@ some_open : (plan : Plan) (first was is : BaysView) (taken : InputBytes) (came :
     → StandsAt plan first taken node was → is.client_in ≡ was.client_in → MayBeInputs plan first is (takings_of taken came node first is) inputs → OpenLink node.links → HasOpen plan inputs
 some_open plan first was is taken came node inputs over st same may o =
     let e = entry_at plan node o.i o.link st.plan_stands o.known in
-    let from : e.0.from ≡ from_end.Client o.n = is_client o.n e.0.from (sym (from_as o.n e.0 o.link e.1.1) ∙ ap (is_from_client o.n) o.from ∙ eq-eqb o.n o.n refl) in
+    let from : e.0.from ≡ from_end.Client o.n = from_client o.n e.0.from (sym (joins_as (port.ClientIn o.n) e.0 o.link e.1.1) ∙ ap (is_from_client o.n) o.from ∙ eq-eqb o.n o.n refl) in
     record {
       x = e.0;
       n = o.n;
@@ -247,10 +243,10 @@ none_open : (plan : Plan) (first was is : BaysView) (taken : InputBytes) (came :
     → StandsAt plan first taken node was → is.client_in ≡ was.client_in → MayBeInputs plan first is (takings_of taken came node first is) inputs
     → ((i n : ℕ) (link : Link) → slice_get node.links i ≡ Some link → link.from ≡ origin.Client n → SaysSpent link true) → HasOpen plan inputs → ⊥
 none_open plan first was is taken came node inputs over st same may none o =
-    let at = listed plan.connections o.x o.is_of in
-    let link = link_at plan node at.0 o.x st.plan_stands at.1 in
-    let from : link.0.from ≡ origin.Client o.n = (st.plan_stands.links at.0 o.x link.0 at.1 link.1).from ∙ ap origin_of o.from in
-    let says = says_at plan first was is taken came node inputs at.0 o.n o.x link.0 true over st same may at.1 link.1 o.from (none at.0 o.n link.0 link.1 from) in
+    let at = entry_of plan o.x o.is_of in
+    let link = link_at plan node o.is_of.0 o.x st.plan_stands at in
+    let from : link.link.from ≡ origin.Client o.n = link.is.from ∙ ap origin_of o.from in
+    let says = says_at plan first was is taken came node inputs o.is_of.0 o.n o.x link.link true over st same may at link.has o.from (none o.is_of.0 o.n link.link link.has from) in
     let un = o.unspent in
     absurd (cc)
 
@@ -274,20 +270,20 @@ settled_is plan first was is taken node dead more unspent n over st lines cut op
   takings = takings_of taken lines.asked.came node first is;
   line_in = λ a used. let u = line a used in line_left (form_in plan a) (line_in_at first a) (line_in_at was a) (line_in_at is a) (taken.line a) (lines.asked.came a) node.past u.line u.used.stands u.used.asked;
   client_in = λ x m has from.
-      let at = listed plan.connections x has in
-      let link = link_at plan node at.0 x st.plan_stands at.1 in
-      client_left_at plan first was is taken node at.0 m x link.0 over st lines.asked.client_in at.1 link.1 from;
+      let at = entry_of plan x has in
+      let link = link_at plan node has.0 x st.plan_stands at in
+      client_left_at plan first was is taken node has.0 m x link.link over st lines.asked.client_in at link.has from;
   idle = idle;
   of_inputs = λ inputs may. record {
     may = may_before plan first was is taken node inputs over st lines.asked may;
     took = λ a used. (line_end_at plan first was is taken node inputs a lines.asked.came (line a used) may used).took ∙ ap (λ t. min (length (inputs.line a)) (suc (line_taken (form_in plan a) (inputs.line a) t 0))) turns;
     text = λ x m has from.
-        let at = listed plan.connections x has in
-        let link = link_at plan node at.0 x st.plan_stands at.1 in
-        let u = used_client plan first was taken node at.0 m x link.0 over st at.1 link.1 from in
+        let at = entry_of plan x has in
+        let link = link_at plan node has.0 x st.plan_stands at in
+        let u = used_client plan first was taken node has.0 m x link.link over st at link.has from in
         subst (λ k. (short : Bool) × ReadAsNeeded short (packets_asked (inputs.client m).packets x.fcs (emitted_before x.pace k)) (taken.client m)) u.done
-        (text_read x (client_in_at first m) u.at_end.was (taken.client m) (turns_done x node.past (done_at node (port.ClientIn m))) link.0.pipe.taking (inputs.client m) u.at_end.stands
-        (client_may_at plan first was is taken lines.asked.came node inputs at.0 m x link.0 over st lines.asked.client_in may at.1 link.1 from));
+        (text_read x (client_in_at first m) u.at_end.was (taken.client m) (turns_done x node.past (done_at node (port.ClientIn m))) link.link.pipe.taking (inputs.client m) u.at_end.stands
+        (client_may_at plan first was is taken lines.asked.came node inputs has.0 m x link.link over st lines.asked.client_in may at link.has from));
     outcome_is = is_outcome plan inputs is dead (more || unspent) (λ e. let d = cut.some e in some_dead plan node is d.0 st.plan_stands d.1) (λ e. none_dead plan node is st.plan_stands (cut.none e))
         (λ e. some_more inputs may (or_cases more unspent e)) (λ e h. let p = or_parts more unspent e in none_more inputs may p.0 p.1 h);
   };
@@ -300,10 +296,10 @@ settled_is plan first was is taken node dead more unspent n over st lines cut op
     line a used = used_line plan first was is taken node a n over st lines.asked used
 
     idle : (name : PortName) → uses plan name ≡ false → SamePlace name first is
-    idle (port.LineIn a) unused = line_idle plan was is node a n st.plan_stands lines.asked unused ∙ st.lines_in.idle a unused
-    idle (port.LineOut b) unused = ap (λ l. get_or l b no_output) lines.asked.line_out ∙ st.lines_out.idle b unused
-    idle (port.ClientIn m) unused = ap (λ l. get_or l m no_input) lines.asked.client_in ∙ st.clients_in.idle m unused
-    idle (port.ClientOut m) unused = ap (λ l. get_or l m no_output) lines.asked.client_out ∙ st.clients_out.idle m unused
+    idle (port.LineIn a) unused = line_idle plan was is node a n st.plan_stands lines.asked unused ∙ ap input_of (st.idle (port.LineIn a) unused)
+    idle (port.LineOut b) unused = ap (λ l. get_or l b no_output) lines.asked.line_out ∙ ap output_of (st.idle (port.LineOut b) unused)
+    idle (port.ClientIn m) unused = ap (λ l. get_or l m no_input) lines.asked.client_in ∙ ap input_of (st.idle (port.ClientIn m) unused)
+    idle (port.ClientOut m) unused = ap (λ l. get_or l m no_output) lines.asked.client_out ∙ ap output_of (st.idle (port.ClientOut m) unused)
 
     end_of : (inputs : Inputs) → MayBeInputs plan first is (takings_of taken lines.asked.came node first is) inputs → (a : ℕ) → uses plan (port.LineIn a) ≡ true
         → EndOfLine (form_in plan a) (taken.line a) (lines.asked.came a) (inputs.line a) plan.turns

@@ -3,6 +3,7 @@ use Rattle.std.proofs.Common.{◌≡◌, ◌≢◌, ◌⊎◌, inl, inr, ◌≤�
 use Rattle.std.specs.Prelude.{not, nat_le, if◌then◌else◌}
 use Rattle.std.proofs.lemmas.Bool.{eq-eqb}
 use Rattle.std.proofs.lemmas.Bool.Decides.{nat_tests}
+use Rattle.otn_base.specs.declared.kind.PortName.TheVariants as port
 use Rattle.otn_ports.specs.Given.{Lives}
 use Rattle.otn_ports.specs.Views.{State, Empty, Live, Dead, is_dead, InView}
 use Rattle.packet_text.specs.TextLines.{full_lines, text_of_dead}
@@ -32,7 +33,8 @@ use Rattle.device_model.specs.LineAsked.{MayHave, InputLeft}
 use Rattle.device_model.specs.RetiredPlaces.{after_retire}
 use Rattle.node_moments.specs.Stands.{PlanStands}
 use Rattle.node_links.specs.declared.link.Link.{Link}
-use Rattle.node_moments.proofs.Retired.{entry_at, from_as, is_client, some_passes, one_passes}
+use Rattle.node_moments.proofs.LinkPorts.{joins}
+use Rattle.node_moments.proofs.Retired.{some_passes}
 
 -- ---- where more may stand
 
@@ -49,20 +51,10 @@ goes_on (taking.Signal stream) = false
 
 -- more of client n may stand behind what was taken: its place was live and did not die, and its text has not ended
 abbrev pub more_of : (n : ℕ) → List Link → (first last : InView) → Bool
-more_of n links first last = is_live first.state && (not (is_dead last.state) && some_passes (λ link. goes_on link.pipe.taking) (λ link. is_from_client n link.from) links)
+more_of n links first last = is_live first.state && (not (is_dead last.state) && some_passes (λ link. goes_on link.pipe.taking) (joins (port.ClientIn n)) links)
 
 abbrev more_in : (first was : State) → (goes : Bool) → Bool
 more_in first was goes = is_live first && (not (is_dead was) && goes)
-
--- the connection of a client alone tells of it
-pub goes_on_of : (plan : Plan) (node : NodeView) (i n : ℕ) (x : Connection) (link : Link) → PlanStands plan node → slice_get plan.connections i ≡ Some x → HasLink node i link → x.from ≡ from_end.Client n
-    → some_passes (λ l. goes_on l.pipe.taking) (λ l. is_from_client n l.from) node.links ≡ goes_on link.pipe.taking
-goes_on_of plan node i n x link p at has from =
-    let is = p.links i x link at has in
-    let here : is_from_client n link.from ≡ true = from_as n x link is ∙ ap (comes_from n) from ∙ eq-eqb n n refl in
-    one_passes (λ l. goes_on l.pipe.taking) (λ l. is_from_client n l.from) node.links i link has here (λ j other there t.
-    let e = entry_at plan node j other p there in
-    (sound_plan plan p.accepted).clients_in j i n e.0 x e.1.0 at (is_client n e.0.from (sym (from_as n e.0 other e.1.1) ∙ t)) from)
 
 -- ---- a place that was emptied
 
@@ -214,25 +206,9 @@ text_read x first was taken k (taking.Signal stream) input h m = absurd h
 
 -- ---- the end of a connection
 
--- all its turns are done
-pub all_done : (x : Connection) (past k : ℕ) → x.stop ≤ past → turns_done x past k ≡ x.stop - first_turn x
-all_done x past k most = go (nat_le x.start (past + 1)) (nat_le (past + 1) x.stop) refl
-  where
-    go : (a b : Bool) → nat_le (past + 1) x.stop ≡ b → min past x.stop - (x.start - 1) + (if a && b then k else 0) ≡ x.stop - (x.start - 1)
-    go true true e = absurd (let h : past + 1 ≤ x.stop = grind (arith, nat_tests) in omega arith)
-    go true false e = omega arith
-    go false b e = omega arith
-
-pub retires_at_end : (x : Connection) (past : ℕ) → x.stop ≤ past → is_retired x past ≡ x.retire
-retires_at_end x past most = let over : nat_le x.stop past ≡ true = grind (arith, nat_tests) in ap (λ b. x.retire && b) over ∙ and_true x.retire
-  where
-    and_true : (b : Bool) → (b && true) ≡ b
-    and_true true = refl
-    and_true false = refl
-
 -- the place as it was left, for what it was before
 pub more_before : (n : ℕ) (links : List Link) (first was last : InView) (r : Bool) (part : TakingPart) → last ≡ after_retire r was
-    → some_passes (λ link. goes_on link.pipe.taking) (λ link. is_from_client n link.from) links ≡ goes_on part → more_of n links first last ≡ more_in first.state was.state (goes_on part)
+    → some_passes (λ link. goes_on link.pipe.taking) (joins (port.ClientIn n)) links ≡ goes_on part → more_of n links first last ≡ more_in first.state was.state (goes_on part)
 more_before n links first was last r part place goes =
     ap (λ (b : Bool). is_live first.state && (not (is_dead last.state) && b)) goes
     ∙ ap (λ (v : InView). is_live first.state && (not (is_dead v.state) && goes_on part)) place

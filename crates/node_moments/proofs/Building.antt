@@ -1,35 +1,30 @@
 -- A node before turn 1 of a plan stands at its first moment.
-use Rattle.std.proofs.Common.{◌≡◌, ◌≤◌, ◌+◌, ◌*◌, ℕ, false, None, [], arith, refl, sym, ap, subst, ◌∙◌}
+use Rattle.std.proofs.Common.{◌≡◌, ◌≤◌, ◌+◌, ◌*◌, ℕ, Bool, true, false, None, [], arith, refl, sym, ap, subst, ◌∙◌}
 use Rattle.otn_base.specs.declared.kind.PortName.{PortName}
 use Rattle.otn_base.specs.declared.kind.PortName.TheVariants as port
-use Rattle.otn_ports.specs.Views.{InView, OutView, BaysView, line_in_at, line_out_at, client_in_at, client_out_at}
+use Rattle.otn_ports.specs.Views.{BaysView, line_in_at, line_out_at, client_in_at, client_out_at}
 use Rattle.line_side.specs.LineForm.{size_of}
 use Rattle.line_side.specs.LineStands.{LineStands}
 use Rattle.plan_file.specs.Answer.{fault_in}
 use Rattle.plan_file.specs.declared.connection.Connection.{Connection}
-use Rattle.plan_file.specs.declared.connection.FromEnd.TheVariants as from_end
-use Rattle.plan_file.specs.declared.connection.ToEnd.TheVariants as to_end
 use Rattle.plan_file.specs.declared.plan.Plan.{Plan}
 use Rattle.device_model.specs.Entries.{form_in, form_out, own_turn}
 use Rattle.device_model.specs.LineFiles.{AreFramesOf}
-use Rattle.device_model.specs.Moments.{pieces_of, turns_done}
+use Rattle.device_model.specs.Moments.{touches, pieces_of, turns_done}
 use Rattle.device_model.specs.Through.{Inputs, own_input}
 use Rattle.device_model.proofs.SoundPlans.{sound_plan}
-use Rattle.cross_matrix.specs.Parts.{ClientInStands, ClientOutStands}
 use Rattle.cross_matrix.specs.Pipes.{PipeStands}
 use Rattle.node_moments.specs.Built.{AreNewLinesIn, AreNewLinesOut, IsNewLink, AreNewLinks}
 use Rattle.node_moments.specs.NodeView.{NodeView, done_at, taken_pieces, given_pieces}
 use Rattle.turn_pieces.specs.Pieces.{wanted_of, IsFresh}
 use Rattle.turn_pieces.specs.Ports.{index_of}
 use Rattle.device_model.specs.RetiredPlaces.{after_retire, out_after_retire}
-use Rattle.node_moments.specs.Stands.{PlanStands, LinesIn, PipesStand, LinesOut, ClientInAt, ClientsIn, ClientOutAt, ClientsOut, StandsAt, no_bytes}
+use Rattle.node_moments.specs.Stands.{PlanStands, PipesStand, ClientStands, GivesText, GetsText, PortStands, StandsAt, no_bytes}
 use Rattle.node_links.specs.declared.link.Link.{Link}
-use Rattle.node_links.specs.declared.link.Origin.{Origin}
-use Rattle.node_links.specs.declared.link.Origin.TheVariants as origin
-use Rattle.node_links.specs.declared.link.Target.{Target}
-use Rattle.node_links.specs.declared.link.Target.TheVariants as target
 use Rattle.node_moments.proofs.ClientTurns.{none_done}
-use Rattle.node_moments.proofs.LinkTurns.{same_entry, input_kind, at_start}
+use Rattle.node_links.proofs.LinkLaws.{still_link}
+use Rattle.node_moments.proofs.LinkPorts.{from_client, to_client, none_taken, none_given}
+use Rattle.node_moments.proofs.LinkTurns.{input_kind, at_start}
 use Rattle.node_moments.proofs.Retired.{not_retired}
 
 -- a node before turn 1 of the plan
@@ -43,14 +38,8 @@ pub record IsNewNode (plan : Plan) (node : NodeView) : Type 0 where
   pub links : AreNewLinks plan node.links
 
 -- of a new node no piece is done
-none_taken : (plan : Plan) (node : NodeView) → IsNewNode plan node → (o : Origin) → taken_pieces node o ≡ 0
-none_taken plan node new (origin.Line a) = new.fresh.none (index_of (port.LineIn a))
-none_taken plan node new (origin.Client n) = new.fresh.none (index_of (port.ClientIn n))
-none_taken plan node new origin.Signal = refl
-
-none_given : (plan : Plan) (node : NodeView) → IsNewNode plan node → (o : Target) → given_pieces node o ≡ 0
-none_given plan node new (target.Line b number slots) = new.fresh.none (index_of (port.LineOut b))
-none_given plan node new (target.Client n) = new.fresh.none (index_of (port.ClientOut n))
+none_yet : (plan : Plan) (node : NodeView) → IsNewNode plan node → (name : PortName) → done_at node name ≡ 0
+none_yet plan node new name = new.fresh.none (index_of name)
 
 first_plan : (plan : Plan) (node : NodeView) → fault_in plan ≡ None → IsNewNode plan node → PlanStands plan node
 first_plan plan node accepted new = record {
@@ -61,16 +50,7 @@ first_plan plan node accepted new = record {
   most = λ name. omega (arith, new.fresh.none (index_of name));
   over = λ over name. new.fresh.none (index_of name);
   count = new.links.count;
-  links = λ i x link at has. let made = new.links.each i x link at has in same_entry x made.made link made.is made.starts.same;
-}
-
-first_lines_in : (plan : Plan) (node : NodeView) (first : BaysView) → IsNewNode plan node → LinesIn plan first no_bytes node first
-first_lines_in plan node first new = record {
-  used = λ a line has u. (
-    subst (λ t. LineStands (form_in plan a) (line_in_at first a) (line_in_at first a) [] t line) (sym new.past) (new.lines_in.stands a line has (line_in_at first a)),
-    new.lines_in.pieces a line has ∙ sym (new.fresh.none (index_of (port.LineIn a))),
-  );
-  idle = λ a u. refl;
+  links = λ i x link at has. let made = new.links.each i x link at has in still_link x made.made link made.starts.same made.is;
 }
 
 -- an active connection has started with turn 1
@@ -88,7 +68,7 @@ first_pipes plan node accepted new = record {
   each = λ inputs may i x link at has active.
       let start : x.start ≤ 1 = (let a = active.start in let past = new.past in omega arith) in
       let zeroth : 0 ≡ own_turn x node.past = (let past = new.past in omega arith) in
-      at_start plan inputs x node.past (own_turn x node.past) (taken_pieces node link.from) (given_pieces node link.to) link.pipe (none_taken plan node new link.from) (none_given plan node new link.to)
+      at_start plan inputs x node.past (own_turn x node.past) (taken_pieces node link.from) (given_pieces node link.to) link.pipe (none_taken node (none_yet plan node new) link.from) (none_given node (none_yet plan node new) link.to)
       (subst (λ j. PipeStands x (own_input inputs x) j [] false 0 link.pipe) zeroth (first_pipe inputs x link (new.links.each i x link at has) start));
   last = λ inputs may i x link at has stop.
       let first = (new.links.each i x link at has).is.first in
@@ -102,68 +82,47 @@ no_frames_yet size past done e f = rw (e, f) (omega arith)
 no_puts : (plan : Plan) (inputs : Inputs) (b count : ℕ) → 0 ≡ count → AreFramesOf plan inputs b count []
 no_puts plan inputs b count e = record { many = e; each = λ f put at. absurd (cc) }
 
-first_lines_out : (plan : Plan) (node : NodeView) (first : BaysView) → IsNewNode plan node → LinesOut plan first no_bytes node first
-first_lines_out plan node first new = record {
-  used = λ inputs may b line has u. (
-    [],
-    no_puts plan inputs b (size_of (form_out plan b) * node.past + done_at node (port.LineOut b))
-        (no_frames_yet (size_of (form_out plan b)) node.past (done_at node (port.LineOut b)) new.past (new.fresh.none (index_of (port.LineOut b)))),
-    new.lines_out.made b line has (line_out_at first b),
-  );
-  idle = λ b u. refl;
+-- ---- ports
+
+first_client : {P : Type 0} (plan : Plan) (node : NodeView) (name : PortName) (first : P) (empties : Bool → P → P) (Part : Connection → Link → P → ℕ → Type 0) → ((v : P) → empties false v ≡ v) → fault_in plan ≡ None → IsNewNode plan node
+    → ((x : Connection) (link : Link) → touches name x ≡ true → (new : IsNewLink x link) → new.made.start ≡ 0 + 1 → Part x link first 0) → ClientStands plan node name first first empties Part []
+first_client plan node name first empties Part stays accepted new starts = record {
+  started = λ i x link at has touched start.
+      let made = new.links.each i x link at has in
+      let past = new.past in
+      let least = made.is.first in
+      let span = ((sound_plan plan accepted).entries i x at).span in
+      let now : made.made.start ≡ 0 + 1 = (let same = made.is.start in omega arith) in
+      let none : 0 ≡ turns_done x node.past (done_at node name) = sym (ap (turns_done x node.past) (none_yet plan node new name) ∙ none_done x node.past (omega arith)) in
+      record {
+        was = first;
+        stands = subst (λ k. Part x link first k) none (starts x link touched made now);
+        place = sym (ap (λ b. empties b first) (not_retired x node.past (omega arith)) ∙ stays first);
+      };
+  waits = λ i x at touched late. (refl, refl);
 }
 
--- ---- clients
-
-first_in : (first : InView) (x : Connection) (n past done : ℕ) (link : Link) → IsNewLink x link → x.from ≡ from_end.Client n → past ≡ 0 → done ≡ 0 → x.start ≤ x.stop → x.start ≤ past + 1
-    → ClientInAt first first [] x past done link
-first_in first x n past done link new from e f span start =
-    let least = new.is.first in
-    let now : new.made.start ≡ 0 + 1 = (let same = new.is.start in omega arith) in
-    let none : 0 ≡ turns_done x past done = sym (ap (turns_done x past) f ∙ none_done x past (omega arith)) in
-    record {
-      was = first;
-      stands = subst (λ k. ClientInStands x first first [] k link.pipe.taking) none (new.starts.client_in now x n first new.is from);
-      place = sym (ap (λ b. after_retire b first) (not_retired x past (omega arith)));
-    }
-
-first_out : (inputs : Inputs) (first : OutView) (x : Connection) (n past done : ℕ) (link : Link) → IsNewLink x link → x.to ≡ to_end.Client n → past ≡ 0 → done ≡ 0 → x.start ≤ x.stop → x.start ≤ past + 1
-    → ClientOutAt inputs first first x past done link
-first_out inputs first x n past done link new to e f span start =
-    let least = new.is.first in
-    let now : new.made.start ≡ 0 + 1 = (let same = new.is.start in omega arith) in
-    let none : 0 ≡ turns_done x past done = sym (ap (turns_done x past) f ∙ none_done x past (omega arith)) in
-    record {
-      was = first;
-      stands = subst (λ k. ClientOutStands x (own_input inputs x) first first k link.pipe.giving) none (new.starts.client_out now x n (own_input inputs x) first new.is to);
-      place = sym (ap (λ b. out_after_retire b first) (not_retired x past (omega arith)));
-    }
-
-first_clients_in : (plan : Plan) (node : NodeView) (first : BaysView) → fault_in plan ≡ None → IsNewNode plan node → ClientsIn plan first no_bytes node first
-first_clients_in plan node first accepted new = record {
-  started = λ i n x link at has from start.
-      first_in (client_in_at first n) x n node.past (done_at node (port.ClientIn n)) link (new.links.each i x link at has) from new.past (new.fresh.none (index_of (port.ClientIn n)))
-      ((sound_plan plan accepted).entries i x at).span start;
-  waits = λ i n x at from late. (refl, refl);
-  idle = λ n u. refl;
-}
-
-first_clients_out : (plan : Plan) (node : NodeView) (first : BaysView) → fault_in plan ≡ None → IsNewNode plan node → ClientsOut plan first no_bytes node first
-first_clients_out plan node first accepted new = record {
-  started = λ inputs may i n x link at has to start.
-      first_out inputs (client_out_at first n) x n node.past (done_at node (port.ClientOut n)) link (new.links.each i x link at has) to new.past (new.fresh.none (index_of (port.ClientOut n)))
-      ((sound_plan plan accepted).entries i x at).span start;
-  waits = λ i n x at to late. refl;
-  idle = λ n u. refl;
-}
+first_port : (plan : Plan) (node : NodeView) (first : BaysView) → fault_in plan ≡ None → IsNewNode plan node → (name : PortName) → PortStands plan first no_bytes node first name
+first_port plan node first accepted new (port.LineIn a) = λ line has u. (
+  subst (λ t. LineStands (form_in plan a) (line_in_at first a) (line_in_at first a) [] t line) (sym new.past) (new.lines_in.stands a line has (line_in_at first a)),
+  new.lines_in.pieces a line has ∙ sym (none_yet plan node new (port.LineIn a)),
+)
+first_port plan node first accepted new (port.LineOut b) = λ inputs may line has u. (
+  [],
+  no_puts plan inputs b (size_of (form_out plan b) * node.past + done_at node (port.LineOut b))
+      (no_frames_yet (size_of (form_out plan b)) node.past (done_at node (port.LineOut b)) new.past (none_yet plan node new (port.LineOut b))),
+  new.lines_out.made b line has (line_out_at first b),
+)
+first_port plan node first accepted new (port.ClientIn n) = first_client plan node (port.ClientIn n) (client_in_at first n) after_retire (GivesText first no_bytes n) (λ v. refl) accepted new
+    (λ x link touched made now. made.starts.client_in now x n (client_in_at first n) made.is (from_client n x.from touched))
+first_port plan node first accepted new (port.ClientOut n) = first_client plan node (port.ClientOut n) (client_out_at first n) out_after_retire (GetsText plan first no_bytes node n) (λ v. refl) accepted new
+    (λ x link touched made now. λ inputs may. made.starts.client_out now x n (own_input inputs x) (client_out_at first n) made.is (to_client n x.to touched))
 
 -- whatever the bays are
 pub first_moment : (plan : Plan) (node : NodeView) → fault_in plan ≡ None → IsNewNode plan node → (first : BaysView) → StandsAt plan first no_bytes node first
 first_moment plan node accepted new first = record {
   plan_stands = first_plan plan node accepted new;
-  lines_in = first_lines_in plan node first new;
   pipes = first_pipes plan node accepted new;
-  lines_out = first_lines_out plan node first new;
-  clients_in = first_clients_in plan node first accepted new;
-  clients_out = first_clients_out plan node first accepted new;
+  ports = first_port plan node first accepted new;
+  idle = λ name u. refl;
 }

@@ -1,9 +1,10 @@
 -- The end of a turn leads to the next one.
-use Rattle.std.proofs.Common.{◌≡◌, ◌≢◌, ◌<◌, ◌≤◌, ◌+◌, ◌*◌, ℕ, suc, Bool, true, false, List, [], Some, slice_get, get_or, arith, refl, sym, ap, subst, ◌∙◌, inl, inr}
+use Rattle.std.proofs.Common.{◌≡◌, ◌≢◌, ◌<◌, ◌≤◌, ◌+◌, ◌*◌, ℕ, suc, Bool, true, false, ◌||◌, List, [], Some, slice_get, get_or, arith, refl, sym, ap, subst, ◌∙◌, inl, inr}
 use Rattle.std.specs.Prelude.{is_some}
 use Rattle.std.proofs.lemmas.Bool.Decides.{eqb_tells}
 use Rattle.otn_base.specs.declared.kind.PortName.{PortName}
 use Rattle.otn_base.specs.declared.kind.PortName.TheVariants as port
+use Rattle.otn_ports.specs.Places.{Input, Output, place_at}
 use Rattle.otn_ports.specs.Views.{BaysView, line_in_at, line_out_at, client_in_at, client_out_at, no_input, no_output}
 use Rattle.line_side.specs.LineFile.{mfas_of}
 use Rattle.line_side.specs.LineForm.{size_of}
@@ -18,27 +19,25 @@ use Rattle.plan_file.specs.declared.connection.ToEnd.TheVariants as to_end
 use Rattle.plan_file.specs.declared.plan.Plan.{Plan}
 use Rattle.device_model.specs.Entries.{form_in, form_out, own_turn, IsActive}
 use Rattle.device_model.specs.LineFiles.{AreFramesOf}
-use Rattle.device_model.specs.Moments.{uses, pieces_by}
+use Rattle.device_model.specs.Moments.{touches, uses, pieces_by}
 use Rattle.device_model.specs.Through.{Inputs, of_client, own_input}
 use Rattle.device_model.proofs.SoundPlans.{sound_plan}
-use Rattle.cross_matrix.specs.Parts.{MayShow}
+use Rattle.cross_matrix.specs.Parts.{ClientInStands, ClientOutStands, MayShow}
 use Rattle.cross_matrix.specs.Pipes.{PipeStands}
 use Rattle.node_links.specs.Links.{origin_of}
-use Rattle.node_links.specs.Retiring.{RetiredBy, retires_in, retires_out}
+use Rattle.node_links.specs.Retiring.{RetiredBy, ends_here}
 use Rattle.node_moments.specs.NodeMoves.{FenceMove}
 use Rattle.node_moments.specs.NodeView.{NodeView, HasLineIn, HasLineOut, HasLink, is_ready, done_at, taken_pieces, given_pieces}
 use Rattle.turn_pieces.specs.Ports.{index_of}
 use Rattle.device_model.specs.RetiredPlaces.{after_retire, out_after_retire}
-use Rattle.node_moments.specs.Stands.{InputBytes, MayGive, PlanStands, LinesIn, PipesStand, LinesOut, ClientInAt, ClientsIn, ClientOutAt, ClientsOut, StandsAt, Later}
+use Rattle.node_moments.specs.Stands.{InputBytes, MayGive, PlanStands, PipesStand, LineInAt, LineOutAt, ClientAt, ClientStands, GivesText, GetsText, PortStands, StandsAt, Later}
 use Rattle.node_links.specs.declared.link.Link.{Link}
-use Rattle.node_links.specs.declared.link.Origin.{Origin}
-use Rattle.node_links.specs.declared.link.Origin.TheVariants as origin
-use Rattle.node_links.specs.declared.link.Target.{Target}
-use Rattle.node_links.specs.declared.link.Target.TheVariants as target
-use Rattle.node_moments.proofs.ClientTurns.{place_kept, client_in_starts, client_in_goes_on, out_kept, client_out_starts, client_out_goes_on}
+use Rattle.node_moments.proofs.ClientTurns.{place_kept, client_starts, client_goes_on}
+use Rattle.node_moments.proofs.LinkPorts.{is_client_port, joins, from_client, to_client, none_taken, none_given}
 use Rattle.node_moments.proofs.LinkTurns.{Turned, turned, not_started, on_link, all_done, some_wanted, used_line, input_kind, at_start, at_end, pieces_from, next_pipe, own_next}
-use Rattle.node_moments.proofs.Retired.{known_at, client_retires, client_retires_out, idle_retires, idle_retires_out}
-use Rattle.device_model.proofs.ConnectionPorts.{from_line_used, from_client_used, to_client_used}
+use Rattle.node_moments.proofs.Retired.{some_passes, retires_some, retires_some_out, known_at, idle_passes, client_retires}
+use Rattle.device_model.proofs.ConnectionPorts.{uses_at, from_line_used, from_client_used}
+use Rattle.device_model.proofs.RetiredPlaces.{after_or, out_after_or}
 
 -- a connection starts with this turn, or has started before
 started_before : (start past now : ℕ) → now ≡ past + 1 → start ≤ now + 1 → start ≢ past + 1 + 1 → start ≤ past + 1
@@ -83,16 +82,10 @@ fence_earlier old new plan taken p m inputs may = record {
   clients = client_before old new plan taken inputs p m may;
 }
 
--- ---- the plan, and no piece
+-- ---- the plan
 
-no_taken : (old new : NodeView) → FenceMove old new → (o : Origin) → taken_pieces new o ≡ 0
-no_taken old new m (origin.Line a) = m.fresh.none (index_of (port.LineIn a))
-no_taken old new m (origin.Client n) = m.fresh.none (index_of (port.ClientIn n))
-no_taken old new m origin.Signal = refl
-
-no_given : (old new : NodeView) → FenceMove old new → (o : Target) → given_pieces new o ≡ 0
-no_given old new m (target.Line b number slots) = m.fresh.none (index_of (port.LineOut b))
-no_given old new m (target.Client n) = m.fresh.none (index_of (port.ClientOut n))
+none_done : (old new : NodeView) → FenceMove old new → (name : PortName) → done_at new name ≡ 0
+none_done old new m name = m.fresh.none (index_of name)
 
 fence_plan : (plan : Plan) (old new : NodeView) → old.past < old.turns → PlanStands plan old → FenceMove old new → PlanStands plan new
 fence_plan plan old new going p m = record {
@@ -113,36 +106,18 @@ taken_all plan old done i x at (from_end.Line a number slots) e = done (port.Lin
 taken_all plan old done i x at (from_end.Client n) e = done (port.ClientIn n) (from_client_used plan i n x at e)
 taken_all plan old done i x at (from_end.Signal signal) e = refl
 
--- ---- lines in
-
-fence_lines_in : (plan : Plan) (first : BaysView) (taken : InputBytes) (old new : NodeView) (was is : BaysView) → PlanStands plan old → FenceMove old new → RetiredBy old.past old.links was is
-    → LinesIn plan first taken old was → LinesIn plan first taken new is
-fence_lines_in plan first taken old new was is p m retired h = record {
-  used = λ a next has u.
-      let line = known_at new.lines_in old.lines_in a next m.count has in
-      let ends = m.used a line.0 next (some_wanted plan old (port.LineIn a) p u) line.1 has in
-      let place : line_in_at is a ≡ line_in_at was a = ap (λ l. get_or l a no_input) retired.line_in in
-      let stood = (h.used a line.0 line.1 u).0 in (
-        subst (λ n. LineStands (form_in plan a) (line_in_at first a) (line_in_at is a) (taken.line a) n next) (sym m.past)
-            (subst (λ v. LineStands (form_in plan a) (line_in_at first a) v (taken.line a) (old.past + 1) next) (sym place)
-            (ends.stands (line_in_at was a) (form_in plan a) (line_in_at first a) (taken.line a) old.past stood)),
-        ends.pieces ∙ sym (m.fresh.none (index_of (port.LineIn a))),
-      );
-  idle = λ a u. ap (λ l. get_or l a no_input) retired.line_in ∙ h.idle a u;
-}
-
 -- ---- pipes
 
 -- whether a line has a multiframe in the turn is said of whatever the line may turn out to be
-has_multiframe : (plan : Plan) (first : BaysView) (taken : InputBytes) (old new : NodeView) (was : BaysView) (inputs : Inputs) → PlanStands plan old → (m : FenceMove old new) → LinesIn plan first taken old was
+has_multiframe : (plan : Plan) (first : BaysView) (taken : InputBytes) (old new : NodeView) (was : BaysView) (inputs : Inputs) → PlanStands plan old → (m : FenceMove old new) → ((a : ℕ) → LineInAt plan first taken old was a)
     → MayGive plan taken old inputs → (a : ℕ) → uses plan (port.LineIn a) ≡ true → get_or m.wholes a false ≡ is_some (multiframe (size_of (form_in plan a)) (mfas_of (inputs.line a)) old.past)
 has_multiframe plan first taken old new was inputs p m h may a u =
     let l = used_line plan old new p m a u in
-    l.ends.multiframe (line_in_at was a) (form_in plan a) (line_in_at first a) (taken.line a) old.past (h.used a l.line l.had u).0 (inputs.line a) (may.lines a l.line l.had u)
+    l.ends.multiframe (line_in_at was a) (form_in plan a) (line_in_at first a) (taken.line a) old.past (h a l.line l.had u).0 (inputs.line a) (may.lines a l.line l.had u)
 
 -- the pipe of a connection that is active in the next turn too
 pipe_goes_on : (plan : Plan) (first : BaysView) (taken : InputBytes) (old new : NodeView) (was : BaysView) (inputs : Inputs) → PlanStands plan old → (m : FenceMove old new)
-    → ((name : PortName) → uses plan name ≡ true → done_at old name ≡ pieces_by plan name) → LinesIn plan first taken old was → PipesStand plan taken old → MayGive plan taken old inputs
+    → ((name : PortName) → uses plan name ≡ true → done_at old name ≡ pieces_by plan name) → ((a : ℕ) → LineInAt plan first taken old was a) → PipesStand plan taken old → MayGive plan taken old inputs
     → (i : ℕ) (x : Connection) (link : Link) → slice_get plan.connections i ≡ Some x → (t : Turned old m.wholes i x link) → IsActive x old.past
     → PipeStands x (own_input inputs x) (suc (own_turn x old.past)) [] false 0 t.turns.between.pipe
 pipe_goes_on plan first taken old new was inputs p m done lines pipes may i x link at t active =
@@ -156,7 +131,7 @@ pipe_goes_on plan first taken old new was inputs p m done lines pipes may i x li
 
 -- the pipe of any connection that is active in the next turn
 pipe_next : (plan : Plan) (first : BaysView) (taken : InputBytes) (old new : NodeView) (was : BaysView) (inputs : Inputs) → PlanStands plan old → (m : FenceMove old new)
-    → ((name : PortName) → uses plan name ≡ true → done_at old name ≡ pieces_by plan name) → LinesIn plan first taken old was → PipesStand plan taken old → MayGive plan taken old inputs
+    → ((name : PortName) → uses plan name ≡ true → done_at old name ≡ pieces_by plan name) → ((a : ℕ) → LineInAt plan first taken old was a) → PipesStand plan taken old → MayGive plan taken old inputs
     → (i : ℕ) (x : Connection) (link : Link) → slice_get plan.connections i ≡ Some x → (t : Turned old m.wholes i x link) → IsActive x (old.past + 1)
     → PipeStands x (own_input inputs x) (own_turn x (old.past + 1)) [] false 0 link.pipe
 pipe_next plan first taken old new was inputs p m done lines pipes may i x link at t active = elim (eqb_tells x.start (old.past + 1 + 1)) [
@@ -175,7 +150,7 @@ pipe_next plan first taken old new was inputs p m done lines pipes may i x link 
 
 -- the pipe of one whose last turn this was
 pipe_last : (plan : Plan) (first : BaysView) (taken : InputBytes) (old new : NodeView) (was : BaysView) (inputs : Inputs) → PlanStands plan old → (m : FenceMove old new)
-    → ((name : PortName) → uses plan name ≡ true → done_at old name ≡ pieces_by plan name) → LinesIn plan first taken old was → PipesStand plan taken old → MayGive plan taken old inputs
+    → ((name : PortName) → uses plan name ≡ true → done_at old name ≡ pieces_by plan name) → ((a : ℕ) → LineInAt plan first taken old was a) → PipesStand plan taken old → MayGive plan taken old inputs
     → (i : ℕ) (x : Connection) (link : Link) → slice_get plan.connections i ≡ Some x → (t : Turned old m.wholes i x link) → x.stop ≡ old.past + 1
     → PipeStands x (own_input inputs x) (own_turn x (old.past + 1)) [] false 0 link.pipe
 pipe_last plan first taken old new was inputs p m done lines pipes may i x link at t stop =
@@ -187,120 +162,112 @@ pipe_last plan first taken old new was inputs p m done lines pipes may i x link 
     (pipe_goes_on plan first taken old new was inputs p m done lines pipes may i x link at t before))
 
 fence_pipes : (plan : Plan) (first : BaysView) (taken : InputBytes) (old new : NodeView) (was : BaysView) → PlanStands plan old → FenceMove old new
-    → ((name : PortName) → uses plan name ≡ true → done_at old name ≡ pieces_by plan name) → LinesIn plan first taken old was → PipesStand plan taken old → PipesStand plan taken new
+    → ((name : PortName) → uses plan name ≡ true → done_at old name ≡ pieces_by plan name) → ((a : ℕ) → LineInAt plan first taken old was a) → PipesStand plan taken old → PipesStand plan taken new
 fence_pipes plan first taken old new was p m done lines pipes = record {
   each = λ inputs may i x link at has active.
       let t = turned plan old new p m i x link at has in
       let on : IsActive x (old.past + 1) = subst (IsActive x) m.past active in
       let next = pipe_next plan first taken old new was inputs p m done lines pipes (fence_earlier old new plan taken p m inputs may) i x link at t on in
-      at_start plan inputs x new.past (own_turn x new.past) (taken_pieces new link.from) (given_pieces new link.to) link.pipe (no_taken old new m link.from) (no_given old new m link.to)
+      at_start plan inputs x new.past (own_turn x new.past) (taken_pieces new link.from) (given_pieces new link.to) link.pipe (none_taken new (none_done old new m) link.from) (none_given new (none_done old new m) link.to)
       (subst (λ n. PipeStands x (own_input inputs x) (own_turn x n) [] false 0 link.pipe) (sym m.past) next);
   last = λ inputs may i x link at has stop.
       subst (λ n. PipeStands x (own_input inputs x) (own_turn x n) [] false 0 link.pipe) (sym m.past)
       (pipe_last plan first taken old new was inputs p m done lines pipes (fence_earlier old new plan taken p m inputs may) i x link at (turned plan old new p m i x link at has) (stop ∙ m.past));
 }
 
--- ---- lines out
+-- ---- lines
+
+fence_line_in : (plan : Plan) (first : BaysView) (taken : InputBytes) (old new : NodeView) (was is : BaysView) (a : ℕ) → PlanStands plan old → FenceMove old new → RetiredBy old.past old.links was is
+    → LineInAt plan first taken old was a → PortStands plan first taken new is (port.LineIn a)
+fence_line_in plan first taken old new was is a p m retired h = λ next has u.
+    let line = known_at new.lines_in old.lines_in a next m.count has in
+    let ends = m.used a line.0 next (some_wanted plan old (port.LineIn a) p u) line.1 has in
+    let place : line_in_at is a ≡ line_in_at was a = ap (λ l. get_or l a no_input) retired.line_in in (
+      subst (λ n. LineStands (form_in plan a) (line_in_at first a) (line_in_at is a) (taken.line a) n next) (sym m.past)
+          (subst (λ v. LineStands (form_in plan a) (line_in_at first a) v (taken.line a) (old.past + 1) next) (sym place)
+          (ends.stands (line_in_at was a) (form_in plan a) (line_in_at first a) (taken.line a) old.past (h line.0 line.1 u).0)),
+      ends.pieces ∙ sym (m.fresh.none (index_of (port.LineIn a))),
+    )
 
 frames_next : (size past now d d' : ℕ) → now ≡ past + 1 → d' ≡ 0 → d ≡ size → size * past + d ≡ size * now + d'
 frames_next size past now d d' e none all = rw (e, none, all) (omega arith)
 
-fence_lines_out : (plan : Plan) (first : BaysView) (taken : InputBytes) (old new : NodeView) (was is : BaysView) → PlanStands plan old → FenceMove old new → RetiredBy old.past old.links was is
-    → ((name : PortName) → uses plan name ≡ true → done_at old name ≡ pieces_by plan name) → LinesOut plan first taken old was → LinesOut plan first taken new is
-fence_lines_out plan first taken old new was is p m retired done h = record {
-  used = λ inputs may b line has u.
-      let had : HasLineOut old b line = ap (λ ls. slice_get ls b) (sym m.lines_out) ∙ has in
-      let stood = h.used inputs (fence_earlier old new plan taken p m inputs may) b line had u in
-      let place : line_out_at is b ≡ line_out_at was b = ap (λ l. get_or l b no_output) retired.line_out in
-      let count = frames_next (size_of (form_out plan b)) old.past new.past (done_at old (port.LineOut b)) (done_at new (port.LineOut b)) m.past (m.fresh.none (index_of (port.LineOut b)))
-      (done (port.LineOut b) u) in (
-        stood.0,
-        subst (λ n. AreFramesOf plan inputs b n stood.0) count stood.1,
-        subst (λ v. LineMade b (form_out plan b) (line_out_at first b) v stood.0 line) (sym place) stood.2,
-      );
-  idle = λ b u. ap (λ l. get_or l b no_output) retired.line_out ∙ h.idle b u;
-}
+fence_line_out : (plan : Plan) (first : BaysView) (taken : InputBytes) (old new : NodeView) (was is : BaysView) (b : ℕ) → PlanStands plan old → FenceMove old new → RetiredBy old.past old.links was is
+    → ((name : PortName) → uses plan name ≡ true → done_at old name ≡ pieces_by plan name) → LineOutAt plan first taken old was b → PortStands plan first taken new is (port.LineOut b)
+fence_line_out plan first taken old new was is b p m retired done h = λ inputs may line has u.
+    let had : HasLineOut old b line = ap (λ ls. slice_get ls b) (sym m.lines_out) ∙ has in
+    let stood = h inputs (fence_earlier old new plan taken p m inputs may) line had u in
+    let place : line_out_at is b ≡ line_out_at was b = ap (λ l. get_or l b no_output) retired.line_out in
+    let count = frames_next (size_of (form_out plan b)) old.past new.past (done_at old (port.LineOut b)) (done_at new (port.LineOut b)) m.past (m.fresh.none (index_of (port.LineOut b)))
+    (done (port.LineOut b) u) in (
+      stood.0,
+      subst (λ n. AreFramesOf plan inputs b n stood.0) count stood.1,
+      subst (λ v. LineMade b (form_out plan b) (line_out_at first b) v stood.0 line) (sym place) stood.2,
+    )
 
--- ---- clients in
+-- ---- clients
 
-client_in_next : (plan : Plan) (first : BaysView) (taken : InputBytes) (old new : NodeView) (was is : BaysView) → PlanStands plan old → (m : FenceMove old new) → RetiredBy old.past old.links was is
-    → ((name : PortName) → uses plan name ≡ true → done_at old name ≡ pieces_by plan name) → ClientsIn plan first taken old was
-    → (i n : ℕ) (x : Connection) (link : Link) → slice_get plan.connections i ≡ Some x → (t : Turned old m.wholes i x link) → x.from ≡ from_end.Client n → x.start ≤ old.past + 1 + 1
-    → ClientInAt (client_in_at first n) (client_in_at is n) (taken.client n) x (old.past + 1) 0 link
-client_in_next plan first taken old new was is p m retired done h i n x link at t from start =
-    let sound = (sound_plan plan p.accepted).entries i x at in
-    let retires = client_retires plan old i n x t.before p at t.had from in
-    elim (eqb_tells x.start (old.past + 1 + 1)) [
-      | inl e ↦
-          let now : t.turns.between.start ≡ old.past + 1 + 1 = t.mid.start ∙ e.1 in
-          let late : old.past + 1 < x.start = (let s = e.1 in omega arith) in
-          let w = h.waits i n x at from late in
-          client_in_starts (client_in_at first n) (client_in_at was n) (client_in_at is n) (taken.client n) old.past n x link (retires_in old.past n old.links) retires late (let span = sound.span in omega arith) w.0 w.1
-          (retired.client_in n) (t.turns.starts.client_in now x n (client_in_at first n) t.mid from)
-      | inr d ↦
-          client_in_goes_on (client_in_at first n) (client_in_at was n) (client_in_at is n) (taken.client n) old.past (done_at old (port.ClientIn n)) x t.before link (retires_in old.past n old.links) retires sound.start
-          (done (port.ClientIn n) (from_client_used plan i n x at from)) (same_taking old m.wholes i n x link t d.1 from) (retired.client_in n)
-          (h.started i n x t.before at t.had from (started_before x.start old.past (old.past + 1) refl start d.1))
-    ]
-
-fence_clients_in : (plan : Plan) (first : BaysView) (taken : InputBytes) (old new : NodeView) (was is : BaysView) → PlanStands plan old → FenceMove old new → RetiredBy old.past old.links was is
-    → ((name : PortName) → uses plan name ≡ true → done_at old name ≡ pieces_by plan name) → ClientsIn plan first taken old was → ClientsIn plan first taken new is
-fence_clients_in plan first taken old new was is p m retired done h = record {
-  started = λ i n x link at has from start.
+-- A client's place is emptied where a connection that ends here is at it, which only its own may be.
+fence_client : {P : Type 0} (plan : Plan) (name : PortName) (old new : NodeView) (first was is : P) (empties : Bool → P → P) (Part Then : Connection → Link → P → ℕ → Type 0) (taken : List ℕ) → is_client_port name ≡ true
+    → ((v : P) → empties false v ≡ v) → ((a b : Bool) (v : P) → empties (a || b) v ≡ empties b (empties a v)) → PlanStands plan old → (m : FenceMove old new) → (uses plan name ≡ true → done_at old name ≡ 1)
+    → is ≡ empties (some_passes (ends_here old.past) (joins name) old.links) was
+    → ((i : ℕ) (x : Connection) (link : Link) → (t : Turned old m.wholes i x link) → touches name x ≡ true → t.turns.between.start ≡ old.past + 1 + 1 → taken ≡ [] → Then x link first 0)
+    → ((i : ℕ) (x : Connection) (link : Link) → (t : Turned old m.wholes i x link) → touches name x ≡ true → x.start ≢ old.past + 1 + 1 → (v : P) (k : ℕ) → Part x t.before v k → Then x link v k)
+    → ClientStands plan old name first was empties Part taken → ClientStands plan new name first is empties Then taken
+fence_client plan name old new first was is empties Part Then taken client stays twice p m done gone starts goes_on h = record {
+  started = λ i x link at has touched start.
       let t = turned plan old new p m i x link at has in
-      subst (λ k. ClientInAt (client_in_at first n) (client_in_at is n) (taken.client n) x k (done_at new (port.ClientIn n)) link) (sym m.past)
-      (subst (λ k. ClientInAt (client_in_at first n) (client_in_at is n) (taken.client n) x (old.past + 1) k link) (sym (m.fresh.none (index_of (port.ClientIn n))))
-      (client_in_next plan first taken old new was is p m retired done h i n x link at t from (let e = m.past in omega arith)));
-  waits = λ i n x at from late.
+      let sound = (sound_plan plan p.accepted).entries i x at in
+      let retires = client_retires plan old name i x t.before client p at t.had touched in
+      subst (λ k. ClientAt empties (Then x link) is x k (done_at new name)) (sym m.past)
+      (subst (λ k. ClientAt empties (Then x link) is x (old.past + 1) k) (sym (m.fresh.none (index_of name)))
+      (elim (eqb_tells x.start (old.past + 1 + 1)) [
+        | inl e ↦
+            let late : old.past + 1 < x.start = (let s = e.1 in omega arith) in
+            let w = h.waits i x at touched late in
+            client_starts empties (Then x link) first was is old.past x ends stays retires late (let span = sound.span in omega arith) w.0 gone (starts i x link t touched (t.mid.start ∙ e.1) w.1)
+        | inr d ↦
+            client_goes_on empties (Part x t.before) (Then x link) was is old.past (done_at old name) x ends twice retires sound.start (done (uses_at plan name i x at touched)) gone (goes_on i x link t touched d.1)
+            (h.started i x t.before at t.had touched (started_before x.start old.past new.past m.past start d.1))
+      ]));
+  waits = λ i x at touched late.
       let e = m.past in
       let span = ((sound_plan plan p.accepted).entries i x at).span in
       let link = known_at plan.connections old.links i x (sym p.count) at in
-      let w = h.waits i n x at from (omega arith) in (
-        place_kept x old.past (retires_in old.past n old.links) (client_in_at was n) (client_in_at is n) (client_retires plan old i n x link.0 p at link.1 from) (omega arith) (retired.client_in n) ∙ w.0,
-        w.1,
-      );
-  idle = λ n u. retired.client_in n ∙ ap (λ b. after_retire b (client_in_at was n)) (idle_retires plan old n p u) ∙ h.idle n u;
+      let w = h.waits i x at touched (omega arith) in
+      (place_kept empties x old.past ends was is stays (client_retires plan old name i x link.0 client p at link.1 touched) (omega arith) gone ∙ w.0, w.1);
 }
-
--- ---- clients out
-
-client_out_next : (plan : Plan) (first : BaysView) (taken : InputBytes) (old new : NodeView) (was is : BaysView) (inputs : Inputs) → PlanStands plan old → (m : FenceMove old new) → RetiredBy old.past old.links was is
-    → ((name : PortName) → uses plan name ≡ true → done_at old name ≡ pieces_by plan name) → ClientsOut plan first taken old was → MayGive plan taken old inputs
-    → (i n : ℕ) (x : Connection) (link : Link) → slice_get plan.connections i ≡ Some x → (t : Turned old m.wholes i x link) → x.to ≡ to_end.Client n → x.start ≤ old.past + 1 + 1
-    → ClientOutAt inputs (client_out_at first n) (client_out_at is n) x (old.past + 1) 0 link
-client_out_next plan first taken old new was is inputs p m retired done h may i n x link at t to start =
-    let sound = (sound_plan plan p.accepted).entries i x at in
-    let retires = client_retires_out plan old i n x t.before p at t.had to in
-    elim (eqb_tells x.start (old.past + 1 + 1)) [
-      | inl e ↦
-          let now : t.turns.between.start ≡ old.past + 1 + 1 = t.mid.start ∙ e.1 in
-          let late : old.past + 1 < x.start = (let s = e.1 in omega arith) in
-          client_out_starts inputs (client_out_at first n) (client_out_at was n) (client_out_at is n) old.past n x link (retires_out old.past n old.links) retires late (let span = sound.span in omega arith)
-          (h.waits i n x at to late) (retired.client_out n) (t.turns.starts.client_out now x n (own_input inputs x) (client_out_at first n) t.mid to)
-      | inr d ↦
-          client_out_goes_on inputs (client_out_at first n) (client_out_at was n) (client_out_at is n) old.past (done_at old (port.ClientOut n)) x t.before link (retires_out old.past n old.links) retires sound.start
-          (done (port.ClientOut n) (to_client_used plan i n x at to)) (same_giving old m.wholes i n x link t d.1 to) (retired.client_out n)
-          (h.started inputs may i n x t.before at t.had to (started_before x.start old.past (old.past + 1) refl start d.1))
-    ]
-
-fence_clients_out : (plan : Plan) (first : BaysView) (taken : InputBytes) (old new : NodeView) (was is : BaysView) → PlanStands plan old → FenceMove old new → RetiredBy old.past old.links was is
-    → ((name : PortName) → uses plan name ≡ true → done_at old name ≡ pieces_by plan name) → ClientsOut plan first taken old was → ClientsOut plan first taken new is
-fence_clients_out plan first taken old new was is p m retired done h = record {
-  started = λ inputs may i n x link at has to start.
-      let t = turned plan old new p m i x link at has in
-      subst (λ k. ClientOutAt inputs (client_out_at first n) (client_out_at is n) x k (done_at new (port.ClientOut n)) link) (sym m.past)
-      (subst (λ k. ClientOutAt inputs (client_out_at first n) (client_out_at is n) x (old.past + 1) k link) (sym (m.fresh.none (index_of (port.ClientOut n))))
-      (client_out_next plan first taken old new was is inputs p m retired done h (fence_earlier old new plan taken p m inputs may) i n x link at t to (let e = m.past in omega arith)));
-  waits = λ i n x at to late.
-      let e = m.past in
-      let span = ((sound_plan plan p.accepted).entries i x at).span in
-      let link = known_at plan.connections old.links i x (sym p.count) at in
-      out_kept x old.past (retires_out old.past n old.links) (client_out_at was n) (client_out_at is n) (client_retires_out plan old i n x link.0 p at link.1 to) (omega arith) (retired.client_out n)
-      ∙ h.waits i n x at to (omega arith);
-  idle = λ n u. retired.client_out n ∙ ap (λ b. out_after_retire b (client_out_at was n)) (idle_retires_out plan old n p u) ∙ h.idle n u;
-}
+  where
+    ends : Bool
+    ends = some_passes (ends_here old.past) (joins name) old.links
 
 -- ---- all parts
+
+fence_port : (plan : Plan) (first : BaysView) (taken : InputBytes) (old new : NodeView) (was is : BaysView) → PlanStands plan old → FenceMove old new → RetiredBy old.past old.links was is
+    → ((name : PortName) → uses plan name ≡ true → done_at old name ≡ pieces_by plan name) → (name : PortName) → PortStands plan first taken old was name → PortStands plan first taken new is name
+fence_port plan first taken old new was is p m retired done (port.LineIn a) h = fence_line_in plan first taken old new was is a p m retired h
+fence_port plan first taken old new was is p m retired done (port.LineOut b) h = fence_line_out plan first taken old new was is b p m retired done h
+fence_port plan first taken old new was is p m retired done (port.ClientIn n) h =
+    fence_client plan (port.ClientIn n) old new (client_in_at first n) (client_in_at was n) (client_in_at is n) after_retire (GivesText first taken n) (GivesText first taken n) (taken.client n) refl (λ v. refl) after_or p m
+    (done (port.ClientIn n)) (retired.client_in n ∙ ap (λ b. after_retire b (client_in_at was n)) (retires_some old.past n old.links))
+    (λ i x link t touched now none. subst (λ bytes. ClientInStands x (client_in_at first n) (client_in_at first n) bytes 0 link.pipe.taking) (sym none)
+    (t.turns.starts.client_in now x n (client_in_at first n) t.mid (from_client n x.from touched)))
+    (λ i x link t touched differ v k stood. subst (λ part. ClientInStands x (client_in_at first n) v (taken.client n) k part) (sym (same_taking old m.wholes i n x link t differ (from_client n x.from touched))) stood) h
+fence_port plan first taken old new was is p m retired done (port.ClientOut n) h =
+    fence_client plan (port.ClientOut n) old new (client_out_at first n) (client_out_at was n) (client_out_at is n) out_after_retire (GetsText plan first taken old n) (GetsText plan first taken new n) [] refl (λ v. refl) out_after_or p m
+    (done (port.ClientOut n)) (retired.client_out n ∙ ap (λ b. out_after_retire b (client_out_at was n)) (retires_some_out old.past n old.links))
+    (λ i x link t touched now none. λ inputs may. t.turns.starts.client_out now x n (own_input inputs x) (client_out_at first n) t.mid (to_client n x.to touched))
+    (λ i x link t touched differ v k stood. λ inputs may. subst (λ part. ClientOutStands x (own_input inputs x) (client_out_at first n) v k part) (sym (same_giving old m.wholes i n x link t differ (to_client n x.to touched)))
+    (stood inputs (fence_earlier old new plan taken p m inputs may))) h
+
+-- a place that is not used is not emptied
+fence_idle : (plan : Plan) (old : NodeView) (was is : BaysView) → PlanStands plan old → RetiredBy old.past old.links was is → (name : PortName) → uses plan name ≡ false → place_at is name ≡ place_at was name
+fence_idle plan old was is p retired (port.LineIn a) u = ap (λ l. Input (get_or l a no_input)) retired.line_in
+fence_idle plan old was is p retired (port.LineOut b) u = ap (λ l. Output (get_or l b no_output)) retired.line_out
+fence_idle plan old was is p retired (port.ClientIn n) u =
+    ap Input (retired.client_in n ∙ ap (λ b. after_retire b (client_in_at was n)) (retires_some old.past n old.links ∙ idle_passes (ends_here old.past) plan old (port.ClientIn n) p u))
+fence_idle plan old was is p retired (port.ClientOut n) u =
+    ap Output (retired.client_out n ∙ ap (λ b. out_after_retire b (client_out_at was n)) (retires_some_out old.past n old.links ∙ idle_passes (ends_here old.past) plan old (port.ClientOut n) p u))
 
 -- The end of a turn leads from any moment at which no port is ready to the first one of the next turn.
 pub fence_moves : (plan : Plan) (first : BaysView) (taken : InputBytes) (old new : NodeView) (was is : BaysView) → old.past < old.turns → ((name : PortName) → is_ready old name ≡ false) → FenceMove old new
@@ -312,11 +279,9 @@ fence_moves plan first taken old new was is going none m retired h =
       more = taken;
       stands = record {
         plan_stands = fence_plan plan old new going p m;
-        lines_in = fence_lines_in plan first taken old new was is p m retired h.lines_in;
-        pipes = fence_pipes plan first taken old new was p m done h.lines_in h.pipes;
-        lines_out = fence_lines_out plan first taken old new was is p m retired done h.lines_out;
-        clients_in = fence_clients_in plan first taken old new was is p m retired done h.clients_in;
-        clients_out = fence_clients_out plan first taken old new was is p m retired done h.clients_out;
+        pipes = fence_pipes plan first taken old new was p m done (λ a. h.ports (port.LineIn a)) h.pipes;
+        ports = λ name. fence_port plan first taken old new was is p m retired done name (h.ports name);
+        idle = λ name u. fence_idle plan old was is p retired name u ∙ h.idle name u;
       };
       earlier = fence_earlier old new plan taken p m;
     }

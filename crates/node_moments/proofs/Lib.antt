@@ -9,8 +9,9 @@ pub mod Parts
 pub mod LineInMoves
 pub mod LineOutMoves
 pub mod ClientLinks
-pub mod ClientInMoves
-pub mod ClientOutMoves
+pub mod LinkPorts
+pub mod PieceMoves
+pub mod ClientMoves
 pub mod TurnMoves
 pub mod NewParts
 pub mod StepsKept

@@ -1,14 +1,12 @@
 -- A piece of an output line leads to the next moment.
-use Rattle.std.proofs.Common.{◌≡◌, ◌≢◌, ◌<◌, ◌+◌, ◌*◌, ◌/◌, ◌%◌, ◌⊎◌, ℕ, zero, suc, Bool, true, false, List, [], ◌∷◌, ◌++◌, Some, length, slice_get, get_or, arith, refl, sym, ap, ◌∙◌, inl, inr}
-use Rattle.std.proofs.lemmas.Bool.{eq-eqb}
-use Rattle.std.proofs.lemmas.Bool.Decides.{eqb_tells}
+use Rattle.std.proofs.Common.{◌≡◌, ◌<◌, ◌+◌, ◌*◌, ◌/◌, ◌%◌, ◌⊎◌, ℕ, zero, suc, Bool, true, List, [], ◌∷◌, ◌++◌, Some, length, slice_get, arith, refl, sym, ap, ◌∙◌, inl, inr}
+use Rattle.std.proofs.lemmas.Bool.Decides.{nat_tests}
 use Rattle.std.proofs.lemmas.List.{length-append}
 use Rattle.std.proofs.lemmas.Nat.{div-mul-add, mod-mul-add}
 use Rattle.otn_base.specs.LineSlots.{LineSlots, slots_of}
-use Rattle.otn_base.specs.declared.kind.PortName.{PortName}
 use Rattle.otn_base.specs.declared.kind.PortName.TheVariants as port
-use Rattle.otn_ports.proofs.OneOutPlace.{OnlyLineOut}
-use Rattle.otn_ports.specs.Views.{OutView, BaysView, line_out_at, no_input, no_output}
+use Rattle.otn_ports.specs.Places.{OnlyPort}
+use Rattle.otn_ports.specs.Views.{BaysView, line_out_at}
 use Rattle.line_side.specs.LineForm.{size_of}
 use Rattle.line_side.specs.LineOutput.{FramePut}
 use Rattle.plan_file.specs.declared.connection.Connection.{Connection}
@@ -16,110 +14,54 @@ use Rattle.plan_file.specs.declared.connection.ToEnd.{ToEnd}
 use Rattle.plan_file.specs.declared.connection.ToEnd.TheVariants as to_end
 use Rattle.plan_file.specs.declared.plan.Plan.{Plan}
 use Rattle.tributary_model.specs.Places.{Taken}
-use Rattle.device_model.specs.Entries.{form_out, own_turn, IsActive}
+use Rattle.device_model.specs.Entries.{form_out, own_turn}
 use Rattle.device_model.specs.LineFiles.{IsFrameOf, AreFramesOf}
-use Rattle.device_model.specs.Moments.{uses}
 use Rattle.device_model.specs.Through.{Inputs, OwnInput, own_input}
 use Rattle.device_model.proofs.SoundPlans.{sound_plan}
 use Rattle.cross_matrix.specs.Pipes.{PipeStands}
-use Rattle.node_links.specs.Links.{IsLinkOf, SameEntry, is_on, target_of}
+use Rattle.node_links.specs.Links.{is_on, target_of}
 use Rattle.node_links.specs.Moves.{EachLink, GaveFrame, FillLine, is_to_line, gives_line}
 use Rattle.node_moments.specs.Steps.NodeMoves.{LineOutMove}
-use Rattle.node_moments.specs.NodeView.{NodeView, HasLineIn, HasLineOut, is_ready, done_at, taken_pieces, given_pieces}
-use Rattle.node_moments.specs.Stands.{InputBytes, MayGive, frames_by, ended_by, PlanStands, PipesStand, LinesOut, StandsAt, Later}
+use Rattle.node_moments.specs.NodeView.{NodeView, is_ready, done_at, taken_pieces, given_pieces}
+use Rattle.node_moments.specs.Stands.{InputBytes, MayGive, frames_by, ended_by, PlanStands, PipesStand, LineOutAt, PortStands, StandsAt, Later}
 use Rattle.node_links.specs.declared.link.Link.{Link}
-use Rattle.node_links.specs.declared.link.Origin.{Origin}
-use Rattle.node_links.specs.declared.link.Origin.TheVariants as origin
 use Rattle.node_links.specs.declared.link.Target.TheVariants as target
-use Rattle.turn_pieces.proofs.PieceCounts.{done_more, done_same}
-use Rattle.node_moments.proofs.Parts.{and_none, none_and, off_stopped, one_at, each_goes, link_before, Kept, on_active, IsReady, ready, ready_used, ready_less, plan_counted, lines_in_same, clients_in_same, clients_out_same, clients_may}
+use Rattle.turn_pieces.proofs.PieceCounts.{done_more}
+use Rattle.node_moments.proofs.ClientLinks.{both_right}
+use Rattle.node_moments.proofs.LinkPorts.{taken_out, LinkMoved}
+use Rattle.node_moments.proofs.Parts.{one_at, ready, ready_less}
+use Rattle.node_moments.proofs.PieceMoves.{Step, done_but, earlier_by, PipeMoves, later_by}
 
--- ---- connections that give nothing to the line
+-- ---- a connection to the line
 
-gives_none : (past b : ℕ) (link : Link) → is_to_line b link.to ≡ false → gives_line past b link ≡ false
-gives_none past b link h = and_none (is_on past link) (is_to_line b link.to) h
-
--- it is of the same entry, and what is known of its clients is as it was
-gave_kept : (past b n : ℕ) (old new : Link) → GaveFrame (gives_line past b old) n old new → Kept old new
-gave_kept past b n old new g = record {
-  same = g.same;
-  text = λ x m is from. g.taking;
-  receiver = λ x m is to.
-      let other : is_to_line b old.to ≡ false = ap (is_to_line b) (is.to ∙ ap target_of to) in
-      ap (λ (link : Link). link.pipe.giving) (g.other (gives_none past b old other));
-}
-
--- ---- what the inputs may be
-
-line_out_earlier : (plan : Plan) (was is : OutView) (b : ℕ) (taken : InputBytes) (old new : NodeView) → PlanStands plan old → LineOutMove b old was new is → EachLink Kept old.links new.links
-    → (inputs : Inputs) → MayGive plan taken new inputs → MayGive plan taken old inputs
-line_out_earlier plan was is b taken old new p m kept inputs may = record {
-  lines = λ a line has u.
-      let has_new : HasLineIn new a line = rw m.lines_in has in
-      may.lines a line has_new u;
-  clients = clients_may plan taken taken old new inputs p kept (λ n. refl) m.past may;
-}
-
--- ---- a connection
-
-taken_same : (b : ℕ) (old new : NodeView) → ((other : PortName) → other ≢ port.LineOut b → done_at new other ≡ done_at old other) → (o : Origin) → taken_pieces new o ≡ taken_pieces old o
-taken_same b old new same (origin.Line a) = same (port.LineIn a) (λ e. cc)
-taken_same b old new same (origin.Client n) = same (port.ClientIn n) (λ e. cc)
-taken_same b old new same origin.Signal = refl
-
--- it has filled a frame more where it goes to the line
-gave_pipe : (input : OwnInput) (x : Connection) (b : ℕ) (old new : NodeView) (j : ℕ) (frames : List Taken) (ended : Bool) (link next : Link) (to : ToEnd)
-    → x.to ≡ to → IsLinkOf x link → IsActive x old.past → ((number : ℕ) (slots : LineSlots) → to ≡ to_end.Line b number slots → done_at old (port.LineOut b) < slots_of slots.kind)
-    → done_at new (port.LineOut b) ≡ done_at old (port.LineOut b) + 1 → ((other : PortName) → other ≢ port.LineOut b → done_at new other ≡ done_at old other)
-    → GaveFrame (gives_line old.past b link) (done_at old (port.LineOut b)) link next
-    → PipeStands x input j frames ended (given_pieces old (target_of to)) link.pipe → PipeStands x input j frames ended (given_pieces new (target_of to)) next.pipe
-gave_pipe input x b old new j frames ended link next (to_end.Line c number slots) to is active less more same g h = elim (eqb_tells c b) [
-  | inl e ↦
-      let to_b : x.to ≡ to_end.Line b number slots = to ∙ ap (λ c. to_end.Line c number slots) e.1 in
-      let few : done_at old (port.LineOut b) < slots_of slots.kind = less number slots (ap (λ c. to_end.Line c number slots) e.1) in
-      let stood : PipeStands x input j frames ended (done_at old (port.LineOut b)) link.pipe = rw e.1 at h in
-      let is_to : is_to_line b link.to ≡ true = ap (is_to_line b) (is.to ∙ ap target_of to_b) ∙ eq-eqb b b refl in
-      let gives : gives_line old.past b link ≡ true = rw (on_active x old.past link is active, is_to) refl in
-      rw (e.1, more) (g.gave gives x b number slots input j frames ended to_b few stood)
-  | inr e ↦
-      let other : is_to_line b link.to ≡ false = ap (is_to_line b) (is.to ∙ ap target_of to) ∙ e.0 in
-      rw (g.other (gives_none old.past b link other), same (port.LineOut c) (λ d. e.1 (cc))) h
-]
-gave_pipe input x b old new j frames ended link next (to_end.Client n) to is active less more same g h =
-    let other : is_to_line b link.to ≡ false = ap (is_to_line b) (is.to ∙ ap target_of to) in
-    rw (g.other (gives_none old.past b link other), same (port.ClientOut n) (λ d. cc)) h
-
--- ---- the connections
+-- it has filled a frame more
+gave_pipe : (input : OwnInput) (x : Connection) (b past k j : ℕ) (frames : List Taken) (ended : Bool) (node next_node : NodeView) (link next : Link) (to : ToEnd)
+    → x.to ≡ to → is_to_line b (target_of to) ≡ true → gives_line past b link ≡ true → ((number : ℕ) (slots : LineSlots) → to ≡ to_end.Line b number slots → k < slots_of slots.kind)
+    → done_at node (port.LineOut b) ≡ k → done_at next_node (port.LineOut b) ≡ k + 1 → GaveFrame (gives_line past b link) k link next
+    → PipeStands x input j frames ended (given_pieces node (target_of to)) link.pipe → PipeStands x input j frames ended (given_pieces next_node (target_of to)) next.pipe
+gave_pipe input x b past k j frames ended node next_node link next (to_end.Line c number slots) to mine gives less before after g h =
+    let is : c ≡ b = grind (arith, nat_tests) in
+    let end : to_end.Line c number slots ≡ to_end.Line b number slots = ap (λ c. to_end.Line c number slots) is in
+    let stood : PipeStands x input j frames ended k link.pipe = rw (is, before) at h in
+    rw (is, after) (g.gave gives x b number slots input j frames ended (to ∙ end) (less number slots end) stood)
+gave_pipe input x b past k j frames ended node next_node link next (to_end.Client n) to mine gives less before after g h = absurd (cc)
 
 -- the slots of its end are those of a line of this kind
 many_of : (plan : Plan) (i b number : ℕ) (slots : LineSlots) (x : Connection) (node : NodeView) → PlanStands plan node → slice_get plan.connections i ≡ Some x → x.to ≡ to_end.Line b number slots
     → slots_of slots.kind ≡ size_of (form_out plan b)
 many_of plan i b number slots x node p at_i to = ap slots_of (((sound_plan plan p.accepted).entries i x at_i).to_line b number slots to).kind
 
-line_out_pipes : (plan : Plan) (was is : OutView) (b : ℕ) (taken : InputBytes) (old new : NodeView) → PlanStands plan old → IsReady old (port.LineOut b) → LineOutMove b old was new is
-    → EachLink Kept old.links new.links → PipesStand plan taken old → PipesStand plan taken new
-line_out_pipes plan was is b taken old new p r m kept h = record {
-  each = λ inputs may i x link at_i has on.
-      let before = link_before (λ link next. GaveFrame (gives_line old.past b link) (done_at old (port.LineOut b)) link next) old.links new.links i link m.writes.gave has in
-      let of_x = p.links i x before.old at_i before.known in
-      let active : IsActive x old.past = rw m.past at on in
-      let stood = h.each inputs (line_out_earlier plan was is b taken old new p m kept inputs may) i x before.old at_i before.known active in
-      let same : (other : PortName) → other ≢ port.LineOut b → done_at new other ≡ done_at old other = λ other differ. done_same (port.LineOut b) old.pieces new.pieces other m.counted r.within differ in
-      let less : (number : ℕ) (slots : LineSlots) → x.to ≡ to_end.Line b number slots → done_at old (port.LineOut b) < slots_of slots.kind
-      = λ number slots to. omega (arith, many_of plan i b number slots x old p at_i to, ready_less plan old (port.LineOut b) p r) in
-      let after = gave_pipe (own_input inputs x) x b old new (own_turn x old.past) (frames_by plan inputs x.from old.past (taken_pieces old before.old.from)) (ended_by x.from (taken_pieces old before.old.from))
-      before.old link x.to refl of_x active less (done_more (port.LineOut b) old.pieces new.pieces m.counted) same before.goes (rw of_x.to at stood) in
-      let to : link.to ≡ target_of x.to = before.goes.same.to ∙ of_x.to in
-      let from : taken_pieces new link.from ≡ taken_pieces old before.old.from = ap (taken_pieces new) before.goes.same.from ∙ taken_same b old new same before.old.from in
-      rw (m.past, to, from) after;
-  last = λ inputs may i x link at_i has stop.
-      let before = link_before (λ link next. GaveFrame (gives_line old.past b link) (done_at old (port.LineOut b)) link next) old.links new.links i link m.writes.gave has in
-      let of_x = p.links i x before.old at_i before.known in
-      let done : x.stop ≡ old.past = stop ∙ m.past in
-      let off : gives_line old.past b before.old ≡ false = none_and (is_on old.past before.old) (is_to_line b before.old.to) (off_stopped x old.past before.old of_x done) in
-      let stood = h.last inputs (line_out_earlier plan was is b taken old new p m kept inputs may) i x before.old at_i before.known done in
-      rw (m.past, before.goes.other off) stood;
-}
+line_pipes : (plan : Plan) (first : BaysView) (b : ℕ) (taken : InputBytes) (old new : NodeView) (was is : BaysView) → LineOutMove b old (line_out_at was b) new (line_out_at is b)
+    → Step plan first taken taken (port.LineOut b) old new was is → PipeMoves plan taken (port.LineOut b) old new
+line_pipes plan first b taken old new was is m s inputs may i x link next at had has is_of active part stood =
+    let p = s.stands.plan_stands in
+    let k = taken_pieces old link.from in
+    let less : (number : ℕ) (slots : LineSlots) → x.to ≡ to_end.Line b number slots → done_at old (port.LineOut b) < slots_of slots.kind
+    = λ number slots to. omega (arith, many_of plan i b number slots x old p at to, ready_less plan old (port.LineOut b) p s.ready) in
+    let mine : is_to_line b (target_of x.to) ≡ true = ap (is_to_line b) (sym is_of.to) ∙ both_right (is_on old.past link) (is_to_line b link.to) part in
+    rw (taken_out (port.LineOut b) old new refl (done_but plan first taken taken (port.LineOut b) old new was is s) link.from, is_of.to)
+    (gave_pipe (own_input inputs x) x b old.past (done_at old (port.LineOut b)) (own_turn x old.past) (frames_by plan inputs x.from old.past k) (ended_by x.from k) old new link next x.to refl mine part less refl
+    (done_more (port.LineOut b) old.pieces new.pieces m.piece.counted) (m.writes.gave.each i link next had has) (rw is_of.to at stood))
 
 -- ---- the frame
 
@@ -159,54 +101,31 @@ one_more plan inputs b past k puts put less h is = record {
   ];
 }
 
--- ---- the lines
+-- ---- the line
 
-line_out_lines : (plan : Plan) (first : BaysView) (b : ℕ) (taken : InputBytes) (old new : NodeView) (was is : BaysView) → PlanStands plan old → IsReady old (port.LineOut b)
-    → LineOutMove b old (line_out_at was b) new (line_out_at is b) → OnlyLineOut b was is → EachLink Kept old.links new.links → PipesStand plan taken old
-    → LinesOut plan first taken old was → LinesOut plan first taken new is
-line_out_lines plan first b taken old new was is p r m only kept pipes h = record {
-  used = λ inputs may c line has u.
-      let before = line_out_earlier plan (line_out_at was b) (line_out_at is b) b taken old new p m kept inputs may in
-      elim (eqb_tells c b) [
-        | inl t ↦
-            let same : line ≡ m.next = one_at new.lines_out b line m.next (rw t.1 at has) m.moved.has in
-            let stood = h.used inputs before b m.line m.moved.had (ready_used plan old (port.LineOut b) p r) in
-            let made = stood.2 in
-            let frame = m.frame plan inputs p.accepted made.is_form (filled plan inputs b taken old p pipes before) in
-            let frames = one_more plan inputs b old.past (done_at old (port.LineOut b)) stood.0 m.writes.put (ready_less plan old (port.LineOut b) p r) stood.1 frame in
-            rw (t.1, same, m.past, done_more (port.LineOut b) old.pieces new.pieces m.counted)
-            (stood.0 ++ m.writes.put ∷ [], frames, m.writes.made (form_out plan b) (line_out_at first b) stood.0 made)
-        | inr t ↦
-            let has_old : HasLineOut old c line = sym (m.moved.others c t.1) ∙ has in
-            let done : done_at new (port.LineOut c) ≡ done_at old (port.LineOut c) = done_same (port.LineOut b) old.pieces new.pieces (port.LineOut c) m.counted r.within (λ e. t.1 (cc)) in
-            rw (only.line_out c t.1, done, m.past) (h.used inputs before c line has_old u)
-      ];
-  idle = λ c u. elim (eqb_tells c b) [
-    | inl t ↦ absurd (cc (ready_used plan old (port.LineOut b) p r, ap (λ c. uses plan (port.LineOut c)) t.1, u))
-    | inr t ↦ only.line_out c t.1 ∙ h.idle c u
-  ];
-}
+line_at : (plan : Plan) (first : BaysView) (b : ℕ) (taken : InputBytes) (old new : NodeView) (was is : BaysView) → (m : LineOutMove b old (line_out_at was b) new (line_out_at is b))
+    → Step plan first taken taken (port.LineOut b) old new was is → ((inputs : Inputs) → MayGive plan taken new inputs → MayGive plan taken old inputs) → LineOutAt plan first taken old was b
+    → PortStands plan first taken new is (port.LineOut b)
+line_at plan first b taken old new was is m s earlier h = λ inputs may line has used.
+    let p = s.stands.plan_stands in
+    let before = earlier inputs may in
+    let same : line ≡ m.next = one_at new.lines_out b line m.next has m.has in
+    let stood = h inputs before m.line m.had used in
+    let made = stood.2 in
+    let frame = m.frame plan inputs p.accepted made.is_form (filled plan inputs b taken old p s.stands.pipes before) in
+    let frames = one_more plan inputs b old.past (done_at old (port.LineOut b)) stood.0 m.writes.put (ready_less plan old (port.LineOut b) p s.ready) stood.1 frame in
+    rw (same, m.piece.past, done_more (port.LineOut b) old.pieces new.pieces m.piece.counted) (stood.0 ++ m.writes.put ∷ [], frames, m.writes.made (form_out plan b) (line_out_at first b) stood.0 made)
 
 -- ---- the moment
 
 pub line_out_moves : (plan : Plan) (first : BaysView) (taken : InputBytes) (b : ℕ) (old new : NodeView) (was is : BaysView) → is_ready old (port.LineOut b) ≡ true
-    → LineOutMove b old (line_out_at was b) new (line_out_at is b) → OnlyLineOut b was is → StandsAt plan first taken old was → Later plan first taken old new is
+    → LineOutMove b old (line_out_at was b) new (line_out_at is b) → OnlyPort (port.LineOut b) was is → StandsAt plan first taken old was → Later plan first taken old new is
 line_out_moves plan first taken b old new was is is_so m only h =
-    let r = ready old (port.LineOut b) is_so in
-    let p = h.plan_stands in
-    let kept : EachLink Kept old.links new.links = each_goes (λ link next. GaveFrame (gives_line old.past b link) (done_at old (port.LineOut b)) link next) Kept old.links new.links
-    (λ link next. gave_kept old.past b (done_at old (port.LineOut b)) link next) m.writes.gave in
-    let earlier = line_out_earlier plan (line_out_at was b) (line_out_at is b) b taken old new p m kept in
-    let same : (other : PortName) → other ≢ port.LineOut b → done_at new other ≡ done_at old other = λ other differ. done_same (port.LineOut b) old.pieces new.pieces other m.counted r.within differ in
-    record {
-      more = taken;
-      stands = record {
-        plan_stands = plan_counted plan (port.LineOut b) old new r m.counted m.turns m.past (each_goes Kept SameEntry old.links new.links (λ link next k. k.same) kept) p;
-        lines_in = lines_in_same plan first taken taken old new was is m.past (λ a. same (port.LineIn a) (λ e. cc)) m.lines_in (λ a. refl) (λ a. ap (λ l. get_or l a no_input) only.line_in) h.lines_in;
-        pipes = line_out_pipes plan (line_out_at was b) (line_out_at is b) b taken old new p r m kept h.pipes;
-        lines_out = line_out_lines plan first b taken old new was is p r m only kept h.pipes h.lines_out;
-        clients_in = clients_in_same plan first taken taken old new was is p kept m.past (λ n. same (port.ClientIn n) (λ e. cc)) (λ n. refl) (λ n. ap (λ l. get_or l n no_input) only.client_in) h.clients_in;
-        clients_out = clients_out_same plan first taken taken old new was is p kept earlier m.past (λ n. same (port.ClientOut n) (λ e. cc)) (λ n. ap (λ l. get_or l n no_output) only.client_out) h.clients_out;
-      };
-      earlier = earlier;
-    }
+    let links : EachLink (LinkMoved (port.LineOut b) old.past) old.links new.links = record {
+      count = m.writes.gave.count;
+      each = λ i link next had has. let g = m.writes.gave.each i link next had has in record { same = g.same; other = g.other; taking = λ e. g.taking; giving = λ e. absurd (cc) };
+    } in
+    let s : Step plan first taken taken (port.LineOut b) old new was is = record { stands = h; ready = ready old (port.LineOut b) is_so; piece = m.piece; links = links; only = only; line = λ a e. refl; client = λ n e. refl } in
+    let earlier : (inputs : Inputs) → MayGive plan taken new inputs → MayGive plan taken old inputs = λ inputs may. earlier_by plan first taken taken (port.LineOut b) old new was is s inputs may tt in
+    later_by plan first taken taken (port.LineOut b) old new was is s earlier (line_pipes plan first b taken old new was is m s)
+    (line_at plan first b taken old new was is m s earlier (h.ports (port.LineOut b)))

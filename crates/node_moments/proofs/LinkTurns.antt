@@ -1,5 +1,5 @@
 -- A connection, and a line, from one turn to the next.
-use Rattle.std.proofs.Common.{◌≡◌, ◌≢◌, ◌<◌, ◌≤◌, ◌+◌, ℕ, zero, suc, Bool, true, false, nat_lt, nat_le, List, [], ◌∷◌, Some, length, slice_get, get_or, arith, refl, sym, ap, subst, ◌∙◌}
+use Rattle.std.proofs.Common.{◌≡◌, ◌≢◌, ◌<◌, ◌≤◌, ◌+◌, ℕ, suc, Bool, true, false, nat_lt, nat_le, List, [], Some, slice_get, get_or, arith, refl, sym, ap, subst, ◌∙◌}
 use Rattle.std.specs.Prelude.{is_some}
 use Rattle.std.proofs.lemmas.Bool.Decides.{nat_tests}
 use Rattle.otn_base.specs.LineSlots.{LineSlots, slots_of}
@@ -21,7 +21,7 @@ use Rattle.device_model.specs.SoundPlans.{IsSoundEntry}
 use Rattle.device_model.specs.Through.{Inputs, of_client, of_signal, own_of, own_input}
 use Rattle.cross_matrix.specs.Parts.{IsInputOf}
 use Rattle.cross_matrix.specs.Pipes.{PipeView, PipeStands}
-use Rattle.node_links.specs.Links.{IsLinkOf, SameEntry, origin_of, is_on}
+use Rattle.node_links.specs.Links.{IsLinkOf, origin_of, is_on}
 use Rattle.node_links.specs.Moves.{LineEnds, Fences}
 use Rattle.node_links.specs.LinkEnds.{TurnsOver, whole_for}
 use Rattle.node_moments.specs.NodeMoves.{FenceMove}
@@ -31,25 +31,15 @@ use Rattle.turn_pieces.specs.Ports.{index_of}
 use Rattle.device_model.specs.TurnFrames.{frames_in}
 use Rattle.node_moments.specs.Stands.{PlanStands, frames_by, ended_by}
 use Rattle.node_links.specs.declared.link.Link.{Link}
+use Rattle.node_links.proofs.LinkLaws.{still_link}
 use Rattle.node_moments.proofs.Later.{shut_ports}
 use Rattle.turn_pieces.proofs.PiecesLeft.{shut_all, used_wanted}
+use Rattle.node_moments.proofs.Parts.{known_at as some_at}
 use Rattle.node_moments.proofs.Retired.{known_at}
 use Rattle.device_model.proofs.TurnFrames.{frames_none, frames_many, turn_frames}
 use Rattle.turn_pieces.proofs.UsedPorts.{used_within}
 
 -- ---- connections
-
--- the link of an entry stays one of it
-pub same_entry : (x : Connection) (old new : Link) → IsLinkOf x old → SameEntry old new → IsLinkOf x new
-same_entry x old new h s = record {
-  from = s.from ∙ h.from;
-  to = s.to ∙ h.to;
-  start = s.start ∙ h.start;
-  stop = s.stop ∙ h.stop;
-  retire = s.retire ∙ h.retire;
-  first = h.first;
-  pipe = s.pipe x h.pipe;
-}
 
 -- the connection of entry i, before and after the end of a turn
 pub record Turned (old : NodeView) (wholes : List Bool) (i : ℕ) (x : Connection) (link : Link) : Type 0 where
@@ -66,8 +56,8 @@ turned plan old new p m i x link at has =
     let b = known_at new.links old.links i link m.links.count has in
     let t = m.links.each i b.0 link b.1 has in
     let was = p.links i x b.0 at b.1 in
-    let mid = same_entry x b.0 t.between was t.fences.same in
-    record { before = b.0; had = b.1; turns = t; was = was; mid = mid; is = same_entry x t.between link mid t.starts.same }
+    let mid = still_link x b.0 t.between t.fences.same was in
+    record { before = b.0; had = b.1; turns = t; was = was; mid = mid; is = still_link x t.between link t.starts.same mid }
 
 -- one that started in an earlier turn is not touched by the start of this one
 pub not_started : (old : NodeView) (wholes : List Bool) (i : ℕ) (x : Connection) (link : Link) (t : Turned old wholes i x link) → x.start ≢ old.past + 1 + 1 → link ≡ t.turns.between
@@ -101,18 +91,13 @@ pub record UsedLine (old new : NodeView) (wholes : List Bool) (a : ℕ) : Type 0
   pub has : HasLineIn new a next
   pub ends : LineEnds line next (get_or wholes a false)
 
-within_at : (xs : List LineView) (i : ℕ) → i < length xs → (x : LineView) × (slice_get xs i ≡ Some x)
-within_at [] i less = absurd (omega arith)
-within_at (x ∷ xs) zero less = (x, refl)
-within_at (x ∷ xs) (suc i) less = within_at xs i (omega arith)
-
 line_within : (a : ℕ) → index_of (port.LineIn a) < 40 → a < 4
 line_within a h = grind (arith, nat_tests)
 
 pub used_line : (plan : Plan) (old new : NodeView) → PlanStands plan old → (m : FenceMove old new) → (a : ℕ) → uses plan (port.LineIn a) ≡ true → UsedLine old new m.wholes a
 used_line plan old new p m a used =
     let within : a < 4 = line_within a (used_within plan (port.LineIn a) p.accepted used) in
-    let line = within_at old.lines_in a (let four = m.lines in omega arith) in
+    let line = some_at old.lines_in a (let four = m.lines in omega arith) in
     let next = known_at old.lines_in new.lines_in a line.0 (sym m.count) line.1 in
     record { line = line.0; next = next.0; had = line.1; has = next.1; ends = m.used a line.0 next.0 (some_wanted plan old (port.LineIn a) p used) line.1 next.1 }
 

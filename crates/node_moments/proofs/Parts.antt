@@ -4,23 +4,18 @@ use Rattle.std.proofs.lemmas.Bool.Decides.{nat_tests, eqb_tells}
 use Rattle.std.proofs.lemmas.List.{get_or-set_same, get_or-set_other}
 use Rattle.std.proofs.lemmas.Option.{slice_get_within}
 use Rattle.otn_base.specs.declared.kind.PortName.{PortName}
-use Rattle.otn_base.specs.declared.kind.PortName.TheVariants as port
-use Rattle.otn_ports.specs.Views.{InView, OutView, BaysView, line_in_at, line_out_at, client_in_at, client_out_at}
 use Rattle.plan_file.specs.declared.connection.Connection.{Connection}
-use Rattle.plan_file.specs.declared.connection.FromEnd.TheVariants as from_end
-use Rattle.plan_file.specs.declared.connection.ToEnd.TheVariants as to_end
 use Rattle.plan_file.specs.declared.plan.Plan.{Plan}
 use Rattle.device_model.specs.Entries.{IsActive}
 use Rattle.device_model.specs.Moments.{uses, pieces_by}
-use Rattle.device_model.specs.Through.{Inputs, of_client}
-use Rattle.cross_matrix.specs.Parts.{MayShow}
 use Rattle.turn_pieces.specs.Ports.{index_of}
 use Rattle.turn_pieces.specs.Pieces.{wanted_of, is_open, IsCounted}
 use Rattle.node_links.specs.Links.{IsLinkOf, SameEntry, is_on}
-use Rattle.node_moments.specs.NodeView.{NodeView, HasLink, is_ready, done_at}
-use Rattle.node_moments.specs.Stands.{InputBytes, MayGive, PlanStands, LinesIn, LinesOut, ClientsIn, ClientsOut, ClientInAt, ClientOutAt}
+use Rattle.node_moments.specs.NodeView.{NodeView, is_ready, done_at}
+use Rattle.node_moments.specs.Stands.{PlanStands}
 use Rattle.node_links.specs.Moves.{EachLink}
 use Rattle.node_links.specs.declared.link.Link.{Link}
+use Rattle.node_links.proofs.LinkLaws.{still_link}
 use Rattle.turn_pieces.proofs.PieceCounts.{opened}
 use Rattle.turn_pieces.proofs.UsedPorts.{pieces_unused, pieces_used}
 
@@ -66,23 +61,6 @@ link_after Goes olds news i old each is =
 
 pub each_goes : (Goes Then : Link → Link → Type 0) (olds news : List Link) → ((old new : Link) → Goes old new → Then old new) → EachLink Goes olds news → EachLink Then olds news
 each_goes Goes Then olds news then h = record { count = h.count; each = λ i old new at_old at_new. then old new (h.each i old new at_old at_new) }
-
--- a piece of a line: a connection is of the same entry, and what is known of its clients is as it was
-pub record Kept (old new : Link) : Type 0 where
-  pub same : SameEntry old new
-  pub text : (x : Connection) (n : ℕ) → IsLinkOf x old → x.from ≡ from_end.Client n → new.pipe.taking ≡ old.pipe.taking
-  pub receiver : (x : Connection) (n : ℕ) → IsLinkOf x old → x.to ≡ to_end.Client n → new.pipe.giving ≡ old.pipe.giving
-
-pub link_of_entry : (x : Connection) (old new : Link) → SameEntry old new → IsLinkOf x old → IsLinkOf x new
-link_of_entry x old new s is = record {
-  from = s.from ∙ is.from;
-  to = s.to ∙ is.to;
-  start = s.start ∙ is.start;
-  stop = s.stop ∙ is.stop;
-  retire = s.retire ∙ is.retire;
-  first = is.first;
-  pipe = s.pipe x is.pipe;
-}
 
 -- the link of a connection is active where the connection is
 pub on_active : (x : Connection) (past : ℕ) (link : Link) → IsLinkOf x link → IsActive x past → is_on past link ≡ true
@@ -158,67 +136,5 @@ plan_counted plan name old new r c turns past each h = record {
   ];
   over = λ ended other. absurd (let going = r.going in omega (arith, past, turns));
   count = each.count ∙ h.count;
-  links = λ i x link at_i has. let b = link_before SameEntry old.links new.links i link each has in link_of_entry x b.old link b.goes (h.links i x b.old at_i b.known);
+  links = λ i x link at_i has. let b = link_before SameEntry old.links new.links i link each has in still_link x b.old link b.goes (h.links i x b.old at_i b.known);
 }
-
-pub lines_in_same : (plan : Plan) (first : BaysView) (taken more : InputBytes) (old new : NodeView) (was is : BaysView) → new.past ≡ old.past
-    → ((a : ℕ) → done_at new (port.LineIn a) ≡ done_at old (port.LineIn a)) → new.lines_in ≡ old.lines_in → ((a : ℕ) → more.line a ≡ taken.line a)
-    → ((a : ℕ) → line_in_at is a ≡ line_in_at was a) → LinesIn plan first taken old was → LinesIn plan first more new is
-lines_in_same plan first taken more old new was is past done lines same place h = record {
-  used = λ a line has u. rw (place a, same a, done a, past) (h.used a line (rw lines at has) u);
-  idle = λ a u. place a ∙ h.idle a u;
-}
-
-pub lines_out_same : (plan : Plan) (first : BaysView) (taken more : InputBytes) (old new : NodeView) (was is : BaysView)
-    → ((inputs : Inputs) → MayGive plan more new inputs → MayGive plan taken old inputs) → new.past ≡ old.past
-    → ((b : ℕ) → done_at new (port.LineOut b) ≡ done_at old (port.LineOut b)) → new.lines_out ≡ old.lines_out
-    → ((b : ℕ) → line_out_at is b ≡ line_out_at was b) → LinesOut plan first taken old was → LinesOut plan first more new is
-lines_out_same plan first taken more old new was is earlier past done lines place h = record {
-  used = λ inputs may b line has u. rw (past, done b, place b) (h.used inputs (earlier inputs may) b line (rw lines at has) u);
-  idle = λ b u. place b ∙ h.idle b u;
-}
-
--- what is said of a client and its connection, where the part at the client is as it was
-client_in_kept : (first now : InView) (taken : List ℕ) (x : Connection) (past pieces : ℕ) (old new : Link) → new.pipe.taking ≡ old.pipe.taking → ClientInAt first now taken x past pieces old
-    → ClientInAt first now taken x past pieces new
-client_in_kept first now taken x past pieces old new same h = record { was = h.was; stands = rw same h.stands; place = h.place }
-
-client_out_kept : (inputs : Inputs) (first now : OutView) (x : Connection) (past pieces : ℕ) (old new : Link) → new.pipe.giving ≡ old.pipe.giving → ClientOutAt inputs first now x past pieces old
-    → ClientOutAt inputs first now x past pieces new
-client_out_kept inputs first now x past pieces old new same h = record { was = h.was; stands = rw same h.stands; place = h.place }
-
-pub clients_in_same : (plan : Plan) (first : BaysView) (taken more : InputBytes) (old new : NodeView) (was is : BaysView) → PlanStands plan old → EachLink Kept old.links new.links → new.past ≡ old.past
-    → ((n : ℕ) → done_at new (port.ClientIn n) ≡ done_at old (port.ClientIn n)) → ((n : ℕ) → more.client n ≡ taken.client n)
-    → ((n : ℕ) → client_in_at is n ≡ client_in_at was n) → ClientsIn plan first taken old was → ClientsIn plan first more new is
-clients_in_same plan first taken more old new was is p kept past done same place h = record {
-  started = λ i n x link at_i has from start.
-      let b = link_before Kept old.links new.links i link kept has in
-      let s = h.started i n x b.old at_i b.known from (rw past at start) in
-      let text = b.goes.text x n (p.links i x b.old at_i b.known) from in
-      rw (past, done n, same n, place n) (client_in_kept (client_in_at first n) (client_in_at was n) (taken.client n) x old.past (done_at old (port.ClientIn n)) b.old link text s);
-  waits = λ i n x at_i from later. rw (place n, same n) (h.waits i n x at_i from (rw past at later));
-  idle = λ n u. place n ∙ h.idle n u;
-}
-
-pub clients_out_same : (plan : Plan) (first : BaysView) (taken more : InputBytes) (old new : NodeView) (was is : BaysView) → PlanStands plan old → EachLink Kept old.links new.links
-    → ((inputs : Inputs) → MayGive plan more new inputs → MayGive plan taken old inputs) → new.past ≡ old.past
-    → ((n : ℕ) → done_at new (port.ClientOut n) ≡ done_at old (port.ClientOut n)) → ((n : ℕ) → client_out_at is n ≡ client_out_at was n)
-    → ClientsOut plan first taken old was → ClientsOut plan first more new is
-clients_out_same plan first taken more old new was is p kept earlier past done place h = record {
-  started = λ inputs may i n x link at_i has to start.
-      let b = link_before Kept old.links new.links i link kept has in
-      let s = h.started inputs (earlier inputs may) i n x b.old at_i b.known to (rw past at start) in
-      let receiver = b.goes.receiver x n (p.links i x b.old at_i b.known) to in
-      rw (past, done n, place n) (client_out_kept inputs (client_out_at first n) (client_out_at was n) x old.past (done_at old (port.ClientOut n)) b.old link receiver s);
-  waits = λ i n x at_i to later. place n ∙ h.waits i n x at_i to (rw past at later);
-  idle = λ n u. place n ∙ h.idle n u;
-}
-
--- what the clients may show from then on they might show before
-pub clients_may : (plan : Plan) (taken more : InputBytes) (old new : NodeView) (inputs : Inputs) → PlanStands plan old → EachLink Kept old.links new.links → ((n : ℕ) → more.client n ≡ taken.client n)
-    → new.past ≡ old.past → MayGive plan more new inputs → (i n : ℕ) (x : Connection) (link : Link) → slice_get plan.connections i ≡ Some x → HasLink old i link → x.from ≡ from_end.Client n
-    → x.start ≤ old.past + 1 → MayShow link.pipe.taking (taken.client n) (of_client (inputs.client n))
-clients_may plan taken more old new inputs p kept same past may i n x link at_i has from start =
-    let a = link_after Kept old.links new.links i link kept has in
-    let text = a.goes.text x n (p.links i x link at_i has) from in
-    rw (text, same n) at (may.clients i n x a.new at_i a.known from (rw past start))

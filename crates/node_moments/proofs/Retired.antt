@@ -1,25 +1,20 @@
 -- Which places are emptied at the end of a turn.
-use Rattle.std.proofs.Common.{◌≡◌, ◌<◌, ◌+◌, ℕ, zero, suc, Bool, true, false, ◌&&◌, ◌||◌, ◌==◌, nat_le, List, [], ◌∷◌, Some, length, slice_get, arith, refl, sym, ap, ◌∙◌}
-use Rattle.std.proofs.lemmas.Bool.{eq-eqb}
+use Rattle.std.proofs.Common.{◌≡◌, ◌<◌, ◌≤◌, ◌+◌, ℕ, zero, suc, Bool, true, false, ◌&&◌, ◌||◌, ◌==◌, nat_le, List, [], ◌∷◌, Some, length, slice_get, arith, refl, sym, ap, ◌∙◌}
 use Rattle.std.proofs.lemmas.Bool.Decides.{nat_tests}
 use Rattle.std.specs.List.{list_any}
+use Rattle.otn_base.specs.declared.kind.PortName.{PortName}
 use Rattle.otn_base.specs.declared.kind.PortName.TheVariants as port
 use Rattle.plan_file.specs.declared.connection.Connection.{Connection}
-use Rattle.plan_file.specs.declared.connection.FromEnd.{FromEnd}
-use Rattle.plan_file.specs.declared.connection.FromEnd.TheVariants as from_end
-use Rattle.plan_file.specs.declared.connection.ToEnd.{ToEnd}
-use Rattle.plan_file.specs.declared.connection.ToEnd.TheVariants as to_end
 use Rattle.plan_file.specs.declared.plan.Plan.{Plan}
-use Rattle.device_model.specs.Entries.{is_from_client as comes_from, is_to_client as goes_to}
-use Rattle.device_model.specs.Moments.{uses, is_retired}
-use Rattle.device_model.proofs.SoundPlans.{sound_plan}
-use Rattle.node_links.specs.Links.{IsLinkOf, origin_of, target_of}
+use Rattle.device_model.specs.Moments.{touches, uses, is_retired}
+use Rattle.node_links.specs.Links.{IsLinkOf}
 use Rattle.node_links.specs.Moves.{is_from_client, is_to_client}
 use Rattle.node_links.specs.Retiring.{ends_here, retires_in, retires_out}
 use Rattle.node_moments.specs.NodeView.{NodeView, HasLink}
 use Rattle.node_moments.specs.Stands.{PlanStands}
 use Rattle.node_links.specs.declared.link.Link.{Link}
 use Rattle.device_model.proofs.ConnectionPorts.{uses_none}
+use Rattle.node_moments.proofs.LinkPorts.{is_client_port, joins, joins_as, sole}
 
 -- ---- some connection of a list, which ends and passes a test
 
@@ -65,12 +60,12 @@ one_passes ends passes (x ∷ links) (suc i) link at is alone =
     ∙ ap (λ b. b || some_passes ends passes links) (and_false (ends x))
     ∙ one_passes ends passes links i link at is (λ j other e t. let s = alone (suc j) other e t in omega arith)
 
-retires_some : (past n : ℕ) (links : List Link) → retires_in past n links ≡ some_passes (ends_here past) (λ link. is_from_client n link.from) links
+pub retires_some : (past n : ℕ) (links : List Link) → retires_in past n links ≡ some_passes (ends_here past) (joins (port.ClientIn n)) links
 unfolding retires_in
 retires_some past n [] = refl
 retires_some past n (link ∷ links) = ap (λ b. (ends_here past link && is_from_client n link.from) || b) (retires_some past n links)
 
-retires_some_out : (past n : ℕ) (links : List Link) → retires_out past n links ≡ some_passes (ends_here past) (λ link. is_to_client n link.to) links
+pub retires_some_out : (past n : ℕ) (links : List Link) → retires_out past n links ≡ some_passes (ends_here past) (joins (port.ClientOut n)) links
 unfolding retires_out
 retires_some_out past n [] = refl
 retires_some_out past n (link ∷ links) = ap (λ b. (ends_here past link && is_to_client n link.to) || b) (retires_some_out past n links)
@@ -84,74 +79,31 @@ known_at (a ∷ xs) [] i x len at = absurd (omega arith)
 known_at (a ∷ xs) (b ∷ ys) zero x len at = (b, refl)
 known_at (a ∷ xs) (b ∷ ys) (suc i) x len at = known_at xs ys i x (omega arith) at
 
-same_from : (n : ℕ) (from : FromEnd) → is_from_client n (origin_of from) ≡ comes_from n from
-same_from n (from_end.Line a number slots) = refl
-same_from n (from_end.Client m) = refl
-same_from n (from_end.Signal s) = refl
-
-same_to : (n : ℕ) (to : ToEnd) → is_to_client n (target_of to) ≡ goes_to n to
-same_to n (to_end.Line b number slots) = refl
-same_to n (to_end.Client m) = refl
-
-pub is_client : (n : ℕ) (from : FromEnd) → comes_from n from ≡ true → from ≡ from_end.Client n
-is_client n (from_end.Line a number slots) h = absurd (cc)
-is_client n (from_end.Client m) h = let e : m ≡ n = grind (arith, nat_tests) in ap from_end.Client e
-is_client n (from_end.Signal s) h = absurd (cc)
-
-is_client_out : (n : ℕ) (to : ToEnd) → goes_to n to ≡ true → to ≡ to_end.Client n
-is_client_out n (to_end.Line b number slots) h = absurd (cc)
-is_client_out n (to_end.Client m) h = let e : m ≡ n = grind (arith, nat_tests) in ap to_end.Client e
-
 -- of the entry of a link
 pub entry_at : (plan : Plan) (node : NodeView) (i : ℕ) (link : Link) → PlanStands plan node → HasLink node i link → (x : Connection) × ((slice_get plan.connections i ≡ Some x) × IsLinkOf x link)
 entry_at plan node i link p at = let x = known_at node.links plan.connections i link p.count at in (x.0, (x.1, p.links i x.0 link x.1 at))
 
-pub from_as : (n : ℕ) (x : Connection) (link : Link) → IsLinkOf x link → is_from_client n link.from ≡ comes_from n x.from
-from_as n x link is = ap (is_from_client n) is.from ∙ same_from n x.from
-
-to_as : (n : ℕ) (x : Connection) (link : Link) → IsLinkOf x link → is_to_client n link.to ≡ goes_to n x.to
-to_as n x link is = ap (is_to_client n) is.to ∙ same_to n x.to
-
 ends_as : (past : ℕ) (x : Connection) (link : Link) → IsLinkOf x link → ends_here past link ≡ (x.retire && (x.stop == past + 1))
 ends_as past x link is = ap (λ b. b && (link.stop == past + 1)) is.retire ∙ ap (λ s. x.retire && (s == past + 1)) is.stop
 
+-- what is so of some connection at a client is so of the one that the plan has there
+pub sole_passes : (ends : Link → Bool) (plan : Plan) (node : NodeView) (name : PortName) (i : ℕ) (x : Connection) (link : Link) → is_client_port name ≡ true → PlanStands plan node → slice_get plan.connections i ≡ Some x
+    → HasLink node i link → touches name x ≡ true → some_passes ends (joins name) node.links ≡ ends link
+sole_passes ends plan node name i x link client p at has touched =
+    one_passes ends (joins name) node.links i link has (joins_as name x link (p.links i x link at has) ∙ touched) (λ j other there t.
+    let e = entry_at plan node j other p there in
+    sole plan name j i e.0 x p.accepted client e.1.0 at (sym (joins_as name e.0 other e.1.1) ∙ t) touched)
+
+-- and of none where the plan has none
+pub idle_passes : (ends : Link → Bool) (plan : Plan) (node : NodeView) (name : PortName) → PlanStands plan node → uses plan name ≡ false → some_passes ends (joins name) node.links ≡ false
+idle_passes ends plan node name p unused = none_passes ends (joins name) node.links (λ i link has.
+    let e = entry_at plan node i link p has in
+    joins_as name e.0 link e.1.1 ∙ uses_none plan name i e.0 e.1.0 unused)
+
 -- A client's connection alone empties its place.
-pub client_retires : (plan : Plan) (node : NodeView) (i n : ℕ) (x : Connection) (link : Link) → PlanStands plan node → slice_get plan.connections i ≡ Some x → HasLink node i link → x.from ≡ from_end.Client n
-    → retires_in node.past n node.links ≡ (x.retire && (x.stop == node.past + 1))
-client_retires plan node i n x link p at has from =
-    let is = p.links i x link at has in
-    let here : is_from_client n link.from ≡ true = from_as n x link is ∙ ap (comes_from n) from ∙ eq-eqb n n refl in
-    retires_some node.past n node.links
-    ∙ one_passes (ends_here node.past) (λ l. is_from_client n l.from) node.links i link has here (λ j other there t.
-    let e = entry_at plan node j other p there in
-    (sound_plan plan p.accepted).clients_in j i n e.0 x e.1.0 at (is_client n e.0.from (sym (from_as n e.0 other e.1.1) ∙ t)) from)
-    ∙ ends_as node.past x link is
-
-pub client_retires_out : (plan : Plan) (node : NodeView) (i n : ℕ) (x : Connection) (link : Link) → PlanStands plan node → slice_get plan.connections i ≡ Some x → HasLink node i link → x.to ≡ to_end.Client n
-    → retires_out node.past n node.links ≡ (x.retire && (x.stop == node.past + 1))
-client_retires_out plan node i n x link p at has to =
-    let is = p.links i x link at has in
-    let here : is_to_client n link.to ≡ true = to_as n x link is ∙ ap (goes_to n) to ∙ eq-eqb n n refl in
-    retires_some_out node.past n node.links
-    ∙ one_passes (ends_here node.past) (λ l. is_to_client n l.to) node.links i link has here (λ j other there t.
-    let e = entry_at plan node j other p there in
-    (sound_plan plan p.accepted).clients_out j i n e.0 x e.1.0 at (is_client_out n e.0.to (sym (to_as n e.0 other e.1.1) ∙ t)) to)
-    ∙ ends_as node.past x link is
-
--- and one that no connection uses is not emptied
-pub idle_retires : (plan : Plan) (node : NodeView) (n : ℕ) → PlanStands plan node → uses plan (port.ClientIn n) ≡ false → retires_in node.past n node.links ≡ false
-idle_retires plan node n p unused =
-    retires_some node.past n node.links
-    ∙ none_passes (ends_here node.past) (λ l. is_from_client n l.from) node.links (λ i link has.
-    let e = entry_at plan node i link p has in
-    from_as n e.0 link e.1.1 ∙ uses_none plan (port.ClientIn n) i e.0 e.1.0 unused)
-
-pub idle_retires_out : (plan : Plan) (node : NodeView) (n : ℕ) → PlanStands plan node → uses plan (port.ClientOut n) ≡ false → retires_out node.past n node.links ≡ false
-idle_retires_out plan node n p unused =
-    retires_some_out node.past n node.links
-    ∙ none_passes (ends_here node.past) (λ l. is_to_client n l.to) node.links (λ i link has.
-    let e = entry_at plan node i link p has in
-    to_as n e.0 link e.1.1 ∙ uses_none plan (port.ClientOut n) i e.0 e.1.0 unused)
+pub client_retires : (plan : Plan) (node : NodeView) (name : PortName) (i : ℕ) (x : Connection) (link : Link) → is_client_port name ≡ true → PlanStands plan node → slice_get plan.connections i ≡ Some x → HasLink node i link
+    → touches name x ≡ true → some_passes (ends_here node.past) (joins name) node.links ≡ (x.retire && (x.stop == node.past + 1))
+client_retires plan node name i x link client p at has touched = sole_passes (ends_here node.past) plan node name i x link client p at has touched ∙ ends_as node.past x link (p.links i x link at has)
 
 -- ---- turn by turn
 
@@ -172,3 +124,7 @@ not_retired x past h = let late : nat_le x.stop past ≡ false = grind (arith, n
 
 pub not_ending : (x : Connection) (past : ℕ) → past + 1 < x.stop → (x.retire && (x.stop == past + 1)) ≡ false
 not_ending x past h = let late : (x.stop == past + 1) ≡ false = grind (arith, nat_tests) in rw late (and_false x.retire)
+
+-- and from then on where it says so
+pub at_stop : (x : Connection) (past : ℕ) → x.stop ≤ past → is_retired x past ≡ x.retire
+at_stop x past over = let late : nat_le x.stop past ≡ true = grind (arith, nat_tests) in rw late (and_true x.retire)

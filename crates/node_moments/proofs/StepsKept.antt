@@ -1,16 +1,19 @@
 -- What holds of every node holds after a piece.
-use Rattle.std.proofs.Common.{◌≡◌, ◌≢◌, ◌⊎◌, ◌<◌, ◌+◌, ℕ, zero, suc, Bool, true, false, nat_lt, List, [], ◌∷◌, Some, length, slice_get, set, arith, refl, sym, ap, ◌∙◌, inl, inr}
-use Rattle.std.proofs.lemmas.Bool.Decides.{nat_tests, eqb_tells}
+use Rattle.std.proofs.Common.{◌≡◌, ◌≢◌, ◌⊎◌, ◌<◌, ◌+◌, ℕ, zero, suc, Bool, true, false, nat_lt, List, [], ◌∷◌, Some, length, slice_get, set, arith, refl, sym, ap, subst, ◌∙◌, inl, inr}
+use Rattle.std.specs.Prelude.{⊤}
+use Rattle.std.proofs.lemmas.Bool.Decides.{nat_tests}
 use Rattle.otn_base.specs.LineSlots.{slots_of}
 use Rattle.otn_base.specs.declared.kind.PortName.{PortName}
 use Rattle.otn_base.specs.declared.kind.PortName.TheVariants as port
+use Rattle.otn_ports.specs.Views.{InView, OutView}
 use Rattle.line_side.specs.LineOutput.{LineOutView}
 use Rattle.line_side.specs.LineStands.{LineView}
 use Rattle.node_moments.specs.NodeView.{NodeView, HasLineIn, HasLineOut, LineCount, IsNode, done_at, is_ready, ready_number}
-use Rattle.turn_pieces.specs.Pieces.{PiecesView, wanted_of, done_of, is_open, open_count, IsCounted}
-use Rattle.node_links.specs.declared.link.Link.{Link}
+use Rattle.node_moments.specs.Steps.NodeMoves.{OnePiece, LineInMove, LineOutMove}
+use Rattle.turn_pieces.specs.Pieces.{wanted_of, is_open, open_count}
 use Rattle.node_moments.proofs.Later.{ready_open}
-use Rattle.node_moments.proofs.Parts.{ready}
+use Rattle.node_moments.proofs.LinkPorts.{same_port}
+use Rattle.node_moments.proofs.Parts.{one_at, ready}
 use Rattle.turn_pieces.proofs.PieceCounts.{done_more, done_same, wants_same}
 use Rattle.turn_pieces.proofs.PiecesLeft.{most_counted}
 
@@ -35,13 +38,6 @@ set_count [] (suc i) y = refl
 set_count (z ∷ zs) zero y = refl
 set_count (z ∷ zs) (suc i) y = ap suc (set_count zs i y)
 
--- what was set is what is there
-set_is : {A : Type 0} (xs : List A) (i : ℕ) (x y z : A) → slice_get xs i ≡ Some x → slice_get (set xs i y) i ≡ Some z → y ≡ z
-set_is xs i x y z e h = some_same y z (sym (set_here xs i x y e) ∙ h)
-  where
-    some_same : {A : Type 0} (y z : A) → Some y ≡ Some z → y ≡ z
-    some_same y z e = cc
-
 -- ---- a line that is ready has a piece to do
 
 fewer : (pieces done wants slots : ℕ) → pieces ≡ done → done < wants → (wants ≡ 0) ⊎ (wants ≡ slots) → pieces < slots
@@ -61,82 +57,53 @@ frames_left b node line h is has =
 
 -- ---- after a piece
 
-line_same : (m n : ℕ) → port.LineIn m ≡ port.LineIn n → m ≡ n
-line_same m n e = cc
+-- what is then left to show of its own line
+abbrev pub KeptAt : NodeView → PortName → Type 0
+KeptAt node (port.LineIn a) = (line : LineView) → HasLineIn node a line → LineCount (wanted_of node.pieces (port.LineIn a)) (done_at node (port.LineIn a)) line
+KeptAt node (port.LineOut b) = (line : LineOutView) → HasLineOut node b line → (wanted_of node.pieces (port.LineOut b) ≡ 0) ⊎ (wanted_of node.pieces (port.LineOut b) ≡ slots_of line.form.kind)
+KeptAt node (port.ClientIn n) = ⊤
+KeptAt node (port.ClientOut n) = ⊤
 
--- of an input line
-pub line_in_kept : (a : ℕ) (old : NodeView) (pieces : PiecesView) (line next : LineView) (links : List Link) → IsNode old → is_ready old (port.LineIn a) ≡ true → HasLineIn old a line
-    → IsCounted (port.LineIn a) old.pieces pieces → next.pieces ≡ line.pieces + 1 → next.kind ≡ line.kind
-    → IsNode (record { turns = old.turns; past = old.past; pieces = pieces; lines_in = set old.lines_in a next; lines_out = old.lines_out; links = links })
-line_in_kept a old pieces line next links h is has c more kind =
-    let r = ready old (port.LineIn a) is in
-    let count = h.counts a line has in
-    let moved : LineCount (wanted_of pieces (port.LineIn a)) (done_of pieces (port.LineIn a)) next = record {
-      pieces = more ∙ ap (λ n. n + 1) count.pieces ∙ sym (done_more (port.LineIn a) old.pieces pieces c);
-      want = rw (wants_same (port.LineIn a) old.pieces pieces (port.LineIn a) c, kind) count.want;
-    } in
-    record {
-      turns = h.turns;
-      few = h.few;
-      lines_in = set_count old.lines_in a next ∙ h.lines_in;
-      lines_out = h.lines_out;
-      counts = λ m now at. elim (eqb_tells m a) [
-        | inl t ↦
-            let here : next ≡ now = set_is old.lines_in a line next now has (rw t.1 at at) in
-            rw (t.1, ← here) moved
-        | inr t ↦ other_count m now t.1 (sym (set_there old.lines_in a m next t.1) ∙ at)
-      ];
-      frames = λ b out at. rw (wants_same (port.LineIn a) old.pieces pieces (port.LineOut b) c) (h.frames b out at);
-      most = most_counted (port.LineIn a) old.pieces pieces (ready_open old (port.LineIn a) is) c h.most;
-    }
-  where
-    other_count : (m : ℕ) (now : LineView) → m ≢ a → HasLineIn old m now → LineCount (wanted_of pieces (port.LineIn m)) (done_of pieces (port.LineIn m)) now
-    other_count m now differ at =
-        let r = ready old (port.LineIn a) is in
-        let was = h.counts m now at in
-        record {
-          pieces = was.pieces ∙ sym (done_same (port.LineIn a) old.pieces pieces (port.LineIn m) c r.within (λ e. differ (line_same m a e)));
-          want = rw (wants_same (port.LineIn a) old.pieces pieces (port.LineIn m) c) was.want;
-        }
-
--- of any other port
-pub other_kept : (name : PortName) (old : NodeView) (pieces : PiecesView) (outs : List LineOutView) (links : List Link) → IsNode old → is_ready old name ≡ true → ((a : ℕ) → port.LineIn a ≢ name)
-    → IsCounted name old.pieces pieces → length outs ≡ 4
-    → ((b : ℕ) (line : LineOutView) → slice_get outs b ≡ Some line → (wanted_of old.pieces (port.LineOut b) ≡ 0) ⊎ (wanted_of old.pieces (port.LineOut b) ≡ slots_of line.form.kind))
-    → IsNode (record { turns = old.turns; past = old.past; pieces = pieces; lines_in = old.lines_in; lines_out = outs; links = links })
-other_kept name old pieces outs links h is differ c len frames =
+pub piece_kept : (name : PortName) (old new : NodeView) → IsNode old → is_ready old name ≡ true → OnePiece name old new → length new.lines_in ≡ length old.lines_in → length new.lines_out ≡ length old.lines_out → KeptAt new name
+    → IsNode new
+piece_kept name old new h is m ins outs mine =
     let r = ready old name is in
     record {
-      turns = h.turns;
-      few = h.few;
-      lines_in = h.lines_in;
-      lines_out = len;
-      counts = λ a line has.
-          let count = h.counts a line has in
-          record {
-            pieces = count.pieces ∙ sym (done_same name old.pieces pieces (port.LineIn a) c r.within (differ a));
-            want = rw (wants_same name old.pieces pieces (port.LineIn a) c) count.want;
-          };
-      frames = λ b line at. rw (wants_same name old.pieces pieces (port.LineOut b) c) (frames b line at);
-      most = most_counted name old.pieces pieces (ready_open old name is) c h.most;
+      turns = rw m.turns h.turns;
+      few = rw (m.turns, m.past) h.few;
+      lines_in = ins ∙ h.lines_in;
+      lines_out = outs ∙ h.lines_out;
+      counts = λ a line has. elim (same_port name (port.LineIn a) r.within) [
+        | inl e ↦ let here : KeptAt new (port.LineIn a) = subst (λ p. KeptAt new p) (sym e) mine in here line has
+        | inr d ↦
+            let was = h.counts a line (sym (m.lines_in a d) ∙ has) in
+            record {
+              pieces = was.pieces ∙ sym (done_same name old.pieces new.pieces (port.LineIn a) m.counted r.within d);
+              want = rw (wants_same name old.pieces new.pieces (port.LineIn a) m.counted) was.want;
+            }
+      ];
+      frames = λ b line has. elim (same_port name (port.LineOut b) r.within) [
+        | inl e ↦ let here : KeptAt new (port.LineOut b) = subst (λ p. KeptAt new p) (sym e) mine in here line has
+        | inr d ↦ rw (wants_same name old.pieces new.pieces (port.LineOut b) m.counted) (h.frames b line (sym (m.lines_out b d) ∙ has))
+      ];
+      most = most_counted name old.pieces new.pieces (ready_open old name is) m.counted h.most;
     }
 
--- of a client
-pub client_kept : (name : PortName) (old : NodeView) (pieces : PiecesView) (links : List Link) → IsNode old → is_ready old name ≡ true → ((a : ℕ) → port.LineIn a ≢ name) → IsCounted name old.pieces pieces
-    → IsNode (record { turns = old.turns; past = old.past; pieces = pieces; lines_in = old.lines_in; lines_out = old.lines_out; links = links })
-client_kept name old pieces links h is differ c = other_kept name old pieces old.lines_out links h is differ c h.lines_out h.frames
+pub line_in_kept : (a : ℕ) (old new : NodeView) (was is : InView) → IsNode old → is_ready old (port.LineIn a) ≡ true → LineInMove a old was new is → length new.lines_in ≡ length old.lines_in
+    → length new.lines_out ≡ length old.lines_out → IsNode new
+line_in_kept a old new was is h ready m ins outs = piece_kept (port.LineIn a) old new h ready m.piece ins outs (λ line has.
+    let same : line ≡ m.next = one_at new.lines_in a line m.next has m.has in
+    let count = h.counts a m.line m.had in
+    rw same (record {
+      pieces = m.reads.pieces ∙ ap (λ n. n + 1) count.pieces ∙ sym (done_more (port.LineIn a) old.pieces new.pieces m.piece.counted);
+      want = rw (wants_same (port.LineIn a) old.pieces new.pieces (port.LineIn a) m.piece.counted, m.reads.kind) count.want;
+    }))
 
--- of an output line, which keeps its form
-pub line_out_kept : (b : ℕ) (old : NodeView) (pieces : PiecesView) (line next : LineOutView) (links : List Link) → IsNode old → is_ready old (port.LineOut b) ≡ true → HasLineOut old b line
-    → IsCounted (port.LineOut b) old.pieces pieces → next.form ≡ line.form
-    → IsNode (record { turns = old.turns; past = old.past; pieces = pieces; lines_in = old.lines_in; lines_out = set old.lines_out b next; links = links })
-line_out_kept b old pieces line next links h is has c form =
-    other_kept (port.LineOut b) old pieces (set old.lines_out b next) links h is (λ a e. absurd (cc)) c (set_count old.lines_out b next ∙ h.lines_out) (λ m now at. elim (eqb_tells m b) [
-      | inl t ↦
-          let here : next ≡ now = set_is old.lines_out b line next now has (rw t.1 at at) in
-          rw (t.1, ← here, form) (h.frames b line has)
-      | inr t ↦ h.frames m now (sym (set_there old.lines_out b m next t.1) ∙ at)
-    ])
+pub line_out_kept : (b : ℕ) (old new : NodeView) (was is : OutView) → IsNode old → is_ready old (port.LineOut b) ≡ true → LineOutMove b old was new is → length new.lines_in ≡ length old.lines_in
+    → length new.lines_out ≡ length old.lines_out → IsNode new
+line_out_kept b old new was is h ready m ins outs = piece_kept (port.LineOut b) old new h ready m.piece ins outs (λ line has.
+    let same : line ≡ m.next = one_at new.lines_out b line m.next has m.has in
+    rw (same, m.writes.form, wants_same (port.LineOut b) old.pieces new.pieces (port.LineOut b) m.piece.counted) (h.frames b m.line m.had))
 
 -- ---- ports that are ready
 

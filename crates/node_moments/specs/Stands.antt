@@ -1,8 +1,9 @@
 -- API: where a node and its bays stand: in turn past + 1 of a plan, after so many pieces of each port. No definition of
 -- a part names two ports.
-use Rattle.std.specs.Prelude.{◌≡◌, ◌<◌, ◌≤◌, ◌+◌, ◌*◌, ℕ, Bool, true, false, ◌==◌, Option, None, Some, List, [], length, slice_get}
+use Rattle.std.specs.Prelude.{◌≡◌, ◌<◌, ◌≤◌, ◌+◌, ◌*◌, ℕ, Bool, true, false, ◌==◌, None, Some, List, [], length, slice_get}
 use Rattle.otn_base.specs.declared.kind.PortName.{PortName}
 use Rattle.otn_base.specs.declared.kind.PortName.TheVariants as port
+use Rattle.otn_ports.specs.Places.{place_at}
 use Rattle.otn_ports.specs.Views.{InView, OutView, BaysView, line_in_at, line_out_at, client_in_at, client_out_at}
 use Rattle.line_side.specs.LineForm.{size_of}
 use Rattle.line_side.specs.LineOutput.{LineOutView, FramePut, LineMade}
@@ -12,12 +13,11 @@ use Rattle.plan_file.specs.Answer.{fault_in}
 use Rattle.plan_file.specs.declared.connection.Connection.{Connection}
 use Rattle.plan_file.specs.declared.connection.FromEnd.{FromEnd}
 use Rattle.plan_file.specs.declared.connection.FromEnd.TheVariants as from_end
-use Rattle.plan_file.specs.declared.connection.ToEnd.TheVariants as to_end
 use Rattle.plan_file.specs.declared.plan.Plan.{Plan}
 use Rattle.tributary_model.specs.Places.{Taken}
 use Rattle.device_model.specs.Entries.{form_in, form_out, own_turn, IsActive}
 use Rattle.device_model.specs.LineFiles.{AreFramesOf}
-use Rattle.device_model.specs.Moments.{uses, pieces_of, turns_done, is_retired}
+use Rattle.device_model.specs.Moments.{touches, uses, pieces_of, turns_done, is_retired}
 use Rattle.device_model.specs.RetiredPlaces.{after_retire, out_after_retire}
 use Rattle.device_model.specs.Through.{Inputs, of_client, own_input}
 use Rattle.device_model.specs.TurnFrames.{frames_in}
@@ -69,14 +69,6 @@ pub record PlanStands (plan : Plan) (node : NodeView) : Type 0 where
   pub links : (i : ℕ) (x : Connection) (link : Link) → slice_get plan.connections i ≡ Some x → HasLink node i link
       → IsLinkOf x link
 
--- each input line that is used has given what its pieces want, and was asked nothing more
-pub record LinesIn (plan : Plan) (first : BaysView) (taken : InputBytes) (node : NodeView)
-    (now : BaysView) : Type 0 where
-  pub used : (a : ℕ) (line : LineView) → HasLineIn node a line → uses plan (port.LineIn a) ≡ true
-      → LineStands (form_in plan a) (line_in_at first a) (line_in_at now a) (taken.line a) node.past line
-      × (line.pieces ≡ done_at node (port.LineIn a))
-  pub idle : (a : ℕ) → uses plan (port.LineIn a) ≡ false → line_in_at now a ≡ line_in_at first a
-
 -- Each active connection stands where its own entry and its own input have it. So does each whose last turn is the last
 -- that is done: all of its turns are done.
 pub record PipesStand (plan : Plan) (taken : InputBytes) (node : NodeView) : Type 0 where
@@ -90,65 +82,69 @@ pub record PipesStand (plan : Plan) (taken : InputBytes) (node : NodeView) : Typ
       → slice_get plan.connections i ≡ Some x → HasLink node i link
       → x.stop ≡ node.past → PipeStands x (own_input inputs x) (own_turn x node.past) [] false 0 link.pipe
 
--- of each output line that is used the first so many frames were made, and were due to its place
-pub record LinesOut (plan : Plan) (first : BaysView) (taken : InputBytes) (node : NodeView)
-    (now : BaysView) : Type 0 where
-  pub used : (inputs : Inputs) → MayGive plan taken node inputs → (b : ℕ) (line : LineOutView) → HasLineOut node b line
-      → uses plan (port.LineOut b) ≡ true
-      → (puts : List FramePut) × AreFramesOf plan inputs b
-      (size_of (form_out plan b) * node.past + done_at node (port.LineOut b)) puts
-      × LineMade b (form_out plan b) (line_out_at first b) (line_out_at now b) puts line
-  pub idle : (b : ℕ) → uses plan (port.LineOut b) ≡ false → line_out_at now b ≡ line_out_at first b
+-- ---- the ports
 
--- each client input has given what its turns want, from the start of its connection on; it was retired where its
--- connection says so
-pub record ClientInAt (first now : InView) (taken : List ℕ) (x : Connection) (past pieces : ℕ)
-    (link : Link) : Type 0 where
-  pub was : InView
-  pub stands : ClientInStands x first was taken (turns_done x past pieces) link.pipe.taking
-  pub place : now ≡ after_retire (is_retired x past) was
+-- an input line that is used has given what its pieces want, and was asked nothing more
+abbrev pub LineInAt : Plan → (first : BaysView) → InputBytes → NodeView → (now : BaysView) → (a : ℕ) → Type 0
+LineInAt plan first taken node now a = (line : LineView) → HasLineIn node a line → uses plan (port.LineIn a) ≡ true
+    → LineStands (form_in plan a) (line_in_at first a) (line_in_at now a) (taken.line a) node.past line
+    × (line.pieces ≡ done_at node (port.LineIn a))
 
--- of all client inputs: as above once the connection has started, untouched before
-pub record ClientsIn (plan : Plan) (first : BaysView) (taken : InputBytes) (node : NodeView)
-    (now : BaysView) : Type 0 where
-  pub started : (i n : ℕ) (x : Connection) (link : Link) → slice_get plan.connections i ≡ Some x → HasLink node i link
-      → x.from ≡ from_end.Client n → x.start ≤ node.past + 1
-      → ClientInAt (client_in_at first n) (client_in_at now n) (taken.client n) x node.past
-      (done_at node (port.ClientIn n)) link
-  pub waits : (i n : ℕ) (x : Connection) → slice_get plan.connections i ≡ Some x → x.from ≡ from_end.Client n
+-- of an output line that is used the first so many frames were made, and were due to its place
+abbrev pub LineOutAt : Plan → (first : BaysView) → InputBytes → NodeView → (now : BaysView) → (b : ℕ) → Type 0
+LineOutAt plan first taken node now b = (inputs : Inputs) → MayGive plan taken node inputs → (line : LineOutView)
+    → HasLineOut node b line → uses plan (port.LineOut b) ≡ true
+    → (puts : List FramePut) × AreFramesOf plan inputs b
+    (size_of (form_out plan b) * node.past + done_at node (port.LineOut b)) puts
+    × LineMade b (form_out plan b) (line_out_at first b) (line_out_at now b) puts line
+
+-- The place of a client, input or output, as its part of a connection has it by the turns that are done; it was emptied
+-- where the connection says so.
+pub record ClientAt {P : Type 0} (empties : Bool → P → P) (Part : P → ℕ → Type 0) (now : P) (x : Connection)
+    (past pieces : ℕ) : Type 0 where
+  pub was : P
+  pub stands : Part was (turns_done x past pieces)
+  pub place : now ≡ empties (is_retired x past) was
+
+-- of the connection at a client's port: as above once it has started; until then the place is as it was first, and
+-- nothing was taken of it
+pub record ClientStands {P : Type 0} (plan : Plan) (node : NodeView) (name : PortName) (first now : P)
+    (empties : Bool → P → P) (Part : Connection → Link → P → ℕ → Type 0) (taken : List ℕ) : Type 0 where
+  pub started : (i : ℕ) (x : Connection) (link : Link) → slice_get plan.connections i ≡ Some x → HasLink node i link
+      → touches name x ≡ true → x.start ≤ node.past + 1
+      → ClientAt empties (Part x link) now x node.past (done_at node name)
+  pub waits : (i : ℕ) (x : Connection) → slice_get plan.connections i ≡ Some x → touches name x ≡ true
       → node.past + 1 < x.start
-      → (client_in_at now n ≡ client_in_at first n) × (taken.client n ≡ [])
-  pub idle : (n : ℕ) → uses plan (port.ClientIn n) ≡ false → client_in_at now n ≡ client_in_at first n
+      → (now ≡ first) × (taken ≡ [])
 
--- what arrived at each client output was due to its place as text
-pub record ClientOutAt (inputs : Inputs) (first now : OutView) (x : Connection) (past pieces : ℕ)
-    (link : Link) : Type 0 where
-  pub was : OutView
-  pub stands : ClientOutStands x (own_input inputs x) first was (turns_done x past pieces) link.pipe.giving
-  pub place : now ≡ out_after_retire (is_retired x past) was
+-- a client input has given what so many turns want
+abbrev pub GivesText : (first : BaysView) → InputBytes → (n : ℕ) → Connection → Link → InView → ℕ → Type 0
+GivesText first taken n x link was k = ClientInStands x (client_in_at first n) was (taken.client n) k link.pipe.taking
 
--- of all client outputs: likewise
-pub record ClientsOut (plan : Plan) (first : BaysView) (taken : InputBytes) (node : NodeView)
-    (now : BaysView) : Type 0 where
-  pub started : (inputs : Inputs) → MayGive plan taken node inputs → (i n : ℕ) (x : Connection) (link : Link)
-      → slice_get plan.connections i ≡ Some x → HasLink node i link
-      → x.to ≡ to_end.Client n → x.start ≤ node.past + 1
-      → ClientOutAt inputs (client_out_at first n) (client_out_at now n) x node.past
-      (done_at node (port.ClientOut n)) link
-  pub waits : (i n : ℕ) (x : Connection) → slice_get plan.connections i ≡ Some x → x.to ≡ to_end.Client n
-      → node.past + 1 < x.start → client_out_at now n ≡ client_out_at first n
-  pub idle : (n : ℕ) → uses plan (port.ClientOut n) ≡ false → client_out_at now n ≡ client_out_at first n
+-- what arrived at a client output in so many turns was due to its place as text, whatever the inputs may turn out to be
+abbrev pub GetsText : Plan → (first : BaysView) → InputBytes → NodeView → (n : ℕ) → Connection → Link → OutView → ℕ
+    → Type 0
+GetsText plan first taken node n x link was k = (inputs : Inputs) → MayGive plan taken node inputs
+    → ClientOutStands x (own_input inputs x) (client_out_at first n) was k link.pipe.giving
+
+-- a port of each kind
+abbrev pub PortStands : Plan → (first : BaysView) → InputBytes → NodeView → (now : BaysView) → PortName → Type 0
+PortStands plan first taken node now (port.LineIn a) = LineInAt plan first taken node now a
+PortStands plan first taken node now (port.LineOut b) = LineOutAt plan first taken node now b
+PortStands plan first taken node now (port.ClientIn n) = ClientStands plan node (port.ClientIn n) (client_in_at first n)
+    (client_in_at now n) after_retire (GivesText first taken n) (taken.client n)
+PortStands plan first taken node now (port.ClientOut n) = ClientStands plan node (port.ClientOut n)
+    (client_out_at first n) (client_out_at now n) out_after_retire (GetsText plan first taken node n) []
 
 -- The node and its bays stand at a moment of the plan: in turn node.past + 1, after so many pieces of each port. The
--- bays were first so, and these bytes were taken of the inputs since.
+-- bays were first so, and these bytes were taken of the inputs since. The place of a port that is not used is as it was
+-- first.
 pub record StandsAt (plan : Plan) (first : BaysView) (taken : InputBytes) (node : NodeView)
     (now : BaysView) : Type 0 where
   pub plan_stands : PlanStands plan node
-  pub lines_in : LinesIn plan first taken node now
   pub pipes : PipesStand plan taken node
-  pub lines_out : LinesOut plan first taken node now
-  pub clients_in : ClientsIn plan first taken node now
-  pub clients_out : ClientsOut plan first taken node now
+  pub ports : (name : PortName) → PortStands plan first taken node now name
+  pub idle : (name : PortName) → uses plan name ≡ false → place_at now name ≡ place_at first name
 
 -- From a moment on to one of the same plan, of whose inputs `more` are all bytes taken by then; which moment, the other
 -- clauses say: what the inputs may turn out to be from then on they might be before.

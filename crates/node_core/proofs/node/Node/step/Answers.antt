@@ -10,8 +10,7 @@ use Rattle.node_moments.specs.NodeView.{is_ready}
 use Rattle.node_moments.specs.Steps.NodeMoves.{LineInMove, LineOutMove, ClientInMove, ClientOutMove}
 use Rattle.node_moments.proofs.LineInMoves.{line_in_moves}
 use Rattle.node_moments.proofs.LineOutMoves.{line_out_moves}
-use Rattle.node_moments.proofs.ClientInMoves.{client_in_moves}
-use Rattle.node_moments.proofs.ClientOutMoves.{client_out_moves}
+use Rattle.node_moments.proofs.ClientMoves.{client_in_moves, client_out_moves}
 use Rattle.node_core.proofs.node.Node.step.Goals as goal
 
 pub returns-in-LineIn-clause-only : goal.returns-in-LineIn-clause-only
@@ -29,7 +28,7 @@ returns-in-LineIn-clause-stands g c = λ plan first taken h.
     let was : line_in_at old n ≡ in_view g.P.Source c.line_in_mut.result.now = line_in_seen g.P.Source g.K.Sink c.args.bays.now n _ c.line_in_mut.ensures.value in
     let now : line_in_at new n ≡ in_view g.P.Source c.step_line_in.new.place = line_in_set g.P.Source g.K.Sink c.args.bays.now n _ c.step_line_in.new.place c.line_in_mut.ensures.value in
     let move : LineInMove n c.args.self.now (line_in_at old n) c.step_line_in.new.self (line_in_at new n) = rw (was, now) c.step_line_in.ensures in
-    line_in_moves plan first taken n c.args.self.now c.step_line_in.new.self old new ready move (only_line_in g.P.Source g.K.Sink c.args.bays.now n c.step_line_in.new.place) h
+    line_in_moves plan first taken n c.args.self.now c.step_line_in.new.self old new ready move (only_line_in_port n old new (only_line_in g.P.Source g.K.Sink c.args.bays.now n c.step_line_in.new.place)) h
 
 pub returns-in-LineOut-clause-only : goal.returns-in-LineOut-clause-only
 returns-in-LineOut-clause-only g c =
@@ -46,7 +45,7 @@ returns-in-LineOut-clause-stands g c = λ plan first taken h.
     let was : line_out_at old n ≡ out_view g.K.Sink c.line_out_mut.result.now = line_out_seen g.P.Source g.K.Sink c.args.bays.now n _ c.line_out_mut.ensures.value in
     let now : line_out_at new n ≡ out_view g.K.Sink c.step_line_out.new.place = line_out_set g.P.Source g.K.Sink c.args.bays.now n _ c.step_line_out.new.place c.line_out_mut.ensures.value in
     let move : LineOutMove n c.args.self.now (line_out_at old n) c.step_line_out.new.self (line_out_at new n) = rw (was, now) c.step_line_out.ensures in
-    line_out_moves plan first taken n c.args.self.now c.step_line_out.new.self old new ready move (only_line_out g.P.Source g.K.Sink c.args.bays.now n c.step_line_out.new.place) h
+    line_out_moves plan first taken n c.args.self.now c.step_line_out.new.self old new ready move (only_line_out_port n old new (only_line_out g.P.Source g.K.Sink c.args.bays.now n c.step_line_out.new.place)) h
 
 pub returns-in-ClientIn-clause-only : goal.returns-in-ClientIn-clause-only
 returns-in-ClientIn-clause-only g c =
@@ -63,7 +62,7 @@ returns-in-ClientIn-clause-stands g c = λ plan first taken h.
     let was : client_in_at old n ≡ in_view g.P.Source c.client_in_mut.result.now = client_in_seen g.P.Source g.K.Sink c.args.bays.now n _ c.client_in_mut.ensures.value in
     let now : client_in_at new n ≡ in_view g.P.Source c.step_client_in.new.place = client_in_set g.P.Source g.K.Sink c.args.bays.now n _ c.step_client_in.new.place c.client_in_mut.ensures.value in
     let move : ClientInMove n c.args.self.now (client_in_at old n) c.step_client_in.new.self (client_in_at new n) = rw (was, now) c.step_client_in.ensures in
-    client_in_moves plan first taken n c.args.self.now c.step_client_in.new.self old new ready move (only_client_in g.P.Source g.K.Sink c.args.bays.now n c.step_client_in.new.place) h
+    client_in_moves plan first taken n c.args.self.now c.step_client_in.new.self old new ready move (only_client_in_port n old new (only_client_in g.P.Source g.K.Sink c.args.bays.now n c.step_client_in.new.place)) h
 
 pub returns-in-ClientOut-clause-only : goal.returns-in-ClientOut-clause-only
 returns-in-ClientOut-clause-only g c =
@@ -80,4 +79,4 @@ returns-in-ClientOut-clause-stands g c = λ plan first taken h.
     let was : client_out_at old n ≡ out_view g.K.Sink c.client_out_mut.result.now = client_out_seen g.P.Source g.K.Sink c.args.bays.now n _ c.client_out_mut.ensures.value in
     let now : client_out_at new n ≡ out_view g.K.Sink c.step_client_out.new.place = client_out_set g.P.Source g.K.Sink c.args.bays.now n _ c.step_client_out.new.place c.client_out_mut.ensures.value in
     let move : ClientOutMove n c.args.self.now (client_out_at old n) c.step_client_out.new.self (client_out_at new n) = rw (was, now) c.step_client_out.ensures in
-    client_out_moves plan first taken n c.args.self.now c.step_client_out.new.self old new ready move (only_client_out g.P.Source g.K.Sink c.args.bays.now n c.step_client_out.new.place) h
+    client_out_moves plan first taken n c.args.self.now c.step_client_out.new.self old new ready move (only_client_out_port n old new (only_client_out g.P.Source g.K.Sink c.args.bays.now n c.step_client_out.new.place)) h

@@ -1,4 +1,4 @@
-use Rattle.std.proofs.Common.{◌≡◌, ◌<◌, true, Some, set, length, slice_get, refl, sym, subst, arith}
+use Rattle.std.proofs.Common.{◌≡◌, ◌<◌, true, Some, set, length, slice_get, refl, sym, ap, subst, arith}
 use Rattle.std.proofs.lemmas.Option.{slice_get_read}
 use Rattle.otn_base.specs.declared.kind.PortName.TheVariants as port
 use Rattle.otn_ports.specs.InPlace.{in_view}
@@ -8,7 +8,7 @@ use Rattle.node_moments.specs.NodeView.{NodeView, is_ready}
 use Rattle.node_moments.proofs.Later.{ready_open}
 use Rattle.node_moments.proofs.Parts.{ready}
 use Rattle.turn_pieces.proofs.PortNumbers.{line_in_index}
-use Rattle.node_moments.proofs.StepsKept.{set_here, set_there, line_unspent, line_in_kept}
+use Rattle.node_moments.proofs.StepsKept.{set_here, set_there, set_count, line_unspent, line_in_kept}
 use Rattle.node_core.proofs.node.Node.step_line_in.Goals as goal
 
 pub count-requires : goal.count-requires
@@ -51,8 +51,21 @@ invariant_of-self g c =
     let within : c.args.a < length node.lines_in = omega (arith, less, c.self.invariant.lines_in) in
     let had : slice_get node.lines_in c.args.a ≡ Some line = slice_get_read node.lines_in (length node.lines_in) c.args.a line refl within c.index_mut.ensures.value in
     let next : NodeView = record { turns = v.turns; past = v.past; pieces = c.count.new.self; lines_in = set v.lines_in.items c.args.a c.read_line.new.line; lines_out = v.lines_out.items; links = c.read_line.new.links.items } in
-    let reads = c.read_line.ensures in
-    line_in_kept c.args.a node c.count.new.self line c.read_line.new.line c.read_line.new.links.items c.self.invariant is had c.count.ensures reads.pieces reads.kind
+    let move : LineInMove c.args.a node (in_view g.P.Source c.args.place.now) next (in_view g.P.Source c.read_line.new.place) = record {
+      piece = record {
+        turns = refl;
+        past = refl;
+        counted = c.count.ensures;
+        lines_in = λ m differ. set_there node.lines_in c.args.a m c.read_line.new.line (λ e. differ (ap port.LineIn e));
+        lines_out = λ b differ. refl;
+      };
+      line = line;
+      next = c.read_line.new.line;
+      had = had;
+      has = set_here node.lines_in c.args.a line c.read_line.new.line had;
+      reads = c.read_line.ensures;
+    } in
+    line_in_kept c.args.a node next (in_view g.P.Source c.args.place.now) (in_view g.P.Source c.read_line.new.place) c.self.invariant is move (set_count node.lines_in c.args.a c.read_line.new.line) refl
 
 pub returns : goal.returns
 returns g c =
@@ -65,19 +78,18 @@ returns g c =
     let within : c.args.a < length node.lines_in = omega (arith, less, c.self.invariant.lines_in) in
     let had : slice_get node.lines_in c.args.a ≡ Some line = slice_get_read node.lines_in (length node.lines_in) c.args.a line refl within c.index_mut.ensures.value in
     let next : NodeView = record { turns = v.turns; past = v.past; pieces = c.count.new.self; lines_in = set v.lines_in.items c.args.a c.read_line.new.line; lines_out = v.lines_out.items; links = c.read_line.new.links.items } in
-    let reads = c.read_line.ensures in
     let move : LineInMove c.args.a node (in_view g.P.Source c.args.place.now) next (in_view g.P.Source c.read_line.new.place) = record {
-      turns = refl;
-      past = refl;
-      counted = c.count.ensures;
+      piece = record {
+        turns = refl;
+        past = refl;
+        counted = c.count.ensures;
+        lines_in = λ m differ. set_there node.lines_in c.args.a m c.read_line.new.line (λ e. differ (ap port.LineIn e));
+        lines_out = λ b differ. refl;
+      };
       line = line;
       next = c.read_line.new.line;
-      moved = record {
-        had = had;
-        has = set_here node.lines_in c.args.a line c.read_line.new.line had;
-        others = λ m differ. set_there node.lines_in c.args.a m c.read_line.new.line differ;
-      };
-      lines_out = refl;
-      reads = reads;
+      had = had;
+      has = set_here node.lines_in c.args.a line c.read_line.new.line had;
+      reads = c.read_line.ensures;
     } in
     subst (λ (n : NodeView). LineInMove c.args.a n (in_view g.P.Source c.args.place.now) next (in_view g.P.Source c.read_line.new.place)) same move

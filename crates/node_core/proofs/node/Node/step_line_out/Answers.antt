@@ -1,4 +1,4 @@
-use Rattle.std.proofs.Common.{◌≡◌, ◌<◌, true, Some, set, length, slice_get, refl, sym, subst, arith}
+use Rattle.std.proofs.Common.{◌≡◌, ◌<◌, true, Some, set, length, slice_get, refl, sym, ap, subst, arith}
 use Rattle.std.proofs.lemmas.Option.{slice_get_read}
 use Rattle.otn_base.specs.declared.kind.PortName.TheVariants as port
 use Rattle.otn_ports.specs.OutPlace.{out_view}
@@ -9,7 +9,7 @@ use Rattle.node_moments.specs.NodeView.{NodeView, is_ready, done_at}
 use Rattle.node_moments.proofs.Later.{ready_open}
 use Rattle.node_moments.proofs.Parts.{ready}
 use Rattle.turn_pieces.proofs.PortNumbers.{line_out_index}
-use Rattle.node_moments.proofs.StepsKept.{set_here, set_there, frames_left, line_out_kept}
+use Rattle.node_moments.proofs.StepsKept.{set_here, set_there, set_count, frames_left, line_out_kept}
 use Rattle.node_core.proofs.node.Node.step_line_out.Goals as goal
 
 pub count-requires : goal.count-requires
@@ -53,7 +53,22 @@ invariant_of-self g c =
     let had : slice_get node.lines_out c.args.b ≡ Some line = slice_get_read node.lines_out (length node.lines_out) c.args.b line refl within c.index_mut.ensures.value in
     let next : NodeView = record { turns = v.turns; past = v.past; pieces = c.count.new.self; lines_in = v.lines_in.items; lines_out = set v.lines_out.items c.args.b c.write_line.new.line; links = c.write_line.new.links.items } in
     let frame : FrameWritten v.past c.args.b (done_at node (port.LineOut c.args.b)) c.index_mut.result.now (out_view g.K.Sink c.args.place.now) v.links.items c.write_line.new.line (out_view g.K.Sink c.write_line.new.place) c.write_line.new.links.items = rw c.done-n.ensures at c.write_line.ensures in
-    line_out_kept c.args.b node c.count.new.self line c.write_line.new.line c.write_line.new.links.items c.self.invariant is had c.count.ensures frame.writes.form
+    let move : LineOutMove c.args.b node (out_view g.K.Sink c.args.place.now) next (out_view g.K.Sink c.write_line.new.place) = record {
+      piece = record {
+        turns = refl;
+        past = refl;
+        counted = c.count.ensures;
+        lines_in = λ a differ. refl;
+        lines_out = λ m differ. set_there node.lines_out c.args.b m c.write_line.new.line (λ e. differ (ap port.LineOut e));
+      };
+      line = line;
+      next = c.write_line.new.line;
+      had = had;
+      has = set_here node.lines_out c.args.b line c.write_line.new.line had;
+      writes = frame.writes;
+      frame = frame.due;
+    } in
+    line_out_kept c.args.b node next (out_view g.K.Sink c.args.place.now) (out_view g.K.Sink c.write_line.new.place) c.self.invariant is move refl (set_count node.lines_out c.args.b c.write_line.new.line)
 
 pub returns : goal.returns
 returns g c =
@@ -68,17 +83,17 @@ returns g c =
     let next : NodeView = record { turns = v.turns; past = v.past; pieces = c.count.new.self; lines_in = v.lines_in.items; lines_out = set v.lines_out.items c.args.b c.write_line.new.line; links = c.write_line.new.links.items } in
     let frame : FrameWritten v.past c.args.b (done_at node (port.LineOut c.args.b)) c.index_mut.result.now (out_view g.K.Sink c.args.place.now) v.links.items c.write_line.new.line (out_view g.K.Sink c.write_line.new.place) c.write_line.new.links.items = rw c.done-n.ensures at c.write_line.ensures in
     let move : LineOutMove c.args.b node (out_view g.K.Sink c.args.place.now) next (out_view g.K.Sink c.write_line.new.place) = record {
-      turns = refl;
-      past = refl;
-      counted = c.count.ensures;
+      piece = record {
+        turns = refl;
+        past = refl;
+        counted = c.count.ensures;
+        lines_in = λ a differ. refl;
+        lines_out = λ m differ. set_there node.lines_out c.args.b m c.write_line.new.line (λ e. differ (ap port.LineOut e));
+      };
       line = line;
       next = c.write_line.new.line;
-      moved = record {
-        had = had;
-        has = set_here node.lines_out c.args.b line c.write_line.new.line had;
-        others = λ m differ. set_there node.lines_out c.args.b m c.write_line.new.line differ;
-      };
-      lines_in = refl;
+      had = had;
+      has = set_here node.lines_out c.args.b line c.write_line.new.line had;
       writes = frame.writes;
       frame = frame.due;
     } in
