@@ -100,9 +100,10 @@ fn behind<'a>(word: &str, words: &'a [String]) -> (bool, &'a [String])
     ensures words { texts words.now ≡ (if result.0 then word.now ∷ [] else []) ++ texts result.1.now }
     ensures other { result.0 ≡ false → (rest : List (List ℕ)) → texts words.now ≡ word.now ∷ rest → ⊥ }
 {
-    if let [first, rest @ ..] = words
-        && first.as_str() == word
-    {
+    let [first, rest @ ..] = words else {
+        return (false, words);
+    };
+    if first.as_str() == word {
         return (true, rest);
     }
     (false, words)

@@ -1,4 +1,4 @@
-use Rattle.std.proofs.Common.{◌≡◌, ◌==◌, ◌<◌, sym, true, get_or, length, arith}
+use Rattle.std.proofs.Common.{◌==◌, sym, get_or, length, arith}
 use Rattle.std.proofs.lemmas.Bool.{eq-eqb}
 use Rattle.std.proofs.lemmas.List.Sums.{position_or_len_is}
 use Rattle.otn_view.proofs.tributary.comma_in.Goals as goal

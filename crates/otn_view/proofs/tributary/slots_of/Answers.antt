@@ -1,4 +1,4 @@
-use Rattle.std.proofs.Common.{rules, take, refl, ◌∙◌}
+use Rattle.std.proofs.Common.{rules, refl, ◌∙◌}
 use Rattle.otn_view.proofs.SlotTexts.{all_read, behind_comma, list_read, no_last_slot, no_slot, read_on}
 use Rattle.otn_view.proofs.tributary.slots_of.Goals as goal
 
