@@ -1,4 +1,5 @@
-"""What a line file carries, turn by turn: the numbers behind the picture and the map. Nothing of this is proved.
+"""What a line file carries, turn by turn: a reader of docs/FORMATS.md that is not proved. Pictures and maps have from
+it what otn_view does not tell (viewtext.py), and all numbers where otn_view is not built.
 
 The rules are those of docs/FORMATS.md: alignment of a line, justification, a sink's turns, client frame, GFP.
 Frames and bytes are counted from 0, turns, slots, ports, rows and columns from 1.
@@ -582,7 +583,7 @@ def from_words(words, *switches):
         raise SystemExit(f'{a.line}: {fault.strerror}')
     if a.plan:
         with open(a.plan) as plan:
-            viewtext.lay_over(line, plan.read(), side, a.side_in if side == 'in' else a.side_out or 0)
+            line.sources = viewtext.lay_over(line, plan.read(), side, a.side_in if side == 'in' else a.side_out or 0)
     else:
-        viewtext.lay_over(line)
+        line.sources = viewtext.lay_over(line)
     return line, [getattr(a, name) for name in switches]

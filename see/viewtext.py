@@ -14,6 +14,11 @@ BUILT = pathlib.Path(__file__).resolve().parent.parent / 'crates/otn_view/out/ot
 ALIGNED = {'whole': 'ok', 'lost': 'lost', 'none': 'hunt', 'end': 'end'}
 PAIRS = ('frames', 'lead-in', 'fas', 'sm', 'pm')
 
+# whose the numbers are, as pictures and maps say it
+TOLD = ('otn_view, proved: turns, FAS, SM and PM counts, MSI, states, Cm, CnD, bytes emitted',
+        'this script, not proved: traces, MFAS counts, damaged messages, client packets, AIS, LCK, OCI')
+READ = ('this script, not proved: all numbers, since otn_view is not built',)
+
 
 def program():
     """otn_view: as OTN_VIEW says, as it was built here, or as it stands on the path; None where there is none."""
@@ -76,8 +81,10 @@ def lay(line, text):
 
 
 def lay_over(line, plan=None, side='in', number=0):
-    """Puts what otn_view tells of the line in the place of what was read of it: by this plan, or as it was read."""
+    """Puts what otn_view tells of the line in the place of what was read of it: by this plan, or as it was read.
+    Answers whose the numbers are."""
     if program() is None:
         print('otn_view is not built: these numbers are not proved (see/README.md)', file=sys.stderr)
-        return
+        return READ
     lay(line, text_of(line.path, plan_of(line) if plan is None else plan, side, number))
+    return TOLD

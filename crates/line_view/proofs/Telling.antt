@@ -1,15 +1,18 @@
 -- What is told of a tributary.
-use Rattle.std.proofs.Common.{◌≡◌, ◌+◌, ◌-◌, ◌∙◌, ℕ, zero, suc, List, [], ◌∷◌, Option, length, refl, ap, sym, length-append}
+use Rattle.std.proofs.Common.{◌≡◌, ◌+◌, ◌-◌, ◌∙◌, ℕ, zero, suc, List, [], ◌∷◌, ◌++◌, Option, length, map, take, drop, refl, ap, sym, length-append}
 use Rattle.std.specs.Prelude.{if◌then◌else◌}
-use Rattle.std.specs.List.{flat_map}
+use Rattle.std.specs.List.{concat, flat_map}
+use Rattle.std.proofs.Math.Seq.{take-append_seam, drop-append_seam}
+use Rattle.line_side.specs.LineFile.{mfas_of}
+use Rattle.line_commands.specs.PullReport.{pull_report, tributary, turns_of as turns_pulled}
 use Rattle.tributary_model.specs.Carries.{past_of}
 use Rattle.tributary_model.specs.Laws.{IsTributary}
 use Rattle.tributary_model.specs.Places.{Tributary, View}
 use Rattle.device_model.proofs.LineViews.{same_view}
 use Rattle.device_model.specs.Agreements.{AgreeOnTributary}
 use Rattle.device_model.specs.LineViews.{view_at, views_until, emitted_at}
-use Rattle.line_view.specs.Laws.{bytes_told, TellsTheSame, TellsAllBytes}
-use Rattle.line_view.specs.ViewText.{Showing, is_shown, showing_text, told_of, told_at, tributary_line, views_from}
+use Rattle.line_view.specs.Laws.{bytes_told, each_told, pieces_of, TellsTheSame, TellsAllBytes, TellsPull, TellsWhatPullWrites}
+use Rattle.line_view.specs.ViewText.{Showing, is_shown, showing_text, told_of, told_at, tributary_line, turns_of, views_from}
 use Rattle.line_view.proofs.Begun.{views_all}
 
 -- turns that show the same, from one turn on
@@ -41,3 +44,45 @@ all_bytes own given (t ∷ turns) =
 
 pub tells_all_bytes : TellsAllBytes
 tells_all_bytes = all_bytes
+
+-- ---- what `pull` writes
+
+-- the lengths of pieces cut what they are together into them
+cut_back : (f : ℕ → List ℕ) (turns : List ℕ) → pieces_of (map (λ t. length (f t)) turns) (flat_map f turns) ≡ map f turns
+cut_back f [] = refl
+cut_back f (t ∷ turns) =
+    ap (λ first. first ∷ pieces_of (map (λ i. length (f i)) turns) (drop (length (f t)) (f t ++ flat_map f turns))) (take-append_seam (f t) (flat_map f turns))
+    ∙ ap (λ rest. f t ∷ pieces_of (map (λ i. length (f i)) turns) rest) (drop-append_seam (f t) (flat_map f turns))
+    ∙ ap (λ pieces. f t ∷ pieces) (cut_back f turns)
+
+joined : (f : ℕ → List ℕ) (turns : List ℕ) → concat (map f turns) ≡ flat_map f turns
+joined f [] = refl
+joined f (t ∷ turns) = ap (λ rest. f t ++ rest) (joined f turns)
+
+each_length : (own : Tributary) (given : List ℕ) (turns : List ℕ) → map (λ t. (told_at own 0 given t).bytes) turns ≡ map (λ t. length (emitted_at own given t)) turns
+each_length own given [] = refl
+each_length own given (t ∷ turns) =
+    ap (λ n. n ∷ map (λ i. (told_at own 0 given i).bytes) turns) (told_bytes own given t)
+    ∙ ap (λ ns. length (emitted_at own given t) ∷ ns) (each_length own given turns)
+
+-- the turns of `pull` are those of a view
+pulled : (port : ℕ) (slots given : List ℕ)
+    → pull_report (tributary port slots) given ≡ flat_map (emitted_at (tributary port slots) given) (turns_of 8 (mfas_of given))
+unfolding pull_report turns_pulled turns_of
+pulled port slots given = refl
+
+tells_turns : (port : ℕ) (slots given : List ℕ)
+    → pieces_of (each_told (tributary port slots) given) (pull_report (tributary port slots) given)
+    ≡ map (emitted_at (tributary port slots) given) (turns_of 8 (mfas_of given))
+tells_turns port slots given =
+    let own = tributary port slots in
+    let turns = turns_of 8 (mfas_of given) in
+    ap (λ lengths. pieces_of lengths (pull_report own given)) (each_length own given turns)
+    ∙ ap (pieces_of (map (λ t. length (emitted_at own given t)) turns)) (pulled port slots given)
+    ∙ cut_back (emitted_at own given) turns
+
+pub tells_what_pull_writes : TellsWhatPullWrites
+tells_what_pull_writes = λ port slots given. record {
+  turns = tells_turns port slots given;
+  together = ap concat (tells_turns port slots given) ∙ joined (emitted_at (tributary port slots) given) (turns_of 8 (mfas_of given)) ∙ sym (pulled port slots given);
+}

@@ -1,11 +1,13 @@
 -- API: what is proved of views.
-use Rattle.std.specs.Prelude.{◌≡◌, ◌+◌, ℕ, List, [], ◌∷◌, length}
-use Rattle.std.specs.List.{flat_map}
+use Rattle.std.specs.Prelude.{◌≡◌, ◌+◌, ℕ, List, [], ◌∷◌, length, map, take, drop}
+use Rattle.std.specs.List.{concat, flat_map}
+use Rattle.line_side.specs.LineFile.{mfas_of}
+use Rattle.line_commands.specs.PullReport.{pull_report, tributary}
 use Rattle.tributary_model.specs.Laws.{IsTributary}
 use Rattle.tributary_model.specs.Places.{Tributary}
 use Rattle.device_model.specs.Agreements.{AgreeOnTributary}
 use Rattle.device_model.specs.LineViews.{emitted_at}
-use Rattle.line_view.specs.ViewText.{Showing, showing_text, told_at}
+use Rattle.line_view.specs.ViewText.{Showing, showing_text, told_at, turns_of}
 
 -- Lines that agree on a tributary's own places have the same lines of it, turn by turn, whatever stands elsewhere.
 abbrev pub TellsTheSame : Type 0
@@ -17,7 +19,28 @@ abbrev pub bytes_told : Tributary → (given : List ℕ) → (turns : List ℕ) 
 bytes_told own given [] = 0
 bytes_told own given (t ∷ turns) = (told_at own 0 given t).bytes + bytes_told own given turns
 
--- They are as many as its sink emits in them, so as many as `pull` writes of them.
+-- They are as many as its sink emits in them.
 abbrev pub TellsAllBytes : Type 0
 TellsAllBytes = (own : Tributary) (given : List ℕ) (turns : List ℕ)
     → bytes_told own given turns ≡ length (flat_map (emitted_at own given) turns)
+
+-- ---- what `pull` writes
+
+-- a list cut from the front into pieces of these lengths
+abbrev pub pieces_of : (lengths : List ℕ) → List ℕ → List (List ℕ)
+pieces_of [] bytes = []
+pieces_of (n ∷ lengths) bytes = take n bytes ∷ pieces_of lengths (drop n bytes)
+
+-- how many bytes are told in each turn of a view of such a tributary
+abbrev pub each_told : Tributary → (given : List ℕ) → List ℕ
+each_told own given = map (λ t. (told_at own 0 given t).bytes) (turns_of own.line_slots (mfas_of given))
+
+-- What `pull` writes of an OTU2 line, cut by these numbers: the piece of each turn is what the sink emits in it, byte by
+-- byte, and the pieces are together all that `pull` writes.
+pub record TellsPull (own : Tributary) (given : List ℕ) : Type 0 where
+  pub turns : pieces_of (each_told own given) (pull_report own given)
+      ≡ map (emitted_at own given) (turns_of own.line_slots (mfas_of given))
+  pub together : concat (pieces_of (each_told own given) (pull_report own given)) ≡ pull_report own given
+
+abbrev pub TellsWhatPullWrites : Type 0
+TellsWhatPullWrites = (port : ℕ) (slots given : List ℕ) → TellsPull (tributary port slots) given

@@ -1,5 +1,5 @@
 -- Lists of words, one by one.
-use Rattle.std.proofs.Common.{◌≡◌, ◌⊎◌, inl, inr, ◌<◌, ◌≤◌, ◌+◌, ◌-◌, ◌∙◌, ℕ, zero, suc, List, [], ◌∷◌, ◌++◌, Some, length, take, drop, get_or, slice_get, refl, sym, ap, subst, arith}
+use Rattle.std.proofs.Common.{◌≡◌, ◌≢◌, ◌⊎◌, inl, inr, ◌<◌, ◌≤◌, ◌+◌, ◌-◌, ◌∙◌, ℕ, zero, suc, List, [], ◌∷◌, ◌++◌, Some, length, take, drop, get_or, slice_get, refl, sym, ap, subst, arith}
 use Rattle.std.specs.Prelude.{map, string_bytes, String}
 use Rattle.std.specs.declared.alloc.Global.{Global}
 use Rattle.std.proofs.Math.Seq.{take-length}
@@ -15,6 +15,17 @@ first_word [] first word some is same = absurd (omega (arith, some))
 first_word (x ∷ xs) first word some is same =
     ap (λ w. string_bytes w ∷ texts xs) (sym is) ∙ ap (λ w. w ∷ texts xs) same ∙ ap (λ ws. word ∷ texts ws) (sym (take-length xs))
     ∙ ap (λ n. word ∷ texts (take n xs)) (let e : length xs ≡ suc (length xs) - 1 = omega arith in e)
+
+-- where there is none, no word is the first
+pub no_first_word : (words : List (String Global)) (word : List ℕ) (rest : List (List ℕ)) → length words < 1 → texts words ≡ word ∷ rest → ⊥
+no_first_word [] word rest none e = cc
+no_first_word (x ∷ xs) word rest none e = omega (arith, none)
+
+-- nor is another word
+pub other_first_word : (words : List (String Global)) (first : String Global) (word : List ℕ) (rest : List (List ℕ)) → 1 ≤ length words → first ≡ get_or words 0 first → string_bytes first ≢ word
+    → texts words ≡ word ∷ rest → ⊥
+other_first_word [] first word rest some is other e = omega (arith, some)
+other_first_word (x ∷ xs) first word rest some is other e = let same : string_bytes x ≡ word = cc in other (ap string_bytes is ∙ same)
 
 pub known_item : {A : Type 0} (xs : List A) (i : ℕ) (item : A) → i < length xs → item ≡ get_or xs i item → slice_get xs i ≡ Some item
 known_item xs i item less is = slice_get_read xs (length xs) i item refl less is

@@ -71,6 +71,10 @@ pub record IsForm (words : List (List ℕ)) (asked : Asked) : Type 0 where
   pub words_are : words ≡ file ∷ rest
   pub asked_is : IsAsked rest asked
 
+-- words that ask for nothing
+abbrev pub IsNoForm : List (List ℕ) → Type 0
+IsNoForm words = (asked : Asked) → IsForm words asked → ⊥
+
 -- the tributaries that they ask for are tributaries of the line
 abbrev pub AreOnLine : Asked → Type 0
 AreOnLine (Given kind scrambled shown) = (i : ℕ) (x : Shown) → slice_get shown.items i ≡ Some x → IsOnLine kind x

@@ -1,29 +1,32 @@
 // The word of a tributary.
-ghost use Rattle.std.specs.Prelude.{◌≡◌, IfSome, IsTrue, ◌↔◌, codes};
+ghost use Rattle.std.specs.Prelude.{◌≡◌, ◌==◌, ◌≤◌, ◌<◌, ◌++◌, ◌∷◌, ℕ, List, [], IfNone, IfSome, codes, length};
+ghost use Rattle.std.specs.Fmt.{decimal};
+ghost use Rattle.std.specs.List.{position_or_len};
 ghost use Rattle.otn_base.specs.LineSlots.{slots_of};
 ghost use Rattle.otn_base.specs.SlotList.{IsSlotList};
-ghost use Rattle.otn_base.specs.declared.limits.TheConstants.{MOST_TURNS};
+ghost use Rattle.otn_base.specs.declared.limits.TheConstants.{MOST_SLOTS, MOST_TURNS};
+ghost use Rattle.line_view.specs.ViewText.{slots_text};
+ghost use Rattle.line_view.specs.declared.shown.Shown.{Shown};
 ghost use Rattle.otn_view.specs.Words.{IsAllAlong, word_of};
 
 use arrayvec::{ArrayString, ArrayVec};
-use line_view::{LINE_BYTES, Shown, put_number, put_slots};
+use itoa::Buffer;
+use line_view::Shown;
 use otn_base::limits::{MOST_SLOTS, MOST_TURNS};
 use otn_base::{LineKind, Slots};
 
-/// The tributary of this word: its port, a colon, and its slots with commas between them.
+/// The numbers of slots, and of tributary ports, are below this.
+const NUMBERS: u8 = MOST_SLOTS as u8 + 1;
+
+/// The tributary of this word: its port, a colon, and its slots with commas between them, in decimal with no needless
+/// zero. None where it is the word of none on a line of this kind.
 pub(crate) fn tributary_of(word: &str, kind: LineKind) -> Option<Shown>
-    ensures { IfSome result (λ one. (word.now ≡ word_of one) × IsAllAlong kind one) }
+    ensures one { IfSome result (λ one. (word.now ≡ word_of one) × IsAllAlong kind one) }
+    ensures none { IfNone result ((one : Shown) → IsAllAlong kind one → word.now ≡ word_of one → ⊥) }
 {
     let (port, slots) = word.split_once(':')?;
-    let port: u8 = port.parse().ok()?;
-    if port < 1 || port > kind.slots() {
-        return None;
-    }
-    let one = all_along(port, slots_of(slots, kind)?);
-    if !is_word(word, &one) {
-        return None;
-    }
-    Some(one)
+    let port = port_of(port.as_bytes(), kind)?;
+    Some(all_along(port, slots_of(slots.as_bytes(), kind)?))
 }
 
 // A tributary in all turns, without a name.
@@ -45,25 +48,69 @@ fn all_along(port: u8, slots: Slots) -> Shown
     }
 }
 
-// Slots of a line of this kind that this text may mean.
-fn slots_of(text: &str, kind: LineKind) -> Option<Slots>
-    ensures { IfSome result (λ slots. (slots.kind ≡ kind) × IsSlotList (slots_of kind) slots.list) }
+// The tributary port of a line of this kind whose number this text is.
+fn port_of(text: &[u8], kind: LineKind) -> Option<u8>
+    ensures port { IfSome result (λ port. (text.now ≡ decimal port) × (1 ≤ port) × (port ≤ slots_of kind)) }
+    ensures none { IfNone result ((port : ℕ) → text.now ≡ decimal port → 1 ≤ port → port ≤ slots_of kind → ⊥) }
+{
+    let port = number_of(text)?;
+    if port < 1 || port > kind.slots() {
+        return None;
+    }
+    Some(port)
+}
+
+// The slots of a line of this kind that this text lists: numbers with commas between them.
+fn slots_of(text: &[u8], kind: LineKind) -> Option<Slots>
+    ensures slots { IfSome result (λ slots. (text.now ≡ slots_text slots.list) × (slots.kind ≡ kind)
+        × IsSlotList (slots_of kind) slots.list) }
+    ensures none { IfNone result ((slots : List ℕ) → IsSlotList (slots_of kind) slots → text.now ≡ slots_text slots → ⊥) }
 {
     let mut list: ArrayVec<u8, MOST_SLOTS> = ArrayVec::new();
-    for slot in text.split(',') {
-        list.try_push(slot.parse().ok()?).ok()?;
+    let mut rest = text;
+    let mut comma = comma_in(rest);
+    while comma < rest.len() {
+        push_slot(&mut list, &rest[..comma])?;
+        let behind = &rest[comma..];
+        rest = &behind[1..];
+        comma = comma_in(rest);
     }
+    push_slot(&mut list, rest)?;
     Slots::new(list.as_slice(), kind)
 }
 
-// Whether this is the word of the tributary.
-fn is_word(word: &str, one: &Shown) -> bool
-    ensures { IsTrue result ↔ (word.now ≡ word_of one.now) }
+// How many bytes stand before the first comma; all where there is none.
+fn comma_in(text: &[u8]) -> usize
+    ensures comma { result ≡ position_or_len (λ byte. byte == 44) text.now }
+    ensures within { result ≤ length text.now }
 {
-    let _few = one.slots.count();
-    let mut text: ArrayString<LINE_BYTES> = ArrayString::new();
-    put_number(&mut text, "", one.port as u64);
-    text.push_str(":");
-    put_slots(&mut text, one.slots.as_slice());
-    text.as_str() == word
+    for at in 0..text.len() {
+        if text[at] == b',' {
+            return at;
+        }
+    }
+    text.len()
+}
+
+// Appends the number that this text is. None where it is none below 33, or there are 32 already.
+fn push_slot(list: &mut ArrayVec<u8, MOST_SLOTS>, text: &[u8]) -> Option<()>
+    ensures pushed { IfSome result (λ _. (n : ℕ) × (text.now ≡ decimal n) × (n < NUMBERS)
+        × (list.new.items ≡ list.old.items ++ n ∷ [])) }
+    ensures none { IfNone result ((n : ℕ) → text.now ≡ decimal n → n < NUMBERS → length list.old.items ≡ MOST_SLOTS) }
+{
+    list.try_push(number_of(text)?).ok()
+}
+
+// The number, 0 to 32, that this text is in decimal.
+fn number_of(text: &[u8]) -> Option<u8>
+    ensures number { IfSome result (λ n. (text.now ≡ decimal n) × (n < NUMBERS)) }
+    ensures none { IfNone result ((n : ℕ) → text.now ≡ decimal n → n < NUMBERS → ⊥) }
+{
+    let mut digits = Buffer::new();
+    for number in 0..NUMBERS {
+        if digits.format(number).as_bytes() == text {
+            return Some(number);
+        }
+    }
+    None
 }

@@ -1,7 +1,9 @@
 // The words after the program's name.
-ghost use Rattle.std.specs.Prelude.{◌≡◌, ◌<◌, ◌+◌, ◌++◌, ◌∷◌, [], ℕ, IfNone, IfOk, IfSome, if◌then◌else◌};
+ghost use Rattle.std.specs.Prelude.{◌≡◌, ◌<◌, ◌+◌, ◌++◌, ◌∷◌, [], ℕ, List, Bool, false, IfNone, IfOk, IfSome, if◌then◌else◌};
 ghost use Rattle.otn_base.specs.declared.limits.TheConstants.{LINES};
-ghost use Rattle.otn_view.specs.Words.{AreOnLine, IsAsked, IsForm, IsPlanned, AreShown, texts, kind_by, side_word};
+ghost use Rattle.otn_base.specs.declared.line_kind.LineKind.{LineKind};
+ghost use Rattle.line_view.specs.declared.shown.Shown.{Shown};
+ghost use Rattle.otn_view.specs.Words.{AreOnLine, IsAsked, IsForm, IsGiven, IsNoForm, IsPlanned, AreShown, texts, kind_by, side_word};
 ghost use Rattle.plan_views.specs.declared.side.Side.{Side};
 
 use crate::tributary::tributary_of;
@@ -23,6 +25,7 @@ pub(crate) enum Asked {
 /// another form.
 pub(crate) fn asked_of(alloc: Global, words: &[String]) -> Result<Option<Asked>, Memory>
     ensures form { IfOk result (λ asked. IfSome asked (IsForm (texts words.now))) }
+    ensures no_form { IfOk result (λ asked. IfNone asked (IsNoForm (texts words.now))) }
     ensures on_line { IfOk result (λ asked. IfSome asked AreOnLine) }
 {
     let [_file, rest @ ..] = words else {
@@ -79,6 +82,8 @@ fn number_of(text: &[u8]) -> Option<u8>
 // The form of the line, and the tributaries to show.
 fn given_of(alloc: Global, words: &[String]) -> Result<Option<Asked>, Memory>
     ensures form { IfOk result (λ asked. IfSome asked (IsAsked (texts words.now))) }
+    ensures none { IfOk result (λ asked. IfNone asked ((kind : LineKind) (scrambled : Bool) (shown : List Shown)
+        → IsGiven (texts words.now) kind scrambled shown → ⊥)) }
     ensures on_line { IfOk result (λ asked. IfSome asked AreOnLine) }
 {
     let (otu3, rest) = behind("otu3", words);
@@ -92,11 +97,13 @@ fn given_of(alloc: Global, words: &[String]) -> Result<Option<Asked>, Memory>
 
 // Whether this is the first of the words, and the words behind it.
 fn behind<'a>(word: &str, words: &'a [String]) -> (bool, &'a [String])
-    ensures { texts words.now ≡ (if result.0 then word.now ∷ [] else []) ++ texts result.1.now }
+    ensures words { texts words.now ≡ (if result.0 then word.now ∷ [] else []) ++ texts result.1.now }
+    ensures other { result.0 ≡ false → (rest : List (List ℕ)) → texts words.now ≡ word.now ∷ rest → ⊥ }
 {
-    if let [first, rest @ ..] = words
-        && first.as_str() == word
-    {
+    let [first, rest @ ..] = words else {
+        return (false, words);
+    };
+    if first.as_str() == word {
         return (true, rest);
     }
     (false, words)
@@ -110,7 +117,8 @@ fn kind_by(otu3: bool) -> LineKind
 
 // The tributaries of these words. None where one of them says none.
 fn shown_of(alloc: Global, kind: LineKind, words: &[String]) -> Result<Option<Vec<Shown>>, Memory>
-    ensures { IfOk result (λ shown. IfSome shown (λ all. AreShown kind (texts words.now) all.items)) }
+    ensures shown { IfOk result (λ shown. IfSome shown (λ all. AreShown kind (texts words.now) all.items)) }
+    ensures none { IfOk result (λ shown. IfNone shown ((all : List Shown) → AreShown kind (texts words.now) all → ⊥)) }
 {
     let mut shown = Vec::new(alloc);
     for i in 0..words.len() {
