@@ -21,7 +21,7 @@ flagged : (flag : ℕ) (bytes : List ℕ) → flag ≢ 0 → input_as flag bytes
 flagged zero bytes there = absurd (there refl)
 flagged (suc n) bytes there = refl
 
-had_by : (state : State) (given : List ℕ) (left : Option (List ℕ)) → (state ≡ Dead → ⊥) → given_between Live state (Some given) left given
+pub had_by : (state : State) (given : List ℕ) (left : Option (List ℕ)) → (state ≡ Dead → ⊥) → given_between Live state (Some given) left given
 had_by Empty given left lives = refl
 had_by Live given left lives = refl
 had_by Dead given left lives = absurd (lives refl)
