@@ -120,10 +120,10 @@ taken_inputs plan first last takings = record {
 
 taken_run : (plan : Plan) (first last : BaysView) (takings : Takings) (numbers : Numbers) → RunLeft plan first last takings numbers
     → RunOf plan first last takings numbers (taken_inputs plan first last takings)
-taken_run plan first last takings numbers left = left.of_inputs (taken_inputs plan first last takings) (record {
+taken_run plan first last takings numbers left = left.of_inputs (taken_inputs plan first last takings) record {
   line = λ a used. (takings.line a, record { rest = []; over = λ e. refl; parts = sym (append-nil (takings.line a)) }, refl);
   client = λ n used. (takings.client n, record { rest = []; over = λ e. refl; parts = sym (append-nil (takings.client n)) }, refl);
-})
+}
 
 -- a run that is Done or Unfinished is not cut
 uncut : (answer : Status) (told : Outcome) (code : ℕ) → code ≡ code_of answer → IsWhole code → (answer ≢ status.ReportFault → answer ≡ outcome_status told) → told ≢ outcome.Cut
@@ -137,9 +137,15 @@ unfailed : (old new : ℕ) → old ≡ 0 → new ≡ 0 → HasFailed old new →
 unfailed old new none still (inl more) = absurd (omega arith)
 unfailed old new none still (inr top) = absurd (omega arith)
 
+empty_lives : Empty ≢ Dead
+empty_lives = λ e. cc
+
+live_lives : Live ≢ Dead
+live_lives = λ e. cc
+
 alive_as : (flag : ℕ) (bytes : List ℕ) → (input_as flag bytes).state ≢ Dead
-alive_as zero bytes = λ e. cc
-alive_as (suc n) bytes = λ e. cc
+alive_as zero bytes = empty_lives
+alive_as (suc n) bytes = live_lives
 
 calm_as : (flag : ℕ) (bytes : List ℕ) → (input_as flag bytes).faults ≡ 0
 calm_as zero bytes = refl
