@@ -1,5 +1,5 @@
 -- A call of `run` is a run over the very bytes that it was handed and that it handed out.
-use Rattle.std.proofs.Common.{◌≡◌, ◌≢◌, ◌<◌, ◌+◌, ◌-◌, ◌⊎◌, inl, inr, ℕ, zero, suc, Bool, true, false, if◌then◌else◌, nat_lt, List, [], get_or, Option, Some, Ok, refl, sym, ap, ◌∙◌, subst, arith, append-nil}
+use Rattle.std.proofs.Common.{◌≡◌, ◌≢◌, ◌<◌, ◌+◌, ◌-◌, inl, inr, ℕ, zero, suc, Bool, true, false, if◌then◌else◌, nat_lt, List, [], get_or, Option, Some, Ok, refl, sym, ap, ◌∙◌, subst, arith, append-nil}
 use Rattle.std.specs.List.{Contains}
 use Rattle.std.specs.Prelude.{slice_get, length}
 use Rattle.std.proofs.lemmas.Bool.Decides.{nat_tests}
@@ -67,10 +67,10 @@ past_one : (code n : ℕ) → code ≡ n → IsWhole code → 1 < n → ⊥
 past_one code n is (inl e) more = absurd (omega arith)
 past_one code n is (inr e) more = absurd (omega arith)
 
-not_memory : (code : ℕ) → HasCarried code → code ≢ no_memory
+pub not_memory : (code : ℕ) → HasCarried code → code ≢ no_memory
 not_memory code ended same = absurd (let less = below code ended in omega arith)
 
-not_call : (code : ℕ) → HasCarried code → code ≢ no_call
+pub not_call : (code : ℕ) → HasCarried code → code ≢ no_call
 not_call code ended same = absurd (let less = below code ended in omega arith)
 
 not_room : (code : ℕ) → HasCarried code → code ≢ no_room
@@ -320,7 +320,7 @@ module _ (call : Call) (c : CallOf call) (k : Carrying call c) (is_plan : plan_o
       got_all (client_out_at c.first n) (client_out_at c.last n) (output_of call (4 + n)) opened (λ empty. some (ap (λ v. v.state) (sym same) ∙ empty))
       (subst (λ v. IsKept v (output_of call (4 + n))) (client_place c.last n) (k.gives.outputs_got (4 + n) among))
 
-  pub is_run_here : IsRunOf call (record { plan = call.plan; before = c.first; after = c.last })
+  is_run_here : IsRunOf call (record { plan = call.plan; before = c.first; after = c.last })
   is_run_here = record {
     ran = record {
       old = device_first call c;
@@ -346,13 +346,13 @@ module _ (call : Call) (c : CallOf call) (k : Carrying call c) (is_plan : plan_o
     line_out = line_got;
     client_out = client_got;
     line_lived = λ x b number slots whole has to. record {
-        was = ap (λ v. v.state) (c.opens.line_out b ((sound x has).to_line b number slots to).line);
-        is = λ dead. none_dead whole (record { name = port.LineOut b; used = to_line_used call.plan has.0 b number slots x (entry call.plan x has) to; dead = dead });
-      };
+      was = ap (λ v. v.state) (c.opens.line_out b ((sound x has).to_line b number slots to).line);
+      is = λ dead. none_dead whole (record { name = port.LineOut b; used = to_line_used call.plan has.0 b number slots x (entry call.plan x has) to; dead = dead });
+    };
     client_lived = λ x n whole has to. record {
-        was = ap (λ v. v.state) (c.opens.client_out n ((sound x has).to_client n to));
-        is = λ dead. none_dead whole (record { name = port.ClientOut n; used = to_client_used call.plan has.0 n x (entry call.plan x has) to; dead = dead });
-      };
+      was = ap (λ v. v.state) (c.opens.client_out n ((sound x has).to_client n to));
+      is = λ dead. none_dead whole (record { name = port.ClientOut n; used = to_client_used call.plan has.0 n x (entry call.plan x has) to; dead = dead });
+    };
   }
 
 -- ---- calls

@@ -1,12 +1,12 @@
 -- What is handed out, from what was put into the block.
-use Rattle.std.proofs.Common.{◌≡◌, ◌≢◌, ◌≤◌, ◌<◌, ◌⊎◌, ℕ, zero, suc, List, Some, length, take, refl, sym, ap, ◌∙◌, subst, arith}
+use Rattle.std.proofs.Common.{◌≡◌, ◌≤◌, ◌<◌, ◌⊎◌, ℕ, List, Some, length, take, refl, sym, ap, ◌∙◌, subst, arith}
 use Rattle.otn_ports.specs.PortViews.{SinkView}
 use Rattle.otn_ports.specs.Views.{BaysView}
 use Rattle.line_tool.specs.Codes.{code_of}
 use Rattle.command_base.specs.declared.status.Status.{Status}
 use Rattle.command_base.specs.declared.status.Status.TheVariants as status
-use Rattle.otn_c.specs.Blocks.{end_of, words_said}
-use Rattle.otn_c.specs.Calls.{CallEnds, Gives, IsAnswered, IsHandedOut, Needs, Tells, fresh_sink, no_room}
+use Rattle.otn_c.specs.Blocks.{words_said}
+use Rattle.otn_c.specs.Calls.{CallEnds, IsAnswered, IsHandedOut, Tells, fresh_sink}
 use Rattle.otn_c.specs.Places.{OpensWith, InputsAreWell, OutUpTo}
 use Rattle.otn_c.specs.declared.answer.Answer.{Answer}
 
