@@ -1,6 +1,9 @@
 mod Answering
+mod ByteRuns
+mod Calm
 mod Filling
 mod Handing
+mod Isolated
 mod Parts
 mod Said
 mod SlotBytes

@@ -1,18 +1,17 @@
 -- What `slot` writes of a line that was handed in.
-use Rattle.std.proofs.Common.{◌≡◌, ◌≢◌, ◌<◌, ◌⊎◌, inl, inr, ℕ, zero, suc, List, [], ◌∷◌, Option, Some, None, get_or, take, refl, sym, ap, ◌∙◌, subst, arith}
+use Rattle.std.proofs.Common.{◌≡◌, ◌≢◌, ◌⊎◌, inl, inr, ℕ, zero, suc, List, [], Option, Some, None, get_or, refl, sym, ap, ◌∙◌, subst, arith}
 use Rattle.otn_ports.specs.Given.{HadToGive, given_between}
-use Rattle.otn_ports.specs.Views.{State, Empty, Live, Dead, InView, line_in_at}
+use Rattle.otn_ports.specs.Views.{State, Empty, Live, Dead}
 use Rattle.line_tool.specs.AnswerWords.{Reports}
 use Rattle.line_tool.specs.Answers.{LineAnswers, SlotRan}
 use Rattle.line_tool.specs.Codes.{code_of}
 use Rattle.line_tool.specs.Device.{Device, line_zero}
 use Rattle.line_tool.specs.SlotReport.{slot_report}
 use Rattle.line_tool.specs.TrialRuns.{holding}
-use Rattle.line_tool.specs.Words.{IsForm}
 use Rattle.command_base.specs.declared.status.Status.{Status}
 use Rattle.command_base.specs.declared.status.Status.TheVariants as status
 use Rattle.command_words.specs.declared.words.Command.TheVariants.{Slot}
-use Rattle.otn_c.specs.Blocks.{part_of, words_said}
+use Rattle.otn_c.specs.Blocks.{part_of}
 use Rattle.otn_c.specs.Calls.{Called, SlotOverBytes, no_call, no_memory, no_room}
 use Rattle.otn_c.specs.Places.{input_as}
 use Rattle.otn_c.specs.declared.answer.Answer.{Answer}
@@ -21,7 +20,7 @@ flagged : (flag : ℕ) (bytes : List ℕ) → flag ≢ 0 → input_as flag bytes
 flagged zero bytes there = absurd (there refl)
 flagged (suc n) bytes there = refl
 
-had_by : (state : State) (given : List ℕ) (left : Option (List ℕ)) → (state ≡ Dead → ⊥) → given_between Live state (Some given) left given
+pub had_by : (state : State) (given : List ℕ) (left : Option (List ℕ)) → (state ≡ Dead → ⊥) → given_between Live state (Some given) left given
 had_by Empty given left lives = refl
 had_by Live given left lives = refl
 had_by Dead given left lives = absurd (lives refl)

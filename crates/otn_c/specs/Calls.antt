@@ -14,7 +14,7 @@ use Rattle.command_base.specs.declared.status.Status.TheVariants as status
 use Rattle.command_words.specs.declared.words.Command.{Command}
 use Rattle.command_words.specs.declared.words.Command.TheVariants.{Slot}
 use Rattle.otn_c.specs.Blocks.{words_said, part_of, start_of, end_of}
-use Rattle.otn_c.specs.Places.{OpensWith, HasNoPart, HasSize, IsKept, output_at}
+use Rattle.otn_c.specs.Places.{OpensWith, InputsAreWell, HasNoPart, HasSize, IsKept, output_at}
 use Rattle.otn_c.specs.declared.answer.Answer.{Answer}
 
 -- a source of these bytes in memory, of which none was taken or asked for
@@ -87,12 +87,14 @@ pub record IsHandedOut (code : ℕ) (answer : Status) (last : BaysView) (report_
 -- A call that was carried out, and what it answered and handed out.
 pub record Called (line plan block ends present : List ℕ) (code : ℕ) (told : Answer)
     (outputs output_ends report : List ℕ) : Type 0 where
-  -- there are places that opened with its inputs, and were left so; and this is what the report got
+  -- there are places that opened with its inputs, none of which failed, and were left so; and this is what the report
+  -- got
   pub answer : Status
   pub first : BaysView
   pub last : BaysView
   pub report_now : SinkView
   pub opens : OpensWith present block ends first
+  pub well : InputsAreWell last
   pub answered : IsAnswered (words_said line) plan first last fresh_sink report_now answer
   pub handed : IsHandedOut code answer last report_now told outputs output_ends report
 

@@ -7,6 +7,7 @@
 //! - `awaited`: what is known of the outputs before a run.
 //! - `blocks`: parts that lie one behind the other in one slice.
 //! - `growing_sink`: a sink in memory that grows.
+//! - `laws`: the promise of isolation, of any two calls, by their bytes alone.
 //! - `slice_source`: a source over bytes that are lent.
 //! - `version`: the version of the library.
 //! - `words`: the words of a line.
@@ -21,6 +22,7 @@ mod awaited;
 mod blocks;
 mod call;
 mod growing_sink;
+mod laws;
 mod outputs;
 mod places;
 mod slice_source;
@@ -30,6 +32,7 @@ mod words;
 pub use answer::Answer;
 use call::answer_call;
 pub use growing_sink::GrowingSink;
+pub use laws::headline_of_bytes;
 use line_tool::slot_of_given;
 pub use slice_source::SliceSource;
 use std::alloc::Global;
