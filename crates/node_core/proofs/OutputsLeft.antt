@@ -36,11 +36,6 @@ use Rattle.node_core.proofs.NodeReads.{entry_of, found_at, none_at, all_turns, i
 use Rattle.node_moments.proofs.Parts.{one_at, known_at}
 use Rattle.turn_pieces.proofs.UsedPorts.{used_within}
 
--- what went to the outputs of a node past its last turn, whatever its inputs may turn out to be
-pub record OutputsStand (plan : Plan) (first : BaysView) (taken : InputBytes) (node : NodeView) (last : BaysView) (inputs : Inputs) : Type 0 where
-  pub went : Went
-  pub outputs : OutputsLeft plan inputs first went last
-
 left_of : (first : OutView) (due : List ℕ) (last : OutView) → (s : IsSent first due last) → OutputLeft first due s.went last
 left_of first due last s = record { rest = s.rest; parts = s.parts; gained = s.gained; whole = s.whole }
 
@@ -224,9 +219,3 @@ outputs_left plan inputs first now node went all = record {
   line = λ b used. (all.line b used).left;
   client = λ x n is_of to. (all.client x n is_of to).left;
 }
-
-pub outputs_stand : (plan : Plan) (first : BaysView) (taken : InputBytes) (node : NodeView) (now : BaysView) (inputs : Inputs) → length node.lines_out ≡ LINES → StandsAt plan first taken node now → node.turns ≤ node.past
-    → MayGive plan taken node inputs → OutputsStand plan first taken node now inputs
-outputs_stand plan first taken node now inputs lines h over may =
-    let all = all_went plan first taken node now inputs lines h over may in
-    record { went = all.0; outputs = outputs_left plan inputs first now node all.0 all.1 }

@@ -1,4 +1,4 @@
--- What a run of a plan leaves, by a node past its last turn that was settled.
+-- What is left of the input lines of a node past its last turn that was settled.
 use Rattle.std.proofs.Common.{◌≡◌, ◌≤◌, ◌∙◌, ℕ, true, sym, ap, subst}
 use Rattle.otn_base.specs.declared.kind.PortName.TheVariants as port
 use Rattle.otn_base.specs.declared.limits.TheConstants.{LINES}
@@ -18,7 +18,6 @@ use Rattle.node_moments.specs.NodeView.{NodeView, HasLineIn}
 use Rattle.device_model.specs.RunLeft.{OutputsLeft, RunLeft}
 use Rattle.node_core.specs.Settling.{Settled}
 use Rattle.node_moments.specs.Stands.{InputBytes, MayGive, StandsAt}
-use Rattle.node_core.proofs.OutputsLeft.{OutputsStand}
 use Rattle.node_core.proofs.Settled.{turns_past, used_line_at}
 use Rattle.device_model.proofs.SettledLines.{rest_settled}
 
@@ -31,18 +30,3 @@ rest_at_end plan first was last taken node inputs a line over st asked may used 
     let u = used_line_at plan first was last taken node a line over st asked used has in
     rest_settled (form_in plan a) (line_in_at first a) (line_in_at was a) (line_in_at last a) (taken.line a) (asked.came a) (inputs.line a) node.past line u.stands u.none u.asked (may.lines a line has used)
     ∙ ap (λ t. rest_of (line_ending (place_state last (port.LineIn a)) (form_in plan a) (inputs.line a) t) (inputs.line a)) (turns_past plan node st.plan_stands over)
-
--- With what went to its outputs, and the numbers that it tells, a node that was settled so leaves what a run leaves.
-pub run_left : (plan : Plan) (first last : BaysView) (taken : InputBytes) (node : NodeView) (outcome : Outcome) (numbers : Numbers) → (settled : Settled plan first taken node last outcome) → numbers.outcome ≡ outcome
-    → ((inputs : Inputs) → MayGive plan taken node inputs → OutputsStand plan first taken node last inputs)
-    → ((inputs : Inputs) (went : Went) → MayGive plan taken node inputs → OutputsLeft plan inputs first went last → IsOutcome plan inputs last numbers.outcome → AreNumbers plan inputs went first last numbers)
-    → RunLeft plan first last settled.takings numbers
-run_left plan first last taken node outcome numbers settled same outputs are = record {
-  line_in = settled.line_in;
-  client_in = settled.client_in;
-  idle = settled.idle;
-  of_inputs = λ inputs may.
-      let s = settled.of_inputs inputs may in
-      let o = outputs inputs s.may in
-      record { took = s.took; text = s.text; went = o.went; outputs = o.outputs; numbers_are = are inputs o.went s.may o.outputs (subst (IsOutcome plan inputs last) (sym same) s.outcome_is) };
-}
