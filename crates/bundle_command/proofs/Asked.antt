@@ -1,8 +1,7 @@
 -- A channel is asked, and its answer told: the stream goes on.
-use Rattle.std.proofs.Common.{◌≡◌, ◌≢◌, ◌⊎◌, inl, inr, ◌<◌, ◌≤◌, ◌+◌, ◌-◌, ◌*◌, ◌%◌, ℕ, zero, suc, Bool, true, false, cond, List, [], ◌∷◌, ◌++◌, Option, Some, None, length, set, get_or, map, min, take, refl, sym, ap, subst, ◌∙◌, append-nil, append_assoc, length-append, add-one, arith}
+use Rattle.std.proofs.Common.{◌≡◌, ◌≢◌, ◌⊎◌, inl, inr, ◌<◌, ◌≤◌, ◌+◌, ◌-◌, ◌*◌, ◌%◌, ℕ, zero, suc, Bool, true, false, cond, List, [], ◌∷◌, ◌++◌, Option, Some, None, length, set, get_or, map, min, take, refl, sym, ap, subst, ◌∙◌, append-nil, append_assoc, length-append, arith}
 use Rattle.std.specs.Prelude.{◌==◌, nat_lt, slice_get}
 use Rattle.std.specs.List.{Contains, range_with_len}
-use Rattle.std.specs.List.Sorted.{IsStrictlyIncreasing}
 use Rattle.std.proofs.Math.Nat.{mod-eq_of_lt}
 use Rattle.std.proofs.Math.Seq.{take-append_seam}
 use Rattle.std.proofs.lemmas.Bool.{cases_lt, lt-ltb, le-ltb, eqb-true, eq-eqb, ne_eqb, false≢true}
@@ -22,8 +21,10 @@ use Rattle.gfp_linear.proofs.Streams.{weave_goes_on}
 use Rattle.gfp_linear.proofs.Weaves.{given-push}
 use Rattle.gfp_linear.proofs.Weaving.{giver-push}
 use Rattle.odu_client.specs.ClientInput.{ClientInput}
+use Rattle.client_list.specs.ClientLists.{IsClientList}
+use Rattle.client_list.proofs.ClientLists.{rises}
 use Rattle.bundle_command.specs.ChannelInput.{channel_text, texts_of}
-use Rattle.bundle_command.specs.BundleLeft.{IsClientList, place_of}
+use Rattle.bundle_command.specs.BundleLeft.{place_of}
 use Rattle.bundle_command.specs.Steps.Channels.{ChannelStands, Answered, MayShow, ChannelAt, HasChannel, MayShowAll, OnlyClients, IsUnasked, PacketsEnd, WeavingHas, AreOpen, IsBegun, WeavingReady, ChannelAsked, IsTold, IsAsked, frame_of, end_after, news, woven_bytes}
 use Rattle.bundle_command.specs.declared.channel.Channel.{Channel}
 use Rattle.bundle_command.specs.declared.channel.Standing.{Standing}
@@ -52,17 +53,6 @@ pub set_many : (channels : List Channel) (i : ℕ) (channel : Channel) → lengt
 set_many [] i channel = refl
 set_many (x ∷ channels) zero channel = refl
 set_many (x ∷ channels) (suc i) channel = ap suc (set_many channels i channel)
-
-pub rises : (cids : List ℕ) (d c : ℕ) → IsStrictlyIncreasing cids → d < c → c < length cids → get_or cids d 0 < get_or cids c 0
-rises cids d zero h less there = absurd (omega arith)
-rises cids d (suc c) h less there =
-    let next : c + 1 < length cids = omega arith in
-    let higher : get_or cids c 0 < get_or cids (c + 1) 0 = h c next in
-    let same : get_or cids (c + 1) 0 ≡ get_or cids (suc c) 0 = ap (λ i. get_or cids i 0) (add-one c) in
-    elim (cases_lt d c) [
-      | inl lower ↦ (let before = rises cids d c h lower (omega arith) in omega arith)
-      | inr last ↦ (let equal : d ≡ c = omega arith in let e : get_or cids d 0 ≡ get_or cids c 0 = ap (λ i. get_or cids i 0) equal in omega arith)
-    ]
 
 -- two channels have two clients
 pub two_clients : (cids : List ℕ) (d c : ℕ) → IsCidList cids → d < length cids → c < length cids → d ≢ c → get_or cids d 0 ≢ get_or cids c 0

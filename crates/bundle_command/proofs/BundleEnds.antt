@@ -7,7 +7,8 @@ use Rattle.std.proofs.lemmas.Bool.Decides.{nat_tests}
 use Rattle.std.proofs.lemmas.Option.{slice_get-get_or, slice_get_within}
 use Rattle.otn_base.specs.Counts.{saturated}
 use Rattle.otn_ports.specs.PortViews.{SinkView, SinkGot, SinkWrites}
-use Rattle.otn_ports.specs.Views.{State, Empty, Live, Dead, InView, BaysView, client_in_at, line_out_at}
+use Rattle.otn_ports.specs.Views.{State, Empty, Live, Dead, is_dead, InView, BaysView, client_in_at, line_out_at}
+use Rattle.otn_ports.proofs.GivenLaws.{dead_of}
 use Rattle.otn_ports.specs.declared.drain.Written.{Written}
 use Rattle.otn_ports.specs.declared.drain.Written.TheVariants as written
 use Rattle.packet_text.specs.LinesStand.{LinesStand, ReadAsNeeded, lines_view, came_short, asked_for}
@@ -20,8 +21,6 @@ use Rattle.odu_client.specs.ClientInput.{ClientInput}
 use Rattle.odu_client.specs.ClientFrames.{client_frames}
 use Rattle.tributary_line.specs.FeedTurn.{FeedStands, FeedView}
 use Rattle.tributary_line.specs.TributaryFile.{AreTributaryFrames}
-use Rattle.tributary_line.specs.Settling.{is_dead}
-use Rattle.tributary_line.proofs.Endings.{some_dead}
 use Rattle.bundle_command.specs.ChannelInput.{channel_text, ends_whole, texts_of}
 use Rattle.bundle_command.specs.BundleStream.{IsFinished, begun_of, channel_line, channel_stream, channel_turns, first_slot, lines_told, parts_of, payload_sent, payload_whole, whole_of}
 use Rattle.bundle_command.specs.BundleLeft.{BundleRan, IsCut, LeftOf, MayBeInput, OutputDue, Tells, place_of}
@@ -155,8 +154,8 @@ cut_of clients first last given weaving settled dead tells e = elim (or_true dea
       let s = tells.some d in
       let here : s.0 < length clients = (let many = settled.has.many in let less = slice_get_within weaving.channels.items s.0 s.1 s.2 in omega arith) in
       let client = (settled.has.each s.0 s.1 s.2).client in
-      inl (s.0, here, some_dead (place_of clients last s.0).state (ap (λ n. is_dead (client_in_at last n).state) (sym client) ∙ s.3))
-  | inr o ↦ inr (some_dead (line_out_at last 0).state o)
+      inl (s.0, here, dead_of (place_of clients last s.0).state (ap (λ n. is_dead (client_in_at last n).state) (sym client) ∙ s.3))
+  | inr o ↦ inr (dead_of (line_out_at last 0).state o)
 ]
 
 pub of_cut : (clients : List ℕ) (first last : BaysView) (given : List ℕ) (weaving : Weaving) (settled : IsSettled (length clients) clients first last given weaving) (dead : Bool) → DeadClients weaving.channels.items last dead

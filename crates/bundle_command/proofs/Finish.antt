@@ -2,7 +2,6 @@
 use Rattle.std.proofs.Common.{◌≡◌, ◌≢◌, ◌⊎◌, ◌↔◌, inl, inr, ◌<◌, ◌≤◌, ◌+◌, ◌-◌, ◌*◌, ◌/◌, ℕ, zero, suc, Bool, true, false, cond, List, [], ◌∷◌, ◌++◌, Option, Some, None, length, map, take, drop, get_or, refl, sym, ap, subst, ◌∙◌, append-nil, append_assoc, length-append, add-one, arith}
 use Rattle.std.specs.Prelude.{not, ◌&&◌, ◌||◌, nat_le, slice_get}
 use Rattle.std.specs.List.{concat, list_all}
-use Rattle.std.specs.List.Sorted.{IsStrictlyIncreasing}
 use Rattle.std.proofs.Math.Seq.{take-length}
 use Rattle.std.proofs.lemmas.Bool.{cases_lt}
 use Rattle.std.proofs.lemmas.Bool.Decides.{nat_tests}
@@ -24,9 +23,11 @@ use Rattle.gfp_linear.proofs.Weaves.{weave-length, weave_front}
 use Rattle.odu_client.specs.ClientInput.{ClientInput}
 use Rattle.tributary_line.specs.FeedTurn.{FeedStands, FeedView}
 use Rattle.tributary_line.specs.TributaryFile.{AreTributaryFrames}
+use Rattle.client_list.specs.ClientLists.{IsClientList}
+use Rattle.client_list.proofs.ClientLists.{few_channels}
 use Rattle.bundle_command.specs.ChannelInput.{channel_text, ends_whole, texts_of}
 use Rattle.bundle_command.specs.BundleStream.{IsFinished, begun_of, channel_stream, channel_turns, first_slot, lines_told, parts_of, payload_sent, payload_whole, whole_of, woven_begun, woven_in}
-use Rattle.bundle_command.specs.BundleLeft.{BundleRan, IsClientList, IsCut, LeftOf, MayBeInput, OnlyBundled, OutputDue, Tells, place_of}
+use Rattle.bundle_command.specs.BundleLeft.{BundleRan, IsCut, LeftOf, MayBeInput, OnlyBundled, OutputDue, Tells, place_of}
 use Rattle.bundle_command.specs.Steps.Channels.{ChannelAt, ChannelStands, HasChannel, IsUnasked, MayShow, MayShowAll, PacketsEnd, StandsSo, WeavingHas, woven_bytes}
 use Rattle.bundle_command.specs.Steps.Settled.{AllEnded, DeadClients, IsEnded, IsSettled, line_of, lines_of}
 use Rattle.bundle_command.specs.declared.channel.Channel.{Channel}
@@ -35,24 +36,12 @@ use Rattle.bundle_command.specs.declared.channel.Standing.TheVariants as standin
 use Rattle.otn_ports.specs.declared.ended.Ended.{Ended}
 use Rattle.otn_ports.specs.declared.ended.Ended.TheVariants.{Done, Unfinished, Cut, ReportFault, Memory}
 use Rattle.bundle_command.specs.declared.weaving.Weaving.{Weaving}
-use Rattle.bundle_command.proofs.Asked.{text_at, texts_many, rises}
+use Rattle.bundle_command.proofs.Asked.{text_at, texts_many}
 use Rattle.bundle_command.proofs.Ends.{input_left, may_show, more_by}
 use Rattle.bundle_command.proofs.Lists.{lines_on}
 use Rattle.bundle_command.proofs.Sizes.{given_bytes, many_bytes, bytes-none, bytes-append, bytes-push}
 use Rattle.bundle_command.proofs.Texts.{IsOver as is_over, more_text, over_text}
 use Rattle.bundle_command.proofs.Within.{NotWhole, all_whole, begun_all, frame_counts, front_fewer, not_whole, weave_more, within_short}
-
--- ---- a number of a client is at least its channel
-
-list_high : (cids : List ℕ) (c : ℕ) → IsStrictlyIncreasing cids → c < length cids → c ≤ get_or cids c 0
-list_high cids zero h less = omega arith
-list_high cids (suc c) h less =
-    let before = list_high cids c h (omega arith) in
-    let more = rises cids c (suc c) h (omega arith) less in
-    omega arith
-
-pub few_channels : (clients : List ℕ) (c : ℕ) → IsClientList clients → c < length clients → c ≤ 15
-few_channels clients c h less = (let low = list_high clients c h.cids.rising less in let high = h.places c less in omega arith)
 
 -- ---- the stream behind the last turn
 

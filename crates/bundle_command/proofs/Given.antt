@@ -11,8 +11,9 @@ use Rattle.gfp_linear.specs.Weave.{IdleFrame}
 use Rattle.gfp_linear.specs.Weaver.{WeaverState, HasWoven, IsWeave, woven_first}
 use Rattle.gfp_linear.proofs.Streams.{weave_starts}
 use Rattle.gfp_linear.proofs.Weaving.{some_cids}
+use Rattle.client_list.specs.ClientLists.{IsClientList}
 use Rattle.bundle_command.specs.ChannelInput.{texts_of}
-use Rattle.bundle_command.specs.BundleLeft.{IsClientList, place_of}
+use Rattle.bundle_command.specs.BundleLeft.{place_of}
 use Rattle.bundle_command.specs.Steps.Channels.{AreFresh, ChannelAt, HasChannel, IsUnasked, OnlyClients, WeavingHas, WeavingReady, WeavingStands, GoesRound, IsReady, left_to_ask, woven_bytes}
 use Rattle.bundle_command.specs.Steps.Framed.{OnlyInputs}
 use Rattle.bundle_command.specs.declared.channel.Channel.{Channel}

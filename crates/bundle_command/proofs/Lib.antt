@@ -1,4 +1,3 @@
-pub mod ClientLists
 pub mod Texts
 pub mod Sizes
 pub mod Channels

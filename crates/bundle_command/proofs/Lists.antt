@@ -7,10 +7,9 @@ use Rattle.std.proofs.lemmas.Option.{same_Some, slice_get_read, slice_get_within
 use Rattle.otn_ports.proofs.PortLaws.{sink_got_none, sink_got_twice}
 use Rattle.otn_ports.specs.Bytes.{HasFailed}
 use Rattle.otn_ports.specs.PortViews.{SinkGot, SinkView, SinkWrites}
-use Rattle.otn_ports.specs.Views.{InView, BaysView, client_in_at}
+use Rattle.otn_ports.specs.Views.{is_dead, InView, BaysView, client_in_at}
 use Rattle.otn_ports.specs.declared.drain.Written.TheVariants as written
 use Rattle.bundle_command.specs.Steps.Channels.{AreFresh, ChannelStands, HasChannel}
-use Rattle.tributary_line.specs.Settling.{is_dead}
 use Rattle.bundle_command.specs.Steps.Settled.{AllEnded, DeadClients, line_of, lines_of}
 use Rattle.bundle_command.specs.declared.channel.Channel.{Channel}
 use Rattle.bundle_command.specs.declared.channel.Standing.TheVariants as standing

@@ -6,7 +6,7 @@ use Rattle.std.proofs.Math.Seq.{take-length}
 use Rattle.std.proofs.lemmas.Bool.{not-true, not_from_false}
 use Rattle.std.proofs.lemmas.Option.{slice_get_within}
 use Rattle.otn_ports.specs.PortViews.{SinkView, SinkGot, SinkWrites}
-use Rattle.otn_ports.specs.Views.{State, InView, BaysView, line_out_at}
+use Rattle.otn_ports.specs.Views.{State, is_dead, InView, BaysView, line_out_at}
 use Rattle.otn_ports.specs.declared.drain.Written.TheVariants as written
 use Rattle.packet_text.specs.LinesStand.{ReadAsNeeded, lines_view, came_short, asked_for}
 use Rattle.packet_text.specs.declared.line.Line.{Line}
@@ -19,7 +19,7 @@ use Rattle.odu_client.specs.ClientInput.{ClientInput}
 use Rattle.device_model.specs.LineAsked.{InputLeft}
 use Rattle.tributary_line.specs.FeedTurn.{FeedStands, FeedView}
 use Rattle.tributary_line.specs.TributaryFile.{AreTributaryFrames}
-use Rattle.tributary_line.specs.Settling.{ended_by, is_dead}
+use Rattle.tributary_line.specs.Settling.{ended_by}
 use Rattle.tributary_line.proofs.Endings.{EndsAs, ends_by}
 use Rattle.bundle_command.specs.ChannelInput.{texts_of}
 use Rattle.bundle_command.specs.BundleStream.{IsAskedIn, IsAskedWithin, IsFinished, begun_of, channel_stream, channel_turns, first_slot, lines_told, parts_of, payload_sent, payload_whole}

@@ -1,14 +1,13 @@
 -- Believed: what the command leaves, from its places and the report as they were first to how they are last.
 use Rattle.std.specs.Prelude.{◌≡◌, ◌≢◌, ◌⊎◌, ◌↔◌, ◌<◌, ◌≤◌, ◌*◌, ◌+◌, ℕ, Bool, true, false, List, [], ◌++◌, All, length, take, slice_index}
 use Rattle.std.specs.List.{Contains, concat}
-use Rattle.otn_base.specs.declared.limits.TheConstants.{CLIENTS, OTU2_SLOTS}
+use Rattle.otn_base.specs.declared.limits.TheConstants.{OTU2_SLOTS}
 use Rattle.otn_ports.specs.PortViews.{SinkView, SinkGot}
 use Rattle.otn_ports.specs.Sent.{IsSent}
 use Rattle.otn_ports.specs.Views.{Dead, InView, OutView, BaysView, line_in_at, line_out_at, client_in_at}
 use Rattle.packet_text.specs.LinesStand.{ReadAsNeeded}
 use Rattle.packet_text.specs.PacketText.{packets_of, shows_bad}
 use Rattle.packet_text.specs.TextLines.{full_lines}
-use Rattle.gfp_linear.specs.ChannelFrames.{IsCidList}
 use Rattle.odu_client.specs.ClientInput.{ClientInput, input_given}
 use Rattle.device_model.specs.Inputs.{has_died}
 use Rattle.device_model.specs.LineAsked.{MayHave, InputLeft}
@@ -17,11 +16,6 @@ use Rattle.bundle_command.specs.ChannelInput.{texts_of}
 use Rattle.bundle_command.specs.BundleStream.{IsAskedWithin, IsFinished, begun_of, channel_turns, first_slot, lines_told}
 use Rattle.otn_ports.specs.declared.ended.Ended.{Ended}
 use Rattle.otn_ports.specs.declared.ended.Ended.TheVariants.{Unfinished, Cut, ReportFault, Memory}
-
--- the numbers of some clients: one at least, rising, each that of a place
-pub record IsClientList (clients : List ℕ) : Type 0 where
-  pub cids : IsCidList clients
-  pub places : (c : ℕ) → c < length clients → slice_index clients c < CLIENTS
 
 -- the place of a channel's client
 abbrev pub place_of : (clients : List ℕ) → BaysView → (c : ℕ) → InView

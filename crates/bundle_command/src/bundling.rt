@@ -3,7 +3,7 @@ ghost use Rattle.std.specs.Prelude.{◌≡◌, ◌+◌, ◌≤◌, ℕ, List, []
 ghost use Rattle.otn_base.specs.declared.limits.TheConstants.{GROUPS, NOMINAL};
 ghost use Rattle.otn_ports.specs.Racks.{bays_view};
 ghost use Rattle.otn_ports.specs.Views.{BaysView};
-ghost use Rattle.bundle_command.specs.BundleLeft.{IsClientList};
+ghost use Rattle.client_list.specs.ClientLists.{IsClientList};
 ghost use Rattle.bundle_command.specs.BundleStream.{first_slot};
 ghost use Rattle.bundle_command.specs.Steps.Bundled.{CanTurn, TurnsGone};
 ghost use Rattle.bundle_command.specs.Steps.Framed.{AreReady, FramesStand, OnlyInputs};

@@ -5,7 +5,8 @@ ghost use Rattle.otn_ports.specs.Bytes.{HasFailed};
 ghost use Rattle.otn_ports.specs.PortViews.{sink_view};
 ghost use Rattle.otn_ports.specs.Racks.{bays_view};
 ghost use Rattle.otn_ports.specs.Views.{BaysView};
-ghost use Rattle.bundle_command.specs.BundleLeft.{BundleRan, IsClientList, OnlyBundled};
+ghost use Rattle.client_list.specs.ClientLists.{IsClientList};
+ghost use Rattle.bundle_command.specs.BundleLeft.{BundleRan, OnlyBundled};
 ghost use Rattle.bundle_command.specs.Steps.Bundled.{CanTurn, TurnsGone};
 
 use crate::bundling::{Bundling, turn_room};

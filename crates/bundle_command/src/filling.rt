@@ -3,7 +3,7 @@ ghost use Rattle.std.specs.Prelude.{◌≡◌, ◌≢◌, ◌<◌, ◌≤◌, �
 ghost use Rattle.otn_base.specs.declared.limits.TheConstants.{CLIENT_FRAME_BYTES};
 ghost use Rattle.otn_ports.specs.Racks.{bays_view};
 ghost use Rattle.otn_ports.specs.Views.{BaysView};
-ghost use Rattle.bundle_command.specs.BundleLeft.{IsClientList};
+ghost use Rattle.client_list.specs.ClientLists.{IsClientList};
 ghost use Rattle.bundle_command.specs.Steps.Framed.{AreReady, FramesHave, FramesStand, OnlyInputs};
 
 use crate::framing::Framing;

@@ -5,13 +5,13 @@
 //! - `framing`, `filling`: the client frames that carry the stream.
 //! - `bundling`: the turns of the line.
 //! - `settling`, `report_line`: its end, and its report.
-//! - `client_list`: `ClientList`, whose packets they are, and its text.
 //! - `command`: `bundle`, the command over the places of a device.
+//!
+//! `ClientList`, whose packets they are, is of `client_list`.
 #![tactic(auto)]
 
 mod bundling;
 mod channel;
-mod client_list;
 mod command;
 mod filling;
 mod framing;

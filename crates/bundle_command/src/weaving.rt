@@ -5,9 +5,9 @@ ghost use Rattle.otn_base.specs.declared.limits.TheConstants.{CLIENT_COLUMNS, CL
 ghost use Rattle.otn_ports.specs.Racks.{bays_view};
 ghost use Rattle.otn_ports.specs.Views.{BaysView};
 ghost use Rattle.odu_client.specs.AlignedRuns.{payload_of};
-ghost use Rattle.bundle_command.specs.BundleLeft.{IsClientList};
 ghost use Rattle.gfp_linear.specs.Weaver.{HasWoven, woven_first};
 ghost use Rattle.packet_text.specs.LinesStand.{lines_view};
+ghost use Rattle.client_list.specs.ClientLists.{IsClientList};
 ghost use Rattle.bundle_command.specs.Steps.Channels.{AreFresh, AreOpen, AreOver, ChannelAsked, HasChannel, IsAsked, IsReady, IsTold, GoesRound, WeavingStands, WeavingReady, is_over};
 ghost use Rattle.bundle_command.specs.Steps.Framed.{OnlyInputs};
 

@@ -5,8 +5,7 @@ use Rattle.std.specs.declared.alloc.Global.{Global}
 use Rattle.otn_base.specs.SlotList.{IsSlotList}
 use Rattle.otn_base.specs.declared.limits.TheConstants.{MOST_TURNS, OTU2_SLOTS}
 use Rattle.otn_base.specs.declared.line_kind.LineKind.TheVariants.{Otu2}
-use Rattle.bundle_command.specs.BundleLeft.{IsClientList}
-use Rattle.bundle_command.specs.ClientText.{clients_text}
+use Rattle.client_list.specs.ClientLists.{IsClientList, clients_text}
 use Rattle.command_words.specs.declared.words.TheConstants.{NUMBER_DIGITS, TURN_DIGITS}
 use Rattle.command_words.specs.declared.words.Command.{Command}
 use Rattle.command_words.specs.declared.words.Command.TheVariants.{Slot, Pull, Check, Run, RunOrdered, RunCaptures, Trial, Protect, Bundle, Unbundle}

@@ -5,7 +5,7 @@ ghost use Rattle.otn_base.specs.declared.limits.TheConstants.{OTU2_SLOTS};
 ghost use Rattle.command_words.specs.Words.{IsForm, IsNoForm, IsNumberText, IsTurnsText, IsWaitText, texts, digit, slots_text};
 
 use arrayvec::ArrayVec;
-use bundle_command::ClientList;
+use client_list::ClientList;
 use otn_base::limits::{MOST_TURNS, OTU2_SLOTS};
 use otn_base::{LineKind, Slots};
 

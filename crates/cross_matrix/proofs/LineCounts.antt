@@ -7,7 +7,7 @@ use Rattle.std.proofs.lemmas.List.Elements.{filter-append}
 use Rattle.hex.specs.Hex.{lower_digits, encode_with, encode_lower}
 use Rattle.otn_ports.specs.Given.{Lives, Gained}
 use Rattle.otn_ports.specs.Sent.{IsSent}
-use Rattle.otn_ports.specs.Views.{State, Empty, Live, Dead, OutView}
+use Rattle.otn_ports.specs.Views.{State, Empty, Live, Dead, is_dead, OutView}
 use Rattle.otn_ports.specs.Writes.{IsWriting, state_after_write}
 use Rattle.otn_ports.specs.declared.drain.Written.{Written}
 use Rattle.otn_ports.specs.declared.drain.Written.TheVariants as written
@@ -16,7 +16,7 @@ use Rattle.otn_base.specs.Counts.{saturated}
 use Rattle.packet_text.specs.PacketText.{packet_line, hex_text}
 use Rattle.device_model.specs.Numbers.{whole_lines, counted_packets}
 use Rattle.cross_matrix.specs.Receiving.{HeldView, NoneHeld}
-use Rattle.cross_matrix.specs.Steps.Receiving.{is_dead, LinesSent, LinesHeld}
+use Rattle.cross_matrix.specs.Steps.Receiving.{LinesSent, LinesHeld}
 
 -- ---- whole lines
 
@@ -107,11 +107,6 @@ idle_text first now packets packet idle h = record {
   gained = h.gained;
   whole = λ alive. absurd (idle alive);
 }
-
-pub dead_of : (s : State) → is_dead s ≡ true → s ≡ Dead
-dead_of Empty e = absurd (true≢false (sym e))
-dead_of Live e = absurd (true≢false (sym e))
-dead_of Dead e = refl
 
 -- on a dead place no packet counts
 line_dead : (first now : OutView) (packets : List (List ℕ)) (packet : List ℕ) (count : ℕ) → now.state ≡ Dead → LinesSent first now packets count → LinesSent first now (packets ++ packet ∷ []) count

@@ -7,11 +7,10 @@ ghost use Rattle.otn_ports.specs.declared.drain.Written.TheVariants as written;
 ghost use Rattle.device_model.specs.Numbers.{whole_lines};
 ghost use Rattle.packet_text.specs.PacketText.{packet_line};
 ghost use Rattle.cross_matrix.specs.declared.held_lines.TheConstants.{ROOM};
-ghost use Rattle.cross_matrix.specs.Steps.Receiving.{is_dead};
 
 use otn_base::Memory;
 use otn_base::limits::MOST_DELIVERED;
-use otn_ports::{OutPlaceOf, Sink, Written};
+use otn_ports::{OutPlaceOf, Sink, Written, is_dead_out};
 use packet_text::ByteDigits;
 use std::alloc::Global;
 use std::marker::Model;
@@ -126,7 +125,7 @@ impl HeldLines {
             → LinesHeld first (out_view K.Sink place.now) packets self.old
             → LinesHeld first (out_view K.Sink place.now) (packets ++ packet.now ∷ []) self.new }
     {
-        if has_died(place) {
+        if is_dead_out(place) {
             return;
         }
         self.hold(packet);
@@ -161,11 +160,4 @@ fn count_lines(bytes: &[u8]) -> u64
     ensures { result ≡ whole_lines bytes.now }
 {
     bytes.iter().filter(|byte| **byte == LF).count() as u64
-}
-
-// Whether the place is dead.
-fn has_died<K: Sink>(place: &OutPlaceOf<K>) -> bool
-    ensures { result ≡ is_dead (out_view K.Sink place.now).state }
-{
-    matches!(place, OutPlaceOf::Dead(..))
 }

@@ -25,7 +25,6 @@ use crate::Pipe;
 use crate::giving::GivingPart;
 use crate::taking::TakingPart;
 use odtu_columns::{FillFrame, TakeFrame};
-use otn_base::limits::OTU2_SLOTS;
 use otn_ports::{InPlaceOf, OutPlaceOf, Sink, Source};
 use trib_sink::TribSink;
 use trib_source::TribSource;
@@ -247,8 +246,7 @@ fn part_takes_one_slot(part: &TakingPart) -> bool
 fn sink_takes_one_slot(sink: &TribSink) -> bool
     ensures { result ≡ (slots_of sink.now.slots.kind == OTU2_SLOTS && length sink.now.slots.list == 1) }
 {
-    let slots = sink.slots();
-    slots.kind().slots() as usize == OTU2_SLOTS && slots.count() == 1
+    sink.slots().is_otu2_slot()
 }
 
 fn part_may_end(part: &TakingPart, whole: bool) -> bool

@@ -14,7 +14,7 @@ use msi_table::{SlotMap, psi_byte};
 use odu_path::PathWriter;
 use otn_base::limits::{LINE_COLUMNS, LINE_FRAME_BYTES};
 use otn_base::{LineKind, Memory, Trace};
-use otn_ports::{OutPlaceOf, Sink, Written};
+use otn_ports::{OutPlaceOf, Sink, Written, is_dead_out};
 use otu_overhead::OtuWriter;
 use std::alloc::Global;
 use std::marker::Model;
@@ -147,24 +147,13 @@ fn send<K: Sink>(place: &mut OutPlaceOf<K>, frame: &[u8]) -> bool
     ensures counts { result ≡ frame_counts (out_view K.Sink place.old).state (out_view K.Sink place.new).state }
     ensures quiet { (out_view K.Sink place.old).state ≢ Live → place.new ≡ place.old }
 {
-    if is_dead(place) {
+    if is_dead_out(place) {
         return false;
     }
     is_whole(place.write_all(frame))
 }
 
-ghost use Rattle.std.specs.Prelude.{◌↔◌, IsTrue, true, false};
-ghost use Rattle.otn_ports.specs.Views.{Dead};
-
-fn is_dead<K: Sink>(place: &OutPlaceOf<K>) -> bool
-    ensures { IsTrue result ↔ ((out_view K.Sink place.now).state ≡ Dead) }
-{
-    match place {
-        OutPlaceOf::Empty => false,
-        OutPlaceOf::Live(..) => false,
-        OutPlaceOf::Dead(..) => true,
-    }
-}
+ghost use Rattle.std.specs.Prelude.{true, false};
 
 fn is_whole(written: Written) -> bool
     ensures whole { result ≡ true → written ≡ Written.Whole }

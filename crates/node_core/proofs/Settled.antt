@@ -8,7 +8,7 @@ use Rattle.std.proofs.lemmas.Option.{slice_get_read, slice_get_within, get_or_fr
 use Rattle.otn_base.specs.declared.kind.PortName.{PortName}
 use Rattle.otn_base.specs.declared.kind.PortName.TheVariants as port
 use Rattle.otn_base.specs.declared.limits.TheConstants.{LINES}
-use Rattle.otn_ports.specs.Views.{State, Empty, Live, Dead, BaysView, line_in_at, client_in_at, no_input, no_output}
+use Rattle.otn_ports.specs.Views.{is_dead, BaysView, line_in_at, client_in_at, no_input, no_output}
 use Rattle.line_side.specs.LineStands.{LineView, LineStands}
 use Rattle.packet_text.specs.LinesStand.{ReadAsNeeded}
 use Rattle.odu_client.specs.ClientInput.{is_spent, emitted_before, input_given, packets_asked}
@@ -22,7 +22,7 @@ use Rattle.device_model.specs.Through.{Inputs, of_client}
 use Rattle.device_model.specs.SoundPlans.{IsSoundEntry}
 use Rattle.device_model.proofs.SoundPlans.{sound_plan}
 use Rattle.cross_matrix.specs.Parts.{MayShow}
-use Rattle.cross_matrix.specs.Steps.Receiving.{is_dead}
+use Rattle.otn_ports.proofs.GivenLaws.{dead_of}
 use Rattle.otn_ports.specs.Asked.{has_come, ByteAsked}
 use Rattle.device_model.specs.LineAsked.{is_seen}
 use Rattle.node_core.specs.Asking.{asks_line, LinesAsked}
@@ -209,15 +209,10 @@ may_before plan first was is taken node inputs over st asked may = record {
 
 -- ---- how it ends
 
-is_dead_state : (s : State) → is_dead s ≡ true → s ≡ Dead
-is_dead_state Dead e = refl
-is_dead_state Live e = absurd (cc)
-is_dead_state Empty e = absurd (cc)
-
 some_dead : (plan : Plan) (node : NodeView) (is : BaysView) (name : PortName) → PlanStands plan node → is_cut node.pieces is name ≡ true → HasDead plan is
 some_dead plan node is name p cut =
     let parts = and_parts (nat_lt 0 (wanted_of node.pieces name)) (is_dead (place_state is name)) cut in
-    record { name = name; used = sym (wanted_used plan node name p) ∙ parts.0; dead = is_dead_state (place_state is name) parts.1 }
+    record { name = name; used = sym (wanted_used plan node name p) ∙ parts.0; dead = dead_of (place_state is name) parts.1 }
 
 none_dead : (plan : Plan) (node : NodeView) (is : BaysView) → PlanStands plan node → ((name : PortName) → index_of name < port_count → is_cut node.pieces is name ≡ false) → HasDead plan is → ⊥
 none_dead plan node is p none d =

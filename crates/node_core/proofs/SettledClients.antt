@@ -4,7 +4,7 @@ use Rattle.std.specs.Prelude.{not, nat_le, if◌then◌else◌}
 use Rattle.std.proofs.lemmas.Bool.{eq-eqb}
 use Rattle.std.proofs.lemmas.Bool.Decides.{nat_tests}
 use Rattle.otn_ports.specs.Given.{Lives}
-use Rattle.otn_ports.specs.Views.{State, Empty, Live, Dead, InView}
+use Rattle.otn_ports.specs.Views.{State, Empty, Live, Dead, is_dead, InView}
 use Rattle.packet_text.specs.TextLines.{full_lines, text_of_dead}
 use Rattle.packet_text.specs.LinesStand.{LinesView, LinesStand, ReadAsNeeded, came_short, lines_view, may_be}
 use Rattle.packet_text.specs.PacketText.{packets_of}
@@ -26,7 +26,6 @@ use Rattle.device_model.proofs.SoundPlans.{sound_plan}
 use Rattle.cross_matrix.specs.Parts.{ClientInStands, MayShow}
 use Rattle.cross_matrix.specs.declared.taking.TakingPart.{TakingPart}
 use Rattle.cross_matrix.specs.declared.taking.TakingPart.TheVariants as taking
-use Rattle.cross_matrix.specs.Steps.Receiving.{is_dead}
 use Rattle.node_links.specs.Moves.{is_from_client}
 use Rattle.node_moments.specs.NodeView.{NodeView, HasLink}
 use Rattle.device_model.specs.LineAsked.{MayHave, InputLeft}

@@ -2,12 +2,10 @@
 ghost use Rattle.std.specs.Prelude.{◌≡◌, ◌≤◌, ◌<◌, ◌||◌, true, length};
 ghost use Rattle.otn_base.specs.declared.limits.TheConstants.{LINES as LINE_PORTS};
 ghost use Rattle.otn_ports.specs.InPlace.{in_view};
-ghost use Rattle.otn_ports.specs.OutPlace.{out_view};
 ghost use Rattle.otn_ports.specs.Racks.{bays_view};
-ghost use Rattle.otn_ports.specs.Views.{BaysView};
+ghost use Rattle.otn_ports.specs.Views.{BaysView, is_dead};
 ghost use Rattle.plan_file.specs.declared.plan.Plan.{Plan};
 ghost use Rattle.device_model.specs.Outcomes.{place_state};
-ghost use Rattle.cross_matrix.specs.Steps.Receiving.{is_dead};
 ghost use Rattle.otn_ports.specs.Asked.{ByteAnswer};
 ghost use Rattle.node_core.specs.Asking.{LinesAsked, asks_line};
 ghost use Rattle.node_core.specs.Steps.Asking.{LinesAnswer, CutAnswer, OpenAnswer, OpensAnswer, is_cut, outcome_by};
@@ -21,7 +19,7 @@ use line_side::LineIn;
 use node_links::{Link, Origin};
 use otn_base::PortName;
 use otn_base::limits::LINES;
-use otn_ports::{InPlaceOf, OutPlaceOf, Rack, Sink, Source, ask_byte};
+use otn_ports::{InPlaceOf, Rack, Sink, Source, ask_byte, is_dead_in, is_dead_out};
 use turn_pieces::{PORTS, Pieces, port_at};
 
 impl Node {
@@ -106,26 +104,6 @@ fn is_dead<P: Source, K: Sink>(name: PortName, bays: &Rack<P, K>) -> bool
         PortName::LineOut(b) => is_dead_out(bays.line_out(b)),
         PortName::ClientIn(n) => is_dead_in(bays.client_in(n)),
         PortName::ClientOut(n) => is_dead_out(bays.client_out(n)),
-    }
-}
-
-fn is_dead_in<P: Source>(place: &InPlaceOf<P>) -> bool
-    ensures { result ≡ is_dead (in_view P.Source place.now).state }
-{
-    match place {
-        InPlaceOf::Dead(..) => true,
-        InPlaceOf::Live(..) => false,
-        InPlaceOf::Empty => false,
-    }
-}
-
-fn is_dead_out<K: Sink>(place: &OutPlaceOf<K>) -> bool
-    ensures { result ≡ is_dead (out_view K.Sink place.now).state }
-{
-    match place {
-        OutPlaceOf::Dead(..) => true,
-        OutPlaceOf::Live(..) => false,
-        OutPlaceOf::Empty => false,
     }
 }
 

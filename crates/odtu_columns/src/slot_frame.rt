@@ -13,8 +13,7 @@ use crate::justification::put_message;
 use crate::put::put_groups;
 use frame_geometry::Frame;
 use otn_base::limits::{
-    LAST_PAYLOAD_COLUMN, LINE_COLUMNS, LINE_FRAME_BYTES, OTU2_SLOTS, OVERHEAD_COLUMNS,
-    PAYLOAD_COLUMNS,
+    LAST_PAYLOAD_COLUMN, LINE_COLUMNS, LINE_FRAME_BYTES, OVERHEAD_COLUMNS, PAYLOAD_COLUMNS,
 };
 use otn_base::{LineKind, Memory, Slots};
 use std::alloc::Global;
@@ -208,7 +207,7 @@ fn put_in_row(rows: &mut FilledRow, slots: &Slots, bytes: &[u8])
 {
     let kind = slots.kind();
     let list = slots.as_slice();
-    if kind.slots() as usize == OTU2_SLOTS && list.len() == 1 {
+    if slots.is_otu2_slot() {
         rows.put_slot(list[0], bytes);
         return;
     }

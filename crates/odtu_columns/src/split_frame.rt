@@ -1,9 +1,9 @@
 // A frame of an OTU2 beside its payload by tributary slots.
-ghost use Rattle.std.specs.Prelude.{◌≡◌, ◌+◌, ◌-◌, ◌*◌, ◌/◌, ◌<◌, ◌≤◌, ℕ, List, true, length, slice_index};
+ghost use Rattle.std.specs.Prelude.{◌≡◌, ◌+◌, ◌-◌, ◌*◌, ◌/◌, ◌<◌, ◌≤◌, ℕ, List, length, slice_index};
 ghost use Rattle.frame_geometry.specs.Places.{payload_row_of, place_of};
 ghost use Rattle.otn_base.specs.LineSlots.{slots_of};
 ghost use Rattle.otn_base.specs.SlotList.{IsSlotList};
-ghost use Rattle.otn_base.specs.declared.limits.TheConstants.{LINE_COLUMNS, OTU2_SLOTS, PAYLOAD_COLUMNS};
+ghost use Rattle.otn_base.specs.declared.limits.TheConstants.{LINE_COLUMNS, PAYLOAD_COLUMNS};
 ghost use Rattle.odtu_columns.specs.BySlots.{HasPayloadOf};
 ghost use Rattle.odtu_columns.specs.Message.{message_of};
 ghost use Rattle.odtu_columns.specs.Payload.{payload_group, run_groups};
@@ -12,7 +12,7 @@ use crate::SlotFrame;
 use crate::take::TakeFrame;
 use frame_geometry::Frame;
 use otn_base::Slots;
-use otn_base::limits::{LINE_COLUMNS, OTU2_SLOTS};
+use otn_base::limits::LINE_COLUMNS;
 use std::marker::Model;
 
 /// A frame of an OTU2 of which sinks of one slot each take best: beside it stands its payload by slots, where a sink's
@@ -48,7 +48,7 @@ impl<'a> TakeFrame for SplitFrame<'a> {
     ghost bytes = { λ frame. frame };
 
     fn take_group(&self, row: u32, cycle: usize, slots: &Slots, into: &mut [u8]) {
-        if is_one_slot(slots) {
+        if slots.is_otu2_slot() {
             into[0] = self.slots.slot(row, slots.last())[cycle];
             return;
         }
@@ -56,7 +56,7 @@ impl<'a> TakeFrame for SplitFrame<'a> {
     }
 
     fn take_groups(&self, row: u32, first: usize, count: usize, slots: &Slots, into: &mut [u8]) {
-        if is_one_slot(slots) {
+        if slots.is_otu2_slot() {
             let bytes = self.slots.slot(row, slots.last());
             into.copy_from_slice(&bytes[first..first + count]);
             return;
@@ -71,12 +71,4 @@ impl<'a> TakeFrame for SplitFrame<'a> {
     fn psi(&self) -> u8 {
         self.frame.psi()
     }
-}
-
-// Whether it is one slot of an OTU2.
-fn is_one_slot(slots: &Slots) -> bool
-    ensures line { result ≡ true → slots_of slots.now.kind ≡ OTU2_SLOTS }
-    ensures one { result ≡ true → length slots.now.list ≡ 1 }
-{
-    slots.kind().slots() as usize == OTU2_SLOTS && slots.count() == 1
 }

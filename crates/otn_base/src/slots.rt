@@ -1,9 +1,11 @@
 // A list of tributary slots.
-ghost use Rattle.std.specs.Prelude.{◌≡◌, ◌-◌, ◌<◌, ◌≤◌, ◌↔◌, ℕ, Contains, IfSome, IsSome, IsTrue, Some, length, slice_get, slice_index};
+ghost use Rattle.std.specs.Prelude.{◌≡◌, ◌==◌, ◌&&◌, ◌-◌, ◌<◌, ◌≤◌, ◌↔◌, ℕ, Contains, IfSome, IsSome, IsTrue, Some, true, length, slice_get, slice_index};
 ghost use Rattle.otn_base.specs.LineSlots.{slots_of};
 ghost use Rattle.otn_base.specs.SlotList.{IsSlotList};
+ghost use Rattle.otn_base.specs.declared.limits.TheConstants.{OTU2_SLOTS};
 
 use crate::LineKind;
+use crate::limits::OTU2_SLOTS;
 use arrayvec::ArrayVec;
 use std::marker::Model;
 
@@ -61,6 +63,15 @@ impl Slots {
         ensures few { length self.now.list ≤ slots_of self.now.kind }
     {
         self.list.len() as u32
+    }
+
+    /// Whether this is one slot of an OTU2 alone.
+    pub fn is_otu2_slot(&self) -> bool
+        ensures value { result ≡ (slots_of self.now.kind == OTU2_SLOTS && length self.now.list == 1) }
+        ensures line { result ≡ true → slots_of self.now.kind ≡ OTU2_SLOTS }
+        ensures one { result ≡ true → length self.now.list ≡ 1 }
+    {
+        self.kind().slots() as usize == OTU2_SLOTS && self.count() == 1
     }
 
     /// The greatest slot, in whose frame of a multiframe the justification bytes of the ODTU stand.

@@ -1,12 +1,12 @@
 -- What places gave and got, from one moment to the next, adds up.
-use Rattle.std.proofs.Common.{◌^◌, ◌<◌, ◌-◌, ◌≡◌, ◌≢◌, ◌≤◌, ◌+◌, ◌∙◌, ℕ, List, [], ◌∷◌, ◌++◌, Option, Some, None, length, take, arith, refl, sym, ap, inl, inr, append-nil, length-append}
+use Rattle.std.proofs.Common.{◌^◌, ◌<◌, ◌-◌, ◌≡◌, ◌≢◌, ◌≤◌, ◌+◌, ◌∙◌, ℕ, true, false, List, [], ◌∷◌, ◌++◌, Option, Some, None, length, take, arith, refl, sym, ap, inl, inr, append-nil, length-append}
 use Rattle.std.proofs.lemmas.List.{append_cancel_left, append_cancel_right}
 use Rattle.std.specs.Prelude.{unwrap_or}
 use Rattle.otn_ports.specs.Bytes.{before, after, HasFailed, raised}
 use Rattle.otn_ports.specs.Reads.{Takes, Reads, state_after, idle_reading}
 use Rattle.otn_ports.specs.Writes.{Sends, Writes, state_after_write}
 use Rattle.otn_ports.specs.Given.{Lives, Gave, Gained, DiedUnended, Took, HadToGive, given_between, Grew, IsGone, gone_between}
-use Rattle.otn_ports.specs.Views.{State, Empty, Live, Dead, InView, OutView}
+use Rattle.otn_ports.specs.Views.{State, Empty, Live, Dead, is_dead, InView, OutView}
 use Rattle.otn_ports.specs.declared.drain.Written.{Written}
 use Rattle.otn_ports.specs.declared.drain.Written.TheVariants as written
 use Rattle.otn_ports.specs.declared.in_place.Reading.{Reading}
@@ -70,6 +70,12 @@ sends_twice first old new x y h k = record {
 pub has_failed_since : (first old new : ℕ) → first ≤ old → HasFailed old new → HasFailed first new
 has_failed_since first old new h (inl k) = inl (omega (arith, h, k))
 has_failed_since first old new h (inr k) = inr k
+
+-- a place of which the test says so is dead
+pub dead_of : (s : State) → is_dead s ≡ true → s ≡ Dead
+dead_of Dead e = refl
+dead_of Live e = absurd (cc)
+dead_of Empty e = absurd (cc)
 
 pub dead_not_live : Dead ≢ Live
 dead_not_live e = cc

@@ -7,6 +7,12 @@ pub data State : Type 0 where
   Live : State
   Dead : State
 
+-- whether a place is dead
+abbrev pub is_dead : State → Bool
+is_dead Empty = false
+is_dead Live = false
+is_dead Dead = true
+
 -- a place for an input: how it stands, whether its port is behind a box, the bytes still to come
 -- where its port tells them, whether its port has answered that it ended, its port's count of faults, and
 -- the place's number of bytes taken

@@ -8,6 +8,7 @@
 //! - `in_port`, `out_port`: a port behind a box, or one in memory.
 //! - `in_place`, `out_place`: a place with its port, which reads and writes whole slices; `sealed`: the port of a dead
 //!   one.
+//! - `dead_places`: whether a place is dead.
 //! - `asking`: a place is asked for one byte more.
 //! - `fill`, `drain`: a whole read of a source, and a whole write to a sink, that stand in no place.
 //! - `bays`: all places of a device.
@@ -23,6 +24,7 @@
 mod asking;
 mod bays;
 mod chooser;
+mod dead_places;
 mod drain;
 mod ended;
 mod fill;
@@ -47,6 +49,7 @@ mod writer_sink;
 pub use asking::ask_byte;
 pub use bays::{Bays, Rack};
 pub use chooser::{Chooser, FirstReady};
+pub use dead_places::{is_dead_in, is_dead_out};
 pub use drain::{Written, write_whole};
 pub use ended::Ended;
 pub use fill::read_whole;

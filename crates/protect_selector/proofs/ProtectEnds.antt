@@ -2,7 +2,8 @@
 use Rattle.std.proofs.Common.{◌≡◌, ◌≢◌, ◌⊎◌, inl, inr, ◌<◌, ◌+◌, ◌*◌, ℕ, zero, suc, Bool, true, false, List, [], ◌∷◌, ◌++◌, length, refl, sym, subst, ◌∙◌, length-append, add-one, arith, ◌↔◌, ap}
 use Rattle.std.specs.Prelude.{not, ◌||◌}
 use Rattle.otn_ports.specs.PortViews.{SinkView, SinkGot}
-use Rattle.otn_ports.specs.Views.{State, Empty, Live, Dead, InView, OutView, BaysView}
+use Rattle.otn_ports.specs.Views.{State, Empty, Live, Dead, is_dead, InView, OutView, BaysView}
+use Rattle.otn_ports.proofs.GivenLaws.{dead_of}
 use Rattle.line_side.specs.LineForm.{plain_otu2}
 use Rattle.line_side.specs.LineStands.{LineView}
 use Rattle.line_side.specs.MayBe.{MayBe}
@@ -16,8 +17,8 @@ use Rattle.otn_ports.specs.declared.drain.Written.TheVariants as written
 use Rattle.tributary_line.specs.TapTurn.{TapView, TapStands}
 use Rattle.tributary_line.specs.TributaryFile.{AreTributaryFrames}
 use Rattle.tributary_line.specs.FeedTurn.{FeedView, FeedStands}
-use Rattle.tributary_line.specs.Settling.{ended_by, is_dead}
-use Rattle.tributary_line.proofs.Endings.{ends_by, some_dead}
+use Rattle.tributary_line.specs.Settling.{ended_by}
+use Rattle.tributary_line.proofs.Endings.{ends_by}
 use Rattle.otn_ports.specs.Asked.{ByteAnswer, has_come}
 use Rattle.device_model.specs.LineAsked.{is_seen, MayHave, InputLeft}
 use Rattle.device_model.specs.Moments.{line_taken}
@@ -58,9 +59,9 @@ is_cut : (last : Ends) → has_dead last ≡ true → IsCut last
 is_cut last e = by_parts (is_dead last.working.state) refl (is_dead last.protection.state) refl (is_dead last.output.state) refl e
   where
     by_parts : (a : Bool) → is_dead last.working.state ≡ a → (b : Bool) → is_dead last.protection.state ≡ b → (c : Bool) → is_dead last.output.state ≡ c → (a || b || c) ≡ true → IsCut last
-    by_parts true h b k c l e = inl (some_dead last.working.state h)
-    by_parts false h true k c l e = inr (inl (some_dead last.protection.state k))
-    by_parts false h false k true l e = inr (inr (some_dead last.output.state l))
+    by_parts true h b k c l e = inl (dead_of last.working.state h)
+    by_parts false h true k c l e = inr (inl (dead_of last.protection.state k))
+    by_parts false h false k true l e = inr (inr (dead_of last.output.state l))
     by_parts false h false k false l e = absurd (cc)
 
 cut_is : (last : Ends) → IsCut last → has_dead last ≡ true

@@ -1,15 +1,8 @@
 -- What the end of a command over lines says.
 use Rattle.std.proofs.Common.{◌≡◌, ◌≢◌, ◌↔◌, Bool, true, false, refl}
-use Rattle.otn_ports.specs.Views.{State, Empty, Live, Dead}
 use Rattle.otn_ports.specs.declared.ended.Ended.{Ended}
 use Rattle.otn_ports.specs.declared.ended.Ended.TheVariants.{Unfinished, Cut, ReportFault, Memory}
-use Rattle.tributary_line.specs.Settling.{ended_by, is_dead}
-
--- a place of which the test says so is dead
-pub some_dead : (s : State) → is_dead s ≡ true → s ≡ Dead
-some_dead Dead e = refl
-some_dead Live e = absurd (cc)
-some_dead Empty e = absurd (cc)
+use Rattle.tributary_line.specs.Settling.{ended_by}
 
 -- the booleans of the end and what they say
 pub record EndsAs (ended : Ended) (CutBy MoreBy : Type 0) : Type 0 where

@@ -1,14 +1,7 @@
 -- API: how a command over lines ends.
 use Rattle.std.specs.Prelude.{Bool, true, false}
-use Rattle.otn_ports.specs.Views.{State, Empty, Live, Dead}
 use Rattle.otn_ports.specs.declared.ended.Ended.{Ended}
 use Rattle.otn_ports.specs.declared.ended.Ended.TheVariants.{Done, Unfinished, Cut}
-
--- whether a place is dead
-abbrev pub is_dead : State → Bool
-is_dead Empty = false
-is_dead Live = false
-is_dead Dead = true
 
 -- how the command ends, by whether a place that it uses is dead and whether more is left than it takes
 abbrev pub ended_by : (dead more : Bool) → Ended

@@ -1,32 +1,8 @@
-// The end of a command over lines: which places are dead, and how the command ended.
+// The end of a command over lines: how the command ended.
 ghost use Rattle.std.specs.Prelude.{◌≡◌, ◌≢◌, ◌||◌};
-ghost use Rattle.otn_ports.specs.InPlace.{in_view};
-ghost use Rattle.otn_ports.specs.OutPlace.{out_view};
-ghost use Rattle.tributary_line.specs.Settling.{ended_by, is_dead};
+ghost use Rattle.tributary_line.specs.Settling.{ended_by};
 
-use otn_ports::{Ended, InPlaceOf, OutPlaceOf, Sink, Source};
-
-/// Whether the place of an input is dead.
-pub fn is_dead_in<I: Source>(place: &InPlaceOf<I>) -> bool
-    ensures { result ≡ is_dead (in_view I.Source place.now).state }
-{
-    match place {
-        InPlaceOf::Dead(..) => true,
-        InPlaceOf::Live(..) => false,
-        InPlaceOf::Empty => false,
-    }
-}
-
-/// Whether the place of an output is dead.
-pub fn is_dead_out<O: Sink>(place: &OutPlaceOf<O>) -> bool
-    ensures { result ≡ is_dead (out_view O.Sink place.now).state }
-{
-    match place {
-        OutPlaceOf::Dead(..) => true,
-        OutPlaceOf::Live(..) => false,
-        OutPlaceOf::Empty => false,
-    }
-}
+use otn_ports::Ended;
 
 /// How a command ends whose report was written: `Cut` where a place that it uses is dead, else `Unfinished` where
 /// more is left than it takes, else `Done`.

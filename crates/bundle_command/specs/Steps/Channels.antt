@@ -11,8 +11,9 @@ use Rattle.gfp_linear.specs.Weave.{WovenFrame, PacketFrame, asked_first, last_gi
 use Rattle.gfp_linear.specs.Weaver.{WeaverState, Woven, HasWoven, IsWeave, channel_at, woven_on}
 use Rattle.odu_client.specs.ClientInput.{ClientInput, input_of}
 use Rattle.odu_client.specs.Framing.{MayDie}
+use Rattle.client_list.specs.ClientLists.{IsClientList}
 use Rattle.bundle_command.specs.ChannelInput.{is_short, texts_of}
-use Rattle.bundle_command.specs.BundleLeft.{IsClientList, place_of}
+use Rattle.bundle_command.specs.BundleLeft.{place_of}
 use Rattle.bundle_command.specs.BundleStream.{IsAskedIn}
 use Rattle.bundle_command.specs.declared.channel.Channel.{Channel}
 use Rattle.bundle_command.specs.declared.channel.Standing.{Standing}

@@ -1,7 +1,7 @@
 -- Steps of `hand_on`, `take_all` and others: what private contracts alone cite, beside the definitions of `Receiving`.
-use Rattle.std.specs.Prelude.{◌≡◌, ℕ, Bool, true, false, List, [], ◌++◌, length, flat_map}
+use Rattle.std.specs.Prelude.{◌≡◌, ℕ, List, [], ◌++◌, length, flat_map}
 use Rattle.otn_ports.specs.Sent.{IsSent}
-use Rattle.otn_ports.specs.Views.{State, Empty, Live, Dead, OutView}
+use Rattle.otn_ports.specs.Views.{Dead, OutView}
 use Rattle.gfp_frames.specs.Delivered.{delivered}
 use Rattle.gfp_frames.specs.Reader.{ReaderState, HasRead}
 use Rattle.odu_client.specs.AlignedRuns.{Arrival, arrivals, runs_of}
@@ -11,12 +11,6 @@ use Rattle.otn_base.specs.Counts.{saturated}
 use Rattle.device_model.specs.Numbers.{counted_packets}
 use Rattle.packet_text.specs.PacketText.{hex_text}
 use Rattle.cross_matrix.specs.Receiving.{last_run, HeldView, NoneHeld}
-
--- whether a place is dead
-abbrev pub is_dead : State → Bool
-is_dead Empty = false
-is_dead Live = false
-is_dead Dead = true
 
 -- the text of these packets was due to a place, and so many of them count
 pub record LinesSent (first now : OutView) (packets : List (List ℕ)) (count : ℕ) : Type 0 where

@@ -1,12 +1,11 @@
 -- Steps of `has_dead`, `ask_lines` and others: what private contracts alone cite, beside the definitions of `Asking`.
 use Rattle.std.specs.Prelude.{◌≡◌, ◌<◌, ℕ, Bool, true, false, ◌&&◌, not, nat_lt, List, Some, slice_get}
 use Rattle.otn_base.specs.declared.kind.PortName.{PortName}
-use Rattle.otn_ports.specs.Views.{InView, BaysView}
+use Rattle.otn_ports.specs.Views.{InView, BaysView, is_dead}
 use Rattle.line_side.specs.LineStands.{LineView}
 use Rattle.odu_client.specs.ClientInput.{ClientInput, is_spent, emitted_before}
 use Rattle.plan_file.specs.declared.connection.Connection.{Connection}
 use Rattle.cross_matrix.specs.Parts.{ClientInStands, MayShow}
-use Rattle.cross_matrix.specs.Steps.Receiving.{is_dead}
 use Rattle.otn_ports.specs.Asked.{has_come}
 use Rattle.device_model.specs.Outcomes.{place_state}
 use Rattle.device_model.specs.Through.{of_client}

@@ -5,13 +5,14 @@ use Rattle.otn_ports.specs.PortViews.{SinkGot}
 use Rattle.otn_ports.specs.declared.drain.Written.{Written}
 use Rattle.otn_ports.specs.declared.drain.Written.TheVariants as written
 use Rattle.otn_ports.specs.Asked.{ByteAsked, has_come}
+use Rattle.otn_ports.specs.Views.{is_dead}
 use Rattle.device_model.specs.LineAsked.{is_seen}
 use Rattle.otn_ports.specs.declared.ended.Ended.{Ended}
 use Rattle.line_side.specs.MayBe.{MayBe}
 use Rattle.tributary_model.specs.Places.{Tributary}
 use Rattle.tributary_line.specs.TapTurn.{TapStands, IsBetweenTurns}
 use Rattle.tributary_line.specs.FeedTurn.{FeedStands}
-use Rattle.tributary_line.specs.Settling.{ended_by, is_dead}
+use Rattle.tributary_line.specs.Settling.{ended_by}
 use Rattle.protect_selector.specs.Selector.{HasChosen}
 use Rattle.protect_selector.specs.OfLines.{turns_before, given_before, switch_text, switch_text_at}
 use Rattle.protect_selector.specs.declared.protecting.Protecting.{Protecting}

@@ -5,8 +5,8 @@ use Rattle.odtu_columns.specs.Payload.{run_groups}
 use Rattle.odtu_columns.proofs.SlotRuns.{only_slot, in_line, own_byte, slot_run}
 use Rattle.odtu_columns.proofs.split_frame.SplitFrameTakeFrame.take_groups.Goals as goal
 
-pub returns-then-is_one_slot : goal.returns-then-is_one_slot
-returns-then-is_one_slot c =
+pub returns-then-is_otu2_slot : goal.returns-then-is_otu2_slot
+returns-then-is_otu2_slot c =
     let list = c.args.slots.now.list in
     let k = c.last.result in
     let first = c.args.first in
@@ -14,12 +14,12 @@ returns-then-is_one_slot c =
     let frame = c.self.inside.frame.now in
     let bytes = c.slot-bytes.result.now in
     let new = c.copy_from_slice.new.self in
-    let line = c.if-is_one_slot.ensures.line refl in
-    let only = only_slot list k (c.if-is_one_slot.ensures.one refl) c.last.ensures.last in
+    let line = c.if-is_otu2_slot.ensures.line refl in
+    let only = only_slot list k (c.if-is_otu2_slot.ensures.one refl) c.last.ensures.last in
     let inside = in_line (slots_of c.args.slots.now.kind) k list c.last.ensures.list only line in
     let room = subst (λ s. first + count ≤ 3808 / s) line c.requires.cycles in
     let size : length new ≡ count =
-    c.copy_from_slice.ensures.len ∙ c.requires.size ∙ ap (λ n. n * count) (c.if-is_one_slot.ensures.one refl) ∙ (let e : 1 * count ≡ count = omega arith in e) in
+    c.copy_from_slice.ensures.len ∙ c.requires.size ∙ ap (λ n. n * count) (c.if-is_otu2_slot.ensures.one refl) ∙ (let e : 1 * count ≡ count = omega arith in e) in
     let is : new ≡ take count (drop first bytes) =
     c.copy_from_slice.ensures.after ∙ ap (λ n. take n (drop first bytes)) (let e : first + count - first ≡ count = omega arith in e) in
     slot_run (payload_row_of 4080 c.args.row frame) bytes new k first count size c.slot-bytes.ensures.size room is

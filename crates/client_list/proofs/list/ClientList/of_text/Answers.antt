@@ -1,6 +1,6 @@
-use Rattle.std.proofs.Common.{rules, take, refl, ◌∙◌}
-use Rattle.bundle_command.proofs.ClientLists.{all_read, behind_comma, list_read, no_client, no_last_client, read_on}
-use Rattle.bundle_command.proofs.client_list.ClientList.of_text.Goals as goal
+use Rattle.std.proofs.Common.{rules, refl, ◌∙◌}
+use Rattle.client_list.proofs.ClientLists.{all_read, behind_comma, list_read, no_client, no_last_client, read_on}
+use Rattle.client_list.proofs.list.ClientList.of_text.Goals as goal
 
 pub returns-in_err-push_client-clause-none : goal.returns-in_err-push_client-clause-none
 returns-in_err-push_client-clause-none c =

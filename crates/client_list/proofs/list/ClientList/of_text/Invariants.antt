@@ -1,7 +1,7 @@
 use Rattle.std.proofs.Common.{◌≡◌, ◌==◌, ◌≤◌, length}
 use Rattle.std.specs.List.{position_or_len}
-use Rattle.bundle_command.proofs.ClientLists.{ReadSo}
-use Rattle.bundle_command.proofs.client_list.ClientList.of_text.Given as goal
+use Rattle.client_list.proofs.ClientLists.{ReadSo}
+use Rattle.client_list.proofs.list.ClientList.of_text.Given as goal
 
 -- what is read so far is that of the first parts, and this is the next comma
 abbrev pub invariant-loop-comma : goal.invariant-loop-comma

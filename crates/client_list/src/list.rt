@@ -3,8 +3,7 @@ ghost use Rattle.std.specs.Prelude.{◌≡◌, ◌==◌, ◌<◌, ◌≤◌, ◌
 ghost use Rattle.std.specs.Fmt.{decimal};
 ghost use Rattle.std.specs.List.{position_or_len};
 ghost use Rattle.otn_base.specs.declared.limits.TheConstants.{CLIENTS};
-ghost use Rattle.bundle_command.specs.BundleLeft.{IsClientList};
-ghost use Rattle.bundle_command.specs.ClientText.{clients_text};
+ghost use Rattle.client_list.specs.ClientLists.{IsClientList, clients_text};
 
 use arrayvec::ArrayVec;
 use itoa::Buffer;
@@ -20,7 +19,7 @@ pub struct ClientList {
 
 impl Model for ClientList {
     ghost use Rattle.std.specs.Prelude.{ℕ, List};
-    ghost use Rattle.bundle_command.specs.BundleLeft.{IsClientList};
+    ghost use Rattle.client_list.specs.ClientLists.{IsClientList};
 
     ghost Value = { List ℕ };
 

@@ -1,6 +1,6 @@
 use Rattle.std.proofs.Common.{◌≢◌, ◌<◌, ℕ}
 use Rattle.std.specs.Fmt.{decimal}
-use Rattle.bundle_command.proofs.client_list.client_of.Given as goal
+use Rattle.client_list.proofs.list.client_of.Given as goal
 
 -- it is none of the numbers before
 abbrev pub invariant-loop-client : goal.invariant-loop-client

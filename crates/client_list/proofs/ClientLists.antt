@@ -1,7 +1,8 @@
 -- Lists of clients, and their texts.
-use Rattle.std.proofs.Common.{◌≡◌, ◌≢◌, ◌⊎◌, inl, inr, ◌<◌, ◌≤◌, ◌+◌, ◌-◌, ◌/◌, ◌%◌, ◌==◌, ◌∙◌, ℕ, zero, suc, true, false, All, List, [], ◌∷◌, ◌++◌, length, map, take, drop, get_or, refl, sym, ap, subst, arith, length-append, length-drop, append-nil}
+use Rattle.std.proofs.Common.{◌≡◌, inl, inr, ◌<◌, ◌≤◌, ◌+◌, ◌-◌, ◌/◌, ◌%◌, ◌==◌, ◌∙◌, ℕ, zero, suc, false, All, List, [], ◌∷◌, ◌++◌, length, map, take, drop, get_or, refl, sym, ap, subst, arith, length-drop, append-nil, add-one}
 use Rattle.std.specs.Fmt.{decimal}
-use Rattle.std.specs.List.{join_with_byte, slice_split, position_or_len, before_first, after_first}
+use Rattle.std.specs.List.{join_with_byte, slice_split, position_or_len}
+use Rattle.std.specs.List.Sorted.{IsStrictlyIncreasing}
 use Rattle.std.specs.Str.Parse.{digits_value}
 use Rattle.std.proofs.Math.Seq.{take-length}
 use Rattle.std.proofs.lemmas.List.{drop-drop}
@@ -11,9 +12,30 @@ use Rattle.std.proofs.lemmas.Fmt.{decimal_digit, decimal_step, decimal_injective
 use Rattle.std.proofs.lemmas.List.Elements.{All-cons, All-nil, All-head, All-tail, All-push, All-from_get_or}
 use Rattle.std.proofs.lemmas.List.Sums.{fails_before_first}
 use Rattle.std.proofs.lemmas.List.Splits.{slice_split_at, slice_split_none, slice_split_first, join_with_byte-slice_split}
-use Rattle.bundle_command.specs.BundleLeft.{IsClientList}
-use Rattle.bundle_command.specs.ClientText.{clients_text}
-use Rattle.bundle_command.proofs.Finish.{few_channels}
+use Rattle.client_list.specs.ClientLists.{IsClientList, clients_text}
+
+-- ---- numbers that rise: that of a client is at least its channel
+
+pub rises : (cids : List ℕ) (d c : ℕ) → IsStrictlyIncreasing cids → d < c → c < length cids → get_or cids d 0 < get_or cids c 0
+rises cids d zero h less there = absurd (omega arith)
+rises cids d (suc c) h less there =
+    let next : c + 1 < length cids = omega arith in
+    let higher : get_or cids c 0 < get_or cids (c + 1) 0 = h c next in
+    let same : get_or cids (c + 1) 0 ≡ get_or cids (suc c) 0 = ap (λ i. get_or cids i 0) (add-one c) in
+    elim (cases_lt d c) [
+      | inl lower ↦ (let before = rises cids d c h lower (omega arith) in omega arith)
+      | inr last ↦ (let equal : d ≡ c = omega arith in let e : get_or cids d 0 ≡ get_or cids c 0 = ap (λ i. get_or cids i 0) equal in omega arith)
+    ]
+
+list_high : (cids : List ℕ) (c : ℕ) → IsStrictlyIncreasing cids → c < length cids → c ≤ get_or cids c 0
+list_high cids zero h less = omega arith
+list_high cids (suc c) h less =
+    let before = list_high cids c h (omega arith) in
+    let more = rises cids c (suc c) h (omega arith) less in
+    omega arith
+
+pub few_channels : (clients : List ℕ) (c : ℕ) → IsClientList clients → c < length clients → c ≤ 15
+few_channels clients c h less = (let low = list_high clients c h.cids.rising less in let high = h.places c less in omega arith)
 
 -- ---- how many there are
 
