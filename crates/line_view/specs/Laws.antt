@@ -35,8 +35,8 @@ pieces_of (n ∷ lengths) bytes = take n bytes ∷ pieces_of lengths (drop n byt
 abbrev pub each_told : Tributary → (given : List ℕ) → List ℕ
 each_told own given = map (λ t. (told_at own 0 given t).bytes) (turns_of own.line_slots (mfas_of given))
 
--- What `pull` writes of an OTU2 line, cut by these numbers: the piece of each turn is what the sink emits in it, byte by
--- byte, and the pieces are together all that `pull` writes.
+-- What `pull` writes of an OTU2 line, cut by these numbers: the piece of each turn is what the sink emits in it, and
+-- together the pieces are all that `pull` writes, byte by byte.
 pub record TellsPull (own : Tributary) (given : List ℕ) : Type 0 where
   pub turns : pieces_of (each_told own given) (pull_report own given)
       ≡ map (emitted_at own given) (turns_of own.line_slots (mfas_of given))

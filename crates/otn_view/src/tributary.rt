@@ -64,7 +64,8 @@ fn port_of(text: &[u8], kind: LineKind) -> Option<u8>
 fn slots_of(text: &[u8], kind: LineKind) -> Option<Slots>
     ensures slots { IfSome result (λ slots. (text.now ≡ slots_text slots.list) × (slots.kind ≡ kind)
         × IsSlotList (slots_of kind) slots.list) }
-    ensures none { IfNone result ((slots : List ℕ) → IsSlotList (slots_of kind) slots → text.now ≡ slots_text slots → ⊥) }
+    ensures none { IfNone result ((slots : List ℕ) → IsSlotList (slots_of kind) slots → text.now ≡ slots_text slots
+        → ⊥) }
 {
     let mut list: ArrayVec<u8, MOST_SLOTS> = ArrayVec::new();
     let mut rest = text;
