@@ -1,4 +1,3 @@
-pub mod Bursts
 pub mod Receiving
 pub mod Parts
 pub mod Pipes

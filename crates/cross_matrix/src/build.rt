@@ -10,7 +10,6 @@ ghost use Rattle.cross_matrix.specs.Pipes.{IsPipeOf};
 ghost use Rattle.cross_matrix.specs.Steps.Pipes.{IsFit};
 
 use crate::Pipe;
-use crate::burst::Burst;
 use crate::giving::GivingPart;
 use crate::receiver::Receiver;
 use crate::taking::{ClientText, TakingPart};
@@ -18,7 +17,7 @@ use device_model::accepted_plans;
 use maintenance_signals::SignalBytes;
 use odu_client::ClientFramer;
 use otn_base::limits::GROUPS;
-use otn_base::{Memory, Trace};
+use otn_base::{Burst, Memory, Trace};
 use packet_text::PacketLines;
 use plan_file::{Connection, FromEnd, Plan, ToEnd};
 use std::alloc::Global;

@@ -1,5 +1,5 @@
-// The bytes of one turn.
-ghost use Rattle.std.specs.Prelude.{◌≡◌, ◌≢◌, ◌≤◌, ◌+◌, ◌*◌, ◌/◌, ℕ, List, [], ◌∷◌, ◌++◌, Option, IfOk, IsSome, IsTrue, length, take};
+// How the bytes of one turn come into their buffer, and leave it.
+ghost use Rattle.std.specs.Prelude.{◌≡◌, ◌≢◌, ◌≤◌, ◌+◌, ◌*◌, ◌/◌, ℕ, List, [], ◌∷◌, ◌++◌, Option, IsSome, IsTrue, length, take};
 ghost use Rattle.maintenance_signals.specs.Given.{HasGiven};
 ghost use Rattle.maintenance_signals.specs.Stream.{signal_byte, signal_bytes};
 ghost use Rattle.maintenance_signals.specs.declared.signal.Signal.{Signal};
@@ -19,137 +19,88 @@ ghost use Rattle.tributary_model.specs.Puts.{lengths_of};
 
 use maintenance_signals::SignalBytes;
 use odu_client::ClientFramer;
-use otn_base::Memory;
+use otn_base::Burst;
 use otn_ports::{InPlaceOf, Source};
 use packet_text::{Line, PacketLines};
-use std::alloc::Global;
-use std::marker::Model;
 use trib_sink::TribSink;
 use trib_source::TribSource;
 
-/// Bytes that a turn brought, in a buffer with room for those of any turn, from `first` to `last`. It is seen as
-/// the list of them, beside the room.
-#[derive(Drop)]
-pub(crate) struct Burst {
-    buffer: Vec<u8>,
-    first: usize,
-    last: usize,
+/// What a sink emits in the turn that ends with this came: it stands in a buffer of the sink's, which keeps that of the
+/// burst in exchange.
+pub(crate) fn take_turn(came: &mut Burst, sink: &mut TribSink, whole: bool)
+    requires whole { IsTrue whole → sink.old.taken ≡ slots_of sink.old.slots.kind }
+    requires room { came.old.room ≡ length sink.old.slots.list * (GROUPS + 1) }
+    ensures bytes { (own : Tributary) (past : List (Option View)) (frames : List Taken)
+        → StandsAfter own past frames sink.old
+        → came.new.bytes ≡ emission own (signal_byte Ais) past (ended_view own whole frames) }
+    ensures stands { (own : Tributary) (past : List (Option View)) (frames : List Taken)
+        → StandsAfter own past frames sink.old
+        → StandsAfter own (ended_view own whole frames ∷ past) [] sink.new }
+    ensures taken { sink.new.taken ≡ 0 }
+    ensures slots { sink.new.slots ≡ sink.old.slots }
+    ensures port { sink.new.port ≡ sink.old.port }
+    ensures room_stays { came.new.room ≡ came.old.room }
+{
+    let (mut buffer, _) = came.hand_out();
+    let emitted = sink.hand_over(whole, &mut buffer);
+    came.exchange(&mut buffer, emitted);
 }
 
-impl Model for Burst {
-    ghost use Rattle.std.specs.Prelude.{◌≤◌, slice_range, vec_len};
-    ghost use Rattle.cross_matrix.specs.Bursts.{BurstView};
-
-    ghost Value = { BurstView };
-
-    ghost view = { λ b. record { bytes = slice_range b.buffer.items b.first b.last; room = vec_len b.buffer } };
-
-    ghost invariant = { λ b. (b.first ≤ b.last) × (b.last ≤ vec_len b.buffer) };
+/// Begins a turn of a source, which takes the bytes, and the buffer, in exchange for one of its own: no bytes are left.
+/// Of more than complete the groups of a multiframe it takes the first.
+pub(crate) fn give_turn(gives: &mut Burst, source: &mut TribSource)
+    requires room { gives.old.room ≡ length source.old.slots.list * (GROUPS + 1) }
+    ensures stands { (own : Tributary) (turns : List (List ℕ)) (filled : ℕ)
+        → SourceStands own turns filled source.old
+        → (sent (lengths_of turns) (length turns) + length gives.old.bytes) / length own.slots ≤ sent
+        (lengths_of turns) (length turns) / length own.slots + GROUPS
+        → SourceStands own (turns ++ gives.old.bytes ∷ []) 0 source.new }
+    ensures begun { IsSome source.new.said }
+    ensures filled { source.new.filled ≡ 0 }
+    ensures slots { source.new.slots ≡ source.old.slots }
+    ensures given { gives.new ≡ record gives.old { bytes = [] } }
+{
+    let (mut buffer, bytes) = gives.hand_out();
+    let count = (bytes.end - bytes.start).min(source.room());
+    source.take_over(&mut buffer, bytes.start..bytes.start + count);
+    gives.exchange(&mut buffer, 0..0);
 }
 
-impl Burst {
-    /// No bytes, and room for so many.
-    pub(crate) fn new(alloc: Global, room: usize) -> Result<Burst, Memory>
-        ensures { IfOk result (λ b. b ≡ record { bytes = []; room = room }) }
-    {
-        Ok(Burst {
-            buffer: vec![in alloc; 0u8; room]?,
-            first: 0,
-            last: 0,
-        })
-    }
+/// The next bytes, so many, of a client's stream.
+pub(crate) fn take_client<P: Source>(
+    came: &mut Burst,
+    framer: &mut ClientFramer,
+    lines: &mut PacketLines,
+    place: &mut InPlaceOf<P>,
+    count: usize,
+)
+    requires room { count ≤ came.old.room }
+    ensures count { length came.new.bytes ≡ count }
+    ensures fills { (first : InView) (taken gone : List ℕ)
+        → ClientStands first (in_view P.Source place.old) taken gone (lines_view lines.old) framer.old
+        → Fills first (in_view P.Source place.new) taken gone came.new.bytes (lines_view lines.old)
+        (lines_view lines.new) framer.old framer.new }
+    ensures over { framer.old.stream.answer ≢ Line.Packet → lines.new ≡ lines.old }
+    ensures quiet { framer.old.stream.answer ≢ Line.Packet → place.new ≡ place.old }
+    ensures room_stays { came.new.room ≡ came.old.room }
+{
+    let (mut buffer, _) = came.hand_out();
+    fill_front(framer, lines, place, &mut buffer, count);
+    came.exchange(&mut buffer, 0..count);
+}
 
-    /// The bytes.
-    pub(crate) fn bytes(&self) -> &[u8]
-        ensures { result.now ≡ self.now.bytes }
-    {
-        &self.buffer[self.first..self.last]
-    }
-
-    /// Drops the bytes.
-    pub(crate) fn clear(&mut self)
-        ensures { self.new ≡ record self.old { bytes = [] } }
-    {
-        self.first = 0;
-        self.last = 0;
-    }
-
-    /// What a sink emits in the turn that ends with this: the bytes are these, in a buffer of the sink's, which
-    /// keeps this one in exchange.
-    pub(crate) fn take_turn(&mut self, sink: &mut TribSink, whole: bool)
-        requires whole { IsTrue whole → sink.old.taken ≡ slots_of sink.old.slots.kind }
-        requires room { self.old.room ≡ length sink.old.slots.list * (GROUPS + 1) }
-        ensures bytes { (own : Tributary) (past : List (Option View)) (frames : List Taken)
-            → StandsAfter own past frames sink.old
-            → self.new.bytes ≡ emission own (signal_byte Ais) past (ended_view own whole frames) }
-        ensures stands { (own : Tributary) (past : List (Option View)) (frames : List Taken)
-            → StandsAfter own past frames sink.old
-            → StandsAfter own (ended_view own whole frames ∷ past) [] sink.new }
-        ensures taken { sink.new.taken ≡ 0 }
-        ensures slots { sink.new.slots ≡ sink.old.slots }
-        ensures port { sink.new.port ≡ sink.old.port }
-        ensures room_stays { self.new.room ≡ self.old.room }
-    {
-        let emitted = sink.hand_over(whole, &mut self.buffer);
-        self.first = emitted.start;
-        self.last = emitted.end;
-    }
-
-    /// Begins a turn of a source, which takes the bytes, and the buffer, in exchange for one of its own: no bytes are
-    /// left. Of more than complete the groups of a multiframe it takes the first.
-    pub(crate) fn give_turn(&mut self, source: &mut TribSource)
-        requires room { self.old.room ≡ length source.old.slots.list * (GROUPS + 1) }
-        ensures stands { (own : Tributary) (turns : List (List ℕ)) (filled : ℕ)
-            → SourceStands own turns filled source.old
-            → (sent (lengths_of turns) (length turns) + length self.old.bytes) / length own.slots ≤ sent
-            (lengths_of turns) (length turns) / length own.slots + GROUPS
-            → SourceStands own (turns ++ self.old.bytes ∷ []) 0 source.new }
-        ensures begun { IsSome source.new.said }
-        ensures filled { source.new.filled ≡ 0 }
-        ensures slots { source.new.slots ≡ source.old.slots }
-        ensures given { self.new ≡ record self.old { bytes = [] } }
-    {
-        let count = (self.last - self.first).min(source.room());
-        source.take_over(&mut self.buffer, self.first..self.first + count);
-        self.clear();
-    }
-
-    /// The next bytes, so many, of a client's stream.
-    pub(crate) fn take_client<P: Source>(
-        &mut self,
-        framer: &mut ClientFramer,
-        lines: &mut PacketLines,
-        place: &mut InPlaceOf<P>,
-        count: usize,
-    )
-        requires room { count ≤ self.old.room }
-        ensures count { length self.new.bytes ≡ count }
-        ensures fills { (first : InView) (taken gone : List ℕ)
-            → ClientStands first (in_view P.Source place.old) taken gone (lines_view lines.old) framer.old
-            → Fills first (in_view P.Source place.new) taken gone self.new.bytes (lines_view lines.old)
-            (lines_view lines.new) framer.old framer.new }
-        ensures over { framer.old.stream.answer ≢ Line.Packet → lines.new ≡ lines.old }
-        ensures quiet { framer.old.stream.answer ≢ Line.Packet → place.new ≡ place.old }
-        ensures room_stays { self.new.room ≡ self.old.room }
-    {
-        fill_front(framer, lines, place, &mut self.buffer, count);
-        self.first = 0;
-        self.last = count;
-    }
-
-    /// The next bytes, so many, of a signal's stream.
-    pub(crate) fn take_signal(&mut self, stream: &mut SignalBytes, count: usize)
-        requires room { count ≤ self.old.room }
-        ensures bytes { (signal : Signal) (given : ℕ) → HasGiven signal given stream.old
-            → self.new.bytes ≡ signal_bytes signal given count }
-        ensures given { (signal : Signal) (given : ℕ) → HasGiven signal given stream.old
-            → HasGiven signal (given + count) stream.new }
-        ensures room_stays { self.new.room ≡ self.old.room }
-    {
-        next_front(stream, &mut self.buffer, count);
-        self.first = 0;
-        self.last = count;
-    }
+/// The next bytes, so many, of a signal's stream.
+pub(crate) fn take_signal(came: &mut Burst, stream: &mut SignalBytes, count: usize)
+    requires room { count ≤ came.old.room }
+    ensures bytes { (signal : Signal) (given : ℕ) → HasGiven signal given stream.old
+        → came.new.bytes ≡ signal_bytes signal given count }
+    ensures given { (signal : Signal) (given : ℕ) → HasGiven signal given stream.old
+        → HasGiven signal (given + count) stream.new }
+    ensures room_stays { came.new.room ≡ came.old.room }
+{
+    let (mut buffer, _) = came.hand_out();
+    next_front(stream, &mut buffer, count);
+    came.exchange(&mut buffer, 0..count);
 }
 
 // The next bytes of a client's stream, so many, to the front of a slice.

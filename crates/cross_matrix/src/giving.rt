@@ -15,9 +15,10 @@ ghost use Rattle.cross_matrix.specs.InTurn.{some_if, next_filled};
 ghost use Rattle.cross_matrix.specs.Receiving.{ReceiverStands};
 ghost use Rattle.cross_matrix.specs.Parts.{OnSource, OnReceiver, IsToClient, GivesTo, GivesSlots, GivingStands, frames_filled, IsBegun, IsReceived};
 
-use crate::burst::Burst;
+use crate::burst::give_turn;
 use crate::receiver::Receiver;
 use odtu_columns::FillFrame;
+use otn_base::Burst;
 use otn_ports::{OutPlaceOf, Sink};
 use trib_source::TribSource;
 
@@ -99,7 +100,7 @@ impl GivingPart {
         ensures room_stays { gives.new.room ≡ gives.old.room }
     {
         match self {
-            GivingPart::Line(source) => gives.give_turn(source),
+            GivingPart::Line(source) => give_turn(gives, source),
             GivingPart::Client(_) => {}
         }
     }

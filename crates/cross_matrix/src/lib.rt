@@ -5,7 +5,7 @@
 //! - `build`: the pipe of an entry of a plan.
 //! - `taking`, `giving`: its two parts.
 //! - `receiver`: a client's output, from arriving bytes to lines of text; `held_lines`: the lines until they leave.
-//! - `burst`: the bytes of one turn.
+//! - `burst`: how the bytes of one turn come into their buffer, and leave it.
 #![tactic(auto)]
 
 mod build;

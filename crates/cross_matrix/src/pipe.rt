@@ -22,10 +22,10 @@ ghost use Rattle.cross_matrix.specs.Parts.{OnSink, OnSource, IsOfClient, IsTextO
 ghost use Rattle.cross_matrix.specs.Pipes.{PipeView, IsPipeOf, PipeStands, ClientTook};
 
 use crate::FromState;
-use crate::burst::Burst;
 use crate::giving::GivingPart;
 use crate::taking::{TakingPart, pace_at};
 use odtu_columns::{FillFrame, TakeFrame};
+use otn_base::Burst;
 use otn_ports::{InPlaceOf, OutPlaceOf, Sink, Source};
 use std::marker::Model;
 use std::mem;

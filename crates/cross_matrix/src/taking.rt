@@ -18,11 +18,11 @@ ghost use Rattle.cross_matrix.specs.Parts.{OnSink, IsOfClient, IsTextOver, Takes
 ghost use Rattle.cross_matrix.specs.Steps.Parts.{TextTook};
 
 use crate::FromState;
-use crate::burst::Burst;
+use crate::burst::{take_client, take_signal, take_turn};
 use maintenance_signals::SignalBytes;
 use odtu_columns::TakeFrame;
 use odu_client::ClientFramer;
-use otn_base::Trace;
+use otn_base::{Burst, Trace};
 use otn_ports::{InPlaceOf, Source};
 use packet_text::PacketLines;
 use trib_sink::TribSink;
@@ -101,7 +101,7 @@ impl TakingPart {
         ensures room_stays { came.new.room ≡ came.old.room }
     {
         match self {
-            TakingPart::Line(sink) => came.take_turn(sink, whole),
+            TakingPart::Line(sink) => take_turn(came, sink, whole),
             TakingPart::Client(_) => {}
             TakingPart::Signal(_) => {}
         }
@@ -124,7 +124,8 @@ impl TakingPart {
         ensures room_stays { came.new.room ≡ came.old.room }
     {
         match self {
-            TakingPart::Client(client) => came.take_client(
+            TakingPart::Client(client) => take_client(
+                came,
                 &mut client.framer,
                 &mut client.lines,
                 place,
@@ -152,7 +153,7 @@ impl TakingPart {
         ensures room_stays { came.new.room ≡ came.old.room }
     {
         match self {
-            TakingPart::Signal(stream) => came.take_signal(stream, count),
+            TakingPart::Signal(stream) => take_signal(came, stream, count),
             TakingPart::Line(_) => {}
             TakingPart::Client(_) => {}
         }

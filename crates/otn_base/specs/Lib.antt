@@ -1,3 +1,4 @@
+pub mod Bursts
 pub mod Counts
 pub mod LineSlots
 pub mod SlotList

@@ -1,9 +1,10 @@
 //! What every layer of the device shares: kinds of lines and of tributaries, lists of tributary slots, trail traces,
-//! the names of ports, the answer for want of memory, bytes at the end or the front of a buffer, and the numbers of the
-//! formats.
+//! the names of ports, the answer for want of memory, the bytes of one turn, bytes at the end or the front of a buffer,
+//! and the numbers of the formats.
 #![tactic(auto)]
 
 mod buffer;
+mod burst;
 mod kind;
 pub mod limits;
 mod line_kind;
@@ -12,6 +13,7 @@ mod slots;
 mod trace;
 
 pub use buffer::{append, copy_front};
+pub use burst::Burst;
 pub use kind::{Kind, PortName};
 pub use line_kind::LineKind;
 pub use memory::Memory;

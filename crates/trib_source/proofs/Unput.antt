@@ -1,8 +1,8 @@
 -- The bytes of turns, with some dropped in front.
-use Rattle.std.proofs.Common.{◌≡◌, ◌⊎◌, inl, inr, ℕ, ◌+◌, ◌-◌, ◌<◌, ◌≤◌, List, ◌++◌, take, drop, length, get_or, ap, ◌∙◌, sym, subst, arith, length-append}
+use Rattle.std.proofs.Common.{◌≡◌, ◌⊎◌, inl, inr, ℕ, ◌+◌, ◌-◌, ◌<◌, ◌≤◌, List, ◌++◌, drop, length, get_or, ap, ◌∙◌, sym, subst, arith, length-append}
 use Rattle.std.specs.Prelude.{min, slice_range}
 use Rattle.std.proofs.lemmas.Bool.{cases_lt}
-use Rattle.std.proofs.lemmas.List.{length-take, length-drop, drop-drop, drop-take, drop-append-le, drop_all, drop_at, get_or_append_left, get_or-append_right, nil_from_length}
+use Rattle.std.proofs.lemmas.List.{length-take, length-drop, drop-drop, drop-append-le, drop_all, drop_at, get_or_append_left, get_or-append_right, nil_from_length}
 
 -- how many stand between two places of a buffer
 pub range_long : (xs : List ℕ) (first last : ℕ) → last ≤ length xs → last - first ≡ length (slice_range xs first last)
@@ -10,14 +10,6 @@ range_long xs first last low =
     let front = length-take (last - first) (drop first xs) in
     let rest = length-drop first xs in
     omega arith
-
--- those between two places of a buffer, with some dropped in front
-pub later : (xs : List ℕ) (first last count : ℕ) → count ≤ length (slice_range xs first last) → slice_range xs (first + count) last ≡ drop count (slice_range xs first last)
-later xs first last count low =
-    let long = length-take (last - first) (drop first xs) in
-    sym (ap (λ n. drop count (take n (drop first xs))) (let e : last - first ≡ count + (last - (first + count)) = omega arith in e)
-    ∙ drop-take count (last - (first + count)) (drop first xs)
-    ∙ ap (take (last - (first + count))) (drop-drop count first xs))
 
 -- those over, those of the turn that is put, and those of the newest one
 pub dropped : (over current coming : List ℕ) (count here : ℕ) → here ≡ min count (length over) → count + length coming ≤ length (over ++ current ++ coming)

@@ -3,11 +3,10 @@ ghost use Rattle.std.specs.Prelude.{◌≡◌, ◌+◌, ◌*◌, ◌<◌, ◌≤
 ghost use Rattle.circular_buffer.specs.Buffer.{keep_last};
 ghost use Rattle.otn_base.specs.declared.limits.TheConstants.{GROUPS, MOST_SLOTS};
 
-use crate::brought::Brought;
 use crate::lay::copy_at;
 use circular_buffer::HeapCircularBuffer;
-use otn_base::Memory;
 use otn_base::limits::GROUPS;
+use otn_base::{Burst, Memory};
 use std::alloc::Global;
 use std::marker::Model;
 use std::mem;
@@ -19,8 +18,8 @@ use std::ops::Range;
 #[derive(Drop)]
 pub(crate) struct Backlog {
     over: HeapCircularBuffer<u8>,
-    current: Brought,
-    coming: Brought,
+    current: Burst,
+    coming: Burst,
 }
 
 impl Model for Backlog {
@@ -42,8 +41,8 @@ impl Backlog {
         ensures { IfOk result (λ b. b ≡ record { items = []; newest = 0; slots = slots }) }
     {
         let over = HeapCircularBuffer::with_capacity(alloc, slots)?;
-        let current = Brought::new(alloc, slots * (GROUPS + 1))?;
-        let coming = Brought::new(alloc, slots * (GROUPS + 1))?;
+        let current = Burst::new(alloc, slots * (GROUPS + 1))?;
+        let coming = Burst::new(alloc, slots * (GROUPS + 1))?;
         Ok(Backlog {
             over,
             current,

@@ -3,12 +3,11 @@
 //!
 //! - `source`: the source itself, by turns of one multiframe each.
 //! - `message`: what it says in a turn.
-//! - `backlog`, `brought`: the bytes that are left, in the buffers in which the turns brought them.
+//! - `backlog`: the bytes that are left, in the buffers in which the turns brought them.
 //! - `rows`, `row_layer`, `lay`: the groups of the rows of a frame, out of the bytes that are left.
 #![tactic(auto)]
 
 mod backlog;
-mod brought;
 mod lay;
 mod message;
 mod row_layer;

@@ -1,4 +1,4 @@
-use Rattle.std.proofs.Common.{◌-◌, drop, ◌∙◌}
+use Rattle.std.proofs.Common.{drop, ◌∙◌}
 use Rattle.otn_ports.proofs.Lists.{take_all}
 use Rattle.std.proofs.lemmas.List.{length-take-le}
 use Rattle.cross_matrix.proofs.burst.fill_front.Goals as goal

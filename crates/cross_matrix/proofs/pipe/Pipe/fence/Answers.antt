@@ -1,6 +1,6 @@
 use Rattle.std.proofs.Common.{◌≡◌, ◌-◌, ◌∙◌, [], ap, sym, subst}
 use Rattle.odu_client.specs.ClientInput.{pace_of}
-use Rattle.cross_matrix.specs.Bursts.{BurstView}
+use Rattle.otn_base.specs.Bursts.{BurstView}
 use Rattle.cross_matrix.specs.Pipes.{PipeView, PipeStands}
 use Rattle.cross_matrix.proofs.PipeMoves.{own_pace, fenced}
 use Rattle.cross_matrix.proofs.pipe.Pipe.fence.Goals as goal

@@ -1,5 +1,5 @@
 use Rattle.std.proofs.Common.{◌∙◌, ap, sym, subst}
-use Rattle.cross_matrix.specs.Bursts.{BurstView}
+use Rattle.otn_base.specs.Bursts.{BurstView}
 use Rattle.cross_matrix.specs.Parts.{TakesFrom}
 use Rattle.cross_matrix.specs.Pipes.{IsPipeOf}
 use Rattle.cross_matrix.proofs.PipeMoves.{out_fresh}

@@ -1,6 +1,7 @@
 use Rattle.std.proofs.Common.{◌≡◌, ◌≤◌, ◌+◌, ◌++◌, ◌∙◌, length, get_or, drop, ap, sym, subst, arith}
 use Rattle.circular_buffer.specs.Buffer.{Buffer}
-use Rattle.trib_source.specs.Backlog.{BacklogView, BroughtView}
+use Rattle.otn_base.specs.Bursts.{BurstView}
+use Rattle.trib_source.specs.Backlog.{BacklogView}
 use Rattle.trib_source.proofs.Unput.{dropped, read}
 use Rattle.trib_source.proofs.backlog.Backlog.read_front.Goals as goal
 
@@ -17,7 +18,7 @@ pub returns-clause-state : goal.returns-clause-state
 returns-clause-state c =
     let i = c.self.inside in
     let over = ap (λ (b : Buffer _). b.items) c.read_over-here.ensures.over in
-    let current = ap (λ (b : BroughtView). b.bytes) c.drop_front.ensures in
+    let current = ap (λ (b : BurstView). b.bytes) c.drop_front.ensures in
     let fits : c.args.count + length i.coming.bytes ≤ length (i.over.items ++ i.current.bytes ++ i.coming.bytes) = subst (λ (b : BacklogView). c.args.count + b.newest ≤ length b.items) (sym c.self.view_is) c.requires.enough in
     (λ k. record {
       items = ((λ j. over j ++ current j ++ i.coming.bytes) ∙ dropped i.over.items i.current.bytes i.coming.bytes c.args.count c.read_over-here.result c.read_over-here.ensures.count fits) k;

@@ -1,0 +1,22 @@
+use Rattle.std.proofs.Common.{◌≡◌, ◌≤◌, ◌+◌, ◌-◌, ◌*◌, ◌/◌, ◌∙◌, [], ◌∷◌, ◌++◌, length, slice_range, subst, sym, ap, arith}
+use Rattle.tributary_model.specs.Carries.{sent}
+use Rattle.tributary_model.specs.Places.{Tributary}
+use Rattle.tributary_model.specs.Puts.{lengths_of}
+use Rattle.trib_source.specs.Source.{StandsAfter}
+use Rattle.cross_matrix.proofs.TurnTotals.{room_is}
+use Rattle.cross_matrix.proofs.burst.give_turn.Goals as goal
+
+pub returns-clause-stands : goal.returns-clause-stands
+returns-clause-stands c = λ own turns filled h few.
+    let s = c.args.source.now in
+    let buffer = c.hand_out-buffer.result.0 in
+    let at = c.hand_out-buffer.result.1 in
+    let out = c.hand_out-buffer.ensures in
+    let fits : (sent (lengths_of turns) (length turns) + (at.end - at.start)) / length own.slots ≤ sent (lengths_of turns) (length turns) / length own.slots + 15232 =
+    subst (λ k. (sent (lengths_of turns) (length turns) + k) / length own.slots ≤ sent (lengths_of turns) (length turns) / length own.slots + 15232) (sym out.count) few in
+    let many : length s.slots.list ≡ length own.slots = sym (ap (λ (t : Tributary). length t.slots) h.own_is) in
+    let free : c.room.result + s.rest + 1 ≡ length own.slots * 15233 = c.room.ensures ∙ ap (λ m. m * 15233) many in
+    let all : at.end - at.start ≤ c.room.result = room_is (length own.slots) (sent (lengths_of turns) (length turns)) (at.end - at.start) c.room.result s.rest free h.rest fits in
+    let end : at.start + c.min-count.result ≡ at.end = (let least = c.min-count.ensures in let ordered = out.in_order in omega arith) in
+    let given = subst (λ last. StandsAfter own (turns ++ slice_range buffer.items at.start last ∷ []) 0 c.take_over.new.self) end (c.take_over.ensures.stands own turns filled h) in
+    subst (λ bytes. StandsAfter own (turns ++ bytes ∷ []) 0 c.take_over.new.self) out.bytes given
