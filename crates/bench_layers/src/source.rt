@@ -38,10 +38,10 @@ fn nominal_bytes(alloc: Global, slots: &Slots) -> Result<Vec<u8>, Memory>
 
 // One turn of eight frames: a sum over a byte of each.
 fn put_turn(source: &mut TribSource, bytes: &[u8], frame: &mut Frame<LINE_COLUMNS>) -> u32
-    requires rest { source.old.rest ≡ 0 }
+    requires cnd { source.old.cnd ≡ 0 }
     requires kind { source.old.slots.kind ≡ LineKind.Otu2 }
     requires size { length bytes.now ≡ length source.old.slots.list * NOMINAL }
-    ensures rest { source.new.rest ≡ 0 }
+    ensures cnd { source.new.cnd ≡ 0 }
     ensures slots { source.new.slots ≡ source.old.slots }
 {
     source.begin_turn(bytes);

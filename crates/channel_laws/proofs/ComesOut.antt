@@ -13,7 +13,7 @@ use Rattle.gfp_linear.specs.Weave.{ChannelText, no_text, packets_given}
 use Rattle.gfp_linear.proofs.Arriving.{channels_arrive, packets_arrive, given_within}
 use Rattle.gfp_linear.proofs.Weaves.{front_on, weave_front}
 use Rattle.odu_client.specs.ClientFrames.{payload_begun}
-use Rattle.tributary_model.specs.Carries.{IsSteady, number_in, sent}
+use Rattle.tributary_model.specs.Carries.{IsSteady, cm_in, sent}
 use Rattle.tributary_model.specs.Puts.{lengths_of}
 use Rattle.tributary_model.specs.Sending.{IsSent as IsSendable}
 use Rattle.connection_laws.proofs.HeldBack.{front_after}
@@ -31,7 +31,7 @@ use Rattle.channel_laws.proofs.Stream.{front_arrives, parts_joined, parts_many, 
 own_sent : IsSendable first_slot
 own_sent = record { tributary = first_is; few = omega arith }
 
-fits : (bytes : List ℕ) (turns i : ℕ) → 15168 * turns ≤ length bytes → i < turns → number_in 1 (lengths_of (parts_of bytes turns)) i ≤ 15232
+fits : (bytes : List ℕ) (turns i : ℕ) → 15168 * turns ≤ length bytes → i < turns → cm_in 1 (lengths_of (parts_of bytes turns)) i ≤ 15232
 fits bytes turns i long less =
     let p = lengths_of (parts_of bytes turns) in
     let now = sent_parts bytes turns i long (omega (arith, less)) in

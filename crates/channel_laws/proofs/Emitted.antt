@@ -4,7 +4,7 @@ use Rattle.std.specs.List.{concat, flat_map, range_with_len}
 use Rattle.maintenance_signals.specs.Stream.{signal_byte}
 use Rattle.maintenance_signals.specs.declared.signal.Signal.TheVariants.{Ais}
 use Rattle.tributary_model.specs.Carriage.{Arrives}
-use Rattle.tributary_model.specs.Carries.{IsSteady, number_in, past_of, sent}
+use Rattle.tributary_model.specs.Carries.{IsSteady, cm_in, past_of, sent}
 use Rattle.tributary_model.specs.Damage.{emissions}
 use Rattle.tributary_model.specs.Emission.{emission}
 use Rattle.tributary_model.specs.Passing.{joined_back}
@@ -44,7 +44,7 @@ joined_is own given (suc t) =
 
 -- In the first turns it is a front of the bytes that were put on it
 pub emits_of_file : (b : ℕ) (own : Tributary) (turns frames : List (List ℕ)) (u t : ℕ) → IsSent own → own.line_slots ≡ 8 → 1 ≤ own.port → IsTributaryFile b own turns (8 * (u + 1)) frames
-    → u + 1 ≤ length turns → ((i : ℕ) → i ≤ u → number_in (length own.slots) (lengths_of turns) i ≤ 15232) → t ≤ u + 1
+    → u + 1 ≤ length turns → ((i : ℕ) → i ≤ u → cm_in (length own.slots) (lengths_of turns) i ≤ 15232) → t ≤ u + 1
     → flat_map (emitted_at own (concat frames)) (range_with_len 0 t) ≡ take (front_after (length own.slots) (lengths_of turns) t) (concat turns)
 emits_of_file b own turns frames u t sends size low file many fits within =
     let comes : Comes own (concat turns) (lengths_of turns) (view_at own (concat frames)) 0 u = record {
@@ -56,7 +56,7 @@ emits_of_file b own turns frames u t sends size low file many fits within =
 
 -- and in steady numbers the turn in which the file ends emits the rest of the whole groups
 pub emits_to_the_end : (b : ℕ) (own : Tributary) (turns frames : List (List ℕ)) (u : ℕ) → IsSent own → own.line_slots ≡ 8 → 1 ≤ own.port → IsTributaryFile b own turns (8 * (u + 1)) frames
-    → u + 1 ≤ length turns → ((i : ℕ) → i ≤ u → number_in (length own.slots) (lengths_of turns) i ≤ 15232) → IsSteady (length own.slots) (take (u + 1 - 0) (lengths_of turns))
+    → u + 1 ≤ length turns → ((i : ℕ) → i ≤ u → cm_in (length own.slots) (lengths_of turns) i ≤ 15232) → IsSteady (length own.slots) (take (u + 1 - 0) (lengths_of turns))
     → flat_map (emitted_at own (concat frames)) (range_with_len 0 (suc (suc u))) ≡ take (length own.slots * (sent (lengths_of turns) u / length own.slots)) (concat turns)
 emits_to_the_end b own turns frames u sends size low file many fits steady =
     let m = length own.slots in

@@ -14,7 +14,7 @@ use Rattle.odu_client.specs.AlignedRuns.{arrivals, runs_of}
 use Rattle.odu_client.specs.ClientFrames.{client_frames, frames_begun, payload_begun}
 use Rattle.odu_client.proofs.FrameLists.{joined_size}
 use Rattle.odu_client.proofs.WholeFrames.{frames_arrive}
-use Rattle.tributary_model.specs.Carries.{number_in, sent}
+use Rattle.tributary_model.specs.Carries.{cm_in, sent}
 use Rattle.tributary_model.specs.Puts.{lengths_of}
 use Rattle.bundle_command.specs.BundleStream.{channel_stream, channel_turns, parts_of, payload_sent, payload_whole}
 use Rattle.unbundle_command.specs.Unbundled.{client_arrivals}

@@ -16,7 +16,7 @@ use Rattle.odu_client.proofs.FrameLists.{joined_size}
 use Rattle.plan_file.specs.declared.connection.Connection.{Connection}
 use Rattle.plan_file.specs.declared.connection.FromEnd.TheVariants as from_end
 use Rattle.tributary_model.specs.Carriage.{Arrives}
-use Rattle.tributary_model.specs.Carries.{sent, number_in, IsSteady}
+use Rattle.tributary_model.specs.Carries.{sent, cm_in, IsSteady}
 use Rattle.tributary_model.specs.Places.{tributary_of, turn_view}
 use Rattle.tributary_model.specs.Puts.{lengths_of}
 use Rattle.tributary_model.specs.Sending.{ShowsTurn, Sends}
@@ -76,7 +76,7 @@ few_in m a b some h =
     let parts = mul-add-div some 15232 a in
     omega arith
 
-fits_got : (m : ℕ) (paces : List ℕ) (n i : ℕ) → 0 < m → HasPaces m paces → i ≤ n → number_in m (numbers_got paces n) i ≤ 15232
+fits_got : (m : ℕ) (paces : List ℕ) (n i : ℕ) → 0 < m → HasPaces m paces → i ≤ n → cm_in m (numbers_got paces n) i ≤ 15232
 fits_got m paces n i some has h =
     let p = numbers_got paces n in
     let long = length-map-range_with_len (pace_of paces) 0 n in
@@ -112,7 +112,7 @@ gets x h plan inputs b port u n slots frames goes has made high =
     let sends : Sends own turns (turn_frames own (concat frames)) s u = record {
       own_is = is_sent slots port goes.end.list;
       enough = omega arith;
-      fits = λ i l. subst (λ p. number_in m p i ≤ 15232) (sym lengths) (fits_got m x.pace n i some has (omega arith));
+      fits = λ i l. subst (λ p. cm_in m p i ≤ 15232) (sym lengths) (fits_got m x.pace n i some has (omega arith));
       each = λ t low below.
           let seen = shown plan inputs x b port u t slots frames goes made low below in
           let same : got_by x input (t - s + 1) ≡ take (t + 1 - s) turns = ap (got_by x input) (let e : t - s + 1 ≡ t + 1 - s = omega arith in e) ∙ sym (first_got x input (n + 1) (t + 1 - s) (omega arith)) in

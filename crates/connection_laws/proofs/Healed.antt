@@ -12,7 +12,7 @@ use Rattle.maintenance_signals.specs.declared.signal.Signal.TheVariants.{Ais}
 use Rattle.plan_file.specs.declared.connection.Connection.{Connection}
 use Rattle.plan_file.specs.declared.connection.FromEnd.TheVariants as from_end
 use Rattle.plan_file.specs.declared.plan.Plan.{Plan}
-use Rattle.tributary_model.specs.Carries.{sent, number_in, Carries, past_of}
+use Rattle.tributary_model.specs.Carries.{sent, cm_in, Carries, past_of}
 use Rattle.tributary_model.specs.Carriage.{EmitsTwoLater, SaysAnew}
 use Rattle.tributary_model.specs.Emission.{emission, emitted_so_far}
 use Rattle.tributary_model.specs.Places.{Tributary, tributary_of, View, IsWholeTurn, AreWholeTurns}
@@ -148,7 +148,7 @@ whole_before own views s (suc n) whole = (whole (s + n), whole_before own views 
 
 few_in_turn : (x : Connection) (inputs : Inputs) (a from n i : ℕ) (slots : LineSlots) → x.from ≡ from_end.Line a from slots → 0 < length slots.list
     → ((t : ℕ) → IsWholeTurn (length slots.list) (view_at (tributary_of slots from) (inputs.line a) t)) → i < n
-    → number_in (length slots.list) (lengths_of (got_by x (own_input inputs x) n)) i ≤ 15232
+    → cm_in (length slots.list) (lengths_of (got_by x (own_input inputs x) n)) i ≤ 15232
 few_in_turn x inputs a from n zero slots comes some whole less =
     let m = length slots.list in
     let own = tributary_of slots from in
@@ -188,7 +188,7 @@ carries_what_it_gets plan inputs x a from b port u slots others frames comes lis
     let sends : Sends next turns (turn_frames next (concat frames)) s u = record {
       own_is = is_sent others port goes.end.list;
       enough = omega arith;
-      fits = λ i l. subst (λ m. number_in m p i ≤ 15232) (sym same) (few_in_turn x inputs a from n i slots comes list.taken (λ t. whole_at (tributary_of slots from) (inputs.line a) t (is_tributary slots from list)) (omega arith));
+      fits = λ i l. subst (λ m. cm_in m p i ≤ 15232) (sym same) (few_in_turn x inputs a from n i slots comes list.taken (λ t. whole_at (tributary_of slots from) (inputs.line a) t (is_tributary slots from list)) (omega arith));
       each = λ t from below.
           let seen = shown plan inputs x b port u t others frames goes made from below in
           let got : got_by x input (t - s + 1) ≡ take (t + 1 - s) turns = ap (got_by x input) (let e : t - s + 1 ≡ t + 1 - s = omega arith in e) ∙ sym (first_got x input n (t + 1 - s) (omega arith)) in

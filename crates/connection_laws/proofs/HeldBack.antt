@@ -9,7 +9,7 @@ use Rattle.tributary_model.specs.declared.turns.Hearing.TheVariants.{Pair}
 use Rattle.tributary_model.specs.declared.turns.Said.{Said}
 use Rattle.tributary_model.specs.declared.turns.SinkState.TheVariants.{Up as StateUp}
 use Rattle.tributary_model.specs.Carriage.{IsUpAfter}
-use Rattle.tributary_model.specs.Carries.{sent, number_in, rest_in, CarriesTurn, past_of}
+use Rattle.tributary_model.specs.Carries.{sent, cm_in, cnd_in, CarriesTurn, past_of}
 use Rattle.tributary_model.specs.Damage.{emissions}
 use Rattle.tributary_model.specs.Emission.{data_bytes, emission}
 use Rattle.tributary_model.specs.Machine.{Machine, start, begun, next_said, waits_on, opened, went_on, given_of, kept_of, up_gives, after, gives, machine_after, state_of_standing}
@@ -68,7 +68,7 @@ record Turn (own : Tributary) (bytes p : List ℕ) (views : ℕ → Option View)
   is : views (s + i) ≡ Some view
   turn : CarriesTurn own bytes p i view
   whole : IsWhole (length own.slots) view
-  fits : number_in (length own.slots) p i ≤ 15232
+  fits : cm_in (length own.slots) p i ≤ 15232
   within : i < length p
 
 turn_at : (own : Tributary) (bytes p : List ℕ) (views : ℕ → Option View) (s u i : ℕ) → Comes own bytes p views s u → s + i ≤ u → Turn own bytes p views s i
@@ -82,7 +82,7 @@ turn_at own bytes p views s u i c high =
       is = seen.1.0;
       turn = subst (λ x. CarriesTurn own bytes p x seen.0) place seen.1.1;
       whole = subst (IsWholeTurn m) seen.1.0 (c.whole (s + i) (omega arith) high);
-      fits = subst (λ x. number_in m p x ≤ 15232) place (c.carries.fits (s + i) (omega arith) high);
+      fits = subst (λ x. cm_in m p x ≤ 15232) place (c.carries.fits (s + i) (omega arith) high);
       within = omega arith;
     }
 
@@ -104,18 +104,18 @@ some_low c h x e = subst (λ n. n ≤ 15232) (ap value e) h
     value (Some n) = n
     value None = 0
 
-heard : (own : Tributary) (bytes p : List ℕ) (views : ℕ → Option View) (s i : ℕ) → 0 < length own.slots → (t : Turn own bytes p views s (suc i)) → number_in (length own.slots) p i ≤ 15232
-    → (equal : Bool) × (hears_message (Some (number_in (length own.slots) p i)) (length own.slots) t.view.message ≡ Pair (number_in (length own.slots) p (suc i)) (rest_in (length own.slots) p (suc i)) equal)
+heard : (own : Tributary) (bytes p : List ℕ) (views : ℕ → Option View) (s i : ℕ) → 0 < length own.slots → (t : Turn own bytes p views s (suc i)) → cm_in (length own.slots) p i ≤ 15232
+    → (equal : Bool) × (hears_message (Some (cm_in (length own.slots) p i)) (length own.slots) t.view.message ≡ Pair (cm_in (length own.slots) p (suc i)) (cnd_in (length own.slots) p (suc i)) equal)
 heard own bytes p views s i h t low =
     let m = length own.slots in
-    (_, heard_back m (Some (number_in m p i)) (number_in m p (suc i)) (rest_in m p (suc i)) t.view.message (some_low (number_in m p i) low) t.fits (rest_less m p (suc i) h) t.turn.message)
+    (_, heard_back m (Some (cm_in m p i)) (cm_in m p (suc i)) (cnd_in m p (suc i)) t.view.message (some_low (cm_in m p i) low) t.fits (rest_less m p (suc i) h) t.turn.message)
 
 -- what it extracts
-fresh : (own : Tributary) (bytes p : List ℕ) (views : ℕ → Option View) (s i : ℕ) → 0 < length own.slots → (t : Turn own bytes p views s (suc i)) → number_in (length own.slots) p i ≤ 15232
-    → data_bytes (number_in (length own.slots) p i) t.view.groups ≡ slice_range bytes (whole_of (length own.slots) p i) (whole_of (length own.slots) p (suc i))
+fresh : (own : Tributary) (bytes p : List ℕ) (views : ℕ → Option View) (s i : ℕ) → 0 < length own.slots → (t : Turn own bytes p views s (suc i)) → cm_in (length own.slots) p i ≤ 15232
+    → data_bytes (cm_in (length own.slots) p i) t.view.groups ≡ slice_range bytes (whole_of (length own.slots) p i) (whole_of (length own.slots) p (suc i))
 fresh own bytes p views s i h t low =
     let m = length own.slots in
-    let c = number_in m p i in
+    let c = cm_in m p i in
     let before : suc i - 1 ≡ i = omega arith in
     let within = t.within in
     carried_data m c (sent p i / m) bytes t.view.groups low t.whole.many (λ j l r d. t.turn.groups j l r d ∙ ap (λ x. Some (take m (drop (m * (sent p x / m + j * c / 15232 - 1)) bytes))) before)
@@ -123,40 +123,40 @@ fresh own bytes p views s i h t low =
 
 -- ---- the machine
 
-up_after : (m : ℕ) (said : Said) (pending : List ℕ) (view : View) (c d : ℕ) (equal : Bool) → hears_message (Some said.number) m view.message ≡ Pair c d equal
-    → after m false (Some view) (up_at said pending) ≡ up_at (said_now c d (Some said.rest)) (kept_of said.due pending (data_bytes said.number view.groups))
-up_after m said pending view c d equal e = ap (λ h. went_on (next_said said h) said pending (data_bytes said.number view.groups)) e
+up_after : (m : ℕ) (said : Said) (pending : List ℕ) (view : View) (c d : ℕ) (equal : Bool) → hears_message (Some said.cm) m view.message ≡ Pair c d equal
+    → after m false (Some view) (up_at said pending) ≡ up_at (said_now c d (Some said.cnd)) (kept_of said.due pending (data_bytes said.cm view.groups))
+up_after m said pending view c d equal e = ap (λ h. went_on (next_said said h) said pending (data_bytes said.cm view.groups)) e
 
-up_emits : (m : ℕ) (ais : ℕ → ℕ) (said : Said) (pending : List ℕ) (view : View) (c d : ℕ) (equal : Bool) → hears_message (Some said.number) m view.message ≡ Pair c d equal
-    → gives m ais false (Some view) (up_at said pending) ≡ given_of said.due pending (data_bytes said.number view.groups)
-up_emits m ais said pending view c d equal e = ap (λ h. up_gives (next_said said h) said pending (data_bytes said.number view.groups)) e
+up_emits : (m : ℕ) (ais : ℕ → ℕ) (said : Said) (pending : List ℕ) (view : View) (c d : ℕ) (equal : Bool) → hears_message (Some said.cm) m view.message ≡ Pair c d equal
+    → gives m ais false (Some view) (up_at said pending) ≡ given_of said.due pending (data_bytes said.cm view.groups)
+up_emits m ais said pending view c d equal e = ap (λ h. up_gives (next_said said h) said pending (data_bytes said.cm view.groups)) e
 
 kept : (own : Tributary) (bytes p : List ℕ) (views : ℕ → Option View) (s u i : ℕ) (former : Option ℕ) (pending : List ℕ) → Comes own bytes p views s u → s + suc i ≤ u
-    → machine_after own (past_of views s (suc i)) ≡ up_at (said_now (number_in (length own.slots) p i) (rest_in (length own.slots) p i) former) pending
+    → machine_after own (past_of views s (suc i)) ≡ up_at (said_now (cm_in (length own.slots) p i) (cnd_in (length own.slots) p i) former) pending
     → machine_after own (past_of views s (suc (suc i)))
-    ≡ up_at (said_now (number_in (length own.slots) p (suc i)) (rest_in (length own.slots) p (suc i)) (Some (rest_in (length own.slots) p i)))
+    ≡ up_at (said_now (cm_in (length own.slots) p (suc i)) (cnd_in (length own.slots) p (suc i)) (Some (cnd_in (length own.slots) p i)))
     (kept_of former pending (slice_range bytes (whole_of (length own.slots) p i) (whole_of (length own.slots) p (suc i))))
 kept own bytes p views s u i former pending c high e =
     let m = length own.slots in
     let t = turn_at own bytes p views s u (suc i) c high in
     let low = (turn_at own bytes p views s u i c (omega arith)).fits in
-    let said = said_now (number_in m p i) (rest_in m p i) former in
+    let said = said_now (cm_in m p i) (cnd_in m p i) former in
     machine_on own views s (suc i) t.view t.is (never_marked own bytes p views s u (suc (suc i)) c (omega arith))
     ∙ ap (after m false (Some t.view)) e
-    ∙ up_after m said pending t.view (number_in m p (suc i)) (rest_in m p (suc i)) (heard own bytes p views s i c.slots t low).0 (heard own bytes p views s i c.slots t low).1
-    ∙ ap (λ xs. up_at (said_now (number_in m p (suc i)) (rest_in m p (suc i)) (Some (rest_in m p i))) (kept_of former pending xs)) (fresh own bytes p views s i c.slots t low)
+    ∙ up_after m said pending t.view (cm_in m p (suc i)) (cnd_in m p (suc i)) (heard own bytes p views s i c.slots t low).0 (heard own bytes p views s i c.slots t low).1
+    ∙ ap (λ xs. up_at (said_now (cm_in m p (suc i)) (cnd_in m p (suc i)) (Some (cnd_in m p i))) (kept_of former pending xs)) (fresh own bytes p views s i c.slots t low)
 
 given : (own : Tributary) (ais : ℕ → ℕ) (bytes p : List ℕ) (views : ℕ → Option View) (s u i : ℕ) (former : Option ℕ) (pending : List ℕ) → Comes own bytes p views s u → s + suc i ≤ u
-    → machine_after own (past_of views s (suc i)) ≡ up_at (said_now (number_in (length own.slots) p i) (rest_in (length own.slots) p i) former) pending
+    → machine_after own (past_of views s (suc i)) ≡ up_at (said_now (cm_in (length own.slots) p i) (cnd_in (length own.slots) p i) former) pending
     → emission own ais (past_of views s (suc i)) (views (s + suc i)) ≡ given_of former pending (slice_range bytes (whole_of (length own.slots) p i) (whole_of (length own.slots) p (suc i)))
 given own ais bytes p views s u i former pending c high e =
     let m = length own.slots in
     let t = turn_at own bytes p views s u (suc i) c high in
     let low = (turn_at own bytes p views s u i c (omega arith)).fits in
-    let said = said_now (number_in m p i) (rest_in m p i) former in
+    let said = said_now (cm_in m p i) (cnd_in m p i) former in
     emission_on own ais views s (suc i) t.view c.slots (whole_turns own bytes p views s u (suc (suc i)) c (omega arith)) t.is (never_marked own bytes p views s u (suc (suc i)) c (omega arith))
     ∙ ap (gives m ais false (Some t.view)) e
-    ∙ up_emits m ais said pending t.view (number_in m p (suc i)) (rest_in m p (suc i)) (heard own bytes p views s i c.slots t low).0 (heard own bytes p views s i c.slots t low).1
+    ∙ up_emits m ais said pending t.view (cm_in m p (suc i)) (cnd_in m p (suc i)) (heard own bytes p views s i c.slots t low).0 (heard own bytes p views s i c.slots t low).1
     ∙ ap (given_of former pending) (fresh own bytes p views s i c.slots t low)
 
 -- the first turn begins a stretch
@@ -168,14 +168,14 @@ first_after : (m : ℕ) (view : View) (c d : ℕ) → hears_message None m view.
 first_after m view c d e = ap (λ h. opened (begun (Some h)) (waits_on 0)) e
 
 first_kept : (own : Tributary) (bytes p : List ℕ) (views : ℕ → Option View) (s u : ℕ) → Comes own bytes p views s u → s ≤ u
-    → machine_after own (past_of views s 1) ≡ up_at (said_now (number_in (length own.slots) p 0) (rest_in (length own.slots) p 0) None) []
+    → machine_after own (past_of views s 1) ≡ up_at (said_now (cm_in (length own.slots) p 0) (cnd_in (length own.slots) p 0) None) []
 first_kept own bytes p views s u c high =
     let m = length own.slots in
     let t = turn_at own bytes p views s u 0 c (omega arith) in
     machine_on own views s 0 t.view t.is (never_marked own bytes p views s u 1 c (omega arith))
     ∙ ap (after m false (Some t.view)) (start_is own)
-    ∙ first_after m t.view (number_in m p 0) (rest_in m p 0)
-    (heard_anew m None None (number_in m p 0) (rest_in m p 0) t.view.message t.fits (rest_less m p 0 c.slots) t.turn.message (first_says_anew (number_in m p 0) (rest_in m p 0) t.view.message t.turn.message))
+    ∙ first_after m t.view (cm_in m p 0) (cnd_in m p 0)
+    (heard_anew m None None (cm_in m p 0) (cnd_in m p 0) t.view.message t.fits (rest_less m p 0 c.slots) t.turn.message (first_says_anew (cm_in m p 0) (cnd_in m p 0) t.view.message t.turn.message))
 
 -- ---- its totals
 
@@ -184,26 +184,26 @@ no_less m p i h =
     let up = div_up m (sent p i) (sent p (suc i)) h (sent_up p i (suc i) (omega arith)) in
     grind arith
 
-parts_of : (m : ℕ) (p : List ℕ) (i : ℕ) → whole_of m p (suc i) + rest_in m p i ≡ sent p (suc i)
+parts_of : (m : ℕ) (p : List ℕ) (i : ℕ) → whole_of m p (suc i) + cnd_in m p i ≡ sent p (suc i)
 parts_of m p i = ap (λ x. whole_of m p (suc i) + sent p x % m) (let e : i + 1 ≡ suc i = omega arith in e) ∙ div-add-mod (sent p (suc i)) m
 
 -- the machine after turn i + 2
 held : (own : Tributary) (bytes p : List ℕ) (views : ℕ → Option View) (s u i : ℕ) → Comes own bytes p views s u → s + suc i ≤ u
     → machine_after own (past_of views s (suc (suc i)))
-    ≡ up_at (said_now (number_in (length own.slots) p (suc i)) (rest_in (length own.slots) p (suc i)) (Some (rest_in (length own.slots) p i)))
+    ≡ up_at (said_now (cm_in (length own.slots) p (suc i)) (cnd_in (length own.slots) p (suc i)) (Some (cnd_in (length own.slots) p i)))
     (slice_range bytes (left_of (length own.slots) p i) (whole_of (length own.slots) p (suc i)))
 held own bytes p views s u zero c high =
     let m = length own.slots in
     let none : whole_of m p 0 ≡ left_of m p 0 = (let e = div-add-mod 0 m in omega arith) in
     kept own bytes p views s u 0 None [] c high (first_kept own bytes p views s u c (omega arith))
-    ∙ ap (λ k. up_at (said_now (number_in m p 1) (rest_in m p 1) (Some (rest_in m p 0))) (slice_range bytes k (whole_of m p 1))) none
+    ∙ ap (λ k. up_at (said_now (cm_in m p 1) (cnd_in m p 1) (Some (cnd_in m p 0))) (slice_range bytes k (whole_of m p 1))) none
 held own bytes p views s u (suc i) c high =
     let m = length own.slots in
     let x = whole_of m p (suc i) in
     let y = whole_of m p (suc (suc i)) in
-    kept own bytes p views s u (suc i) (Some (rest_in m p i)) _ c high (held own bytes p views s u i c (omega arith))
-    ∙ ap (up_at (said_now (number_in m p (suc (suc i))) (rest_in m p (suc (suc i))) (Some (rest_in m p (suc i)))))
-    (back_within bytes x y (rest_in m p i) (no_less m p (suc i) c.slots) ∙ ap (λ k. slice_range bytes (min k y) y) (parts_of m p i))
+    kept own bytes p views s u (suc i) (Some (cnd_in m p i)) _ c high (held own bytes p views s u i c (omega arith))
+    ∙ ap (up_at (said_now (cm_in m p (suc (suc i))) (cnd_in m p (suc (suc i))) (Some (cnd_in m p (suc i)))))
+    (back_within bytes x y (cnd_in m p i) (no_less m p (suc i) c.slots) ∙ ap (λ k. slice_range bytes (min k y) y) (parts_of m p i))
 
 -- ---- what it emits
 
@@ -217,9 +217,9 @@ emits_held own ais bytes p views s u i c high =
     let y = whole_of m p (suc (suc i)) in
     let up = no_less m p (suc i) c.slots in
     let sum = parts_of m p i in
-    given own ais bytes p views s u (suc i) (Some (rest_in m p i)) (slice_range bytes w x) c high (held own bytes p views s u i c (omega arith))
-    ∙ ap (λ ys. slice_range bytes w x ++ ys) (front_within bytes x y (rest_in m p i) up)
-    ∙ joined bytes w x (min (x + rest_in m p i) y) (omega arith) (omega arith)
+    given own ais bytes p views s u (suc i) (Some (cnd_in m p i)) (slice_range bytes w x) c high (held own bytes p views s u i c (omega arith))
+    ∙ ap (λ ys. slice_range bytes w x ++ ys) (front_within bytes x y (cnd_in m p i) up)
+    ∙ joined bytes w x (min (x + cnd_in m p i) y) (omega arith) (omega arith)
     ∙ ap (λ k. slice_range bytes w (min k y)) sum
 
 emits_first : (own : Tributary) (ais : ℕ → ℕ) (bytes p : List ℕ) (views : ℕ → Option View) (s u : ℕ) → Comes own bytes p views s u → s ≤ u → emission own ais (past_of views s 0) (views (s + 0)) ≡ []

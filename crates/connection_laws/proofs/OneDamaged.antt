@@ -32,7 +32,7 @@ behind views i (suc k) = views (i + suc k) ∷ behind views i k
 other_calm : (own : Tributary) (one other : ℕ → Option View) (s e i : ℕ) → DifferInOneMessage own one other s e i → NeverThree own (past_of other s (e - s))
 other_calm own one other s e i d = search rules
 
-repeats : (own : Tributary) (one other : ℕ → Option View) (s e i : ℕ) → (d : DifferInOneMessage own one other s e i) → hears_message (Some d.number) (length own.slots) d.said ≡ Pair d.number d.rest d.equal
+repeats : (own : Tributary) (one other : ℕ → Option View) (s e i : ℕ) → (d : DifferInOneMessage own one other s e i) → hears_message (Some d.cm) (length own.slots) d.said ≡ Pair d.cm d.cnd d.equal
 repeats own one other s e i d = search rules
 
 same_at : (own : Tributary) (one other : ℕ → Option View) (s e i t : ℕ) → DifferInOneMessage own one other s e i → s ≤ t → t < e → (t ≡ i → ⊥) → one t ≡ other t
@@ -79,7 +79,7 @@ same_whole own one other s e n k d all =
     ∙ ap (λ xs. xs ++ (other i ∷ past_of other s n)) (sym (same_behind own one other s e i k d (omega arith)))
     ∙ ap (λ xs. later ++ (other i ∷ xs)) (sym (same_before own one other s e i n d (omega arith)))
     ∙ ap (λ v. later ++ (v ∷ past)) d.there in
-    let law = as_if_repeated own (signal_byte Ais) past later d.view d.said d.number d.rest d.equal (subst (λ n. pair_had (course own (past_of one s n)) ≡ Some (d.number, d.rest)) before d.had) d.damaged (repeats own one other s e i d)
+    let law = as_if_repeated own (signal_byte Ais) past later d.view d.said d.cm d.cnd d.equal (subst (λ n. pair_had (course own (past_of one s n)) ≡ Some (d.cm, d.cnd)) before d.had) d.damaged (repeats own one other s e i d)
     (subst (NeverThree own) (ap (past_of one s) count ∙ first) d.one_calm) (subst (NeverThree own) (ap (past_of other s) count ∙ second) (other_calm own one other s e i d)) in (
       ap (emissions own (signal_byte Ais)) first ∙ law.0 ∙ sym (ap (emissions own (signal_byte Ais)) second),
       ap (states own) first ∙ law.1 ∙ sym (ap (states own) second),

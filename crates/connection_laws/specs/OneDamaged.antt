@@ -23,12 +23,12 @@ pub record DifferInOneMessage (own : Tributary) (one other : ℕ → Option View
   pub said : List ℕ
   pub here : one i ≡ Some view
   pub there : other i ≡ Some (record view { message = said })
-  pub number : ℕ
-  pub rest : ℕ
+  pub cm : ℕ
+  pub cnd : ℕ
   pub equal : Bool
-  pub had : pair_had (course own (past_of one start (i - start))) ≡ Some (number, rest)
-  pub damaged : hears_message (Some number) (length own.slots) view.message ≡ Damaged
-  pub repeats : hears_message (Some number) (length own.slots) said ≡ Pair number rest equal
+  pub had : pair_had (course own (past_of one start (i - start))) ≡ Some (cm, cnd)
+  pub damaged : hears_message (Some cm) (length own.slots) view.message ≡ Damaged
+  pub repeats : hears_message (Some cm) (length own.slots) said ≡ Pair cm cnd equal
   pub one_calm : NeverThree own (past_of one start (stop - start))
   pub other_calm : NeverThree own (past_of other start (stop - start))
 

@@ -18,9 +18,9 @@ has_died first last = false
 -- The bytes of each input line that the plan uses are those that its place gave, through its mask; the packets of each
 -- client are those of the text that its place gave, or of what is left of it where it died.
 pub record AreInputs (plan : Plan) (first last : BaysView) (inputs : Inputs) : Type 0 where
-  pub line : (a : ℕ) (given : List ℕ) → uses plan (port.LineIn a) ≡ true
-      → HadToGive (line_in_at first a) (line_in_at last a) given
-      → inputs.line a ≡ through_mask (form_in plan a).scrambled given
-  pub client : (n : ℕ) (given : List ℕ) → uses plan (port.ClientIn n) ≡ true
-      → HadToGive (client_in_at first n) (client_in_at last n) given
-      → inputs.client n ≡ input_given (has_died (client_in_at first n).state (client_in_at last n).state) given
+  pub line : (a : ℕ) (available : List ℕ) → uses plan (port.LineIn a) ≡ true
+      → HadToGive (line_in_at first a) (line_in_at last a) available
+      → inputs.line a ≡ through_mask (form_in plan a).scrambled available
+  pub client : (n : ℕ) (available : List ℕ) → uses plan (port.ClientIn n) ≡ true
+      → HadToGive (client_in_at first n) (client_in_at last n) available
+      → inputs.client n ≡ input_given (has_died (client_in_at first n).state (client_in_at last n).state) available

@@ -50,9 +50,9 @@ over_ports count =
 
 -- how many bytes an input line of the plan has given: what the turns and pieces so far want, or all where they want a
 -- frame that is not whole
-abbrev pub line_taken : LineForm → (given : List ℕ) → (past pieces : ℕ) → ℕ
-line_taken form given past pieces = took LINE_FRAME_BYTES (length given) (mfas_of given)
-    (wanted_so_far (size_of form) (mfas_of given) past pieces)
+abbrev pub line_taken : LineForm → (available : List ℕ) → (past pieces : ℕ) → ℕ
+line_taken form available past pieces = took LINE_FRAME_BYTES (length available) (mfas_of available)
+    (wanted_so_far (size_of form) (mfas_of available) past pieces)
 
 -- How many of its own turns a client of this connection has done, in or out, before turn past + 1 and by so many pieces
 -- of it. A client's piece of a turn in which its connection is not active does nothing.

@@ -34,10 +34,10 @@ ending_of Dead whole wanted = Died
 ending_of Live whole wanted = if nat_lt whole wanted then Seen else Open
 ending_of Empty whole wanted = if nat_lt whole wanted then Seen else Open
 
--- the same of a line of this form, of which these bytes were given, after the turns 1 to `turns`
-abbrev pub line_ending : State → LineForm → (given : List ℕ) → (turns : ℕ) → Ending
-line_ending state form given turns = ending_of state (length (mfas_of given))
-    (wanted (size_of form) (mfas_of given) turns)
+-- the same of a line of this form, which had these bytes available, after the turns 1 to `turns`
+abbrev pub line_ending : State → LineForm → (available : List ℕ) → (turns : ℕ) → Ending
+line_ending state form available turns = ending_of state (length (mfas_of available))
+    (wanted (size_of form) (mfas_of available) turns)
 
 -- ---- of a client
 
@@ -46,10 +46,10 @@ abbrev pub whole_lines : (text : List ℕ) → ℕ
 whole_lines text = length (filter (λ byte. byte == 10) text)
 
 -- how many of the delivered packets count: on an empty place all, else those whose line went out whole
-abbrev pub counted_packets : State → (packets : List (List ℕ)) → (went : List ℕ) → ℕ
-counted_packets Empty packets went = length packets
-counted_packets Live packets went = whole_lines went
-counted_packets Dead packets went = whole_lines went
+abbrev pub counted_packets : State → (packets : List (List ℕ)) → (written : List ℕ) → ℕ
+counted_packets Empty packets written = length packets
+counted_packets Live packets written = whole_lines written
+counted_packets Dead packets written = whole_lines written
 
 -- of the client input of a connection, when so many bytes of its stream are emitted
 abbrev pub client_numbers_by : Connection → ClientInput → (emitted : ℕ) → ClientInNumbers
@@ -63,11 +63,11 @@ client_numbers_by x input emitted = record {
 abbrev pub client_numbers : Connection → ClientInput → ClientInNumbers
 client_numbers x input = client_numbers_by x input (emitted_in_all x)
 
--- of its client output, to which this text went; a place that was so at first
-abbrev pub output_numbers : State → (arrived went : List ℕ) → ClientOutNumbers
-output_numbers first arrived went = record {
+-- of its client output, to which this text was written; a place that was so at first
+abbrev pub output_numbers : State → (arrived written : List ℕ) → ClientOutNumbers
+output_numbers first arrived written = record {
   frames = saturated (arriving_frames arrived);
-  packets = saturated (counted_packets first (arriving_packets arrived) went);
+  packets = saturated (counted_packets first (arriving_packets arrived) written);
 }
 
 -- ---- of a connection
@@ -89,7 +89,7 @@ pub record Went : Type 0 where
   pub client : (n : ℕ) → List ℕ
 
 -- The numbers of a run whose places were first and last so, whose inputs gave these, and to whose outputs this went.
-pub record AreNumbers (plan : Plan) (inputs : Inputs) (went : Went) (first last : BaysView)
+pub record AreNumbers (plan : Plan) (inputs : Inputs) (written : Went) (first last : BaysView)
     (numbers : Numbers) : Type 0 where
   pub line_in : (a : ℕ) → uses plan (port.LineIn a) ≡ true
       → numbers.line_in a ≡ numbers_of (form_in plan a)
@@ -97,12 +97,12 @@ pub record AreNumbers (plan : Plan) (inputs : Inputs) (went : Went) (first last 
       (inputs.line a) plan.turns 0
   pub line_out : (b : ℕ) (frames : List (List ℕ)) → uses plan (port.LineOut b) ≡ true
       → IsLineFile plan inputs b (size_of (form_out plan b) * plan.turns) frames
-      → numbers.line_out b ≡ saturated (counted_frames (place_state first (port.LineOut b)) frames (went.line b))
+      → numbers.line_out b ≡ saturated (counted_frames (place_state first (port.LineOut b)) frames (written.line b))
   pub client_in : (x : Connection) (n : ℕ) → Contains plan.connections x → x.from ≡ from_end.Client n
       → numbers.client_in n ≡ client_numbers x (inputs.client n)
   pub client_out : (x : Connection) (n : ℕ) → Contains plan.connections x → x.to ≡ to_end.Client n
       → numbers.client_out n ≡ output_numbers (place_state first (port.ClientOut n))
-      (arrived_by x (own_input inputs x) (turns_done x plan.turns 0)) (went.client n)
+      (arrived_by x (own_input inputs x) (turns_done x plan.turns 0)) (written.client n)
   pub from : (i : ℕ) (x : Connection) → slice_get plan.connections i ≡ Some x
       → numbers.from i ≡ last_state plan.turns x (own_input inputs x)
   pub outcome : IsOutcome plan inputs last numbers.outcome

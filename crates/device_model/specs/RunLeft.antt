@@ -36,52 +36,53 @@ pub record Takings : Type 0 where
 -- packets of its text, or of what is left of it where its place died.
 pub record MayBeInputs (plan : Plan) (first last : BaysView) (takings : Takings) (inputs : Inputs) : Type 0 where
   pub line : (a : ℕ) → uses plan (port.LineIn a) ≡ true
-      → (given : List ℕ) × MayHave (takings.line_more a) (takings.line a) given
-      × (inputs.line a ≡ through_mask (form_in plan a).scrambled given)
+      → (available : List ℕ) × MayHave (takings.line_more a) (takings.line a) available
+      × (inputs.line a ≡ through_mask (form_in plan a).scrambled available)
   pub client : (n : ℕ) → uses plan (port.ClientIn n) ≡ true
-      → (given : List ℕ) × MayHave (takings.client_more n) (takings.client n) given
-      × (inputs.client n ≡ input_given (has_died (client_in_at first n).state (client_in_at last n).state) given)
+      → (available : List ℕ) × MayHave (takings.client_more n) (takings.client n) available
+      × (inputs.client n ≡ input_given (has_died (client_in_at first n).state (client_in_at last n).state) available)
 
 -- ---- inputs
 
 -- the place of a client, as it was until its connection's stop, and as it is: emptied there where it was live and its
 -- connection retires
-pub record ClientInLeft (retires : Bool) (first last : InView) (taken : List ℕ) (more : Bool) : Type 0 where
+pub record ClientInLeft (retires : Bool) (first last : InView) (read : List ℕ) (more : Bool) : Type 0 where
   pub was : InView
-  pub left : InputLeft first was taken more
+  pub left : InputLeft first was read more
   pub place : last ≡ after_retire retires was
 
 -- ---- outputs
 
--- of the bytes that were due to an output place these went out: a part from the front, and all of them where it is live
--- (as `IsSent` has it, with the bytes that went)
-pub record OutputLeft (first : OutView) (due went : List ℕ) (last : OutView) : Type 0 where
+-- of the bytes that were due to an output place these were written: a part from the front, and all of them where it is
+-- live (as `IsSent` has it, with the bytes that went)
+pub record OutputLeft (first : OutView) (due written : List ℕ) (last : OutView) : Type 0 where
   pub rest : List ℕ
-  pub parts : went ++ rest ≡ due
-  pub gained : Gained first went last
+  pub parts : written ++ rest ≡ due
+  pub gained : Gained first written last
   pub whole : last.state ≡ Live → rest ≡ []
 
 -- to output line b, of the whole of its file, which is due
-pub record LineOutLeft (plan : Plan) (inputs : Inputs) (b : ℕ) (first : OutView) (went : List ℕ)
+pub record LineOutLeft (plan : Plan) (inputs : Inputs) (b : ℕ) (first : OutView) (written : List ℕ)
     (last : OutView) : Type 0 where
   pub due : List ℕ
   pub is_due : LineDue plan inputs b plan.turns 0 due
-  pub left : OutputLeft first due went last
+  pub left : OutputLeft first due written last
 
 -- to the client of a connection, the text of all that arrived; the place was emptied then where it was live and the
 -- connection retires
-pub record ClientOutLeft (plan : Plan) (inputs : Inputs) (x : Connection) (first : OutView) (went : List ℕ)
+pub record ClientOutLeft (plan : Plan) (inputs : Inputs) (x : Connection) (first : OutView) (written : List ℕ)
     (last : OutView) : Type 0 where
   pub was : OutView
-  pub left : OutputLeft first (client_due x (own_input inputs x) plan.turns 0) went was
+  pub left : OutputLeft first (client_due x (own_input inputs x) plan.turns 0) written was
   pub place : last ≡ out_after_retire x.retire was
 
 -- to each output that the plan uses
-pub record OutputsLeft (plan : Plan) (inputs : Inputs) (first : BaysView) (went : Went) (last : BaysView) : Type 0 where
+pub record OutputsLeft (plan : Plan) (inputs : Inputs) (first : BaysView) (written : Went)
+    (last : BaysView) : Type 0 where
   pub line : (b : ℕ) → uses plan (port.LineOut b) ≡ true
-      → LineOutLeft plan inputs b (line_out_at first b) (went.line b) (line_out_at last b)
+      → LineOutLeft plan inputs b (line_out_at first b) (written.line b) (line_out_at last b)
   pub client : (x : Connection) (n : ℕ) → Contains plan.connections x → x.to ≡ to_end.Client n
-      → ClientOutLeft plan inputs x (client_out_at first n) (went.client n) (client_out_at last n)
+      → ClientOutLeft plan inputs x (client_out_at first n) (written.client n) (client_out_at last n)
 
 -- ---- all
 
@@ -99,9 +100,9 @@ TookOf plan inputs takings a = length (takings.line a)
 
 -- Of the text of a client no block of 4,096 bytes was read that was not needed: what was taken before the last one has
 -- fewer packets than are begun in all its turns, and shows no bad line.
-abbrev pub TookOfText : Connection → ClientInput → (taken : List ℕ) → Type 0
-TookOfText x input taken = (short : Bool)
-    × ReadAsNeeded short (packets_asked input.packets x.fcs (emitted_in_all x)) taken
+abbrev pub TookOfText : Connection → ClientInput → (read : List ℕ) → Type 0
+TookOfText x input read = (short : Bool)
+    × ReadAsNeeded short (packets_asked input.packets x.fcs (emitted_in_all x)) read
 
 -- what a run leaves, where its inputs are these
 pub record RunOf (plan : Plan) (first last : BaysView) (takings : Takings) (numbers : Numbers)

@@ -18,5 +18,5 @@ data_count c (suc j) = data_count c j + (if is_data_at c (suc j) then 1 else 0)
 
 -- a run over the groups of a multiframe: the number of its data groups, and how many groups were asked so far
 pub record Progress : Type 0 where
-  pub number : ℕ
+  pub cm : ℕ
   pub asked : ℕ

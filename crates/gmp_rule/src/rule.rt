@@ -10,7 +10,7 @@ use crate::ALL;
 pub fn is_data(j: u32, c: u32) -> bool
     requires first { 1 ≤ j }
     requires last { j ≤ GROUPS }
-    requires number { c ≤ GROUPS }
+    requires cm { c ≤ GROUPS }
     ensures { IsTrue result ↔ IsData c j }
 {
     j * c % ALL < c
@@ -21,7 +21,7 @@ pub fn is_data(j: u32, c: u32) -> bool
 #[tactic(auto, using(crate::proofs::CountLaw::count_law))]
 pub fn data_groups(j: u32, c: u32) -> u32
     requires last { j ≤ GROUPS }
-    requires number { c ≤ GROUPS }
+    requires cm { c ≤ GROUPS }
     ensures count { result ≡ data_count c j }
     ensures quotient { result ≡ j * c / GROUPS }
 {

@@ -10,7 +10,7 @@ use std::marker::Model;
 /// groups of the multiframe and the number of groups asked so far.
 #[derive(Drop)]
 pub struct Runner {
-    number: u32,
+    cm: u32,
     remainder: u32,
     asked: u32,
 }
@@ -22,20 +22,20 @@ impl Model for Runner {
 
     ghost Value = { Progress };
 
-    ghost view = { λ r. record { number = r.number; asked = r.asked } };
+    ghost view = { λ r. record { cm = r.cm; asked = r.asked } };
 
-    ghost invariant = { λ r. (r.number ≤ GROUPS) × (r.asked ≤ GROUPS) × (r.remainder ≡ (r.asked * r.number) % GROUPS) };
+    ghost invariant = { λ r. (r.cm ≤ GROUPS) × (r.asked ≤ GROUPS) × (r.remainder ≡ (r.asked * r.cm) % GROUPS) };
 }
 
 impl Runner {
     /// A runner before group 1 of a multiframe with `c` data groups.
     pub fn start(c: u32) -> Self
         requires { c ≤ GROUPS }
-        ensures number { result.number ≡ c }
+        ensures cm { result.cm ≡ c }
         ensures asked { result.asked ≡ 0 }
     {
         Runner {
-            number: c,
+            cm: c,
             remainder: 0,
             asked: 0,
         }
@@ -43,13 +43,13 @@ impl Runner {
 
     /// A runner behind so many groups of a multiframe with `c` data groups.
     pub fn at(c: u32, asked: u32) -> Self
-        requires number { c ≤ GROUPS }
+        requires cm { c ≤ GROUPS }
         requires asked { asked ≤ GROUPS }
-        ensures number { result.number ≡ c }
+        ensures cm { result.cm ≡ c }
         ensures asked { result.asked ≡ asked }
     {
         Runner {
-            number: c,
+            cm: c,
             remainder: asked * c % ALL,
             asked,
         }
@@ -59,11 +59,11 @@ impl Runner {
     /// 15,232 groups, and no more calls than that.
     pub fn next(&mut self) -> bool
         requires { self.old.asked < GROUPS }
-        ensures answer { IsTrue result ↔ IsData self.old.number (self.old.asked + 1) }
+        ensures answer { IsTrue result ↔ IsData self.old.cm (self.old.asked + 1) }
         ensures step { self.new ≡ record self.old { asked = self.old.asked + 1 } }
     {
         self.asked += 1;
-        self.remainder += self.number;
+        self.remainder += self.cm;
         if self.remainder >= ALL {
             self.remainder -= ALL;
             true
@@ -77,11 +77,11 @@ impl Runner {
     pub fn data_run(&mut self, most: u32) -> u32
         requires { self.old.asked + most ≤ GROUPS }
         ensures most { result ≤ most }
-        ensures data { (i : ℕ) → i < result → IsData self.old.number (self.old.asked + i + 1) }
-        ensures longest { result < most → IsData self.old.number (self.old.asked + result + 1) → ⊥ }
+        ensures data { (i : ℕ) → i < result → IsData self.old.cm (self.old.asked + i + 1) }
+        ensures longest { result < most → IsData self.old.cm (self.old.asked + result + 1) → ⊥ }
         ensures step { self.new ≡ record self.old { asked = self.old.asked + result } }
     {
-        let stuff = ALL - self.number;
+        let stuff = ALL - self.cm;
         let run = run_within(self.remainder, stuff, most);
         self.asked += run;
         self.remainder -= run * stuff;

@@ -19,12 +19,12 @@ hears_wrong former jc1 jc2 jc3 e = cond-false (jc3 == crc8_of (jc1 ∷ jc2 ∷ [
 
 -- a number that is accepted is at most the groups of a multiframe
 abbrev pub IsInRange : Heard → Type 0
-IsInRange (Accepted number equal) = number ≤ 15232
+IsInRange (Accepted cm equal) = cm ≤ 15232
 IsInRange Damaged = Unit {0}
 IsInRange BaseLost = Unit {0}
 
-IsInRange-in_range : (number : ℕ) (equal : Bool) → IsInRange (in_range number equal)
-IsInRange-in_range number equal = cond_both (nat_le number 15232) (Accepted number equal) Damaged IsInRange (λ e. leb-true number 15232 e) (λ e. tt)
+IsInRange-in_range : (cm : ℕ) (equal : Bool) → IsInRange (in_range cm equal)
+IsInRange-in_range cm equal = cond_both (nat_le cm 15232) (Accepted cm equal) Damaged IsInRange (λ e. leb-true cm 15232 e) (λ e. tt)
 
 IsInRange-moved : (former more less : ℕ) → IsInRange (moved former more less)
 IsInRange-moved former more less =
@@ -50,8 +50,8 @@ unfolding hears
 IsInRange-hears former jc1 jc2 jc3 =
     cond_both (jc3 == crc8_of (jc1 ∷ jc2 ∷ [])) (hears_word former (jc1 * 256 + jc2)) Damaged IsInRange (λ e. IsInRange-hears_word former (jc1 * 256 + jc2)) (λ e. tt)
 
-pub accepted_in_range : (former : Option ℕ) (jc1 jc2 jc3 number : ℕ) (equal : Bool) → hears former jc1 jc2 jc3 ≡ Accepted number equal → number ≤ 15232
-accepted_in_range former jc1 jc2 jc3 number equal e = let P : Heard → Type 0 = IsInRange in subst P e (IsInRange-hears former jc1 jc2 jc3)
+pub accepted_in_range : (former : Option ℕ) (jc1 jc2 jc3 cm : ℕ) (equal : Bool) → hears former jc1 jc2 jc3 ≡ Accepted cm equal → cm ≤ 15232
+accepted_in_range former jc1 jc2 jc3 cm equal e = let P : Heard → Type 0 = IsInRange in subst P e (IsInRange-hears former jc1 jc2 jc3)
 
 -- a right message that was changed within one byte
 pub changed_damaged : (former : Option ℕ) (jc1 jc2 jc3 a b : ℕ) → jc1 < 256 → jc2 < 256 → a < 256 → b < 256

@@ -58,7 +58,7 @@ number_of (bit ∷ bits) = bit * 2 ^ length bits + number_of bits
 
 -- a number's bits C1 to C14 inverted where the letter is I, as a number
 unfoldable pub turned : List ℕ → ℕ → ℕ
-turned letters number = number_of (inverted_at letters (low_bits 14 number))
+turned letters cm = number_of (inverted_at letters (low_bits 14 cm))
 
 -- what JC1 and JC2 hold: the bits C1 to C14, as a number, and II and DI
 pub record Word : Type 0 where
@@ -97,7 +97,7 @@ says former next = let word = word_value (word_said former next) in
 
 -- a number heard: damaged where it is past the groups of a multiframe
 abbrev pub in_range : ℕ → Bool → Heard
-in_range number equal = if nat_le number GROUPS then Accepted number equal else Damaged
+in_range cm equal = if nat_le cm GROUPS then Accepted cm equal else Damaged
 
 -- a change heard: damaged where the number would be below 0
 abbrev pub moved : (former more less : ℕ) → Heard
@@ -130,6 +130,6 @@ hears former jc1 jc2 jc3 = if jc3 == crc8_of (jc1 ∷ jc2 ∷ []) then hears_wor
 
 -- what it keeps then
 abbrev pub keeps : Option ℕ → Heard → Option ℕ
-keeps former (Accepted number equal) = Some number
+keeps former (Accepted cm equal) = Some cm
 keeps former Damaged = former
 keeps former BaseLost = None

@@ -70,7 +70,7 @@ impl Listener {
     {
         let heard = heard_after(self.former, bytes[0], bytes[1], bytes[2]);
         match heard {
-            Heard::Accepted(number, _) => self.former = Some(number),
+            Heard::Accepted(cm, _) => self.former = Some(cm),
             Heard::Damaged => {}
             Heard::BaseLost => self.former = None,
         }
@@ -150,11 +150,11 @@ fn heard_less(former: u16, bits: u16) -> Heard
     }
 }
 
-fn in_range(number: u16, equal: bool) -> Heard
-    ensures { result ≡ in_range_lem number equal }
+fn in_range(cm: u16, equal: bool) -> Heard
+    ensures { result ≡ in_range_lem cm equal }
 {
-    if number <= MOST {
-        Heard::Accepted(number, equal)
+    if cm <= MOST {
+        Heard::Accepted(cm, equal)
     } else {
         Heard::Damaged
     }

@@ -73,7 +73,7 @@ same_late own one other i k d =
     let first = first_list own one other i k d in
     let second = second_list own one other i k d in
     let next : suc (i + k) ≡ i + suc k = omega arith in
-    let law = as_if_repeated own (signal_byte Ais) (views_until own one i) (behind own one i k) d.view d.said d.number d.rest d.equal d.had d.damaged d.repeats
+    let law = as_if_repeated own (signal_byte Ais) (views_until own one i) (behind own one i k) d.view d.said d.cm d.cnd d.equal d.had d.damaged d.repeats
     (subst (NeverThree own) first (d.one_calm (i + suc k))) (subst (NeverThree own) second (d.other_calm (i + suc k))) in
     sym (emissions_next own one (i + k))
     ∙ ap (λ n. last_emission (emissions own (signal_byte Ais) (views_until own one n))) next

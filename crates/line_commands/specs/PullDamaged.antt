@@ -19,12 +19,12 @@ pub record LinesDifferInOneMessage (own : Tributary) (one other : List ℕ) (i :
   pub said : List ℕ
   pub here : view_at own one i ≡ Some view
   pub there : view_at own other i ≡ Some (record view { message = said })
-  pub number : ℕ
-  pub rest : ℕ
+  pub cm : ℕ
+  pub cnd : ℕ
   pub equal : Bool
-  pub had : pair_had (course own (views_until own one i)) ≡ Some (number, rest)
-  pub damaged : hears_message (Some number) (length own.slots) view.message ≡ Damaged
-  pub repeats : hears_message (Some number) (length own.slots) said ≡ Pair number rest equal
+  pub had : pair_had (course own (views_until own one i)) ≡ Some (cm, cnd)
+  pub damaged : hears_message (Some cm) (length own.slots) view.message ≡ Damaged
+  pub repeats : hears_message (Some cm) (length own.slots) said ≡ Pair cm cnd equal
   pub one_calm : (t : ℕ) → NeverThree own (views_until own one t)
   pub other_calm : (t : ℕ) → NeverThree own (views_until own other t)
 

@@ -20,29 +20,29 @@ turns_of ms = filter (λ t. not (has_ended (line_state OTU2_SLOTS ms t))) (range
 
 -- what the sink emits in the turns 1 to t, in order
 abbrev pub emitted_until : Tributary → List ℕ → (t : ℕ) → List ℕ
-emitted_until own given t = flat_map (emitted_at own given) (range_with_len 0 t)
+emitted_until own available t = flat_map (emitted_at own available) (range_with_len 0 t)
 
 -- what `pull` writes where a line gives these bytes: what the sink emits in each of these turns, in order
 unfoldable pub pull_report : Tributary → List ℕ → List ℕ
-pull_report own given = flat_map (emitted_at own given) (turns_of (mfas_of given))
+pull_report own available = flat_map (emitted_at own available) (turns_of (mfas_of available))
 
 -- how many frames these turns want: all that their rule looks at, those among them that are not whole included
 abbrev pub frames_wanted : List ℕ → ℕ
-frames_wanted given = wanted OTU2_SLOTS (mfas_of given) (length (turns_of (mfas_of given)))
+frames_wanted available = wanted OTU2_SLOTS (mfas_of available) (length (turns_of (mfas_of available)))
 
 -- how many bytes `pull` takes of a line: these frames and the one byte more that it asks for, or all where there are
 -- fewer
 abbrev pub bytes_taken : List ℕ → ℕ
-bytes_taken given = min (length given) (LINE_FRAME_BYTES * frames_wanted given + 1)
+bytes_taken available = min (length available) (LINE_FRAME_BYTES * frames_wanted available + 1)
 
 -- how many bytes the first t turns want of a line, or all where there are fewer
 abbrev pub bytes_wanted : List ℕ → (t : ℕ) → ℕ
-bytes_wanted given t = min (length given) (LINE_FRAME_BYTES * wanted OTU2_SLOTS (mfas_of given) t)
+bytes_wanted available t = min (length available) (LINE_FRAME_BYTES * wanted OTU2_SLOTS (mfas_of available) t)
 
 -- Bytes stand after the whole frames that these turns wanted. Where the line has ended that is all whole frames, so
 -- that the bytes are its rest. A frame that a hunt only looked ahead at counts as wanted.
 abbrev pub LeavesBytes : List ℕ → Type 0
-LeavesBytes given = LINE_FRAME_BYTES * min (length (mfas_of given)) (frames_wanted given) < length given
+LeavesBytes available = LINE_FRAME_BYTES * min (length (mfas_of available)) (frames_wanted available) < length available
 
 -- what may still stand behind the bytes taken: anything where there may be more, else nothing
 abbrev pub MayFollow : (more : Bool) → (rest : List ℕ) → Type 0
@@ -52,8 +52,8 @@ MayFollow false rest = rest ≡ []
 -- A write failed, and ended the command at once: of a line of these bytes so many were taken, all that the turns up to
 -- turn t + 1 want. The report gained what the sink emits in the turns before this one, and of what it emits in this one
 -- a part, from the front, and not all.
-pub record StoppedInTurn (own : Tributary) (given : List ℕ) (count t : ℕ) (old new : Option (List ℕ)) : Type 0 where
+pub record StoppedInTurn (own : Tributary) (available : List ℕ) (count t : ℕ) (old new : Option (List ℕ)) : Type 0 where
   pub few : t < MOST_TURNS
-  pub unended : (s : ℕ) → s ≤ t → has_ended (line_state OTU2_SLOTS (mfas_of given) s) ≡ false
-  pub last : count ≡ bytes_wanted given (t + 1)
-  pub gained : GainsPart (after old (emitted_until own given t)) new (emitted_at own given t)
+  pub unended : (s : ℕ) → s ≤ t → has_ended (line_state OTU2_SLOTS (mfas_of available) s) ≡ false
+  pub last : count ≡ bytes_wanted available (t + 1)
+  pub gained : GainsPart (after old (emitted_until own available t)) new (emitted_at own available t)

@@ -12,14 +12,14 @@ use Rattle.otn_ports.specs.declared.ended.Ended.{Ended}
 use Rattle.otn_ports.specs.declared.ended.Ended.TheVariants.{Done, Unfinished, Cut, ReportFault, Memory}
 
 -- what an answer says of the bytes taken, and of all that may stand behind them
-abbrev pub PullEnds : Ended → (more : Bool) → (taken : List ℕ) → (now : InView) → Type 0
-PullEnds Done more taken now = (now.state ≢ Dead) × (more ≡ false) × (LeavesBytes taken → ⊥)
-    × (length taken % LINE_FRAME_BYTES ≡ 0)
-PullEnds Unfinished more taken now = (now.state ≢ Dead)
-    × ((rest : List ℕ) → MayFollow more rest → LeavesBytes (taken ++ rest)) × (0 < length taken % LINE_FRAME_BYTES)
-PullEnds Cut more taken now = now.state ≡ Dead
-PullEnds ReportFault more taken now = Unit {0}
-PullEnds Memory more taken now = ⊥
+abbrev pub PullEnds : Ended → (more : Bool) → (read : List ℕ) → (now : InView) → Type 0
+PullEnds Done more read now = (now.state ≢ Dead) × (more ≡ false) × (LeavesBytes read → ⊥)
+    × (length read % LINE_FRAME_BYTES ≡ 0)
+PullEnds Unfinished more read now = (now.state ≢ Dead)
+    × ((rest : List ℕ) → MayFollow more rest → LeavesBytes (read ++ rest)) × (0 < length read % LINE_FRAME_BYTES)
+PullEnds Cut more read now = now.state ≡ Dead
+PullEnds ReportFault more read now = Unit {0}
+PullEnds Memory more read now = ⊥
 
 -- A command from the line and the report as they were to how they are. Where no more bytes may follow, a live line has
 -- answered its end.

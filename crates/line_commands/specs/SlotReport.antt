@@ -34,7 +34,7 @@ HasBytesBehind bytes = whole_frames_used bytes * LINE_FRAME_BYTES < bytes
 -- A write failed, and ended the command at once: of a line of these bytes so many were taken, up to the end of frame f,
 -- from 0. The report gained the slot's bytes of the frames before it, and of its own a part, from the front, and not
 -- all.
-pub record StoppedInFrame (slot : ℕ) (given : List ℕ) (count : ℕ) (old new : Option (List ℕ)) : Type 0 where
+pub record StoppedInFrame (slot : ℕ) (available : List ℕ) (count : ℕ) (old new : Option (List ℕ)) : Type 0 where
   pub f : ℕ
   pub last : count ≡ LINE_FRAME_BYTES * (f + 1)
-  pub gained : GainsPart (after old (slot_bytes_until slot given f)) new (slot_bytes slot (frame_at given f))
+  pub gained : GainsPart (after old (slot_bytes_until slot available f)) new (slot_bytes slot (frame_at available f))

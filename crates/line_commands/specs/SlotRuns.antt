@@ -10,21 +10,21 @@ use Rattle.otn_ports.specs.declared.ended.Ended.{Ended}
 use Rattle.otn_ports.specs.declared.ended.Ended.TheVariants.{Done, Unfinished, Cut, ReportFault, Memory}
 
 -- the answer of a command that took these bytes of its line, of the most frames and one byte more at most
-abbrev pub SlotEnds : Ended → (slot : ℕ) → (taken : List ℕ) → (first now : InView) → (old new : Option (List ℕ))
+abbrev pub SlotEnds : Ended → (slot : ℕ) → (read : List ℕ) → (first now : InView) → (old new : Option (List ℕ))
     → Type 0
-SlotEnds Done slot taken first now old new =
-    (new ≡ after old (slot_report slot taken)) × (now.state ≢ Dead) × HasEnded now.left now.ended
-    × (length taken ≡ whole_frames_used (length taken) * LINE_FRAME_BYTES)
-    × (length taken ≤ most_taken)
-SlotEnds Unfinished slot taken first now old new =
-    (new ≡ after old (slot_report slot taken)) × (now.state ≢ Dead)
-    × (whole_frames_used (length taken) * LINE_FRAME_BYTES < length taken)
-    × (HasEnded now.left now.ended ⊎ (length taken ≡ most_taken)) × (length taken ≤ most_taken)
-SlotEnds Cut slot taken first now old new = (new ≡ after old (slot_report slot taken)) × (now.state ≡ Dead)
-    × (length taken ≤ most_taken)
-SlotEnds ReportFault slot taken first now old new = StoppedInFrame slot taken (length taken) old new
-    × (now.state ≡ first.state) × (length taken ≤ most_taken)
-SlotEnds Memory slot taken first now old new = ⊥
+SlotEnds Done slot read first now old new =
+    (new ≡ after old (slot_report slot read)) × (now.state ≢ Dead) × HasEnded now.left now.ended
+    × (length read ≡ whole_frames_used (length read) * LINE_FRAME_BYTES)
+    × (length read ≤ most_taken)
+SlotEnds Unfinished slot read first now old new =
+    (new ≡ after old (slot_report slot read)) × (now.state ≢ Dead)
+    × (whole_frames_used (length read) * LINE_FRAME_BYTES < length read)
+    × (HasEnded now.left now.ended ⊎ (length read ≡ most_taken)) × (length read ≤ most_taken)
+SlotEnds Cut slot read first now old new = (new ≡ after old (slot_report slot read)) × (now.state ≡ Dead)
+    × (length read ≤ most_taken)
+SlotEnds ReportFault slot read first now old new = StoppedInFrame slot read (length read) old new
+    × (now.state ≡ first.state) × (length read ≤ most_taken)
+SlotEnds Memory slot read first now old new = ⊥
 
 -- a command from the line and the report as they were to how they are
 pub record SlotEnded (slot : ℕ) (first now : InView) (old new : Option (List ℕ)) (ended : Ended) : Type 0 where

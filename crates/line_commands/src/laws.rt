@@ -35,9 +35,10 @@ pub fn slot_of_given()
     ensures took { (slot : ℕ) → OfAllAvailable (SlotRan slot) (λ old new answer available.
         (line_zero new).number < 2 ^ 64 - 1
         → (line_zero new).number - (line_zero old).number ≡ min (length available) most_taken) }
-    ensures stopped { (slot : ℕ) (old new : Device) (given : List ℕ) → SlotRan slot old new Status.ReportFault
-        → HadToGive (line_zero old) (line_zero new) given → (line_zero new).number < 2 ^ 64 - 1
-        → StoppedInFrame slot given ((line_zero new).number - (line_zero old).number) old.report.got new.report.got }
+    ensures stopped { (slot : ℕ) (old new : Device) (available : List ℕ) → SlotRan slot old new Status.ReportFault
+        → HadToGive (line_zero old) (line_zero new) available → (line_zero new).number < 2 ^ 64 - 1
+        → StoppedInFrame slot available
+        ((line_zero new).number - (line_zero old).number) old.report.got new.report.got }
 {}
 
 /// `pull`, likewise: Unfinished is the answer exactly where bytes stand behind the frames that its turns wanted
@@ -56,9 +57,9 @@ pub fn pull_of_given()
     ensures took { (own : Tributary) → OfAllAvailable (PullRan own) (λ old new answer available.
         (line_zero new).number < 2 ^ 64 - 1
         → (line_zero new).number - (line_zero old).number ≡ bytes_taken available) }
-    ensures stopped { (own : Tributary) (old new : Device) (given : List ℕ) → PullRan own old new Status.ReportFault
-        → HadToGive (line_zero old) (line_zero new) given → (line_zero new).number < 2 ^ 64 - 1
-        → (t : ℕ) × StoppedInTurn own given
+    ensures stopped { (own : Tributary) (old new : Device) (available : List ℕ) → PullRan own old new Status.ReportFault
+        → HadToGive (line_zero old) (line_zero new) available → (line_zero new).number < 2 ^ 64 - 1
+        → (t : ℕ) × StoppedInTurn own available
         ((line_zero new).number - (line_zero old).number) t old.report.got new.report.got }
 {}
 

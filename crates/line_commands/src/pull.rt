@@ -94,9 +94,9 @@ fn write_turn<I: Source, K: Sink>(
 ) -> After
     requires between { IsBetweenTurns tap.old }
     requires room { vec_len room.old ≡ length tap.old.sink.slots.list * (GROUPS + 1) }
-    ensures run { (own : Tributary) (first : InView) (taken : List ℕ) (t : ℕ)
-        → TapStands own first (in_view I.Source line.old) taken t tap.old
-        → TurnRun own first (in_view I.Source line.new) taken t tap.old tap.new (K.got report.old)
+    ensures run { (own : Tributary) (first : InView) (read : List ℕ) (t : ℕ)
+        → TapStands own first (in_view I.Source line.old) read t tap.old
+        → TurnRun own first (in_view I.Source line.new) read t tap.old tap.new (K.got report.old)
         (K.got report.new) result }
     ensures between { IsBetweenTurns tap.new }
     ensures slots { tap.new.sink.slots ≡ tap.old.sink.slots }

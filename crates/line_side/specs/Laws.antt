@@ -15,17 +15,17 @@ use Rattle.line_side.specs.MayBe.{MayBe}
 
 -- What a place that tells its bytes gave in the whole run is, through the mask, among what the line may have.
 abbrev pub GivenIsAmong : Type 0
-GivenIsAmong = (form : LineForm) (first now : InView) (taken file : List ℕ) (t : ℕ) (line : LineView)
-    → LineStands form first now taken t line → HadToGive first now file
-    → MayBe form.scrambled line.reader.ending taken (through_mask form.scrambled file)
+GivenIsAmong = (form : LineForm) (first now : InView) (read file : List ℕ) (t : ℕ) (line : LineView)
+    → LineStands form first now read t line → HadToGive first now file
+    → MayBe form.scrambled line.reader.ending read (through_mask form.scrambled file)
 
--- So many bytes were taken as the turns and pieces so far want: the frames, or all where they want one that is not
+-- So many bytes were read as the turns and pieces so far want: the frames, or all where they want one that is not
 -- whole.
 abbrev pub TakesTheWanted : Type 0
-TakesTheWanted = (form : LineForm) (first now : InView) (taken given : List ℕ) (t : ℕ) (line : LineView)
-    → LineStands form first now taken t line → MayBe form.scrambled line.reader.ending taken given
-    → length taken ≡ took LINE_FRAME_BYTES (length given) (mfas_of given)
-    (wanted_so_far (size_of form) (mfas_of given) t line.pieces)
+TakesTheWanted = (form : LineForm) (first now : InView) (read available : List ℕ) (t : ℕ) (line : LineView)
+    → LineStands form first now read t line → MayBe form.scrambled line.reader.ending read available
+    → length read ≡ took LINE_FRAME_BYTES (length available) (mfas_of available)
+    (wanted_so_far (size_of form) (mfas_of available) t line.pieces)
 
 -- The frames of a line in which these were put are the only ones.
 abbrev pub OneLineFile : Type 0

@@ -17,13 +17,15 @@ use Rattle.line_side.specs.declared.ending.Ending.{Ending}
 -- The numbers of the line that these bytes are after so many pieces of turn t + 1: the whole frames used, lead-in among
 -- them; the lead-in; the multiframes lost in the turns before; the bytes after the last whole frame, where the end was
 -- seen; and the used frames with a wrong FAS, a wrong SM parity and a wrong PM parity.
-abbrev pub numbers_of : (form : LineForm) → (ending : Ending) → (given : List ℕ) → (t pieces : ℕ) → LineCounts
-numbers_of form ending given t pieces = record {
-  frames = saturated (used_in (size_of form) (mfas_of given) (line_state (size_of form) (mfas_of given) t) pieces);
-  lead_in = saturated (lead_in_so_far (size_of form) (mfas_of given) t pieces);
-  lost = saturated (lost_count (size_of form) (mfas_of given) t);
-  rest = rest_of ending given;
-  fas = saturated (wrong_fas (used_frames (size_of form) given t pieces));
-  sm = saturated (wrong_parities LINE_COLUMNS SECTION_ROW SM_BIP8_COLUMN (used_frames (size_of form) given t pieces));
-  pm = saturated (wrong_parities LINE_COLUMNS PM_ROW PM_BIP8_COLUMN (used_frames (size_of form) given t pieces));
+abbrev pub numbers_of : (form : LineForm) → (ending : Ending) → (available : List ℕ) → (t pieces : ℕ) → LineCounts
+numbers_of form ending available t pieces = record {
+  frames = saturated
+      (used_in (size_of form) (mfas_of available) (line_state (size_of form) (mfas_of available) t) pieces);
+  lead_in = saturated (lead_in_so_far (size_of form) (mfas_of available) t pieces);
+  lost = saturated (lost_count (size_of form) (mfas_of available) t);
+  rest = rest_of ending available;
+  fas = saturated (wrong_fas (used_frames (size_of form) available t pieces));
+  sm = saturated
+      (wrong_parities LINE_COLUMNS SECTION_ROW SM_BIP8_COLUMN (used_frames (size_of form) available t pieces));
+  pm = saturated (wrong_parities LINE_COLUMNS PM_ROW PM_BIP8_COLUMN (used_frames (size_of form) available t pieces));
 }

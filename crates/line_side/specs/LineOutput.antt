@@ -68,10 +68,10 @@ pub record LineOutView : Type 0 where
   pub frames : ℕ
 
 -- how many frames count of those that were made: all on an empty place, else those that went out whole
-abbrev pub counted_frames : State → (made : List (List ℕ)) → (went : List ℕ) → ℕ
-counted_frames Empty made went = length made
-counted_frames Live made went = length went / LINE_FRAME_BYTES
-counted_frames Dead made went = length went / LINE_FRAME_BYTES
+abbrev pub counted_frames : State → (made : List (List ℕ)) → (written : List ℕ) → ℕ
+counted_frames Empty made written = length made
+counted_frames Live made written = length written / LINE_FRAME_BYTES
+counted_frames Dead made written = length written / LINE_FRAME_BYTES
 
 -- whether a frame counts, by how its place stood before and after it was written: it was made on an empty place, or
 -- went out whole

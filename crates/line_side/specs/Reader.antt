@@ -27,22 +27,22 @@ count_of (Some x) = 1
 
 -- the bytes after the last whole frame, where the end was seen
 abbrev pub rest_of : Ending → List ℕ → ℕ
-rest_of Open given = 0
-rest_of Seen given = length given % LINE_FRAME_BYTES
-rest_of Died given = 0
+rest_of Open available = 0
+rest_of Seen available = length available % LINE_FRAME_BYTES
+rest_of Died available = 0
 
--- n bytes of what is given were read, u frames of them are used, and w frames were wanted. One frame more than those
--- that are used may have been looked ahead at. While the bytes have not ended, so many frames were read as were wanted;
--- once they have, more were wanted than there are.
-pub record HasRead (given : List ℕ) (n u w : ℕ) (r : ReaderView) : Type 0 where
-  pub within : u + count_of r.ahead ≤ whole_frames given
-  pub ahead : IfSome r.ahead (λ frame. frame ≡ frame_at given u)
+-- n bytes of all that are available were read, u frames of them are used, and w frames were wanted. One frame more than
+-- those that are used may have been looked ahead at. While the bytes have not ended, so many frames were read as were
+-- wanted; once they have, more were wanted than there are.
+pub record HasRead (available : List ℕ) (n u w : ℕ) (r : ReaderView) : Type 0 where
+  pub within : u + count_of r.ahead ≤ whole_frames available
+  pub ahead : IfSome r.ahead (λ frame. frame ≡ frame_at available u)
   pub still : r.ending ≡ Open → (n ≡ LINE_FRAME_BYTES * (u + count_of r.ahead)) × (u + count_of r.ahead ≡ w)
-  pub over : r.ending ≢ Open → (u + count_of r.ahead ≡ whole_frames given) × (n ≡ length given)
-      × (whole_frames given < w)
+  pub over : r.ending ≢ Open → (u + count_of r.ahead ≡ whole_frames available) × (n ≡ length available)
+      × (whole_frames available < w)
   pub frames : r.frames ≡ saturated u
-  pub rest : r.rest ≡ rest_of r.ending given
-  pub seen : HasCounted (first_frames given u) r.seen
+  pub rest : r.rest ≡ rest_of r.ending available
+  pub seen : HasCounted (first_frames available u) r.seen
 
 -- how the bytes ended, by the place: it died only where it is dead, and its end was seen only where it isn't
 pub record EndedAs (ending : Ending) (place : InView) : Type 0 where

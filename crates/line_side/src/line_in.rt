@@ -86,7 +86,7 @@ impl<const COUNTS: usize> LineIn<COUNTS> {
     pub fn piece<P: Source>(&mut self, place: &mut InPlaceOf<P>) -> bool
         requires { self.old.pieces < slots_of self.old.kind }
         ensures stands { AsStood (in_view P.Source place.old) self.old
-            (λ form first taken t. PieceStands form first (in_view P.Source place.new) taken t self.old self.new) }
+            (λ form first read t. PieceStands form first (in_view P.Source place.new) read t self.old self.new) }
         ensures kind { self.new.kind ≡ self.old.kind }
         ensures pieces { self.new.pieces ≡ self.old.pieces + 1 }
         ensures has_frame { result ≡ self.new.has_frame }
@@ -120,7 +120,7 @@ impl<const COUNTS: usize> LineIn<COUNTS> {
     pub fn frame(&self) -> &Frame<LINE_COLUMNS>
         requires { self.now.has_frame ≡ true }
         ensures hand { result.now ≡ self.now.reader.hand }
-        ensures line { OfMember self.now (λ given member. result.now ≡ frame_at given member.frame) }
+        ensures line { OfMember self.now (λ available member. result.now ≡ frame_at available member.frame) }
     {
         self.reader.frame()
     }
@@ -129,7 +129,7 @@ impl<const COUNTS: usize> LineIn<COUNTS> {
     pub fn expected(&self) -> u8
         requires { self.now.has_frame ≡ true }
         ensures alignment { IfSome self.now.alignment (λ a. result ≡ (a.expected + (self.now.pieces - 1)) % 256) }
-        ensures line { OfMember self.now (λ given member. result ≡ member.expected) }
+        ensures line { OfMember self.now (λ available member. result ≡ member.expected) }
     {
         self.phase.expected(self.pieces - 1)
     }
@@ -138,8 +138,8 @@ impl<const COUNTS: usize> LineIn<COUNTS> {
     pub fn end_turn(&mut self) -> bool
         requires { self.old.pieces ≡ slots_of self.old.kind }
         ensures stands { (now : InView) → AsStood now self.old
-            (λ form first taken t. LineStands form first now taken (t + 1) self.new) }
-        ensures turn { InItsTurn self.old (λ form given t. TurnEnded form given t result self.new) }
+            (λ form first read t. LineStands form first now read (t + 1) self.new) }
+        ensures turn { InItsTurn self.old (λ form available t. TurnEnded form available t result self.new) }
         ensures kind { self.new.kind ≡ self.old.kind }
         ensures ending { self.new.reader.ending ≡ self.old.reader.ending }
         ensures pieces { self.new.pieces ≡ 0 }
@@ -182,7 +182,7 @@ impl<const COUNTS: usize> LineIn<COUNTS> {
     /// How many bytes came after the last whole frame, where the end was seen.
     pub fn rest(&self) -> u64
         ensures rest { result ≡ self.now.reader.rest }
-        ensures line { InItsTurn self.now (λ form given t. result ≡ rest_of self.now.reader.ending given) }
+        ensures line { InItsTurn self.now (λ form available t. result ≡ rest_of self.now.reader.ending available) }
     {
         self.reader.rest()
     }
@@ -277,7 +277,7 @@ impl LineIn<1> {
         ensures lost { result.lost ≡ self.now.lost }
         ensures rest { result.rest ≡ self.now.reader.rest }
         ensures line { InItsTurn self.now
-            (λ form given t. result ≡ numbers_of form self.now.reader.ending given t self.now.pieces) }
+            (λ form available t. result ≡ numbers_of form self.now.reader.ending available t self.now.pieces) }
     {
         let seen = self.reader.seen();
         LineCounts {

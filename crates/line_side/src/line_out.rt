@@ -102,7 +102,7 @@ impl LineOut {
         ensures form { self.new.form ≡ self.old.form }
 
         // bytes go to a live place, which may die of its own port's fault, and any other place is asked nothing
-        ensures gained { (went : List ℕ) × Gained (out_view K.Sink place.old) went (out_view K.Sink place.new) }
+        ensures gained { (written : List ℕ) × Gained (out_view K.Sink place.old) written (out_view K.Sink place.new) }
         ensures quiet { (out_view K.Sink place.old).state ≢ Live → place.new ≡ place.old }
         ensures frames { self.new.frames ≡ saturated
             (self.old.frames + one_of (frame_counts (out_view K.Sink place.old).state

@@ -15,14 +15,14 @@ TellsTheSame = (x : Showing) (one other : List ℕ) (t : ℕ) → IsTributary x.
     → showing_text one t x ≡ showing_text other t x
 
 -- how many bytes are told in these turns together of a tributary that is shown from the first turn on
-abbrev pub bytes_told : Tributary → (given : List ℕ) → (turns : List ℕ) → ℕ
-bytes_told own given [] = 0
-bytes_told own given (t ∷ turns) = (told_at own 0 given t).bytes + bytes_told own given turns
+abbrev pub bytes_told : Tributary → (available : List ℕ) → (turns : List ℕ) → ℕ
+bytes_told own available [] = 0
+bytes_told own available (t ∷ turns) = (told_at own 0 available t).bytes + bytes_told own available turns
 
 -- They are as many as its sink emits in them.
 abbrev pub TellsAllBytes : Type 0
-TellsAllBytes = (own : Tributary) (given : List ℕ) (turns : List ℕ)
-    → bytes_told own given turns ≡ length (flat_map (emitted_at own given) turns)
+TellsAllBytes = (own : Tributary) (available : List ℕ) (turns : List ℕ)
+    → bytes_told own available turns ≡ length (flat_map (emitted_at own available) turns)
 
 -- ---- what `pull` writes
 
@@ -32,15 +32,15 @@ pieces_of [] bytes = []
 pieces_of (n ∷ lengths) bytes = take n bytes ∷ pieces_of lengths (drop n bytes)
 
 -- how many bytes are told in each turn of a view of such a tributary
-abbrev pub each_told : Tributary → (given : List ℕ) → List ℕ
-each_told own given = map (λ t. (told_at own 0 given t).bytes) (turns_of own.line_slots (mfas_of given))
+abbrev pub each_told : Tributary → (available : List ℕ) → List ℕ
+each_told own available = map (λ t. (told_at own 0 available t).bytes) (turns_of own.line_slots (mfas_of available))
 
 -- What `pull` writes of an OTU2 line, cut by these numbers: the piece of each turn is what the sink emits in it, and
 -- together the pieces are all that `pull` writes, byte by byte.
-pub record TellsPull (own : Tributary) (given : List ℕ) : Type 0 where
-  pub turns : pieces_of (each_told own given) (pull_report own given)
-      ≡ map (emitted_at own given) (turns_of own.line_slots (mfas_of given))
-  pub together : concat (pieces_of (each_told own given) (pull_report own given)) ≡ pull_report own given
+pub record TellsPull (own : Tributary) (available : List ℕ) : Type 0 where
+  pub turns : pieces_of (each_told own available) (pull_report own available)
+      ≡ map (emitted_at own available) (turns_of own.line_slots (mfas_of available))
+  pub together : concat (pieces_of (each_told own available) (pull_report own available)) ≡ pull_report own available
 
 abbrev pub TellsWhatPullWrites : Type 0
-TellsWhatPullWrites = (port : ℕ) (slots given : List ℕ) → TellsPull (tributary port slots) given
+TellsWhatPullWrites = (port : ℕ) (slots available : List ℕ) → TellsPull (tributary port slots) available

@@ -32,43 +32,44 @@ written_of Memory = written.Whole
 
 -- how many frames the turns of a line of these bytes want: all that their rule looks at, those among them that are not
 -- whole included
-abbrev pub frames_wanted : (size : ℕ) → (given : List ℕ) → ℕ
-frames_wanted size given = wanted size (mfas_of given) (length (turns_of size (mfas_of given)))
+abbrev pub frames_wanted : (size : ℕ) → (available : List ℕ) → ℕ
+frames_wanted size available = wanted size (mfas_of available) (length (turns_of size (mfas_of available)))
 
 -- how many bytes a view takes of a line: these frames and the one byte more that it asks for, or all where there are
 -- fewer
-abbrev pub bytes_taken : (size : ℕ) → (given : List ℕ) → ℕ
-bytes_taken size given = min (length given) (LINE_FRAME_BYTES * frames_wanted size given + 1)
+abbrev pub bytes_taken : (size : ℕ) → (available : List ℕ) → ℕ
+bytes_taken size available = min (length available) (LINE_FRAME_BYTES * frames_wanted size available + 1)
 
 -- ---- a write that failed
 
 -- The text is written in parts: the line of the line is part 0, the lines of turn t are part t, and the last line is
 -- the part behind those of all turns. How many turns a view of a line of these bytes tells.
-abbrev pub turn_count : (size : ℕ) → (given : List ℕ) → ℕ
-turn_count size given = length (turns_of size (mfas_of given))
+abbrev pub turn_count : (size : ℕ) → (available : List ℕ) → ℕ
+turn_count size available = length (turns_of size (mfas_of available))
 
 -- the text before a part
-abbrev pub text_before : LineForm → List Showing → (given : List ℕ) → (part : ℕ) → List ℕ
-text_before form shows given zero = []
-text_before form shows given (suc t) = text_until form shows given t
+abbrev pub text_before : LineForm → List Showing → (available : List ℕ) → (part : ℕ) → List ℕ
+text_before form shows available zero = []
+text_before form shows available (suc t) = text_until form shows available t
 
 -- a part
-abbrev pub text_part : LineForm → List Showing → Ending → (given : List ℕ) → (part : ℕ) → List ℕ
-text_part form shows ending given zero = head_line form.kind form.scrambled
-text_part form shows ending given (suc t) =
-    if t == turn_count (size_of form) given then end_line t (rest_of ending given) else turn_text form shows given t
+abbrev pub text_part : LineForm → List Showing → Ending → (available : List ℕ) → (part : ℕ) → List ℕ
+text_part form shows ending available zero = head_line form.kind form.scrambled
+text_part form shows ending available (suc t) =
+    if t == turn_count (size_of form) available then end_line t
+    (rest_of ending available) else turn_text form shows available t
 
 -- A write failed: the parts before this one were written, and of it a part from the front. Of the line were taken all
 -- bytes that the turns want that were told up to then, the turn of this part among them, or all that there are.
-pub record WriteFailed (form : LineForm) (shows : List Showing) (ending : Ending) (given taken : List ℕ)
+pub record WriteFailed (form : LineForm) (shows : List Showing) (ending : Ending) (available read : List ℕ)
     (old new : SinkView) : Type 0 where
   pub part : ℕ
-  pub few : part ≤ turn_count (size_of form) given + 1
-  pub took : length taken ≡ min (length given)
-      (LINE_FRAME_BYTES * wanted (size_of form) (mfas_of given) (min part (turn_count (size_of form) given)))
+  pub few : part ≤ turn_count (size_of form) available + 1
+  pub took : length read ≡ min (length available)
+      (LINE_FRAME_BYTES * wanted (size_of form) (mfas_of available) (min part (turn_count (size_of form) available)))
   pub between : SinkView
-  pub wrote : SinkWrites written.Whole old (text_before form shows given part) between
-  pub lost : SinkWrites written.Lost between (text_part form shows ending given part) new
+  pub wrote : SinkWrites written.Whole old (text_before form shows available part) between
+  pub lost : SinkWrites written.Lost between (text_part form shows ending available part) new
 
 -- ---- how a view ends
 
@@ -79,13 +80,13 @@ EndsBehind true ending = ending ≡ Open
 
 -- What an answer says of the bytes taken: Done where the line has ended with a whole frame, Unfinished where bytes
 -- stand behind its last whole frame or it has more than the turns take, and Cut where its place is dead.
-abbrev pub ViewEnds : Ended → Ending → (more : Bool) → (taken : List ℕ) → (now : InView) → Type 0
-ViewEnds Done ending more taken now = (now.state ≢ Dead) × (more ≡ false) × (length taken % LINE_FRAME_BYTES ≡ 0)
-ViewEnds Unfinished ending more taken now = (now.state ≢ Dead) × (0 < length taken % LINE_FRAME_BYTES)
+abbrev pub ViewEnds : Ended → Ending → (more : Bool) → (read : List ℕ) → (now : InView) → Type 0
+ViewEnds Done ending more read now = (now.state ≢ Dead) × (more ≡ false) × (length read % LINE_FRAME_BYTES ≡ 0)
+ViewEnds Unfinished ending more read now = (now.state ≢ Dead) × (0 < length read % LINE_FRAME_BYTES)
     × EndsBehind more ending
-ViewEnds Cut ending more taken now = now.state ≡ Dead
-ViewEnds ReportFault ending more taken now = Unit {0}
-ViewEnds Memory ending more taken now = ⊥
+ViewEnds Cut ending more read now = now.state ≡ Dead
+ViewEnds ReportFault ending more read now = Unit {0}
+ViewEnds Memory ending more read now = ⊥
 
 -- A view from the line and the report as they were to how they are. Where no more bytes may follow, a live line has
 -- answered its end. The report gained the text of the view, all of it or, where a write failed, a part of it from the

@@ -61,11 +61,11 @@ counts_between was is = record {
 
 -- Turn t + 1 of a line of these bytes: whether the line has ended with it, whether it has a multiframe, and how much
 -- the line's numbers grew in it.
-abbrev pub seen_at : LineForm → (given : List ℕ) → (t : ℕ) → TurnSeen
-seen_at form given t = record {
-  ended = has_ended (line_state (size_of form) (mfas_of given) (t + 1));
-  whole = is_some (multiframe (size_of form) (mfas_of given) t);
-  counts = counts_between (numbers_of form Open given t 0) (numbers_of form Open given (t + 1) 0);
+abbrev pub seen_at : LineForm → (available : List ℕ) → (t : ℕ) → TurnSeen
+seen_at form available t = record {
+  ended = has_ended (line_state (size_of form) (mfas_of available) (t + 1));
+  whole = is_some (multiframe (size_of form) (mfas_of available) t);
+  counts = counts_between (numbers_of form Open available t 0) (numbers_of form Open available (t + 1) 0);
 }
 
 -- The turn of this view after these, of a tributary: how its sink stands after it, the pair of its numbers, and how
@@ -78,12 +78,12 @@ told_of own past view = record {
 }
 
 -- what the turns first + 1 to t of a line of these bytes show of a tributary, the last first
-unfoldable pub views_from : Tributary → (first : ℕ) → (given : List ℕ) → (t : ℕ) → List (Option View)
-views_from own first given t = past_of (view_at own given) first (t - first)
+unfoldable pub views_from : Tributary → (first : ℕ) → (available : List ℕ) → (t : ℕ) → List (Option View)
+views_from own first available t = past_of (view_at own available) first (t - first)
 
 -- turn t + 1 of a line of these bytes, of a tributary whose sink begins with turn first + 1
-unfoldable pub told_at : Tributary → (first : ℕ) → (given : List ℕ) → (t : ℕ) → Told
-told_at own first given t = told_of own (views_from own first given t) (view_at own given t)
+unfoldable pub told_at : Tributary → (first : ℕ) → (available : List ℕ) → (t : ℕ) → Told
+told_at own first available t = told_of own (views_from own first available t) (view_at own available t)
 
 -- all slots of a line of this form, as those of one tributary
 abbrev pub all_slots : LineForm → Tributary
@@ -96,8 +96,8 @@ msi_shown (Some view) = view.msi
 
 -- G.709 clause 19.4.1: the MSI bytes that came in turn t + 1 of a line of these bytes, each with its slot; none where
 -- it has no multiframe
-unfoldable pub msi_came : LineForm → (given : List ℕ) → (t : ℕ) → List (ℕ × ℕ)
-msi_came form given t = msi_shown (view_at (all_slots form) given t)
+unfoldable pub msi_came : LineForm → (available : List ℕ) → (t : ℕ) → List (ℕ × ℕ)
+msi_came form available t = msi_shown (view_at (all_slots form) available t)
 
 -- ---- words
 
@@ -175,15 +175,15 @@ end_line turns rest = codes "end turns " ++ decimal turns ++ codes " rest " ++ d
 -- ---- the whole
 
 -- turn t + 1 of a tributary: its line, where the turn is one of its turns
-abbrev pub showing_text : (given : List ℕ) → (t : ℕ) → Showing → List ℕ
-showing_text given t x = if is_shown x t then tributary_line x.name x.own.port x.own.slots
-    (told_at x.own x.first given t) else []
+abbrev pub showing_text : (available : List ℕ) → (t : ℕ) → Showing → List ℕ
+showing_text available t x = if is_shown x t then tributary_line x.name x.own.port x.own.slots
+    (told_at x.own x.first available t) else []
 
 -- turn t + 1: its line, one for each MSI byte that came in it, and one for each tributary that is shown in it
-unfoldable pub turn_text : LineForm → List Showing → (given : List ℕ) → (t : ℕ) → List ℕ
-turn_text form shows given t =
-    turn_line (t + 1) (seen_at form given t)
-    ++ (flat_map msi_line (msi_came form given t) ++ flat_map (showing_text given t) shows)
+unfoldable pub turn_text : LineForm → List Showing → (available : List ℕ) → (t : ℕ) → List ℕ
+turn_text form shows available t =
+    turn_line (t + 1) (seen_at form available t)
+    ++ (flat_map msi_line (msi_came form available t) ++ flat_map (showing_text available t) shows)
 
 -- The turns that are told, each said by the number of turns before it: 16,384 at most, and none after the one in which
 -- the line ended. The list has the MFAS bytes of the line's whole frames.
@@ -191,14 +191,14 @@ unfoldable pub turns_of : (size : ℕ) → (mfas : List ℕ) → List ℕ
 turns_of size ms = filter (λ t. not (has_ended (line_state size ms t))) (range_with_len 0 MOST_TURNS)
 
 -- the lines up to turn t: that of the line, and those of each turn
-abbrev pub text_until : LineForm → List Showing → (given : List ℕ) → (t : ℕ) → List ℕ
-text_until form shows given t = head_line form.kind form.scrambled
-    ++ flat_map (turn_text form shows given) (range_with_len 0 t)
+abbrev pub text_until : LineForm → List Showing → (available : List ℕ) → (t : ℕ) → List ℕ
+text_until form shows available t = head_line form.kind form.scrambled
+    ++ flat_map (turn_text form shows available) (range_with_len 0 t)
 
 -- What a view says of a line of these bytes, through its mask, that ended so, and of these tributaries on it, in this
 -- order.
-unfoldable pub view_text : LineForm → List Showing → Ending → (given : List ℕ) → List ℕ
-view_text form shows ending given =
+unfoldable pub view_text : LineForm → List Showing → Ending → (available : List ℕ) → List ℕ
+view_text form shows ending available =
     head_line form.kind form.scrambled ++
-    (flat_map (turn_text form shows given) (turns_of (size_of form) (mfas_of given))
-    ++ end_line (length (turns_of (size_of form) (mfas_of given))) (rest_of ending given))
+    (flat_map (turn_text form shows available) (turns_of (size_of form) (mfas_of available))
+    ++ end_line (length (turns_of (size_of form) (mfas_of available))) (rest_of ending available))

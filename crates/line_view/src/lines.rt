@@ -262,14 +262,14 @@ fn put_pair(text: &mut ArrayString<LINE_BYTES>, pair: Option<(u16, u16)>)
     }
 }
 
-fn put_both(text: &mut ArrayString<LINE_BYTES>, number: u16, rest: u16)
+fn put_both(text: &mut ArrayString<LINE_BYTES>, cm: u16, cnd: u16)
     requires room { array_string_len text.old + 50 ≤ 1024 }
     ensures text { text.new.bytes ≡ text.old.bytes
-        ++ (codes " cm " ++ decimal number ++ codes " cnd " ++ decimal rest) }
+        ++ (codes " cm " ++ decimal cm ++ codes " cnd " ++ decimal cnd) }
     ensures most { array_string_len text.new ≤ array_string_len text.old + 50 }
 {
-    put_number(text, " cm ", number as u64);
-    put_number(text, " cnd ", rest as u64);
+    put_number(text, " cm ", cm as u64);
+    put_number(text, " cnd ", cnd as u64);
 }
 
 /// Appends a number behind its label, of 20 digits at most.

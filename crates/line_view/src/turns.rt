@@ -28,9 +28,9 @@ pub(crate) fn do_turn<I: Source>(
     requires between { line.old.pieces ≡ 0 }
     requires none { msi.old.items ≡ [] }
     requires room { length room.old ≡ MOST_SLOTS * (GROUPS + 1) }
-    ensures moves { (form : LineForm) (first : InView) (taken : List ℕ)
-        → ViewStands form first (in_view I.Source place.old) taken t line.old watched.old.items []
-        → TurnMoves form first (in_view I.Source place.new) taken t line.old line.new watched.old.items
+    ensures moves { (form : LineForm) (first : InView) (read : List ℕ)
+        → ViewStands form first (in_view I.Source place.old) read t line.old watched.old.items []
+        → TurnMoves form first (in_view I.Source place.new) read t line.old line.new watched.old.items
         watched.new.items result msi.new.items }
     ensures kind { line.new.kind ≡ kind }
     ensures between { line.new.pieces ≡ 0 }
@@ -69,9 +69,9 @@ fn take_frames<I: Source>(
     requires kind { line.old.kind ≡ kind }
     requires between { line.old.pieces ≡ 0 }
     requires none { msi.old.items ≡ [] }
-    ensures moves { (form : LineForm) (first : InView) (taken : List ℕ)
-        → ViewStands form first (in_view I.Source place.old) taken t line.old watched.old.items msi.old.items
-        → ViewMoves form first (in_view I.Source place.new) taken t line.old line.new watched.old.items
+    ensures moves { (form : LineForm) (first : InView) (read : List ℕ)
+        → ViewStands form first (in_view I.Source place.old) read t line.old watched.old.items msi.old.items
+        → ViewMoves form first (in_view I.Source place.new) read t line.old line.new watched.old.items
         watched.new.items msi.new.items }
     ensures kind { line.new.kind ≡ kind }
     ensures pieces { line.new.pieces ≡ slots_of kind }
@@ -93,9 +93,9 @@ fn take_piece<I: Source>(
     requires kind { line.old.kind ≡ kind }
     requires pieces { line.old.pieces < slots_of kind }
     requires few { length msi.old.items ≤ line.old.pieces }
-    ensures moves { (form : LineForm) (first : InView) (taken : List ℕ)
-        → ViewStands form first (in_view I.Source place.old) taken t line.old watched.old.items msi.old.items
-        → ViewMoves form first (in_view I.Source place.new) taken t line.old line.new watched.old.items
+    ensures moves { (form : LineForm) (first : InView) (read : List ℕ)
+        → ViewStands form first (in_view I.Source place.old) read t line.old watched.old.items msi.old.items
+        → ViewMoves form first (in_view I.Source place.new) read t line.old line.new watched.old.items
         watched.new.items msi.new.items }
     ensures few { length msi.new.items ≤ line.new.pieces }
     ensures kind { line.new.kind ≡ line.old.kind }

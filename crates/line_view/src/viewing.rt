@@ -120,9 +120,9 @@ fn write_turn<I: Source, K: Sink>(
     requires kind { line.old.kind ≡ kind }
     requires between { line.old.pieces ≡ 0 }
     requires room { length room.old ≡ MOST_SLOTS * (GROUPS + 1) }
-    ensures run { (form : LineForm) (first : InView) (taken : List ℕ)
-        → ViewStands form first (in_view I.Source place.old) taken t line.old watched.old.items []
-        → TurnRun form first (in_view I.Source place.new) taken t line.old line.new watched.old.items watched.new.items
+    ensures run { (form : LineForm) (first : InView) (read : List ℕ)
+        → ViewStands form first (in_view I.Source place.old) read t line.old watched.old.items []
+        → TurnRun form first (in_view I.Source place.new) read t line.old line.new watched.old.items watched.new.items
         (sink_view K.Sink report.old) (sink_view K.Sink report.new) result }
     ensures kind { line.new.kind ≡ kind }
     ensures between { line.new.pieces ≡ 0 }

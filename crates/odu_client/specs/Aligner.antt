@@ -18,8 +18,8 @@ to_come aligner more = if aligner.searches then from_search (aligner.held ++ mor
 
 -- The aligner took these bytes since its start: whatever comes, in the whole list arrives what arrived in these and
 -- what is yet to arrive.
-pub record HasAligned (taken : List ℕ) (aligner : AlignerState) : Type 0 where
-  pub whole : (more : List ℕ) → arrivals (taken ++ more) ≡ arrivals taken ++ to_come aligner more
+pub record HasAligned (read : List ℕ) (aligner : AlignerState) : Type 0 where
+  pub whole : (more : List ℕ) → arrivals (read ++ more) ≡ arrivals read ++ to_come aligner more
 
 -- what an answer says to have arrived
 abbrev pub news : Aligned → List ℕ → List Arrival
@@ -28,14 +28,14 @@ news Whole frame = Handed frame ∷ []
 news Break frame = Broken ∷ []
 
 -- with one byte more
-pub record Aligns (taken : List ℕ) (byte : ℕ) (result : Aligned) (frame : List ℕ) (new : AlignerState) : Type 0 where
-  pub arrived : arrivals (taken ++ byte ∷ []) ≡ arrivals taken ++ news result frame
-  pub aligned : HasAligned (taken ++ byte ∷ []) new
+pub record Aligns (read : List ℕ) (byte : ℕ) (result : Aligned) (frame : List ℕ) (new : AlignerState) : Type 0 where
+  pub arrived : arrivals (read ++ byte ∷ []) ≡ arrivals read ++ news result frame
+  pub aligned : HasAligned (read ++ byte ∷ []) new
 
 -- with these bytes more
-pub record AlignsBy (taken came : List ℕ) (result : Aligned) (frame : List ℕ) (new : AlignerState) : Type 0 where
-  pub arrived : arrivals (taken ++ came) ≡ arrivals taken ++ news result frame
-  pub aligned : HasAligned (taken ++ came) new
+pub record AlignsBy (read came : List ℕ) (result : Aligned) (frame : List ℕ) (new : AlignerState) : Type 0 where
+  pub arrived : arrivals (read ++ came) ≡ arrivals read ++ news result frame
+  pub aligned : HasAligned (read ++ came) new
 
 -- an aligner after its start
 abbrev pub searches_anew : AlignerState

@@ -30,8 +30,8 @@ abbrev pub input_of : (died : Bool) → (text : List ℕ) → ClientInput
 input_of died text = record { packets = (packets_of text).packets; ending = input_ending died (packets_of text).ending }
 
 -- the input of the bytes that a place gave in a whole run
-abbrev pub input_given : (died : Bool) → (given : List ℕ) → ClientInput
-input_given died given = input_of died (if died then text_of_dead given else given)
+abbrev pub input_given : (died : Bool) → (available : List ℕ) → ClientInput
+input_given died available = input_of died (if died then text_of_dead available else available)
 
 -- ---- totals, where so many bytes of the client's stream were emitted
 

@@ -15,12 +15,12 @@ pub record MakerState : Type 0 where
   pub frame : List ℕ
 
 -- So many frames were made, which carry these payload bytes.
-pub record HasMadeFrames (sapi : List ℕ) (count : ℕ) (given : List ℕ) (kept : OverheadState) : Type 0 where
-  pub sent : HasSent CLIENT_COLUMNS (client_frames sapi count given) kept.path
+pub record HasMadeFrames (sapi : List ℕ) (count : ℕ) (emitted : List ℕ) (kept : OverheadState) : Type 0 where
+  pub sent : HasSent CLIENT_COLUMNS (client_frames sapi count emitted) kept.path
   pub mfas : kept.mfas ≡ count % 256
-  pub size : length given ≡ CLIENT_PAYLOAD_BYTES * count
+  pub size : length emitted ≡ CLIENT_PAYLOAD_BYTES * count
 
 -- this frame is the next, and carries this payload
-pub record MakesFrame (sapi : List ℕ) (count : ℕ) (given payload frame : List ℕ) (kept : OverheadState) : Type 0 where
-  pub frames : client_frames sapi (count + 1) (given ++ payload) ≡ client_frames sapi count given ++ frame ∷ []
-  pub made : HasMadeFrames sapi (count + 1) (given ++ payload) kept
+pub record MakesFrame (sapi : List ℕ) (count : ℕ) (emitted payload frame : List ℕ) (kept : OverheadState) : Type 0 where
+  pub frames : client_frames sapi (count + 1) (emitted ++ payload) ≡ client_frames sapi count emitted ++ frame ∷ []
+  pub made : HasMadeFrames sapi (count + 1) (emitted ++ payload) kept

@@ -9,5 +9,5 @@ use Rattle.odu_client.specs.contracts.frame_maker.FrameMaker.{the_row}
 abbrev pub EndsHavingMade : MutBor MakerState → (sapi payload : List ℕ) → Fml
 EndsHavingMade maker sapi payload =
     follows_so the_row the_row maker.ghost_name none (λ _ _. ⊤)
-    (λ last. (count : ℕ) (given : List ℕ) → HasMadeFrames sapi count given maker.now.overhead
-    → HasMadeFrames sapi (count + 1) (given ++ payload) last.overhead)
+    (λ last. (count : ℕ) (emitted : List ℕ) → HasMadeFrames sapi count emitted maker.now.overhead
+    → HasMadeFrames sapi (count + 1) (emitted ++ payload) last.overhead)

@@ -34,52 +34,52 @@ pub record FramerState : Type 0 where
 
 -- These packets were taken, and their frames made, or begun, by these bytes; then idle frames, once no packet is left.
 -- The last packet's frame was begun, and once the last answer came the packets' frames were given and more.
-pub record StreamMade (packets : List (List ℕ)) (given : List ℕ) (stream : StreamState) : Type 0 where
+pub record StreamMade (packets : List (List ℕ)) (emitted : List ℕ) (stream : StreamState) : Type 0 where
   pub idles : ℕ
-  pub made : HasMade (stream_frames packets stream.fcs idles) given stream.maker
+  pub made : HasMade (stream_frames packets stream.fcs idles) emitted stream.maker
   pub going : stream.answer ≡ Packet → idles ≡ 0
   pub begun : (before : List (List ℕ)) (last : List ℕ) → packets ≡ before ++ last ∷ []
-      → gfp_length before stream.fcs < length given
-  pub seen : stream.answer ≢ Packet → gfp_length packets stream.fcs < length given
+      → gfp_length before stream.fcs < length emitted
+  pub seen : stream.answer ≢ Packet → gfp_length packets stream.fcs < length emitted
   pub count : stream.packets ≡ saturated (length packets)
 
--- `first` and `now` are views of the text's place, between which these bytes were taken, and these packets given
-pub record TextStands (first now : InView) (taken : List ℕ) (packets : List (List ℕ)) (lines : LinesView)
+-- `first` and `now` are views of the text's place, between which these bytes were read, and these packets taken
+pub record TextStands (first now : InView) (read : List ℕ) (packets : List (List ℕ)) (lines : LinesView)
     (stream : StreamState) : Type 0 where
-  pub stands : LinesStand first now taken packets lines
+  pub stands : LinesStand first now read packets lines
   pub answer : stream.answer ≡ lines.answer
 
--- a framer that has made so many frames, which carry these payload bytes, and of which these bytes are gone
-pub record Framed (packets : List (List ℕ)) (given : List ℕ) (count : ℕ) (gone : List ℕ)
+-- a framer that has made so many frames, which carry these payload bytes, and of which these bytes were emitted
+pub record Framed (packets : List (List ℕ)) (payload : List ℕ) (count : ℕ) (emitted : List ℕ)
     (framer : FramerState) : Type 0 where
-  pub stream : StreamMade packets given framer.stream
-  pub size : length given ≡ CLIENT_PAYLOAD_BYTES * count
-  pub path : HasSent CLIENT_COLUMNS (client_frames framer.sapi count given) framer.path
+  pub stream : StreamMade packets payload framer.stream
+  pub size : length payload ≡ CLIENT_PAYLOAD_BYTES * count
+  pub path : HasSent CLIENT_COLUMNS (client_frames framer.sapi count payload) framer.path
   pub mfas : framer.mfas ≡ count % 256
-  pub frames : gone ++ framer.left ≡ concat (client_frames framer.sapi count given)
+  pub frames : emitted ++ framer.left ≡ concat (client_frames framer.sapi count payload)
   pub fresh : framer.stream.answer ≢ Packet → framer.fresh ≡ true
       → CLIENT_PAYLOAD_BYTES * count ≤ gfp_length packets framer.stream.fcs + CLIENT_PAYLOAD_BYTES
   pub late : framer.stream.answer ≢ Packet → framer.fresh ≡ false
       → gfp_length packets framer.stream.fcs + CLIENT_PAYLOAD_BYTES < CLIENT_PAYLOAD_BYTES * count
 
--- `first` and `now` are views of the place of a client's text, between which these bytes were taken; and these bytes of
--- its stream are gone since its start
-pub record ClientStands (first now : InView) (taken gone : List ℕ) (lines : LinesView)
+-- `first` and `now` are views of the place of a client's text, between which these bytes were read; and these bytes of
+-- its stream were emitted since its start
+pub record ClientStands (first now : InView) (read emitted : List ℕ) (lines : LinesView)
     (framer : FramerState) : Type 0 where
   pub packets : List (List ℕ)
   pub given : List ℕ
-  pub text : TextStands first now taken packets lines framer.stream
-  pub framed : Framed packets given (frames_begun (length gone)) gone framer
+  pub text : TextStands first now read packets lines framer.stream
+  pub framed : Framed packets given (frames_begun (length emitted)) emitted framer
 
--- after a call that gave these bytes: more bytes of the text were taken, and a text that the place may have from then
--- on it might have before. They are the next bytes of the client's stream, whatever text it is.
-pub record Fills (first now : InView) (taken gone bytes : List ℕ) (old new : LinesView)
+-- after a call that emitted these bytes: more bytes of the text were read, and a text that the place may have from
+-- then on it might have before. They are the next bytes of the client's stream, whatever text it is.
+pub record Fills (first now : InView) (read before bytes : List ℕ) (old new : LinesView)
     (was is : FramerState) : Type 0 where
   pub came : List ℕ
-  pub stands : ClientStands first now (taken ++ came) (gone ++ bytes) new is
-  pub earlier : (text : List ℕ) → MayBe new (taken ++ came) text → MayBe old taken text
-  pub emitted : (text : List ℕ) → MayBe new (taken ++ came) text
-      → bytes ≡ stream_part was.sapi (packets_of text).packets was.stream.fcs (length gone) (length bytes)
+  pub stands : ClientStands first now (read ++ came) (before ++ bytes) new is
+  pub earlier : (text : List ℕ) → MayBe new (read ++ came) text → MayBe old read text
+  pub emitted : (text : List ℕ) → MayBe new (read ++ came) text
+      → bytes ≡ stream_part was.sapi (packets_of text).packets was.stream.fcs (length before) (length bytes)
   pub sapi : is.sapi ≡ was.sapi
   pub fcs : is.stream.fcs ≡ was.stream.fcs
 

@@ -65,8 +65,8 @@ impl ClientAligner {
     /// The next byte. Whole: a frame to be used ended with it. Break: a frame with AIS, OCI or LCK ended with it, or a
     /// search begins behind it.
     pub fn take(&mut self, byte: u8) -> Aligned
-        ensures aligned { (taken : List ℕ) → HasAligned taken (aligner_state self.old)
-            → Aligns taken byte result (handed self.new) (aligner_state self.new) }
+        ensures aligned { (read : List ℕ) → HasAligned read (aligner_state self.old)
+            → Aligns read byte result (handed self.new) (aligner_state self.new) }
         ensures kept { result ≢ Aligned.Whole → handed self.new ≡ handed self.old }
         ensures frames { self.new.frames ≡ frames_after self.old.frames result }
     {
@@ -82,10 +82,10 @@ impl ClientAligner {
         ensures within { result.1 ≤ length bytes.now }
         ensures all { result.0 ≡ Aligned.Nothing → result.1 ≡ length bytes.now }
         ensures some { 1 ≤ length bytes.now → 1 ≤ result.1 }
-        ensures aligned { (taken : List ℕ) → HasAligned taken (aligner_state self.old)
-            → AlignsBy taken (take result.1 bytes.now) result.0 (handed self.new) (aligner_state self.new) }
-        ensures none_before { (taken : List ℕ) (k : ℕ) → HasAligned taken (aligner_state self.old) → k < result.1
-            → arrivals (taken ++ take k bytes.now) ≡ arrivals taken }
+        ensures aligned { (read : List ℕ) → HasAligned read (aligner_state self.old)
+            → AlignsBy read (take result.1 bytes.now) result.0 (handed self.new) (aligner_state self.new) }
+        ensures none_before { (read : List ℕ) (k : ℕ) → HasAligned read (aligner_state self.old) → k < result.1
+            → arrivals (read ++ take k bytes.now) ≡ arrivals read }
         ensures kept { result.0 ≢ Aligned.Whole → handed self.new ≡ handed self.old }
         ensures frames { self.new.frames ≡ frames_after self.old.frames result.0 }
     {
@@ -107,8 +107,8 @@ impl ClientAligner {
     // Goes on with the frame by as many bytes as make no news, and says how many.
     fn pass(&mut self, bytes: &[u8]) -> usize
         ensures within { result ≤ length bytes.now }
-        ensures goes { (taken : List ℕ) → HasAligned taken (aligner_state self.old)
-            → AlignsBy taken (take result bytes.now) Aligned.Nothing (handed self.new) (aligner_state self.new) }
+        ensures goes { (read : List ℕ) → HasAligned read (aligner_state self.old)
+            → AlignsBy read (take result bytes.now) Aligned.Nothing (handed self.new) (aligner_state self.new) }
         ensures kept { handed self.new ≡ handed self.old }
         ensures frames { self.new.frames ≡ self.old.frames }
     {

@@ -45,9 +45,9 @@ impl ClientOverhead {
 
     /// Makes the next frame of the payload that stands in it: writes every other byte.
     pub fn write(&mut self, frame: &mut Frame<CLIENT_COLUMNS>, trace: &Trace)
-        ensures made { (count : ℕ) (given : List ℕ) → HasMadeFrames trace.now count given self.old
+        ensures made { (count : ℕ) (emitted : List ℕ) → HasMadeFrames trace.now count emitted self.old
             → length (payload_of frame.old) ≡ CLIENT_PAYLOAD_BYTES
-            → MakesFrame trace.now count given (payload_of frame.old) frame.new self.new }
+            → MakesFrame trace.now count emitted (payload_of frame.old) frame.new self.new }
         ensures frame { (frames : List (List ℕ)) → HasSent CLIENT_COLUMNS frames self.old.path
             → frame.new ≡ client_frame trace.now self.old.mfas (or_zero (parity_due CLIENT_COLUMNS frames))
             (payload_of frame.old) }

@@ -55,8 +55,8 @@ impl FrameMaker {
         requires { length payload.now ≡ CLIENT_PAYLOAD_BYTES }
         // The frames since the start are the client's frames of all these payloads.
         ensures* made { sem 𝓛 (EndsHavingMade self.entry trace.now payload.now) }
-        ensures frame { (count : ℕ) (given : List ℕ) → HasMadeFrames trace.now count given self.old.overhead
-            → client_frames trace.now (count + 1) (given ++ payload.now) ≡ client_frames trace.now count given
+        ensures frame { (count : ℕ) (emitted : List ℕ) → HasMadeFrames trace.now count emitted self.old.overhead
+            → client_frames trace.now (count + 1) (emitted ++ payload.now) ≡ client_frames trace.now count emitted
             ++ result.now ∷ [] }
     {
         self.put_frame(payload, trace);
@@ -65,8 +65,8 @@ impl FrameMaker {
 
     fn put_frame(&mut self, payload: &[u8], trace: &Trace)
         requires { length payload.now ≡ CLIENT_PAYLOAD_BYTES }
-        ensures { (count : ℕ) (given : List ℕ) → HasMadeFrames trace.now count given self.old.overhead
-            → MakesFrame trace.now count given payload.now self.new.frame self.new.overhead }
+        ensures { (count : ℕ) (emitted : List ℕ) → HasMadeFrames trace.now count emitted self.old.overhead
+            → MakesFrame trace.now count emitted payload.now self.new.frame self.new.overhead }
     {
         put_payload(&mut self.frame, payload);
         self.overhead.write(&mut self.frame, trace);

@@ -85,9 +85,9 @@ impl ClientFramer {
         into: &mut [u8],
     )
         ensures size { length into.new ≡ length into.old }
-        ensures fills { (first : InView) (taken gone : List ℕ)
-            → ClientStands first (in_view P.Source place.old) taken gone (lines_view lines.old) self.old
-            → Fills first (in_view P.Source place.new) taken gone into.new (lines_view lines.old)
+        ensures fills { (first : InView) (read emitted : List ℕ)
+            → ClientStands first (in_view P.Source place.old) read emitted (lines_view lines.old) self.old
+            → Fills first (in_view P.Source place.new) read emitted into.new (lines_view lines.old)
             (lines_view lines.new) self.old self.new }
 
         // once no packet is left nothing is read
@@ -147,9 +147,9 @@ impl ClientFramer {
     // Makes the next frame where the one in hand is gone.
     fn have_frame<P: Source>(&mut self, lines: &mut PacketLines, place: &mut InPlaceOf<P>)
         ensures some { self.new.left ≢ [] }
-        ensures makes { (first : InView) (taken gone : List ℕ)
-            → FramedSome first (in_view P.Source place.old) taken gone (lines_view lines.old) self.old
-            → Makes first (in_view P.Source place.new) taken gone (lines_view lines.old)
+        ensures makes { (first : InView) (read emitted : List ℕ)
+            → FramedSome first (in_view P.Source place.old) read emitted (lines_view lines.old) self.old
+            → Makes first (in_view P.Source place.new) read emitted (lines_view lines.old)
             (lines_view lines.new) self.old self.new }
         ensures over { self.old.stream.answer ≢ Line.Packet → (place.new ≡ place.old) × (lines.new ≡ lines.old)
             × (self.new.stream.answer ≡ self.old.stream.answer) }
@@ -165,9 +165,9 @@ impl ClientFramer {
     fn make_frame<P: Source>(&mut self, lines: &mut PacketLines, place: &mut InPlaceOf<P>)
         requires { self.old.left ≡ [] }
         ensures some { self.new.left ≢ [] }
-        ensures makes { (first : InView) (taken gone : List ℕ)
-            → FramedSome first (in_view P.Source place.old) taken gone (lines_view lines.old) self.old
-            → Makes first (in_view P.Source place.new) taken gone (lines_view lines.old)
+        ensures makes { (first : InView) (read emitted : List ℕ)
+            → FramedSome first (in_view P.Source place.old) read emitted (lines_view lines.old) self.old
+            → Makes first (in_view P.Source place.new) read emitted (lines_view lines.old)
             (lines_view lines.new) self.old self.new }
         ensures over { self.old.stream.answer ≢ Line.Packet → (place.new ≡ place.old) × (lines.new ≡ lines.old)
             × (self.new.stream.answer ≡ self.old.stream.answer) }

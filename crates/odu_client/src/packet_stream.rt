@@ -92,10 +92,10 @@ impl PacketStream {
         frame: &mut Frame<CLIENT_COLUMNS>,
     )
         ensures size { length (payload_of frame.new) ≡ CLIENT_PAYLOAD_BYTES }
-        ensures goes { (first : InView) (taken given : List ℕ) (packets : List (List ℕ))
-            → TextStands first (in_view P.Source place.old) taken packets (lines_view lines.old) self.old
-            → StreamMade packets given self.old
-            → StreamGoes first (in_view P.Source place.new) taken (given ++ payload_of frame.new) packets
+        ensures goes { (first : InView) (read emitted : List ℕ) (packets : List (List ℕ))
+            → TextStands first (in_view P.Source place.old) read packets (lines_view lines.old) self.old
+            → StreamMade packets emitted self.old
+            → StreamGoes first (in_view P.Source place.new) read (emitted ++ payload_of frame.new) packets
             (lines_view lines.old) (lines_view lines.new) self.old.fcs self.new }
         ensures over { self.old.answer ≢ Line.Packet → (place.new ≡ place.old) × (lines.new ≡ lines.old)
             × (self.new.answer ≡ self.old.answer) }
@@ -119,11 +119,11 @@ impl PacketStream {
         ensures size { length (payload_row_of CLIENT_COLUMNS row frame.new) ≡ PAYLOAD_COLUMNS }
         ensures others { (r : ℕ) → 1 ≤ r → r ≤ 4 → r ≢ row
             → payload_row_of CLIENT_COLUMNS r frame.new ≡ payload_row_of CLIENT_COLUMNS r frame.old }
-        ensures goes { (first : InView) (taken given : List ℕ) (packets : List (List ℕ))
-            → TextStands first (in_view P.Source place.old) taken packets (lines_view lines.old) self.old
-            → StreamMade packets given self.old
-            → StreamGoes first (in_view P.Source place.new) taken
-            (given ++ payload_row_of CLIENT_COLUMNS row frame.new) packets (lines_view lines.old)
+        ensures goes { (first : InView) (read emitted : List ℕ) (packets : List (List ℕ))
+            → TextStands first (in_view P.Source place.old) read packets (lines_view lines.old) self.old
+            → StreamMade packets emitted self.old
+            → StreamGoes first (in_view P.Source place.new) read
+            (emitted ++ payload_row_of CLIENT_COLUMNS row frame.new) packets (lines_view lines.old)
             (lines_view lines.new) self.old.fcs self.new }
         ensures over { self.old.answer ≢ Line.Packet → (place.new ≡ place.old) × (lines.new ≡ lines.old)
             × (self.new.answer ≡ self.old.answer) }
@@ -139,10 +139,10 @@ impl PacketStream {
         into: &mut [u8],
     )
         ensures size { length into.new ≡ length into.old }
-        ensures goes { (first : InView) (taken given : List ℕ) (packets : List (List ℕ))
-            → TextStands first (in_view P.Source place.old) taken packets (lines_view lines.old) self.old
-            → StreamMade packets given self.old
-            → StreamGoes first (in_view P.Source place.new) taken (given ++ into.new) packets (lines_view lines.old)
+        ensures goes { (first : InView) (read emitted : List ℕ) (packets : List (List ℕ))
+            → TextStands first (in_view P.Source place.old) read packets (lines_view lines.old) self.old
+            → StreamMade packets emitted self.old
+            → StreamGoes first (in_view P.Source place.new) read (emitted ++ into.new) packets (lines_view lines.old)
             (lines_view lines.new) self.old.fcs self.new }
         ensures over { self.old.answer ≢ Line.Packet → (place.new ≡ place.old) × (lines.new ≡ lines.old)
             × (self.new.answer ≡ self.old.answer) }
@@ -164,10 +164,10 @@ impl PacketStream {
         ensures some { 1 ≤ result }
         ensures within { result ≤ length into.old }
         ensures size { length into.new ≡ length into.old }
-        ensures goes { (first : InView) (taken given : List ℕ) (packets : List (List ℕ))
-            → TextStands first (in_view P.Source place.old) taken packets (lines_view lines.old) self.old
-            → StreamMade packets given self.old
-            → StreamGoes first (in_view P.Source place.new) taken (given ++ take result into.new) packets
+        ensures goes { (first : InView) (read emitted : List ℕ) (packets : List (List ℕ))
+            → TextStands first (in_view P.Source place.old) read packets (lines_view lines.old) self.old
+            → StreamMade packets emitted self.old
+            → StreamGoes first (in_view P.Source place.new) read (emitted ++ take result into.new) packets
             (lines_view lines.old) (lines_view lines.new) self.old.fcs self.new }
         ensures over { self.old.answer ≢ Line.Packet → (place.new ≡ place.old) × (lines.new ≡ lines.old)
             × (self.new.answer ≡ self.old.answer) }
@@ -179,10 +179,10 @@ impl PacketStream {
     // Takes the next packet in hand where no frame is, as long as there is one.
     fn get_ready<P: Source>(&mut self, lines: &mut PacketLines, place: &mut InPlaceOf<P>)
         ensures some { self.new.answer ≡ Line.Packet → self.new.maker.hand ≢ [] }
-        ensures ready { (first : InView) (taken given : List ℕ) (packets : List (List ℕ))
-            → TextStands first (in_view P.Source place.old) taken packets (lines_view lines.old) self.old
-            → StreamMade packets given self.old
-            → GetsReady first (in_view P.Source place.new) taken given packets (lines_view lines.old)
+        ensures ready { (first : InView) (read emitted : List ℕ) (packets : List (List ℕ))
+            → TextStands first (in_view P.Source place.old) read packets (lines_view lines.old) self.old
+            → StreamMade packets emitted self.old
+            → GetsReady first (in_view P.Source place.new) read emitted packets (lines_view lines.old)
             (lines_view lines.new) self.old.fcs self.new }
         ensures over { self.old.answer ≢ Line.Packet → (place.new ≡ place.old) × (lines.new ≡ lines.old)
             × (self.new.answer ≡ self.old.answer) }
@@ -201,9 +201,9 @@ impl PacketStream {
         requires idle { self.old.maker.hand ≡ [] }
         requires going { self.old.answer ≡ Line.Packet }
         ensures some { self.new.answer ≡ Line.Packet → self.new.maker.hand ≢ [] }
-        ensures asked { (first : InView) (taken : List ℕ) (packets : List (List ℕ))
-            → TextStands first (in_view P.Source place.old) taken packets (lines_view lines.old) self.old
-            → Asked first (in_view P.Source place.new) taken packets (lines_view lines.old)
+        ensures asked { (first : InView) (read : List ℕ) (packets : List (List ℕ))
+            → TextStands first (in_view P.Source place.old) read packets (lines_view lines.old) self.old
+            → Asked first (in_view P.Source place.new) read packets (lines_view lines.old)
             (lines_view lines.new) self.old self.new }
     {
         self.answer = lines.take(place);
@@ -220,8 +220,8 @@ impl PacketStream {
         ensures some { 1 ≤ result }
         ensures within { result ≤ length into.old }
         ensures size { length into.new ≡ length into.old }
-        ensures made { (packets : List (List ℕ)) (given : List ℕ) → StreamReady packets given self.old
-            → StreamMade packets (given ++ take result into.new) self.new }
+        ensures made { (packets : List (List ℕ)) (emitted : List ℕ) → StreamReady packets emitted self.old
+            → StreamMade packets (emitted ++ take result into.new) self.new }
         ensures same { (self.new.fcs ≡ self.old.fcs) × (self.new.answer ≡ self.old.answer) }
     {
         if self.answer == Line::Packet {

@@ -8,7 +8,7 @@ use Rattle.std.proofs.lemmas.List.Folds.{concat-append}
 use Rattle.maintenance_signals.specs.Stream.{signal_byte}
 use Rattle.maintenance_signals.specs.declared.signal.Signal.TheVariants.{Ais}
 use Rattle.tributary_model.specs.Carriage.{Arrives}
-use Rattle.tributary_model.specs.Carries.{sent, number_in, CarriesTurn, Carries, IsSteady, past_of}
+use Rattle.tributary_model.specs.Carries.{sent, cm_in, CarriesTurn, Carries, IsSteady, past_of}
 use Rattle.tributary_model.specs.Damage.{emissions}
 use Rattle.tributary_model.specs.Emission.{emission}
 use Rattle.tributary_model.specs.Laws.{IsTributary}
@@ -141,7 +141,7 @@ steady_later m (suc zero) n p l h = inl (refl, tt)
 steady_later m (suc (suc k)) n p l h = inl (refl, inl (refl, subst (IsSteady m) (take-take k n p (omega arith)) (steady_front m k (take n p) h)))
 
 -- the numbers two turns later can be said where the numbers can
-fits_later : (m : ℕ) (p : List ℕ) (n : ℕ) → ((i : ℕ) → i + 2 ≡ n → number_in m p i ≤ 15232) → number_in m (0 ∷ 0 ∷ p) n ≤ 15232
+fits_later : (m : ℕ) (p : List ℕ) (n : ℕ) → ((i : ℕ) → i + 2 ≡ n → cm_in m p i ≤ 15232) → cm_in m (0 ∷ 0 ∷ p) n ≤ 15232
 fits_later m p n fits =
     let now = sent_later p n in
     let next = sent_later p (n + 1) in
@@ -154,7 +154,7 @@ fits_later m p n fits =
     go (inr many) = subst (λ i. sent p i / m - sent p (n - 2) / m ≤ 15232) (let e : n - 2 + 1 ≡ n + 1 - 2 = omega arith in e) (fits (n - 2) (omega arith))
 
 -- those of a front are the same
-number_front : (m : ℕ) (q : List ℕ) (n i : ℕ) → i < n → number_in m (take n q) i ≡ number_in m q i
+number_front : (m : ℕ) (q : List ℕ) (n i : ℕ) → i < n → cm_in m (take n q) i ≡ cm_in m q i
 number_front m q n i l = ap (λ x. x / m - sent (take n q) i / m) (sent_front q n (i + 1) (omega arith)) ∙ ap (λ x. sent q (i + 1) / m - x / m) (sent_front q n i (omega arith))
 
 pub carries_two_later : CarriesTwoLater
@@ -170,12 +170,12 @@ carries_two_later own n b bytes numbers w p frames u sends size port arrives fil
     let some = arrives.slots in
     let many = arrives.carries.numbers in
     let enough = arrives.carries.enough in
-    let fits : (i : ℕ) → i ≤ u → number_in m q i ≤ 15232
-    = λ i low. fits_later m numbers i (λ j e. subst (λ x. number_in m numbers x ≤ 15232) (let f : j - 0 ≡ j = omega arith in f) (arrives.carries.fits j (omega arith) (omega arith))) in
+    let fits : (i : ℕ) → i ≤ u → cm_in m q i ≤ 15232
+    = λ i low. fits_later m numbers i (λ j e. subst (λ x. cm_in m numbers x ≤ 15232) (let f : j - 0 ≡ j = omega arith in f) (arrives.carries.fits j (omega arith) (omega arith))) in
     let next : suc u ≡ u + 1 = omega arith in
     let fed : Carries own (concat turns) (lengths_of turns) (view_at own (concat frames)) 0 0 u =
     carries_its_turns b own turns frames u sends size port (subst (λ k. IsTributaryFile b own turns (8 * k) frames) next file) (omega arith)
-    (λ i low. subst (λ xs. number_in m xs i ≤ 15232) (sym counts) (subst (λ x. x ≤ 15232) (sym (number_front m q (suc u) i (omega arith))) (fits i low))) in
+    (λ i low. subst (λ xs. cm_in m xs i ≤ 15232) (sym counts) (subst (λ x. x ≤ 15232) (sym (number_front m q (suc u) i (omega arith))) (fits i low))) in
     record {
       slots = some;
       order = omega arith;

@@ -6,7 +6,7 @@ use Rattle.std.proofs.lemmas.Bool.{cases_lt}
 use Rattle.std.proofs.lemmas.List.{map-append, length-map, take_all, take-append-le}
 use Rattle.std.proofs.lemmas.List.Sums.{sum_by-append}
 use Rattle.otn_base.specs.LineSlots.{slots_of}
-use Rattle.tributary_model.specs.Carries.{sent, number_in}
+use Rattle.tributary_model.specs.Carries.{sent, cm_in}
 use Rattle.tributary_model.specs.Laws.{IsTributary}
 use Rattle.tributary_model.specs.Places.{Tributary, tributary_of}
 use Rattle.tributary_model.specs.Puts.{lengths_of}
@@ -54,7 +54,7 @@ sent_first own n w p t i low =
     ap sum (first_lengths own n w p t i low) ∙ ap sum (sym (take_all i (lengths_of (given_before own n w p i)) (omega (arith, s))))
 
 -- a turn says no more groups than a multiframe has
-says_few : (own : Tributary) (n : ℕ) (w p : List ℕ) (t i : ℕ) → i < t → IsTributary own → number_in (length own.slots) (lengths_of (given_before own n w p t)) i ≤ 15232
+says_few : (own : Tributary) (n : ℕ) (w p : List ℕ) (t i : ℕ) → i < t → IsTributary own → cm_in (length own.slots) (lengths_of (given_before own n w p t)) i ≤ 15232
 says_few own n w p t i low trib =
     let m = length own.slots in
     let before = given_before own n w p i in

@@ -13,9 +13,9 @@ use Rattle.device_model.specs.RunLeft.{Takings, MayBeInputs, RunLeft, RunOf}
 -- each input line and each client that the plan reads tells the bytes that it had to give
 pub record HasGiven (plan : Plan) (first last : BaysView) : Type 0 where
   pub line : (a : ℕ) → uses plan (port.LineIn a) ≡ true
-      → (given : List ℕ) × HadToGive (line_in_at first a) (line_in_at last a) given
+      → (available : List ℕ) × HadToGive (line_in_at first a) (line_in_at last a) available
   pub client : (n : ℕ) → uses plan (port.ClientIn n) ≡ true
-      → (given : List ℕ) × HadToGive (client_in_at first n) (client_in_at last n) given
+      → (available : List ℕ) × HadToGive (client_in_at first n) (client_in_at last n) available
 
 -- Where they tell them, the inputs of a run may be what they gave.
 abbrev pub GivenMayBeInputs : Type 0

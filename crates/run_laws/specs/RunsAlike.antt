@@ -90,18 +90,18 @@ HasGone line f row column = LINE_FRAME_BYTES * f + place_of LINE_COLUMNS row col
 -- each own place whose byte has gone in both, and so in each of its turns where the line has lived in both, stands the
 -- same byte, where both lines are scrambled, or neither is. The numbers of a client that it comes from are the same;
 -- and so, in runs of as many turns, is its own line of the report.
-pub record LeftAlike (one other : World) (went others : Went) (x : Connection) : Type 0 where
-  pub text : (n : ℕ) → x.to ≡ to_end.Client n → IsFrontOfOther (went.client n) (others.client n)
+pub record LeftAlike (one other : World) (written others : Went) (x : Connection) : Type 0 where
+  pub text : (n : ℕ) → x.to ≡ to_end.Client n → IsFrontOfOther (written.client n) (others.client n)
   pub whole_text : (n : ℕ) → x.to ≡ to_end.Client n → BothLived one other (state_of_client n)
-      → went.client n ≡ others.client n
+      → written.client n ≡ others.client n
   pub places : (b port past n row column : ℕ) (slots : LineSlots) → HasPlace x b port past n row column slots
       → (form_out one.plan b).scrambled ≡ (form_out other.plan b).scrambled
-      → HasGone (went.line b) (slots_of slots.kind * past + n) row column
+      → HasGone (written.line b) (slots_of slots.kind * past + n) row column
       → HasGone (others.line b) (slots_of slots.kind * past + n) row column
-      → HaveSameByte (went.line b) (others.line b) (slots_of slots.kind * past + n) row column
+      → HaveSameByte (written.line b) (others.line b) (slots_of slots.kind * past + n) row column
   pub all_places : (b port past n row column : ℕ) (slots : LineSlots) → HasPlace x b port past n row column slots
       → (form_out one.plan b).scrambled ≡ (form_out other.plan b).scrambled → BothLived one other (state_of_line b)
-      → HaveSameByte (went.line b) (others.line b) (slots_of slots.kind * past + n) row column
+      → HaveSameByte (written.line b) (others.line b) (slots_of slots.kind * past + n) row column
   pub client_in : (n : ℕ) → x.from ≡ from_end.Client n → one.numbers.client_in n ≡ other.numbers.client_in n
   pub client_out : (n : ℕ) → x.to ≡ to_end.Client n → BothLived one other (state_of_client n)
       → one.numbers.client_out n ≡ other.numbers.client_out n

@@ -24,11 +24,11 @@ use Rattle.run_laws.specs.RunsThrough.{LivedIn, read_of}
 -- The output line of a connection carries all that the connection got up to turn u + 1, in as many bytes a turn as it
 -- got.
 abbrev pub CarriesAllGot : World → Went → Connection → (b port : ℕ) → LineSlots → (u : ℕ) → Type 0
-CarriesAllGot world went x b port slots u =
+CarriesAllGot world written x b port slots u =
     let input = own_input world.inputs x in
     let n = u + 1 - first_turn x in
     Carries (tributary_of slots port) (arrived_by x input n) (lengths_of (got_by x input n))
-    (view_at (tributary_of slots port) (read_of world went b)) (first_turn x) (first_turn x) u
+    (view_at (tributary_of slots port) (read_of world written b)) (first_turn x) (first_turn x) u
 
 -- A connection of a run comes from a line that carries a client's bytes to it in steady numbers from turn b + 1 to turn
 -- u + 1, whatever came before, and says its number anew in turn h + 1. From the third turn after it on its sink emits
@@ -36,15 +36,15 @@ CarriesAllGot world went x b port slots u =
 -- in turn t - 1. Where its output lived, a line to which it goes carries what it got in all its turns, these bytes
 -- among it, and a client gets what the bytes that had arrived by turn h + 4 and then these, up to those that the sender
 -- took three turns before the connection's last turn, deliver.
-pub record HealsIn (world : World) (went : Went) (x : Connection) (bytes p : List ℕ) (s u h : ℕ) : Type 0 where
+pub record HealsIn (world : World) (written : Went) (x : Connection) (bytes p : List ℕ) (s u h : ℕ) : Type 0 where
   pub turn : (t : ℕ) → h + 3 ≤ t → t ≤ u
       → got_in x (own_input world.inputs x) (t + 1 - first_turn x)
       ≡ slice_range bytes (sent p (t - s - 2)) (sent p (t - s - 1))
   pub line : (b port w : ℕ) (others : LineSlots) → x.to ≡ to_end.Line b port others → LivedIn world (state_of_line b)
       → first_turn x ≤ w → w < x.stop
-      → CarriesAllGot world went x b port others w
+      → CarriesAllGot world written x b port others w
   pub client : (n : ℕ) → x.to ≡ to_end.Client n → LivedIn world (state_of_client n) → h + 4 ≤ x.stop → x.stop ≤ u + 2
-      → went.client n ≡ arriving_text (arrived_by x (own_input world.inputs x) (h + 4 - first_turn x)
+      → written.client n ≡ arriving_text (arrived_by x (own_input world.inputs x) (h + 4 - first_turn x)
       ++ slice_range bytes (sent p (h + 1 - s)) (sent p (x.stop - s - 3)))
 
 -- So does each connection of a plan that was run.
@@ -59,7 +59,7 @@ RunsHeal = (world : World) (x : Connection) (a from s b u h : ℕ) (slots : Line
 -- A run reads as its line c the file that another wrote to line b, with the mask that it was written with. A connection
 -- of it comes from the slots, and by the port, to which one of the other goes, from the same turn on and to a stop that
 -- is no later. How the line is damaged from which that comes is free.
-pub record Follows (one other : World) (went : Went) (x y : Connection) (b c : ℕ)
+pub record Follows (one other : World) (written : Went) (x y : Connection) (b c : ℕ)
     (slots next : LineSlots) : Type 0 where
   pub first : Contains one.plan.connections x
   pub second : Contains other.plan.connections y
@@ -72,7 +72,7 @@ pub record Follows (one other : World) (went : Went) (x y : Connection) (b c : �
   pub start : y.start ≡ x.start
   pub stop : y.stop ≤ x.stop
   pub lived : LivedIn one (state_of_line b)
-  pub file : other.inputs.line c ≡ read_of one went b
+  pub file : other.inputs.line c ≡ read_of one written b
 
 -- of what the first connection got up to the last turn of the second, the bytes that the sink of the second has emitted
 -- after n turns
@@ -84,11 +84,11 @@ front_got one x y m n =
 
 -- What the second connection has then is a front of what the first got: none of it is lost, doubled or out of order. A
 -- client of the second gets what this delivers.
-pub record HandsOnAFront (one other : World) (went : Went) (x y : Connection) (m : ℕ) : Type 0 where
+pub record HandsOnAFront (one other : World) (written : Went) (x y : Connection) (m : ℕ) : Type 0 where
   pub arrived : (n : ℕ) → first_turn x + n ≤ y.stop → arrived_by y (own_input other.inputs y) (n + 1)
       ≡ front_got one x y m n
   pub client : (k : ℕ) → y.to ≡ to_end.Client k → LivedIn other (state_of_client k)
-      → went.client k ≡ arriving_text (front_got one x y m (y.stop - y.start))
+      → written.client k ≡ arriving_text (front_got one x y m (y.stop - y.start))
 
 -- So it is of any two runs in a row.
 abbrev pub RunsHandOnAFront : Type 0

@@ -34,26 +34,26 @@ LivedIn world place = HasLived (place world.first) (place world.last)
 
 -- A part of this, from the front, went to an output place; all of it where the place has lived, and nothing where it
 -- was not live. By that what its port got grew, where it is still in its place.
-pub record IsFrontOf (first last : OutView) (all went : List ℕ) : Type 0 where
+pub record IsFrontOf (first last : OutView) (all written : List ℕ) : Type 0 where
   pub rest : List ℕ
-  pub parts : went ++ rest ≡ all
+  pub parts : written ++ rest ≡ all
   pub whole : HasLived first.state last.state → rest ≡ []
-  pub idle : first.state ≢ Live → went ≡ []
-  pub got : first.state ≡ Live → last.state ≢ Empty → last.got ≡ after first.got went
+  pub idle : first.state ≢ Live → written ≡ []
+  pub got : first.state ≡ Live → last.state ≢ Empty → last.got ≡ after first.got written
 
 -- so much of the file of a line
-pub record FileWent (world : World) (b : ℕ) (went : List ℕ) : Type 0 where
+pub record FileWent (world : World) (b : ℕ) (written : List ℕ) : Type 0 where
   pub frames : List (List ℕ)
   pub file : IsLineFile world.plan world.inputs b (size_of (form_out world.plan b) * world.plan.turns) frames
   pub front : IsFrontOf (line_out_at world.first b) (line_out_at world.last b)
-      (through_mask (form_out world.plan b).scrambled (concat frames)) went
+      (through_mask (form_out world.plan b).scrambled (concat frames)) written
 
 -- To a client of the connection its text, of all that it gets in its own turns; to a line of it the line's file.
-pub record LeftThrough (world : World) (went : Went) (x : Connection) : Type 0 where
+pub record LeftThrough (world : World) (written : Went) (x : Connection) : Type 0 where
   pub client : (n : ℕ) → x.to ≡ to_end.Client n
       → IsFrontOf (client_out_at world.first n) (client_out_at world.last n)
-      (text_by x (own_input world.inputs x) (x.stop - first_turn x)) (went.client n)
-  pub line : (b port : ℕ) (slots : LineSlots) → x.to ≡ to_end.Line b port slots → FileWent world b (went.line b)
+      (text_by x (own_input world.inputs x) (x.stop - first_turn x)) (written.client n)
+  pub line : (b port : ℕ) (slots : LineSlots) → x.to ≡ to_end.Line b port slots → FileWent world b (written.line b)
 
 -- So it is of each connection of a plan that was run.
 abbrev pub OutputsAreThrough : Type 0
@@ -64,7 +64,7 @@ OutputsAreThrough = (world : World) (x : Connection) (is : IsWorld world) → Co
 
 -- what a reader sees of the output line, through its mask
 abbrev pub read_of : World → Went → (b : ℕ) → List ℕ
-read_of world went b = through_mask (form_out world.plan b).scrambled (went.line b)
+read_of world written b = through_mask (form_out world.plan b).scrambled (written.line b)
 
 -- These bytes are what the views of its tributary on this line carry, from the first turn of a connection up to turn u
 -- + 1, by these numbers.
@@ -76,26 +76,26 @@ CarriedOn x port slots line bytes p u = Arrives (tributary_of slots port) bytes 
 -- output line carries them too, by the same numbers three turns later. From a client or a signal: the front of its
 -- stream, by the paces, a turn later. To a client, of packets that such a line carries: the text of exactly those whose
 -- GFP frames lie whole in the frames that came whole, of what the sender took up to three turns before the stop.
-pub record CarriedIn (world : World) (went : Went) (x : Connection) : Type 0 where
+pub record CarriedIn (world : World) (written : Went) (x : Connection) : Type 0 where
   pub line : (a from b port u w : ℕ) (slots others : LineSlots) (bytes p : List ℕ) → x.from ≡ from_end.Line a from slots
       → x.to ≡ to_end.Line b port others
       → LivedIn world (state_of_line b) → w ≤ u → w < x.stop
       → CarriedOn x from slots (world.inputs.line a) bytes p u
-      → CarriedOn x port others (read_of world went b) bytes (0 ∷ 0 ∷ 0 ∷ p) w
+      → CarriedOn x port others (read_of world written b) bytes (0 ∷ 0 ∷ 0 ∷ p) w
   pub client : (m b port u n : ℕ) (slots : LineSlots) → x.from ≡ from_end.Client m → x.to ≡ to_end.Line b port slots
       → LivedIn world (state_of_line b) → u < x.stop → u ≤ first_turn x + n
-      → CarriedOn x port slots (read_of world went b)
+      → CarriedOn x port slots (read_of world written b)
       (client_stream x.trace (world.inputs.client m).packets x.fcs (emitted_before x.pace n)) (numbers_got x.pace n) u
   pub signal : (signal : Signal) (b port u n : ℕ) (slots : LineSlots) → x.from ≡ from_end.Signal signal
       → x.to ≡ to_end.Line b port slots
       → LivedIn world (state_of_line b) → u < x.stop → u ≤ first_turn x + n
-      → CarriedOn x port slots (read_of world went b) (signal_bytes signal 0 (emitted_before x.pace n))
+      → CarriedOn x port slots (read_of world written b) (signal_bytes signal 0 (emitted_before x.pace n))
       (numbers_got x.pace n) u
   pub packets : (a from n u k : ℕ) (slots : LineSlots) (sapi : List ℕ) (packets : List (List ℕ)) (fcs : Bool)
       (p : List ℕ) → x.from ≡ from_end.Line a from slots → x.to ≡ to_end.Client n
       → LivedIn world (state_of_client n) → x.stop ≤ u + 2 → AreOffered packets
       → CarriedOn x from slots (world.inputs.line a) (client_stream sapi packets fcs k) p u
-      → went.client n ≡ hex_text (whole_packets packets fcs (sent p (x.stop - x.start - 2)))
+      → written.client n ≡ hex_text (whole_packets packets fcs (sent p (x.stop - x.start - 2)))
 
 -- So does each connection of a plan that was run.
 abbrev pub RunsCarry : Type 0

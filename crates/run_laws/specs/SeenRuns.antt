@@ -86,11 +86,11 @@ pub record ShareInput (one other : Run) (x : Connection) : Type 0 where
 
 -- these bytes went to output line b, and to client n, by which what their ports got grew; no bytes are these where a
 -- client's place was retired
-abbrev pub LineGot : Run → (b : ℕ) → (went : List ℕ) → Type 0
-LineGot run b went = IsGone (line_out_at run.before b) (line_out_at run.after b) went
+abbrev pub LineGot : Run → (b : ℕ) → (written : List ℕ) → Type 0
+LineGot run b written = IsGone (line_out_at run.before b) (line_out_at run.after b) written
 
-abbrev pub ClientGot : Run → (n : ℕ) → (went : List ℕ) → Type 0
-ClientGot run n went = IsGone (client_out_at run.before n) (client_out_at run.after n) went
+abbrev pub ClientGot : Run → (n : ℕ) → (written : List ℕ) → Type 0
+ClientGot run n written = IsGone (client_out_at run.before n) (client_out_at run.after n) written
 
 -- their places have lived: they were live and have not died
 abbrev pub LineLived : Run → (b : ℕ) → Type 0
@@ -101,26 +101,27 @@ ClientLived run n = HasLived (client_out_at run.before n).state (client_out_at r
 
 -- To the client of a connection the same text went in both runs, as far as both have gone: one begins with the other,
 -- and where the place has lived in both they are one.
-pub record SameText (one other : Run) (n : ℕ) (went others : List ℕ) : Type 0 where
-  pub front : IsFrontOfOther went others
-  pub whole : ClientLived one n → ClientLived other n → went ≡ others
+pub record SameText (one other : Run) (n : ℕ) (written others : List ℕ) : Type 0 where
+  pub front : IsFrontOfOther written others
+  pub whole : ClientLived one n → ClientLived other n → written ≡ others
 
 -- The same byte stands at an own place of a connection on its line, in a row and a column of frame f, where it has gone
 -- in both runs; and so where the line has lived in both.
-pub record SameOnLine (one other : Run) (b f row column : ℕ) (went others : List ℕ) : Type 0 where
-  pub gone : HasGone went f row column → HasGone others f row column → HaveSameByte went others f row column
-  pub whole : LineLived one b → LineLived other b → HaveSameByte went others f row column
+pub record SameOnLine (one other : Run) (b f row column : ℕ) (written others : List ℕ) : Type 0 where
+  pub gone : HasGone written f row column → HasGone others f row column → HaveSameByte written others f row column
+  pub whole : LineLived one b → LineLived other b → HaveSameByte written others f row column
 
 -- What left on a connection is the same in both: to its client the same text; on its line the same bytes, as written,
 -- at its own places, in the frames of its turns, where both lines are scrambled, or neither is.
 pub record SameOutput (one other : Run) (x : Connection) : Type 0 where
-  pub client : (n : ℕ) (went others : List ℕ) → x.to ≡ to_end.Client n → ClientGot one n went → ClientGot other n others
-      → SameText one other n went others
-  pub line : (b port past n row column : ℕ) (slots : LineSlots) (went others : List ℕ)
+  pub client : (n : ℕ) (written others : List ℕ) → x.to ≡ to_end.Client n → ClientGot one n written
+      → ClientGot other n others
+      → SameText one other n written others
+  pub line : (b port past n row column : ℕ) (slots : LineSlots) (written others : List ℕ)
       → HasPlace x b port past n row column slots
-      → (form_out one.plan b).scrambled ≡ (form_out other.plan b).scrambled → LineGot one b went
+      → (form_out one.plan b).scrambled ≡ (form_out other.plan b).scrambled → LineGot one b written
       → LineGot other b others
-      → SameOnLine one other b (slots_of slots.kind * past + n) row column went others
+      → SameOnLine one other b (slots_of slots.kind * past + n) row column written others
 
 -- So it is of any two runs that share a connection, whatever else they carry.
 abbrev pub SeenRunsAgree : Type 0
@@ -150,11 +151,12 @@ pub record ShareInputUpTo (n : ℕ) (one other : Run) (x : Connection) : Type 0 
 -- Its own places on its line are the same in both up to the frames of own turn n, from 0, whatever its input shows from
 -- that turn on.
 pub record SameLineUpTo (n : ℕ) (one other : Run) (x : Connection) : Type 0 where
-  pub line : (b port past k row column : ℕ) (slots : LineSlots) (went others : List ℕ)
+  pub line : (b port past k row column : ℕ) (slots : LineSlots) (written others : List ℕ)
       → HasPlace x b port past k row column slots
-      → (form_out one.plan b).scrambled ≡ (form_out other.plan b).scrambled → own_turn x past ≤ n → LineGot one b went
+      → (form_out one.plan b).scrambled ≡ (form_out other.plan b).scrambled → own_turn x past ≤ n
+      → LineGot one b written
       → LineGot other b others
-      → SameOnLine one other b (slots_of slots.kind * past + k) row column went others
+      → SameOnLine one other b (slots_of slots.kind * past + k) row column written others
 
 -- So it is of any two runs that share a connection.
 abbrev pub SeenRunsLookNotAhead : Type 0
@@ -182,20 +184,21 @@ GaveTo run b inputs = (y : Connection) (port : ℕ) (slots : LineSlots) → Cont
     → y.to ≡ to_end.Line b port slots → Gave run y.from inputs
 
 -- so much of the file of line b, where the inputs are these, went to it
-pub record FileGot (run : Run) (inputs : Inputs) (b : ℕ) (went : List ℕ) : Type 0 where
+pub record FileGot (run : Run) (inputs : Inputs) (b : ℕ) (written : List ℕ) : Type 0 where
   pub frames : List (List ℕ)
   pub file : IsLineFile run.plan inputs b (size_of (form_out run.plan b) * run.plan.turns) frames
   pub front : IsFrontOf (line_out_at run.before b) (line_out_at run.after b)
-      (through_mask (form_out run.plan b).scrambled (concat frames)) went
+      (through_mask (form_out run.plan b).scrambled (concat frames)) written
 
 -- To a client of a connection went the text that its own entry puts through it of its own input; to a line of it the
 -- line's file, of all connections that go there.
 pub record PutThrough (run : Run) (x : Connection) : Type 0 where
-  pub client : (n : ℕ) (own : OwnInput) (went : List ℕ) → x.to ≡ to_end.Client n → Shows run x.from own
-      → ClientGot run n went
-      → IsFrontOf (client_out_at run.before n) (client_out_at run.after n) (text_by x own (x.stop - first_turn x)) went
-  pub line : (b port : ℕ) (slots : LineSlots) (inputs : Inputs) (went : List ℕ) → x.to ≡ to_end.Line b port slots
-      → GaveTo run b inputs → LineGot run b went → FileGot run inputs b went
+  pub client : (n : ℕ) (own : OwnInput) (written : List ℕ) → x.to ≡ to_end.Client n → Shows run x.from own
+      → ClientGot run n written
+      → IsFrontOf (client_out_at run.before n) (client_out_at run.after n)
+      (text_by x own (x.stop - first_turn x)) written
+  pub line : (b port : ℕ) (slots : LineSlots) (inputs : Inputs) (written : List ℕ) → x.to ≡ to_end.Line b port slots
+      → GaveTo run b inputs → LineGot run b written → FileGot run inputs b written
 
 -- So it is of each connection of a run.
 abbrev pub SeenRunsPutThrough : Type 0
@@ -204,33 +207,36 @@ SeenRunsPutThrough = (run : Run) (x : Connection) → IsRun run → Contains run
 -- ---- what is carried
 
 -- what a reader sees of these bytes of output line b, through its mask
-abbrev pub read_back : Run → (b : ℕ) → (went : List ℕ) → List ℕ
-read_back run b went = through_mask (form_out run.plan b).scrambled went
+abbrev pub read_back : Run → (b : ℕ) → (written : List ℕ) → List ℕ
+read_back run b written = through_mask (form_out run.plan b).scrambled written
 
 -- What a connection carries to a place that has lived. From a line that carries a client's bytes to it: the output line
 -- carries them too, by the same numbers three turns later. From a client or a signal: the front of its stream, by the
 -- paces, a turn later. To a client, of packets that such a line carries: the text of exactly those whose GFP frames lie
 -- whole in the frames that came whole, of what the sender took up to three turns before the stop.
 pub record CarriesOver (run : Run) (x : Connection) : Type 0 where
-  pub line : (a from b port u w : ℕ) (slots others : LineSlots) (line went bytes p : List ℕ)
+  pub line : (a from b port u w : ℕ) (slots others : LineSlots) (line written bytes p : List ℕ)
       → x.from ≡ from_end.Line a from slots → x.to ≡ to_end.Line b port others
-      → LineGave run a line → LineGot run b went → LineLived run b → w ≤ u → w < x.stop
-      → CarriedOn x from slots line bytes p u → CarriedOn x port others (read_back run b went) bytes (0 ∷ 0 ∷ 0 ∷ p) w
-  pub client : (m b port u n : ℕ) (slots : LineSlots) (input : ClientInput) (went : List ℕ) → x.from ≡ from_end.Client m
+      → LineGave run a line → LineGot run b written → LineLived run b → w ≤ u → w < x.stop
+      → CarriedOn x from slots line bytes p u
+      → CarriedOn x port others (read_back run b written) bytes (0 ∷ 0 ∷ 0 ∷ p) w
+  pub client : (m b port u n : ℕ) (slots : LineSlots) (input : ClientInput) (written : List ℕ)
+      → x.from ≡ from_end.Client m
       → x.to ≡ to_end.Line b port slots
-      → ClientGave run m input → LineGot run b went → LineLived run b → u < x.stop → u ≤ first_turn x + n
-      → CarriedOn x port slots (read_back run b went)
+      → ClientGave run m input → LineGot run b written → LineLived run b → u < x.stop → u ≤ first_turn x + n
+      → CarriedOn x port slots (read_back run b written)
       (client_stream x.trace input.packets x.fcs (emitted_before x.pace n)) (numbers_got x.pace n) u
-  pub signal : (signal : Signal) (b port u n : ℕ) (slots : LineSlots) (went : List ℕ) → x.from ≡ from_end.Signal signal
+  pub signal : (signal : Signal) (b port u n : ℕ) (slots : LineSlots) (written : List ℕ)
+      → x.from ≡ from_end.Signal signal
       → x.to ≡ to_end.Line b port slots
-      → LineGot run b went → LineLived run b → u < x.stop → u ≤ first_turn x + n
-      → CarriedOn x port slots (read_back run b went) (signal_bytes signal 0 (emitted_before x.pace n))
+      → LineGot run b written → LineLived run b → u < x.stop → u ≤ first_turn x + n
+      → CarriedOn x port slots (read_back run b written) (signal_bytes signal 0 (emitted_before x.pace n))
       (numbers_got x.pace n) u
   pub packets : (a from n u k : ℕ) (slots : LineSlots) (sapi : List ℕ) (packets : List (List ℕ)) (fcs : Bool)
-      (line went p : List ℕ) → x.from ≡ from_end.Line a from slots → x.to ≡ to_end.Client n
-      → LineGave run a line → ClientGot run n went → ClientLived run n → x.stop ≤ u + 2 → AreOffered packets
+      (line written p : List ℕ) → x.from ≡ from_end.Line a from slots → x.to ≡ to_end.Client n
+      → LineGave run a line → ClientGot run n written → ClientLived run n → x.stop ≤ u + 2 → AreOffered packets
       → CarriedOn x from slots line (client_stream sapi packets fcs k) p u
-      → went ≡ hex_text (whole_packets packets fcs (sent p (x.stop - x.start - 2)))
+      → written ≡ hex_text (whole_packets packets fcs (sent p (x.stop - x.start - 2)))
 
 -- So does each connection of a run.
 abbrev pub SeenRunsCarry : Type 0

@@ -13,7 +13,7 @@ use Rattle.tributary_model.specs.Places.{Tributary, tributary_of, Taken, View, g
 use Rattle.tributary_model.specs.Messages.{hears_message}
 use Rattle.tributary_model.specs.Stretches.{groups_of, bytes_of, came, any_marked}
 use Rattle.tributary_model.specs.Emission.{data_bytes, emission}
-use Rattle.tributary_model.specs.Machine.{Machine, former_of, number_of, heard_in, after_standing, after_heard, gives_standing, gives_heard, machine_after}
+use Rattle.tributary_model.specs.Machine.{Machine, former_of, cm_of, heard_in, after_standing, after_heard, gives_standing, gives_heard, machine_after}
 use Rattle.tributary_model.specs.Laws.{IsTributary}
 use Rattle.tributary_model.proofs.Law.{machine_next, machine_is_emission}
 use Rattle.tributary_model.proofs.OnLine.{evenly}
@@ -60,7 +60,7 @@ same_gives m ais heard x y s (inr e) = ap (λ h. gives_heard m ais h x s) e ∙ 
 pub record IsTurnOf (own : Tributary) (past : List (Option View)) (view : Option View) (st : Standing) (heard : Option Hearing) (fresh : List ℕ) : Type 0 where
   pub whole : IsWholeTurn (length own.slots) view
   pub heard_is : heard ≡ heard_in (former_of st) (length own.slots) (any_marked own (view ∷ past)) view
-  pub fresh_is : (fresh ≡ data_bytes (number_of st) (groups_of view)) ⊎ (heard ≡ None)
+  pub fresh_is : (fresh ≡ data_bytes (cm_of st) (groups_of view)) ⊎ (heard ≡ None)
 
 machine_turn : (own : Tributary) (past : List (Option View)) (view : Option View) (st : Standing) (heard : Option Hearing) (fresh : List ℕ) → IsTurnOf own past view st heard fresh
     → (machine_after own past).standing ≡ st → after_heard (length own.slots) heard fresh (machine_after own past) ≡ machine_after own (view ∷ past)
@@ -68,9 +68,9 @@ machine_turn own past view st heard fresh t e =
     let m = length own.slots in
     let s = machine_after own past in
     let marked = any_marked own (view ∷ past) in
-    same_after m heard fresh (data_bytes (number_of st) (groups_of view)) s t.fresh_is
-    ∙ ap (λ h. after_heard m h (data_bytes (number_of st) (groups_of view)) s) t.heard_is
-    ∙ ap (λ x. after_heard m (heard_in (former_of x) m marked view) (data_bytes (number_of x) (groups_of view)) s) (sym e)
+    same_after m heard fresh (data_bytes (cm_of st) (groups_of view)) s t.fresh_is
+    ∙ ap (λ h. after_heard m h (data_bytes (cm_of st) (groups_of view)) s) t.heard_is
+    ∙ ap (λ x. after_heard m (heard_in (former_of x) m marked view) (data_bytes (cm_of x) (groups_of view)) s) (sym e)
     ∙ sym (machine_next own past view)
 
 machine_gives : (own : Tributary) (ais : ℕ → ℕ) (past : List (Option View)) (view : Option View) (st : Standing) (heard : Option Hearing) (fresh : List ℕ) → IsTurnOf own past view st heard fresh
@@ -80,9 +80,9 @@ machine_gives own ais past view st heard fresh t e some whole =
     let m = length own.slots in
     let s = machine_after own past in
     let marked = any_marked own (view ∷ past) in
-    same_gives m ais heard fresh (data_bytes (number_of st) (groups_of view)) s t.fresh_is
-    ∙ ap (λ h. gives_heard m ais h (data_bytes (number_of st) (groups_of view)) s) t.heard_is
-    ∙ ap (λ x. gives_heard m ais (heard_in (former_of x) m marked view) (data_bytes (number_of x) (groups_of view)) s) (sym e)
+    same_gives m ais heard fresh (data_bytes (cm_of st) (groups_of view)) s t.fresh_is
+    ∙ ap (λ h. gives_heard m ais h (data_bytes (cm_of st) (groups_of view)) s) t.heard_is
+    ∙ ap (λ x. gives_heard m ais (heard_in (former_of x) m marked view) (data_bytes (cm_of x) (groups_of view)) s) (sym e)
     ∙ machine_is_emission own ais past view some (t.whole, whole)
 
 -- ---- the sink
@@ -117,8 +117,8 @@ stands_turned own past frames s view f g watches heard i h is turn at between wa
       at = subst (λ x. IsAt x f) next (at m (at_turned own past frames s g heard h is));
       watched = watched;
       taken = refl;
-      fresh = between.fresh ∙ sym (bytes_start (number_of f.standing));
-      number = between.number;
+      fresh = between.fresh ∙ sym (bytes_start (cm_of f.standing));
+      cm = between.cm;
       message = λ none. absurd (let some = some_greatest own.line_slots own.slots h.slots in let bad : ⊥ = omega arith in bad);
       msi = refl;
     }
@@ -218,7 +218,7 @@ whole_turn own past frames s heard i h all is =
           ∙ ap (λ n. cond {A = Option Hearing} (any_marked own (Some v ∷ past)) None (Some (hears_message (former_of st) n s.message))) count
           ∙ ap (λ xs. cond {A = Option Hearing} (any_marked own (Some v ∷ past)) None (Some (hears_message (former_of st) (length own.slots) xs))) message
           ∙ heard_by (former_of st) (length own.slots) (any_marked own (Some v ∷ past)) v;
-      fresh_is = inl (h.fresh ∙ ap (data_bytes (number_of st)) (sym (view_groups own frames)));
+      fresh_is = inl (h.fresh ∙ ap (data_bytes (cm_of st)) (sym (view_groups own frames)));
     }
   where
     greatest_all : (xs : List ℕ) (n : ℕ) → All (λ k. k ≤ n) xs → greatest xs ≤ n

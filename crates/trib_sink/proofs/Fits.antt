@@ -23,7 +23,7 @@ first_pending slots pending standing said e h is = subst (FitsDue slots pending)
 
 -- so it is with the next turn
 pub next_due : (slots : ℕ) (pending left : List ℕ) (standing : Standing) (said next : Said) (o : Option Said) → standing ≡ Up said → FitsStanding slots pending standing
-    → FitsNext slots o said.rest → o ≡ Some next → FitsDue slots left next.due
+    → FitsNext slots o said.cnd → o ≡ Some next → FitsDue slots left next.due
 next_due slots pending left standing said next o e h fits is = subst (FitsDue slots left) (sym (fits.due next is)) (fits_up slots pending standing said e h).0.1
 
 -- a message that is heard says a pair of a multiframe, if any
@@ -31,9 +31,9 @@ pub heard_is_small : (slots : ℕ) (former : Option ℕ) (bytes : List ℕ) (hea
 heard_is_small slots former bytes heard e =
     let small = small_message former slots bytes in
     record {
-      number_high = λ number rest equal f. small.number_at_most number rest equal (sym e ∙ (let h : heard ≡ Pair number rest equal = cc in h));
-      rest_high = λ number rest equal f. small.rest_below number rest equal (sym e ∙ (let h : heard ≡ Pair number rest equal = cc in h));
+      cm_high = λ cm cnd equal f. small.cm_at_most cm cnd equal (sym e ∙ (let h : heard ≡ Pair cm cnd equal = cc in h));
+      cnd_high = λ cm cnd equal f. small.cnd_below cm cnd equal (sym e ∙ (let h : heard ≡ Pair cm cnd equal = cc in h));
     }
 
 pub nothing_is_small : (slots : ℕ) → IsSmallHearing slots None
-nothing_is_small slots = record { number_high = λ number rest equal f. cc; rest_high = λ number rest equal f. cc }
+nothing_is_small slots = record { cm_high = λ cm cnd equal f. cc; cnd_high = λ cm cnd equal f. cc }

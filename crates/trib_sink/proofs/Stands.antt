@@ -13,7 +13,7 @@ use Rattle.odtu_columns.specs.Message.{message_of}
 use Rattle.tributary_model.specs.Places.{Tributary, tributary_of, Taken, View, greatest, message_in, msi_at, msi_in}
 use Rattle.tributary_model.specs.Stretches.{came, state_after}
 use Rattle.tributary_model.specs.Emission.{data_bytes}
-use Rattle.tributary_model.specs.Machine.{start, number_of, machine_after, state_of_standing}
+use Rattle.tributary_model.specs.Machine.{start, cm_of, machine_after, state_of_standing}
 use Rattle.tributary_model.proofs.Law.{state_is}
 use Rattle.trib_sink.specs.Following.{Following, IsAt}
 use Rattle.trib_sink.specs.Watching.{Watched, AreOfSlots}
@@ -48,7 +48,7 @@ watched_start port watches h = record { each = λ k d low high. subst (λ xs. Ha
 
 -- a sink before its first turn
 pub stands_start : (slots : LineSlots) (message : List ℕ) (port : ℕ) (following : Following) (watches : List Watch) → IsSlotList (slots_of slots.kind) slots.list → IsAt start following
-    → following.extraction.fresh ≡ [] → following.extraction.number ≡ number_of following.standing → Watched port (λ k. []) watches
+    → following.extraction.fresh ≡ [] → following.extraction.cm ≡ cm_of following.standing → Watched port (λ k. []) watches
     → StandsAfter (tributary_of slots port) [] [] (record { slots = slots; port = port; following = following; watches = watches; taken = 0; message = message; msi = [] })
 stands_start slots message port following watches list at fresh number watched = record {
   own_is = refl;
@@ -57,8 +57,8 @@ stands_start slots message port following watches list at fresh number watched =
   at = subst (λ m. IsAt m following) (sym (machine_start (tributary_of slots port))) at;
   watched = watched_start port watches watched;
   taken = refl;
-  fresh = fresh ∙ sym (bytes_start (number_of following.standing));
-  number = number;
+  fresh = fresh ∙ sym (bytes_start (cm_of following.standing));
+  cm = number;
   message = λ none. absurd (let some = some_greatest (slots_of slots.kind) slots.list list in let bad : ⊥ = omega arith in bad);
   msi = refl;
 }
@@ -130,7 +130,7 @@ step_of_line past frames s frame message expected n msi number asked is bytes h 
     let own = tributary_of s.slots s.port in
     let t : Taken = record { frame = frame; expected = expected } in
     let many : s.taken ≡ length frames = h.taken in
-    let c = number_of s.following.standing in
+    let c = cm_of s.following.standing in
     let place : s.following.extraction.asked ≡ 4 * row_cycles s.slots.kind * length frames = asked ∙ ap (λ k. 4 * row_cycles s.slots.kind * k) many in
     record {
       own_is = refl;
@@ -140,10 +140,10 @@ step_of_line past frames s frame message expected n msi number asked is bytes h 
       watched = h.watched;
       taken = ap (λ k. k + 1) many ∙ sym (length-append frames (t ∷ []));
       fresh =
-          ap (λ k. with_frame s.following.extraction.fresh k s.following.extraction.asked s.slots frame) h.number
+          ap (λ k. with_frame s.following.extraction.fresh k s.following.extraction.asked s.slots frame) h.cm
           ∙ ap (λ k. with_frame s.following.extraction.fresh c k s.slots frame) place
           ∙ frame_taken c s.port s.slots s.following.extraction.fresh frames t h.slots h.fresh;
-      number = h.number;
+      cm = h.cm;
       message = message_next (slots_of s.slots.kind) s.slots.list frames t s.message message n h.slots (number ∙ many) is h.message;
       msi =
           bytes ∙ ap (λ y. y ++ msi_at s.slots.list expected frame) h.msi
@@ -189,7 +189,7 @@ stands_emptied own past frames s h = record {
   watched = h.watched;
   taken = h.taken;
   fresh = h.fresh;
-  number = h.number;
+  cm = h.cm;
   message = h.message;
   msi = h.msi;
 }

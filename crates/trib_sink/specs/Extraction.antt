@@ -7,7 +7,7 @@ use Rattle.otn_base.specs.declared.limits.TheConstants.{GROUPS, MOST_SLOTS}
 -- turn emitted
 pub record Extraction : Type 0 where
   pub slots : ℕ
-  pub number : ℕ
+  pub cm : ℕ
   pub asked : ℕ
   pub pending : List ℕ
   pub fresh : List ℕ
@@ -16,9 +16,9 @@ pub record Extraction : Type 0 where
 -- The pending bytes stand in one buffer between two places, those of this turn at the front of another one, up to an
 -- end; there too those that the last turn emitted, between two places. Each buffer has room for a multiframe of them,
 -- and a group more.
-pub record HasRoom (slots number asked first last kept end from past fresh : ℕ) : Type 0 where
+pub record HasRoom (slots cm asked first last kept end from past fresh : ℕ) : Type 0 where
   pub few : slots ≤ MOST_SLOTS
-  pub number_high : number ≤ GROUPS
+  pub cm_high : cm ≤ GROUPS
   pub asked_high : asked ≤ GROUPS
   pub in_order : first ≤ last
   pub last_high : last ≤ slots * GROUPS

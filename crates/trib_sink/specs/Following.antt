@@ -21,7 +21,7 @@ pub record Following : Type 0 where
 abbrev pub Keeps : Standing → Option ℕ → Type 0
 Keeps (Waiting n) former = Unit {0}
 Keeps Down former = Unit {0}
-Keeps (Up said) former = former ≡ Some said.number
+Keeps (Up said) former = former ≡ Some said.cm
 
 -- nothing is pending after the turn that began a stretch, and remainders are less than a group
 abbrev pub FitsDue : (slots : ℕ) → (pending : List ℕ) → Option ℕ → Type 0
@@ -30,7 +30,7 @@ FitsDue slots pending (Some due) = due < slots
 
 -- what a turn says is small: no more groups than a multiframe has, and a remainder less than a group
 abbrev pub IsSmallSaid : (slots : ℕ) → Said → Type 0
-IsSmallSaid slots said = (said.number ≤ GROUPS) × (said.rest < slots)
+IsSmallSaid slots said = (said.cm ≤ GROUPS) × (said.cnd < slots)
 
 -- what is kept fits how the sink stands: at most two turns while Waiting; within a stretch small numbers, and what is
 -- pending

@@ -6,7 +6,7 @@ use Rattle.tributary_model.specs.Stretches.{Member, Part, WaitingTurn, DownTurn,
 -- the pair of the last turn of a stretch, whose turns are listed with the last first: Cm and CnD
 abbrev pub last_pair : List Member → Option (ℕ × ℕ)
 last_pair [] = None
-last_pair (last ∷ before) = Some (last.number, last.rest)
+last_pair (last ∷ before) = Some (last.cm, last.cnd)
 
 -- that of the last of these turns, where it is of a stretch that goes on
 abbrev pub pair_of : List Part → Option (ℕ × ℕ)

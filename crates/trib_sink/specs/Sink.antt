@@ -7,7 +7,7 @@ use Rattle.msi_table.specs.Marks.{Watch}
 use Rattle.tributary_model.specs.Places.{Tributary, tributary_of, Taken, View, greatest, frame_groups, message_in, msi_in, turn_view, AreWholeTurns}
 use Rattle.tributary_model.specs.Stretches.{came}
 use Rattle.tributary_model.specs.Emission.{data_bytes}
-use Rattle.tributary_model.specs.Machine.{number_of, machine_after}
+use Rattle.tributary_model.specs.Machine.{cm_of, machine_after}
 use Rattle.trib_sink.specs.Following.{Following, Keeps, IsAt}
 use Rattle.trib_sink.specs.Rows.{row_cycles}
 use Rattle.trib_sink.specs.Watching.{Watched, AreOfSlots}
@@ -46,8 +46,8 @@ pub record StandsAfter (own : Tributary) (past : List (Option View)) (frames : L
   pub watched : Watched own.port (λ k. came k past) s.watches
   pub taken : s.taken ≡ length frames
   pub fresh : s.following.extraction.fresh
-      ≡ data_bytes (number_of s.following.standing) (flat_map (λ t. frame_groups own t.frame) frames)
-  pub number : s.following.extraction.number ≡ number_of s.following.standing
+      ≡ data_bytes (cm_of s.following.standing) (flat_map (λ t. frame_groups own t.frame) frames)
+  pub cm : s.following.extraction.cm ≡ cm_of s.following.standing
   pub message : greatest own.slots ≤ length frames → s.message ≡ message_in (slice_get frames (greatest own.slots - 1))
   pub msi : s.msi ≡ flat_map (msi_in own) frames
 

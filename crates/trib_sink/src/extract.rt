@@ -44,7 +44,7 @@ pub(crate) fn take_row<F: TakeFrame>(
     requires asked { runner.old.asked + row_cycles slots.now.kind ≤ GROUPS }
     ensures count { result ≤ at + length slots.now.list * row_cycles slots.now.kind }
     ensures bytes { take result into.new ≡ take at into.old
-        ++ row_data (slots_of slots.now.kind) runner.old.number runner.old.asked
+        ++ row_data (slots_of slots.now.kind) runner.old.cm runner.old.asked
         (payload_row_of LINE_COLUMNS row (F.bytes frame.now)) slots.now.list (row_cycles slots.now.kind) }
     ensures runner { runner.new ≡ record runner.old { asked = runner.old.asked + row_cycles slots.now.kind } }
 {
@@ -77,7 +77,7 @@ fn take_cycle<F: TakeFrame>(
     requires asked { runner.old.asked < GROUPS }
     ensures end { result ≤ at + length slots.now.list }
     ensures bytes { take result into.new ≡ take at into.old
-        ++ (if is_data_at runner.old.number (runner.old.asked + 1)
+        ++ (if is_data_at runner.old.cm (runner.old.asked + 1)
         then payload_group (slots_of slots.now.kind)
         (payload_row_of LINE_COLUMNS row (F.bytes frame.now)) slots.now.list cycle else []) }
     ensures runner { runner.new ≡ record runner.old { asked = runner.old.asked + 1 } }

@@ -6,7 +6,7 @@ ghost use Rattle.maintenance_signals.specs.Stream.{signal_byte};
 ghost use Rattle.tributary_model.specs.declared.turns.Standing.TheVariants.{Waiting, Down as StandingDown, Up};
 ghost use Rattle.tributary_model.specs.Emission.{stream_bytes};
 ghost use Rattle.tributary_model.specs.Messages.{hears_message};
-ghost use Rattle.tributary_model.specs.Machine.{Machine, start, opened, waits_on, went_on, down_gives, up_gives, former_of, number_of, after_heard, gives_heard};
+ghost use Rattle.tributary_model.specs.Machine.{Machine, start, opened, waits_on, went_on, down_gives, up_gives, former_of, cm_of, after_heard, gives_heard};
 ghost use Rattle.trib_sink.specs.Following.{Keeps, FitsStanding, FitsDue, IsAt, most_of};
 ghost use Rattle.trib_sink.specs.Steps.Following.{FitsFirst, FitsNext, IsSmallHearing, IsBetween, kept_after};
 ghost use Rattle.trib_sink.specs.Rows.{row_cycles};
@@ -36,14 +36,14 @@ pub(crate) struct Follower {
 
 impl Model for Follower {
     ghost use Rattle.std.specs.Prelude.{◌≡◌};
-    ghost use Rattle.tributary_model.specs.Machine.{number_of};
+    ghost use Rattle.tributary_model.specs.Machine.{cm_of};
     ghost use Rattle.trib_sink.specs.Following.{Following, FitsStanding};
 
     ghost Value = { Following };
 
     ghost view = { λ f. record { standing = f.standing; listener = f.listener; extraction = f.payload; stream = f.signal } };
 
-    ghost invariant = { λ f. FitsStanding f.payload.slots f.payload.pending f.standing × (f.payload.number ≡ number_of f.standing) };
+    ghost invariant = { λ f. FitsStanding f.payload.slots f.payload.pending f.standing × (f.payload.cm ≡ cm_of f.standing) };
 }
 
 impl Follower {
@@ -54,7 +54,7 @@ impl Follower {
         ensures slots { IfOk result (λ f. f.extraction.slots ≡ slots) }
         ensures asked { IfOk result (λ f. f.extraction.asked ≡ 0) }
         ensures fresh { IfOk result (λ f. f.extraction.fresh ≡ []) }
-        ensures number { IfOk result (λ f. f.extraction.number ≡ number_of f.standing) }
+        ensures cm { IfOk result (λ f. f.extraction.cm ≡ cm_of f.standing) }
     {
         let payload = Payload::new(alloc, slots)?;
         Ok(Follower {
@@ -71,7 +71,7 @@ impl Follower {
         ensures slots { self.new.extraction.slots ≡ self.old.extraction.slots }
         ensures asked { self.new.extraction.asked ≡ 0 }
         ensures fresh { self.new.extraction.fresh ≡ [] }
-        ensures number { self.new.extraction.number ≡ number_of self.new.standing }
+        ensures cm { self.new.extraction.cm ≡ cm_of self.new.standing }
     {
         self.payload.clear(0);
         self.signal = SignalBytes::new(Signal::Ais);
@@ -228,7 +228,7 @@ impl Follower {
     fn from_up(&mut self, said: Said, next: Option<Said>)
         requires standing { self.old.standing ≡ Up said }
         requires fits { FitsStanding self.old.extraction.slots self.old.extraction.pending self.old.standing }
-        requires next { FitsNext self.old.extraction.slots next said.rest }
+        requires next { FitsNext self.old.extraction.slots next said.cnd }
         ensures standing { self.new.standing
             ≡ (went_on next said self.old.extraction.pending self.old.extraction.fresh).standing }
         ensures at { (s : Machine) → IsAt s self.old
@@ -250,7 +250,7 @@ impl Follower {
     // The first turn after the one that began a stretch emits nothing.
     fn go_first(&mut self, next: Said)
         requires pending { self.old.extraction.pending ≡ [] }
-        requires next { (next.number ≤ GROUPS) × (next.rest < self.old.extraction.slots) }
+        requires next { (next.cm ≤ GROUPS) × (next.cnd < self.old.extraction.slots) }
         requires left { FitsDue self.old.extraction.slots
             (self.old.extraction.pending ++ self.old.extraction.fresh) next.due }
         ensures standing { self.new.standing ≡ Up next }
@@ -260,14 +260,14 @@ impl Follower {
         ensures between { IsBetween self.old self.new }
         ensures bytes { self.new.extraction.emitted ≡ [] }
     {
-        self.payload.keep_all(next.number);
+        self.payload.keep_all(next.cm);
         self.signal.restart();
         self.standing = Standing::Up(next);
     }
 
     // A later one emits all pending bytes and as many of its own as are due.
     fn go_on(&mut self, due: u16, next: Said)
-        requires next { (next.number ≤ GROUPS) × (next.rest < self.old.extraction.slots) }
+        requires next { (next.cm ≤ GROUPS) × (next.cnd < self.old.extraction.slots) }
         requires left { FitsDue self.old.extraction.slots (drop due self.old.extraction.fresh) next.due }
         requires due { due < self.old.extraction.slots }
         ensures standing { self.new.standing ≡ Up next }
@@ -278,7 +278,7 @@ impl Follower {
         ensures most { length self.new.extraction.emitted ≤ most_of self.old.extraction.slots }
         ensures between { IsBetween self.old self.new }
     {
-        self.payload.give_due(due, next.number);
+        self.payload.give_due(due, next.cm);
         self.signal.restart();
         self.standing = Standing::Up(next);
     }
@@ -306,7 +306,7 @@ impl Follower {
         ensures between { IsBetween self.old self.new }
         ensures bytes { self.new.extraction.emitted ≡ [] }
     {
-        self.payload.clear(number(standing));
+        self.payload.clear(cm(standing));
         self.signal.restart();
         self.standing = standing;
     }
@@ -324,11 +324,11 @@ fn ready(standing: Standing, listener: &mut Listener)
 }
 
 // The number by which the groups of the next turn are data.
-fn number(standing: Standing) -> u16
-    ensures { result ≡ number_of standing }
+fn cm(standing: Standing) -> u16
+    ensures { result ≡ cm_of standing }
 {
     match standing {
-        Standing::Up(said) => said.number,
+        Standing::Up(said) => said.cm,
         _ => 0,
     }
 }

@@ -17,8 +17,8 @@ pub(crate) fn hear_message(listener: &mut Listener, message: [u8; 6], slots: u32
     let [jc1, jc2, jc3, jc4, jc5, jc6] = message;
     match hear_d([jc4, jc5, jc6], slots) {
         None => Hearing::Damaged,
-        Some(rest) => match listener.hear([jc1, jc2, jc3]) {
-            Heard::Accepted(number, equal) => Hearing::Pair(number, rest, equal),
+        Some(cnd) => match listener.hear([jc1, jc2, jc3]) {
+            Heard::Accepted(cm, equal) => Hearing::Pair(cm, cnd, equal),
             Heard::Damaged => Hearing::Damaged,
             Heard::BaseLost => Hearing::Lost,
         },

@@ -43,9 +43,9 @@ impl Model for Payload {
 
     ghost Value = { Extraction };
 
-    ghost view = { λ p. record { slots = p.slots; number = p.runner.number; asked = p.runner.asked; pending = drop p.first (take p.last p.kept.items); fresh = take p.end p.fresh.items; emitted = slice_range p.fresh.items p.from p.past } };
+    ghost view = { λ p. record { slots = p.slots; cm = p.runner.cm; asked = p.runner.asked; pending = drop p.first (take p.last p.kept.items); fresh = take p.end p.fresh.items; emitted = slice_range p.fresh.items p.from p.past } };
 
-    ghost invariant = { λ p. HasRoom p.slots p.runner.number p.runner.asked p.first p.last (vec_len p.kept) p.end p.from p.past (vec_len p.fresh) };
+    ghost invariant = { λ p. HasRoom p.slots p.runner.cm p.runner.asked p.first p.last (vec_len p.kept) p.end p.from p.past (vec_len p.fresh) };
 }
 
 impl Payload {
@@ -54,7 +54,7 @@ impl Payload {
         requires { slots ≤ MOST_SLOTS }
         ensures { IfOk result (λ p. p ≡ record {
           slots = slots;
-          number = 0;
+          cm = 0;
           asked = 0;
           pending = [];
           fresh = [];
@@ -103,7 +103,7 @@ impl Payload {
         ensures { self.new ≡ record self.old {
           asked =
               self.old.asked + row_cycles slots.now.kind + row_cycles slots.now.kind;
-          fresh = with_rows self.old.fresh self.old.number self.old.asked slots.now (F.bytes frame.now) row;
+          fresh = with_rows self.old.fresh self.old.cm self.old.asked slots.now (F.bytes frame.now) row;
           emitted = [];
         } }
     {
@@ -119,7 +119,7 @@ impl Payload {
         requires asked { self.old.asked + row_cycles slots.now.kind ≤ GROUPS }
         ensures { self.new ≡ record self.old {
           asked = self.old.asked + row_cycles slots.now.kind;
-          fresh = self.old.fresh ++ row_data (slots_of slots.now.kind) self.old.number self.old.asked
+          fresh = self.old.fresh ++ row_data (slots_of slots.now.kind) self.old.cm self.old.asked
               (payload_row_of LINE_COLUMNS row (F.bytes frame.now)) slots.now.list (row_cycles slots.now.kind);
           emitted = [];
         } }
@@ -137,24 +137,24 @@ impl Payload {
     }
 
     /// Emits nothing, drops all bytes, and begins a turn whose groups are data by this number.
-    pub(crate) fn clear(&mut self, number: u16)
-        requires { number ≤ GROUPS }
-        ensures { self.new ≡ record self.old { number = number; asked = 0; pending = []; fresh = []; emitted = [] } }
+    pub(crate) fn clear(&mut self, cm: u16)
+        requires { cm ≤ GROUPS }
+        ensures { self.new ≡ record self.old { cm = cm; asked = 0; pending = []; fresh = []; emitted = [] } }
     {
         self.first = 0;
         self.last = 0;
         self.end = 0;
         self.from = 0;
         self.past = 0;
-        self.runner = Runner::start(number as u32);
+        self.runner = Runner::start(cm as u32);
     }
 
     /// Emits nothing, keeps all bytes pending, and begins a turn whose groups are data by this number.
-    pub(crate) fn keep_all(&mut self, number: u16)
-        requires number { number ≤ GROUPS }
+    pub(crate) fn keep_all(&mut self, cm: u16)
+        requires cm { cm ≤ GROUPS }
         requires first { self.old.pending ≡ [] }
         ensures { self.new ≡ record self.old {
-          number = number;
+          cm = cm;
           asked = 0;
           pending = self.old.pending ++ self.old.fresh;
           fresh = [];
@@ -167,16 +167,16 @@ impl Payload {
         self.end = 0;
         self.from = 0;
         self.past = 0;
-        self.runner = Runner::start(number as u32);
+        self.runner = Runner::start(cm as u32);
     }
 
     /// Emits all pending bytes and as many of this turn's as are due, keeps the others pending, and
     /// begins a turn whose groups are data by this number.
-    pub(crate) fn give_due(&mut self, due: u16, number: u16)
-        requires number { number ≤ GROUPS }
+    pub(crate) fn give_due(&mut self, due: u16, cm: u16)
+        requires cm { cm ≤ GROUPS }
         requires due { due ≤ self.old.slots }
         ensures state { self.new ≡ record self.old {
-          number = number;
+          cm = cm;
           asked = 0;
           pending = drop due self.old.fresh;
           fresh = [];
@@ -192,14 +192,14 @@ impl Payload {
         self.first = due;
         self.last = self.end;
         self.end = 0;
-        self.runner = Runner::start(number as u32);
+        self.runner = Runner::start(cm as u32);
     }
 
     /// Emits all pending bytes and drops those of this turn.
     #[tactic(auto, using(crate::proofs::Emitted::between))]
     pub(crate) fn give_pending(&mut self)
         ensures state { self.new ≡ record self.old {
-          number = 0;
+          cm = 0;
           asked = 0;
           pending = [];
           fresh = [];
@@ -219,16 +219,16 @@ impl Payload {
     /// Emits the next bytes of a signal's stream, 15,168 a slot, and drops all others.
     pub(crate) fn give_signal(&mut self, stream: &mut SignalBytes)
         ensures state { self.new ≡ record self.old {
-          number = 0;
+          cm = 0;
           asked = 0;
           pending = [];
           fresh = [];
           emitted = self.new.emitted;
         } }
-        ensures bytes { (signal : Signal) (given : ℕ) → HasGiven signal given stream.old
-            → self.new.emitted ≡ signal_bytes signal given (self.old.slots * NOMINAL) }
-        ensures given { (signal : Signal) (given : ℕ) → HasGiven signal given stream.old
-            → HasGiven signal (given + self.old.slots * NOMINAL) stream.new }
+        ensures bytes { (signal : Signal) (emitted : ℕ) → HasGiven signal emitted stream.old
+            → self.new.emitted ≡ signal_bytes signal emitted (self.old.slots * NOMINAL) }
+        ensures given { (signal : Signal) (emitted : ℕ) → HasGiven signal emitted stream.old
+            → HasGiven signal (emitted + self.old.slots * NOMINAL) stream.new }
         ensures most { length self.new.emitted ≤ self.old.slots * NOMINAL }
     {
         let count = self.slots * NOMINAL;
@@ -289,10 +289,10 @@ fn copy_to(bytes: &[u8], into: &mut [u8], at: usize) -> usize
 // The next bytes of a signal's stream, so many, to the front of a slice.
 fn next_front(stream: &mut SignalBytes, into: &mut [u8], count: usize)
     requires { count ≤ length into.old }
-    ensures bytes { (signal : Signal) (given : ℕ) → HasGiven signal given stream.old
-        → take count into.new ≡ signal_bytes signal given count }
-    ensures given { (signal : Signal) (given : ℕ) → HasGiven signal given stream.old
-        → HasGiven signal (given + count) stream.new }
+    ensures bytes { (signal : Signal) (emitted : ℕ) → HasGiven signal emitted stream.old
+        → take count into.new ≡ signal_bytes signal emitted count }
+    ensures given { (signal : Signal) (emitted : ℕ) → HasGiven signal emitted stream.old
+        → HasGiven signal (emitted + count) stream.new }
     ensures size { length into.new ≡ length into.old }
 {
     stream.next(&mut into[..count]);

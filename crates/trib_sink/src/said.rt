@@ -12,9 +12,9 @@ pub(crate) fn begun(heard: Option<Hearing>) -> Option<Said>
     ensures small { (slots : ℕ) → IsSmallHearing slots heard → FitsFirst slots result }
 {
     match heard {
-        Some(Hearing::Pair(number, rest, true)) => Some(Said {
-            number,
-            rest,
+        Some(Hearing::Pair(cm, cnd, true)) => Some(Said {
+            cm,
+            cnd,
             damaged: 0,
             due: None,
         }),
@@ -28,7 +28,7 @@ pub(crate) fn begun(heard: Option<Hearing>) -> Option<Said>
 pub(crate) fn gone_on(said: Said, heard: Option<Hearing>) -> Option<Said>
     ensures said { result ≡ gone_on heard said }
     ensures small { (slots : ℕ) → IsSmallHearing slots heard → IsSmallSaid slots said
-        → FitsNext slots result said.rest }
+        → FitsNext slots result said.cnd }
 {
     match heard {
         None => None,
@@ -38,18 +38,18 @@ pub(crate) fn gone_on(said: Said, heard: Option<Hearing>) -> Option<Said>
                 None
             } else {
                 Some(Said {
-                    number: said.number,
-                    rest: said.rest,
+                    cm: said.cm,
+                    cnd: said.cnd,
                     damaged: said.damaged + 1,
-                    due: Some(said.rest),
+                    due: Some(said.cnd),
                 })
             }
         }
-        Some(Hearing::Pair(number, rest, _)) => Some(Said {
-            number,
-            rest,
+        Some(Hearing::Pair(cm, cnd, _)) => Some(Said {
+            cm,
+            cnd,
             damaged: 0,
-            due: Some(said.rest),
+            due: Some(said.cnd),
         }),
     }
 }

@@ -237,7 +237,7 @@ fn pair_of(standing: Standing) -> Option<(u16, u16)>
     ensures { result ≡ pair_of_standing standing }
 {
     match standing {
-        Standing::Up(said) => Some((said.number, said.rest)),
+        Standing::Up(said) => Some((said.cm, said.cnd)),
         _ => None,
     }
 }

@@ -31,10 +31,10 @@ pub(crate) fn hear_turn(
     requires came { AreOfSlots came.now }
     requires keeps { Keeps follower.old.standing follower.old.listener }
     ensures missed { whole ≡ false → (result ≡ None) × (watches.new ≡ watches.old) }
-    ensures watched { whole ≡ true → (port : ℕ) (taken : ℕ → List ℕ) → Watched port taken watches.old
-        → Watched port (λ k. taken k ++ bytes_of k came.now) watches.new }
-    ensures heard { whole ≡ true → (port : ℕ) (taken : ℕ → List ℕ) → Watched port taken watches.old
-        → result ≡ (if list_any (λ k. is_marked port (taken k ++ bytes_of k came.now)) slots.now.list then None
+    ensures watched { whole ≡ true → (port : ℕ) (read : ℕ → List ℕ) → Watched port read watches.old
+        → Watched port (λ k. read k ++ bytes_of k came.now) watches.new }
+    ensures heard { whole ≡ true → (port : ℕ) (read : ℕ → List ℕ) → Watched port read watches.old
+        → result ≡ (if list_any (λ k. is_marked port (read k ++ bytes_of k came.now)) slots.now.list then None
         else Some (hears_message (former_of follower.old.standing) follower.old.extraction.slots message)) }
     ensures small { IsSmallHearing follower.old.extraction.slots result }
     ensures follower { follower.new ≡ record follower.old { listener = listener_after follower.old result } }

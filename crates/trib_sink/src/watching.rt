@@ -12,8 +12,8 @@ use msi_table::MsiWatch;
 pub(crate) fn take_all(watches: &mut [MsiWatch], came: &[(u8, u8)])
     requires watches { length watches.old ≡ MOST_SLOTS }
     requires slots { AreOfSlots came.now }
-    ensures { (port : ℕ) (taken : ℕ → List ℕ) → Watched port taken watches.old
-        → Watched port (λ k. taken k ++ bytes_of k came.now) watches.new }
+    ensures { (port : ℕ) (read : ℕ → List ℕ) → Watched port read watches.old
+        → Watched port (λ k. read k ++ bytes_of k came.now) watches.new }
 {
     for pair in came {
         take_one(watches, pair.0, pair.1);
@@ -25,8 +25,8 @@ fn take_one(watches: &mut [MsiWatch], slot: u8, byte: u8)
     requires watches { length watches.old ≡ MOST_SLOTS }
     requires low { 1 ≤ slot }
     requires high { slot ≤ MOST_SLOTS }
-    ensures { (port : ℕ) (taken : ℕ → List ℕ) → Watched port taken watches.old
-        → Watched port (λ k. taken k ++ (if slot == k then byte ∷ [] else [])) watches.new }
+    ensures { (port : ℕ) (read : ℕ → List ℕ) → Watched port read watches.old
+        → Watched port (λ k. read k ++ (if slot == k then byte ∷ [] else [])) watches.new }
 {
     let watch = &mut watches[slot as usize - 1];
     watch.take(byte);
@@ -36,8 +36,8 @@ fn take_one(watches: &mut [MsiWatch], slot: u8, byte: u8)
 pub(crate) fn any_marked(watches: &[MsiWatch], slots: &[u8]) -> bool
     requires watches { length watches.now ≡ MOST_SLOTS }
     requires slots { All (λ k. (1 ≤ k) × (k ≤ MOST_SLOTS)) slots.now }
-    ensures { (port : ℕ) (taken : ℕ → List ℕ) → Watched port taken watches.now
-        → result ≡ list_any (λ k. is_marked port (taken k)) slots.now }
+    ensures { (port : ℕ) (read : ℕ → List ℕ) → Watched port read watches.now
+        → result ≡ list_any (λ k. is_marked port (read k)) slots.now }
 {
     for k in slots {
         let watch = &watches[*k as usize - 1];

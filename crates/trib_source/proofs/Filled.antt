@@ -14,7 +14,7 @@ use Rattle.odtu_columns.specs.Message.{message_of}
 use Rattle.odtu_columns.specs.Put.{slot_place}
 use Rattle.odtu_columns.proofs.LineCycles.{cycle_inside}
 use Rattle.tributary_model.specs.Places.{Tributary, tributary_of, byte_at, greatest, IsOwnPayload}
-use Rattle.tributary_model.specs.Carries.{sent, number_before, former_of}
+use Rattle.tributary_model.specs.Carries.{sent, cm_before, former_of}
 use Rattle.tributary_model.specs.Puts.{lengths_of, group_from, group_put, place_among, payload_put, IsSourcePlace, WasPut}
 use Rattle.tributary_model.proofs.OnLine.{evenly}
 use Rattle.tributary_model.proofs.Views.{own_column}
@@ -22,7 +22,7 @@ use Rattle.tributary_model.proofs.PutPlaces.{place_of_slot}
 use Rattle.trib_source.specs.Backlog.{BacklogView}
 use Rattle.trib_source.specs.Rows.{groups_in_row}
 use Rattle.trib_source.specs.Steps.Rows.{data_bytes, byte_laid, RowsWerePut}
-use Rattle.trib_source.specs.Source.{Source, IsSource, AreLeft, StandsAfter, said_number}
+use Rattle.trib_source.specs.Source.{Source, IsSource, AreLeft, StandsAfter, said_cm}
 use Rattle.trib_source.proofs.Counts.{count_low}
 use Rattle.trib_source.proofs.Laid.{bytes_grow}
 use Rattle.trib_source.proofs.Begun.{frames_low}
@@ -100,7 +100,7 @@ left_byte m c q asked x i bytes left is l = go (is_data_at c (asked + x + 1))
 
 pub record FramePut (s : Source) (n : ℕ) (before mid now : List ℕ) : Type 0 where
   pub list : IsSlotList (slots_of s.slots.kind) s.slots.list
-  pub rows : RowsWerePut (slots_of s.slots.kind) s.slots.list (byte_laid (length s.slots.list) s.number s.asked s.left) 4 before mid
+  pub rows : RowsWerePut (slots_of s.slots.kind) s.slots.list (byte_laid (length s.slots.list) s.cm s.asked s.left) 4 before mid
   pub own : n + 1 ≡ greatest s.slots.list → message_of now ≡ s.message
   pub other : Contains s.slots.list (n + 1) → n + 1 ≢ greatest s.slots.list → message_of now ≡ 0 ∷ 0 ∷ 0 ∷ 0 ∷ 0 ∷ 0 ∷ []
   pub kept : (place : ℕ) → (Contains s.slots.list (n + 1) → (row column : ℕ) → 1 ≤ row → row ≤ 3 → 15 ≤ column → column ≤ 16 → place ≡ place_of 4080 row column → ⊥) → get_or now place 0 ≡ get_or mid place 0
@@ -172,10 +172,10 @@ payload_byte s backlog scratch stored port turns n before rows now row column h 
     put.kept (place_of 4080 row column) (λ has r c a b d f e. (let bad = (same_place 4080 row column r c own.rows.0 a (omega arith) (omega arith) (omega arith) (omega arith) e).1 in let no_place : ⊥ = omega arith in no_place))
     ∙ ap (λ k. get_or rows k 0) at
     ∙ put.rows.put row cycle i own.rows.0 own.rows.1 below inside
-    ∙ left_byte m s.number q s.asked (w * (row - 1) + cycle) i bytes s.left stands.left inside
-    ∙ ap (λ k. get_or (group_from m s.number q bytes k) i 0) (let e : s.asked + (w * (row - 1) + cycle) + 1 ≡ w * (4 * n + (row - 1)) + cycle + 1 = omega arith in e)
-    ∙ ap (λ c. get_or (group_from m c q bytes (w * (4 * n + (row - 1)) + cycle + 1)) i 0) stands.number
-    ∙ ap (λ k. get_or (group_from m (number_before m p t) q bytes (w * (4 * n + (row - 1)) + cycle + 1)) k 0) (sym among)
+    ∙ left_byte m s.cm q s.asked (w * (row - 1) + cycle) i bytes s.left stands.left inside
+    ∙ ap (λ k. get_or (group_from m s.cm q bytes k) i 0) (let e : s.asked + (w * (row - 1) + cycle) + 1 ≡ w * (4 * n + (row - 1)) + cycle + 1 = omega arith in e)
+    ∙ ap (λ c. get_or (group_from m c q bytes (w * (4 * n + (row - 1)) + cycle + 1)) i 0) stands.cm
+    ∙ ap (λ k. get_or (group_from m (cm_before m p t) q bytes (w * (4 * n + (row - 1)) + cycle + 1)) k 0) (sym among)
 
 pub frame_put : (s : Source) (backlog : BacklogView) (scratch stored port : ℕ) (turns : List (List ℕ)) (n : ℕ) (before rows now : List ℕ)
     → IsSource s backlog scratch stored → IsSome s.said → FramePut s n before rows now → StandsAfter (tributary_of s.slots port) turns n s
@@ -207,7 +207,7 @@ own_frame own s backlog scratch stored turns n before mid now h some put stands 
 
 -- the source with so many groups more put
 abbrev pub filled_to : (s : Source) (r : Progress) (left : List ℕ) → Source
-filled_to s r left = record s { number = r.number; asked = r.asked; left = left; filled = s.filled + 1 }
+filled_to s r left = record s { cm = r.cm; asked = r.asked; left = left; filled = s.filled + 1 }
 
 left_filled : (m c q asked more : ℕ) (bytes left next : List ℕ) → next ≡ drop (data_bytes m c asked more) left → AreLeft m c q bytes asked left → AreLeft m c q bytes (asked + more) next
 left_filled m c q asked more bytes left next is e =
@@ -218,60 +218,60 @@ left_filled m c q asked more bytes left next is e =
     ∙ ap (λ k. drop k bytes) (let f : m * (q + data_count c asked) + data_bytes m c asked more ≡ m * (q + data_count c (asked + more)) = omega arith in f)
 
 pub stands_filled : (own : Tributary) (turns : List (List ℕ)) (n more : ℕ) (s : Source) (r : Progress) (left : List ℕ)
-    → r ≡ record { number = s.number; asked = s.asked + more } → left ≡ drop (data_bytes (length s.slots.list) s.number s.asked more) s.left
+    → r ≡ record { cm = s.cm; asked = s.asked + more } → left ≡ drop (data_bytes (length s.slots.list) s.cm s.asked more) s.left
     → StandsAfter own turns n s → StandsAfter own turns (n + 1) (filled_to s r left)
 stands_filled own turns n more s r left e is stands =
     let slots : length s.slots.list ≡ length own.slots = ap (λ (o : Tributary). length o.slots) (sym stands.own_is) in
     let q = sent (lengths_of turns) (length turns - 1 - 1) / length own.slots in
-    let now : AreLeft (length own.slots) s.number q (concat turns) (s.asked + more) left =
-    left_filled (length own.slots) s.number q s.asked more (concat turns) s.left left (is ∙ ap (λ k. drop (data_bytes k s.number s.asked more) s.left) slots) stands.left in
+    let now : AreLeft (length own.slots) s.cm q (concat turns) (s.asked + more) left =
+    left_filled (length own.slots) s.cm q s.asked more (concat turns) s.left left (is ∙ ap (λ k. drop (data_bytes k s.cm s.asked more) s.left) slots) stands.left in
     record {
       own_is = stands.own_is;
       slots = stands.slots;
       filled_is = ap (λ k. k + 1) stands.filled_is;
       said = stands.said;
-      number = ap (λ (p : Progress). p.number) e ∙ stands.number;
-      rest = stands.rest;
-      left = subst (λ (p : Progress). AreLeft (length own.slots) p.number q (concat turns) p.asked left) (sym e) now;
+      cm = ap (λ (p : Progress). p.cm) e ∙ stands.cm;
+      cnd = stands.cnd;
+      left = subst (λ (p : Progress). AreLeft (length own.slots) p.cm q (concat turns) p.asked left) (sym e) now;
       message = stands.message;
     }
 
 -- what is left where the bytes of so many groups are dropped by the number that is kept
 pub left_put : (s : Source) (backlog now : BacklogView) (scratch stored more : ℕ) → IsSource s backlog scratch stored
-    → now ≡ record backlog { items = drop (data_bytes (length s.slots.list) stored s.asked more) s.left } → now.items ≡ drop (data_bytes (length s.slots.list) s.number s.asked more) s.left
+    → now ≡ record backlog { items = drop (data_bytes (length s.slots.list) stored s.asked more) s.left } → now.items ≡ drop (data_bytes (length s.slots.list) s.cm s.asked more) s.left
 left_put s backlog now scratch stored more h is =
     ap (λ (b : BacklogView). b.items) is ∙ ap (λ k. drop (data_bytes (length s.slots.list) k s.asked more) s.left) h.kept_is
 
 -- and what holds of every source
 pub is_filled : (s : Source) (backlog now : BacklogView) (scratch stored more : ℕ) (r : Progress) → IsSource s backlog scratch stored
-    → s.filled < slots_of s.slots.kind → more ≡ 4 * groups_in_row (slots_of s.slots.kind) → r ≡ record { number = s.number; asked = s.asked + more }
+    → s.filled < slots_of s.slots.kind → more ≡ 4 * groups_in_row (slots_of s.slots.kind) → r ≡ record { cm = s.cm; asked = s.asked + more }
     → now ≡ record backlog { items = drop (data_bytes (length s.slots.list) stored s.asked more) s.left }
     → IsSource (filled_to s r now.items) now scratch stored
 is_filled s backlog now scratch stored more r h low rows e is =
     let line = slots_of s.slots.kind in
     let w = 3808 / line in
     let m = length s.slots.list in
-    let number : r.number ≡ s.number = ap (λ (p : Progress). p.number) e in
+    let cm : r.cm ≡ s.cm = ap (λ (p : Progress). p.cm) e in
     let asked : r.asked ≡ s.asked + more = ap (λ (p : Progress). p.asked) e in
     let was = h.asked_is in
     let all = frames_low line w (s.filled + 1) (evenly s.slots.kind) (omega arith) in
-    let most : m * data_count s.number (s.asked + more) ≤ m * s.number = mul-le-mul_left m (count_low s.number (s.asked + more) h.number_high (omega arith)) in
-    let grow = bytes_grow m s.number s.asked more in
-    let long : length now.items ≡ length s.left - data_bytes m s.number s.asked more = ap length (left_put s backlog now scratch stored more h is) ∙ length-drop (data_bytes m s.number s.asked more) s.left in
+    let most : m * data_count s.cm (s.asked + more) ≤ m * s.cm = mul-le-mul_left m (count_low s.cm (s.asked + more) h.cm_high (omega arith)) in
+    let grow = bytes_grow m s.cm s.asked more in
+    let long : length now.items ≡ length s.left - data_bytes m s.cm s.asked more = ap length (left_put s backlog now scratch stored more h is) ∙ length-drop (data_bytes m s.cm s.asked more) s.left in
     let newest : now.newest ≡ backlog.newest = ap (λ (b : BacklogView). b.newest) is in
     let before = h.left_is in
-    let after : length now.items + m * data_count s.number (s.asked + more) ≡ m * s.number + (m * said_number s.said + s.rest) = omega arith in
+    let after : length now.items + m * data_count s.cm (s.asked + more) ≡ m * s.cm + (m * said_cm s.said + s.cnd) = omega arith in
     record {
       list = h.list;
       said_high = h.said_high;
-      number_high = subst (λ k. k ≤ 15232) (sym number) h.number_high;
+      cm_high = subst (λ k. k ≤ 15232) (sym cm) h.cm_high;
       filled_high = omega arith;
       asked_is = omega arith;
-      rest_high = h.rest_high;
-      left_is = subst (λ (p : Progress). length now.items + m * data_count p.number p.asked ≡ m * p.number + (m * said_number s.said + s.rest)) (sym e) after;
+      cnd_high = h.cnd_high;
+      left_is = subst (λ (p : Progress). length now.items + m * data_count p.cm p.asked ≡ m * p.cm + (m * said_cm s.said + s.cnd)) (sym e) after;
       slots_are = ap (λ (b : BacklogView). b.slots) is ∙ h.slots_are;
-      newest_low = subst (λ k. k ≤ m * said_number s.said + s.rest) (sym newest) h.newest_low;
-      newest_high = subst (λ k. m * said_number s.said + s.rest < k + m) (sym newest) h.newest_high;
+      newest_low = subst (λ k. k ≤ m * said_cm s.said + s.cnd) (sym newest) h.newest_low;
+      newest_high = subst (λ k. m * said_cm s.said + s.cnd < k + m) (sym newest) h.newest_high;
       scratch_is = h.scratch_is;
-      kept_is = h.kept_is ∙ sym number;
+      kept_is = h.kept_is ∙ sym cm;
     }

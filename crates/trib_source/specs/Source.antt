@@ -7,7 +7,7 @@ use Rattle.otn_base.specs.LineSlots.{LineSlots, slots_of}
 use Rattle.otn_base.specs.SlotList.{IsSlotList}
 use Rattle.gmp_rule.specs.DataRule.{data_count}
 use Rattle.tributary_model.specs.Places.{Tributary, tributary_of}
-use Rattle.tributary_model.specs.Carries.{sent, number_before, former_of}
+use Rattle.tributary_model.specs.Carries.{sent, cm_before, former_of}
 use Rattle.tributary_model.specs.Puts.{lengths_of, message_put}
 use Rattle.trib_source.specs.Backlog.{BacklogView}
 use Rattle.trib_source.specs.Rows.{groups_in_row}
@@ -18,10 +18,10 @@ use Rattle.trib_source.specs.Rows.{groups_in_row}
 pub record Source : Type 0 where
   pub slots : LineSlots
   pub said : Option ℕ
-  pub number : ℕ
+  pub cm : ℕ
   pub asked : ℕ
   pub left : List ℕ
-  pub rest : ℕ
+  pub cnd : ℕ
   pub message : List ℕ
   pub filled : ℕ
 
@@ -30,9 +30,9 @@ abbrev pub slots_in : Source → ℕ
 slots_in s = length s.slots.list
 
 -- the number that was said, and 0 before any
-abbrev pub said_number : Option ℕ → ℕ
-said_number None = 0
-said_number (Some n) = n
+abbrev pub said_cm : Option ℕ → ℕ
+said_cm None = 0
+said_cm (Some n) = n
 
 -- What is left of the bytes once so many groups of a turn were put, where its data groups, c of them, take the bytes
 -- from the whole group q of m bytes on.
@@ -49,17 +49,17 @@ groups_in_frames line_slots frames = ROWS * groups_in_row line_slots * frames
 pub record IsSource (s : Source) (backlog : BacklogView) (scratch kept : ℕ) : Type 0 where
   pub list : IsSlotList (slots_of s.slots.kind) s.slots.list
   pub said_high : ForSome s.said (λ n. n ≤ GROUPS)
-  pub number_high : s.number ≤ GROUPS
+  pub cm_high : s.cm ≤ GROUPS
   pub filled_high : s.filled ≤ slots_of s.slots.kind
   pub asked_is : s.asked ≡ groups_in_frames (slots_of s.slots.kind) s.filled
-  pub rest_high : s.rest < slots_in s
-  pub left_is : length s.left + slots_in s * data_count s.number s.asked
-      ≡ slots_in s * s.number + (slots_in s * said_number s.said + s.rest)
+  pub cnd_high : s.cnd < slots_in s
+  pub left_is : length s.left + slots_in s * data_count s.cm s.asked
+      ≡ slots_in s * s.cm + (slots_in s * said_cm s.said + s.cnd)
   pub slots_are : backlog.slots ≡ slots_in s
-  pub newest_low : backlog.newest ≤ slots_in s * said_number s.said + s.rest
-  pub newest_high : slots_in s * said_number s.said + s.rest < backlog.newest + slots_in s
+  pub newest_low : backlog.newest ≤ slots_in s * said_cm s.said + s.cnd
+  pub newest_high : slots_in s * said_cm s.said + s.cnd < backlog.newest + slots_in s
   pub scratch_is : scratch ≡ 2 * (slots_in s * (ROWS * groups_in_row (slots_of s.slots.kind)))
-  pub kept_is : kept ≡ s.number
+  pub kept_is : kept ≡ s.cm
 
 -- The source is one of this tributary, whatever its port is. These are the bytes of its turns since it was new or
 -- restarted, and so many frames of the last of them were filled.
@@ -68,8 +68,8 @@ pub record StandsAfter (own : Tributary) (turns : List (List ℕ)) (filled : ℕ
   pub slots : IsSlotList own.line_slots own.slots
   pub filled_is : s.filled ≡ filled
   pub said : s.said ≡ former_of (length own.slots) (lengths_of turns) (length turns)
-  pub number : s.number ≡ number_before (length own.slots) (lengths_of turns) (length turns - 1)
-  pub rest : s.rest ≡ sent (lengths_of turns) (length turns) % length own.slots
-  pub left : AreLeft (length own.slots) s.number (sent (lengths_of turns) (length turns - 1 - 1) / length own.slots)
+  pub cm : s.cm ≡ cm_before (length own.slots) (lengths_of turns) (length turns - 1)
+  pub cnd : s.cnd ≡ sent (lengths_of turns) (length turns) % length own.slots
+  pub left : AreLeft (length own.slots) s.cm (sent (lengths_of turns) (length turns - 1 - 1) / length own.slots)
       (concat turns) s.asked s.left
   pub message : 0 < length turns → s.message ≡ message_put (length own.slots) turns (length turns - 1)

@@ -20,12 +20,12 @@ pub(crate) fn lay_groups(
     into: &mut [u8],
 )
     requires some { 1 ≤ m }
-    requires number { runner.old.number ≤ GROUPS }
+    requires cm { runner.old.cm ≤ GROUPS }
     requires asked { runner.old.asked + cycles ≤ GROUPS }
-    requires fresh { length fresh.now ≡ data_bytes m runner.old.number runner.old.asked cycles }
+    requires fresh { length fresh.now ≡ data_bytes m runner.old.cm runner.old.asked cycles }
     requires size { length into.old ≡ m * cycles }
     ensures bytes { (x i : ℕ) → x < cycles → i < m
-        → slice_index into.new (m * x + i) ≡ byte_laid m runner.old.number runner.old.asked fresh.now x i }
+        → slice_index into.new (m * x + i) ≡ byte_laid m runner.old.cm runner.old.asked fresh.now x i }
     ensures runner { runner.new ≡ record runner.old { asked = runner.old.asked + cycles } }
 {
     if runs {
@@ -52,13 +52,13 @@ pub(crate) fn lay_groups(
 #[inline(always)]
 fn lay_each(runner: &mut Runner, fresh: &[u8], m: usize, cycles: usize, into: &mut [u8])
     requires some { 1 ≤ m }
-    requires number { runner.old.number ≤ GROUPS }
+    requires cm { runner.old.cm ≤ GROUPS }
     requires asked { runner.old.asked + cycles ≤ GROUPS }
-    requires fresh { length fresh.now ≡ data_bytes m runner.old.number runner.old.asked cycles }
+    requires fresh { length fresh.now ≡ data_bytes m runner.old.cm runner.old.asked cycles }
     requires size { length into.old ≡ m * cycles }
     requires clear { (n : ℕ) → slice_index into.old n ≡ 0 }
     ensures bytes { (x i : ℕ) → x < cycles → i < m
-        → slice_index into.new (m * x + i) ≡ byte_laid m runner.old.number runner.old.asked fresh.now x i }
+        → slice_index into.new (m * x + i) ≡ byte_laid m runner.old.cm runner.old.asked fresh.now x i }
     ensures runner { runner.new ≡ record runner.old { asked = runner.old.asked + cycles } }
 {
     let mut own = mem::replace(runner, Runner::start(0));
@@ -73,12 +73,12 @@ fn lay_each(runner: &mut Runner, fresh: &[u8], m: usize, cycles: usize, into: &m
 // group is cleared at once.
 fn lay_by_runs(runner: &mut Runner, fresh: &[u8], m: usize, cycles: usize, into: &mut [u8])
     requires some { 1 ≤ m }
-    requires number { runner.old.number ≤ GROUPS }
+    requires cm { runner.old.cm ≤ GROUPS }
     requires asked { runner.old.asked + cycles ≤ GROUPS }
-    requires fresh { length fresh.now ≡ data_bytes m runner.old.number runner.old.asked cycles }
+    requires fresh { length fresh.now ≡ data_bytes m runner.old.cm runner.old.asked cycles }
     requires size { length into.old ≡ m * cycles }
     ensures bytes { (x i : ℕ) → x < cycles → i < m
-        → slice_index into.new (m * x + i) ≡ byte_laid m runner.old.number runner.old.asked fresh.now x i }
+        → slice_index into.new (m * x + i) ≡ byte_laid m runner.old.cm runner.old.asked fresh.now x i }
     ensures runner { runner.new ≡ record runner.old { asked = runner.old.asked + cycles } }
 {
     match m {
@@ -92,12 +92,12 @@ fn lay_by_runs(runner: &mut Runner, fresh: &[u8], m: usize, cycles: usize, into:
 #[inline(always)]
 fn lay_runs(runner: &mut Runner, fresh: &[u8], m: usize, cycles: usize, into: &mut [u8])
     requires some { 1 ≤ m }
-    requires number { runner.old.number ≤ GROUPS }
+    requires cm { runner.old.cm ≤ GROUPS }
     requires asked { runner.old.asked + cycles ≤ GROUPS }
-    requires fresh { length fresh.now ≡ data_bytes m runner.old.number runner.old.asked cycles }
+    requires fresh { length fresh.now ≡ data_bytes m runner.old.cm runner.old.asked cycles }
     requires size { length into.old ≡ m * cycles }
     ensures bytes { (x i : ℕ) → x < cycles → i < m
-        → slice_index into.new (m * x + i) ≡ byte_laid m runner.old.number runner.old.asked fresh.now x i }
+        → slice_index into.new (m * x + i) ≡ byte_laid m runner.old.cm runner.old.asked fresh.now x i }
     ensures runner { runner.new ≡ record runner.old { asked = runner.old.asked + cycles } }
 {
     let mut from = 0usize;
@@ -125,12 +125,12 @@ fn lay_next(
 ) -> usize
     requires asked { runner.old.asked < GROUPS }
     requires room { at + m ≤ length into.old }
-    requires enough { from + m * data_count runner.old.number
-        (runner.old.asked + 1) ≤ length fresh.now + m * data_count runner.old.number runner.old.asked }
-    ensures from { result + m * data_count runner.old.number runner.old.asked
-        ≡ from + m * data_count runner.old.number (runner.old.asked + 1) }
+    requires enough { from + m * data_count runner.old.cm
+        (runner.old.asked + 1) ≤ length fresh.now + m * data_count runner.old.cm runner.old.asked }
+    ensures from { result + m * data_count runner.old.cm runner.old.asked
+        ≡ from + m * data_count runner.old.cm (runner.old.asked + 1) }
     ensures bytes { (i : ℕ) → i < m → slice_index into.new (at + i)
-        ≡ (if is_data_at runner.old.number (runner.old.asked + 1) then slice_index fresh.now (from + i)
+        ≡ (if is_data_at runner.old.cm (runner.old.asked + 1) then slice_index fresh.now (from + i)
         else slice_index into.old (at + i)) }
     ensures front { (n : ℕ) → n < at → slice_index into.new n ≡ slice_index into.old n }
     ensures behind { (n : ℕ) → at + m ≤ n → slice_index into.new n ≡ slice_index into.old n }

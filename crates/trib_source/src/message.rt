@@ -7,7 +7,7 @@ ghost use Rattle.otn_base.specs.LineSlots.{slots_of};
 ghost use Rattle.frame_geometry.specs.Places.{place_of};
 ghost use Rattle.odtu_columns.specs.Message.{message_of};
 ghost use Rattle.jc_codec.specs.Message.{says};
-ghost use Rattle.cnd_codec.specs.Remainder.{says_rest};
+ghost use Rattle.cnd_codec.specs.Remainder.{says_cnd};
 ghost use Rattle.tributary_model.specs.Places.{greatest};
 
 use cnd_codec::say_d;
@@ -16,14 +16,14 @@ use odtu_columns::FillFrame;
 use otn_base::Slots;
 
 /// The six bytes that say a number after a former one, or without one, and the bytes over.
-pub(crate) fn say_turn(former: Option<u16>, number: u16, rest: u16) -> [u8; 6]
+pub(crate) fn say_turn(former: Option<u16>, cm: u16, cnd: u16) -> [u8; 6]
     requires former { ForSome former (λ n. n ≤ GROUPS) }
-    requires number { number ≤ GROUPS }
-    requires rest { rest < 1024 }
-    ensures { result ≡ says former number ++ says_rest rest }
+    requires cm { cm ≤ GROUPS }
+    requires cnd { cnd < 1024 }
+    ensures { result ≡ says former cm ++ says_cnd cnd }
 {
-    let [jc1, jc2, jc3] = say(former, number);
-    let [jc4, jc5, jc6] = say_d(rest);
+    let [jc1, jc2, jc3] = say(former, cm);
+    let [jc4, jc5, jc6] = say_d(cnd);
     [jc1, jc2, jc3, jc4, jc5, jc6]
 }
 

@@ -19,7 +19,7 @@ const BY_RUNS: u32 = GROUPS as u32 * 3 / 4;
 /// bytes, into the stuff groups bytes 0. They are seen as their bytes, one group after the other.
 #[derive(Drop)]
 pub(crate) struct RowLayer<'a> {
-    number: u32,
+    cm: u32,
     asked: u32,
     fresh: &'a [u8],
     m: usize,
@@ -32,28 +32,22 @@ impl<'a> Model for RowLayer<'a> {
 
     ghost Value = { List ℕ };
 
-    ghost view = { λ l. groups_laid l.m l.number l.asked l.fresh.now l.cycles };
+    ghost view = { λ l. groups_laid l.m l.cm l.asked l.fresh.now l.cycles };
 
-    ghost invariant = { λ l. CanLay l.m l.number l.asked (length l.fresh.now) l.cycles };
+    ghost invariant = { λ l. CanLay l.m l.cm l.asked (length l.fresh.now) l.cycles };
 }
 
 impl<'a> RowLayer<'a> {
     /// These groups.
-    pub(crate) fn new(
-        number: u32,
-        asked: u32,
-        fresh: &'a [u8],
-        m: usize,
-        cycles: usize,
-    ) -> RowLayer<'a>
+    pub(crate) fn new(cm: u32, asked: u32, fresh: &'a [u8], m: usize, cycles: usize) -> RowLayer<'a>
         requires some { 1 ≤ m }
-        requires number { number ≤ GROUPS }
+        requires cm { cm ≤ GROUPS }
         requires asked { asked + cycles ≤ GROUPS }
-        requires fresh { length fresh.now ≡ data_bytes m number asked cycles }
-        ensures { result ≡ groups_laid m number asked fresh.now cycles }
+        requires fresh { length fresh.now ≡ data_bytes m cm asked cycles }
+        ensures { result ≡ groups_laid m cm asked fresh.now cycles }
     {
         RowLayer {
-            number,
+            cm,
             asked,
             fresh,
             m,
@@ -66,13 +60,13 @@ impl<'a> RowGroups for RowLayer<'a> {
     ghost groups = { λ l. l };
 
     fn lay(&self, into: &mut [u8]) {
-        let mut runner = Runner::at(self.number, self.asked);
-        let runs = goes_by_runs(self.number, self.m);
+        let mut runner = Runner::at(self.cm, self.asked);
+        let runs = goes_by_runs(self.cm, self.m);
         lay_groups(&mut runner, self.fresh, self.m, self.cycles, runs, into);
     }
 }
 
 // Whether it is best to lay out groups of `m` bytes by runs where so many are data. The frame is the same.
-fn goes_by_runs(number: u32, m: usize) -> bool {
-    number >= if m == 1 { BY_RUNS_OF_BYTES } else { BY_RUNS }
+fn goes_by_runs(cm: u32, m: usize) -> bool {
+    cm >= if m == 1 { BY_RUNS_OF_BYTES } else { BY_RUNS }
 }

@@ -22,26 +22,26 @@ const ALL: u32 = ROWS as u32;
 /// is the first of the frame. What the scratch bytes are is of no account, before and behind the call.
 pub(crate) fn put_rows<F: FillFrame>(
     runner: &mut Runner,
-    number: u32,
+    cm: u32,
     asked: u32,
     backlog: &mut Backlog,
     slots: &Slots,
     scratch: &mut [u8],
     frame: &mut F,
 )
-    requires number { number ≡ runner.old.number }
-    requires most { number ≤ GROUPS }
+    requires cm { cm ≡ runner.old.cm }
+    requires most { cm ≤ GROUPS }
     requires asked { asked ≡ runner.old.asked }
     requires high { asked + ROWS * groups_in_row (slots_of slots.now.kind) ≤ GROUPS }
     requires scratch { length scratch.old
         ≡ 2 * (length slots.now.list * (ROWS * groups_in_row (slots_of slots.now.kind))) }
-    requires enough { AreEnough (length slots.now.list) number runner.old.asked backlog.old }
+    requires enough { AreEnough (length slots.now.list) cm runner.old.asked backlog.old }
     ensures rows { RowsWerePut (slots_of slots.now.kind) slots.now.list
-        (byte_laid (length slots.now.list) number runner.old.asked backlog.old.items) ROWS (F.bytes frame.old)
+        (byte_laid (length slots.now.list) cm runner.old.asked backlog.old.items) ROWS (F.bytes frame.old)
         (F.bytes frame.new) }
     ensures backlog { backlog.new ≡ record backlog.old {
       items = drop
-          (data_bytes (length slots.now.list) number runner.old.asked (ROWS * groups_in_row (slots_of slots.now.kind)))
+          (data_bytes (length slots.now.list) cm runner.old.asked (ROWS * groups_in_row (slots_of slots.now.kind)))
           backlog.old.items;
     } }
     ensures runner { runner.new ≡ record runner.old {
@@ -54,10 +54,8 @@ pub(crate) fn put_rows<F: FillFrame>(
     let cycles = ALL * row;
     let (fresh, scratch) = scratch.split_at_mut(m * cycles as usize);
     let (scratch, _) = scratch.split_at_mut(m * row as usize);
-    put_front(
-        backlog, number, asked, cycles, m, slots, fresh, scratch, frame,
-    );
-    *runner = Runner::at(number, asked + cycles);
+    put_front(backlog, cm, asked, cycles, m, slots, fresh, scratch, frame);
+    *runner = Runner::at(cm, asked + cycles);
 }
 
 // Puts the next `cycles` groups, those of a frame, behind `asked`, of `m` bytes each, row by row, and moves the bytes of
@@ -65,7 +63,7 @@ pub(crate) fn put_rows<F: FillFrame>(
 // for them. What the bytes of `fresh` and `scratch` are is of no account.
 fn put_front<F: FillFrame>(
     backlog: &mut Backlog,
-    number: u32,
+    cm: u32,
     asked: u32,
     cycles: u32,
     m: usize,
@@ -76,32 +74,32 @@ fn put_front<F: FillFrame>(
 )
     requires m { m ≡ length slots.now.list }
     requires cycles { cycles ≡ ROWS * groups_in_row (slots_of slots.now.kind) }
-    requires most { number ≤ GROUPS }
+    requires most { cm ≤ GROUPS }
     requires high { asked + cycles ≤ GROUPS }
     requires fresh { length fresh.old ≡ m * cycles }
     requires scratch { length scratch.old ≡ m * groups_in_row (slots_of slots.now.kind) }
-    requires enough { AreEnough m number asked backlog.old }
+    requires enough { AreEnough m cm asked backlog.old }
     ensures rows { RowsWerePut (slots_of slots.now.kind) slots.now.list
-        (byte_laid m number asked backlog.old.items) ROWS (F.bytes frame.old) (F.bytes frame.new) }
+        (byte_laid m cm asked backlog.old.items) ROWS (F.bytes frame.old) (F.bytes frame.new) }
     ensures backlog { backlog.new ≡ record backlog.old {
       items = drop
-          (data_bytes m number asked cycles) backlog.old.items;
+          (data_bytes m cm asked cycles) backlog.old.items;
     } }
 {
-    let count = m * data_between(number, asked, cycles) as usize;
+    let count = m * data_between(cm, asked, cycles) as usize;
     let front = backlog.front();
     if count <= front.len() {
-        fill_rows(number, asked, &front[..count], m, slots, scratch, frame);
+        fill_rows(cm, asked, &front[..count], m, slots, scratch, frame);
         backlog.drop_front(count);
         return;
     }
     backlog.read_front(fresh, count);
-    fill_rows(number, asked, &fresh[..count], m, slots, scratch, frame);
+    fill_rows(cm, asked, &fresh[..count], m, slots, scratch, frame);
 }
 
 // Fills the rows of a frame with its groups, behind `asked`, of `m` bytes each: into the data groups go these bytes.
 fn fill_rows<F: FillFrame>(
-    number: u32,
+    cm: u32,
     asked: u32,
     fresh: &[u8],
     m: usize,
@@ -110,22 +108,22 @@ fn fill_rows<F: FillFrame>(
     frame: &mut F,
 )
     requires m { m ≡ length slots.now.list }
-    requires most { number ≤ GROUPS }
+    requires most { cm ≤ GROUPS }
     requires high { asked + ROWS * groups_in_row (slots_of slots.now.kind) ≤ GROUPS }
-    requires fresh { length fresh.now ≡ data_bytes m number asked (ROWS * groups_in_row (slots_of slots.now.kind)) }
+    requires fresh { length fresh.now ≡ data_bytes m cm asked (ROWS * groups_in_row (slots_of slots.now.kind)) }
     requires scratch { length scratch.old ≡ m * groups_in_row (slots_of slots.now.kind) }
-    ensures { RowsWerePut (slots_of slots.now.kind) slots.now.list (byte_laid m number asked fresh.now) ROWS
+    ensures { RowsWerePut (slots_of slots.now.kind) slots.now.list (byte_laid m cm asked fresh.now) ROWS
         (F.bytes frame.old) (F.bytes frame.new) }
 {
-    let one = fill_row(number, asked, 1, fresh, 0, m, slots, scratch, frame);
-    let two = fill_row(number, asked, 2, fresh, one, m, slots, scratch, frame);
-    let three = fill_row(number, asked, 3, fresh, two, m, slots, scratch, frame);
-    let _end = fill_row(number, asked, 4, fresh, three, m, slots, scratch, frame);
+    let one = fill_row(cm, asked, 1, fresh, 0, m, slots, scratch, frame);
+    let two = fill_row(cm, asked, 2, fresh, one, m, slots, scratch, frame);
+    let three = fill_row(cm, asked, 3, fresh, two, m, slots, scratch, frame);
+    let _end = fill_row(cm, asked, 4, fresh, three, m, slots, scratch, frame);
 }
 
 // Fills row `row` (1 to 4), whose bytes stand from `at` on, and says where they end.
 fn fill_row<F: FillFrame>(
-    number: u32,
+    cm: u32,
     asked: u32,
     row: u32,
     fresh: &[u8],
@@ -138,22 +136,22 @@ fn fill_row<F: FillFrame>(
     requires low { 1 ≤ row }
     requires last { row ≤ ROWS }
     requires m { m ≡ length slots.now.list }
-    requires most { number ≤ GROUPS }
+    requires most { cm ≤ GROUPS }
     requires high { asked + ROWS * groups_in_row (slots_of slots.now.kind) ≤ GROUPS }
-    requires fresh { length fresh.now ≡ data_bytes m number asked (ROWS * groups_in_row (slots_of slots.now.kind)) }
-    requires at { at ≡ data_bytes m number asked (groups_in_row (slots_of slots.now.kind) * (row - 1)) }
+    requires fresh { length fresh.now ≡ data_bytes m cm asked (ROWS * groups_in_row (slots_of slots.now.kind)) }
+    requires at { at ≡ data_bytes m cm asked (groups_in_row (slots_of slots.now.kind) * (row - 1)) }
     requires scratch { length scratch.old ≡ m * groups_in_row (slots_of slots.now.kind) }
-    ensures next { result ≡ data_bytes m number asked (groups_in_row (slots_of slots.now.kind) * row) }
+    ensures next { result ≡ data_bytes m cm asked (groups_in_row (slots_of slots.now.kind) * row) }
     ensures rows { (before : List ℕ)
-        → RowsWerePut (slots_of slots.now.kind) slots.now.list (byte_laid m number asked fresh.now) (row - 1) before
+        → RowsWerePut (slots_of slots.now.kind) slots.now.list (byte_laid m cm asked fresh.now) (row - 1) before
         (F.bytes frame.old)
-        → RowsWerePut (slots_of slots.now.kind) slots.now.list (byte_laid m number asked fresh.now) row before
+        → RowsWerePut (slots_of slots.now.kind) slots.now.list (byte_laid m cm asked fresh.now) row before
         (F.bytes frame.new) }
 {
     let cycles = cycles_in_row(slots.kind());
     let first = asked + cycles * (row - 1);
-    let next = at + m * data_between(number, first, cycles) as usize;
-    let groups = RowLayer::new(number, first, &fresh[at..next], m, cycles as usize);
+    let next = at + m * data_between(cm, first, cycles) as usize;
+    let groups = RowLayer::new(cm, first, &fresh[at..next], m, cycles as usize);
     frame.lay_row_groups(row, slots, &groups, scratch);
     next
 }
@@ -178,11 +176,11 @@ pub(crate) fn groups_before(kind: LineKind, n: u8) -> u32
 }
 
 // How many of the next `cycles` groups, behind `asked`, are data.
-fn data_between(number: u32, asked: u32, cycles: u32) -> u32
-    requires most { number ≤ GROUPS }
+fn data_between(cm: u32, asked: u32, cycles: u32) -> u32
+    requires most { cm ≤ GROUPS }
     requires asked { asked + cycles ≤ GROUPS }
-    ensures count { result + data_count number asked ≡ data_count number (asked + cycles) }
+    ensures count { result + data_count cm asked ≡ data_count cm (asked + cycles) }
     ensures few { result ≤ cycles }
 {
-    data_groups(asked + cycles, number) - data_groups(asked, number)
+    data_groups(asked + cycles, cm) - data_groups(asked, cm)
 }

@@ -3,11 +3,11 @@ ghost use Rattle.std.specs.Prelude.{◌≡◌, ℕ, ◌+◌, ◌-◌, ◌*◌, �
 ghost use Rattle.std.specs.Option.{ForSome};
 ghost use Rattle.otn_base.specs.declared.limits.TheConstants.{GROUPS, LINE_COLUMNS, MOST_SLOTS, ROWS};
 ghost use Rattle.otn_base.specs.LineSlots.{slots_of};
-ghost use Rattle.cnd_codec.specs.Remainder.{says_rest};
+ghost use Rattle.cnd_codec.specs.Remainder.{says_cnd};
 ghost use Rattle.jc_codec.specs.Message.{says};
 ghost use Rattle.tributary_model.specs.Places.{Tributary, tributary_of, byte_at};
 ghost use Rattle.tributary_model.specs.Puts.{IsSourcePlace, WasPut};
-ghost use Rattle.trib_source.specs.Source.{said_number};
+ghost use Rattle.trib_source.specs.Source.{said_cm};
 
 use crate::backlog::Backlog;
 use crate::message::{put_own_message, say_turn};
@@ -26,11 +26,11 @@ use std::ops::Range;
 pub struct TribSource {
     slots: Slots,
     said: Option<u16>,
-    number: u16,
+    cm: u16,
     runner: Runner,
     backlog: Backlog,
     scratch: Vec<u8>,
-    rest: u16,
+    cnd: u16,
     message: [u8; 6],
     filled: u8,
 }
@@ -41,9 +41,9 @@ impl Model for TribSource {
 
     ghost Value = { Source };
 
-    ghost view = { λ s. record { slots = s.slots; said = s.said; number = s.runner.number; asked = s.runner.asked; left = s.backlog.items; rest = s.rest; message = s.message; filled = s.filled } };
+    ghost view = { λ s. record { slots = s.slots; said = s.said; cm = s.runner.cm; asked = s.runner.asked; left = s.backlog.items; cnd = s.cnd; message = s.message; filled = s.filled } };
 
-    ghost invariant = { λ s. IsSource (record { slots = s.slots; said = s.said; number = s.runner.number; asked = s.runner.asked; left = s.backlog.items; rest = s.rest; message = s.message; filled = s.filled }) s.backlog (vec_len s.scratch) s.number };
+    ghost invariant = { λ s. IsSource (record { slots = s.slots; said = s.said; cm = s.runner.cm; asked = s.runner.asked; left = s.backlog.items; cnd = s.cnd; message = s.message; filled = s.filled }) s.backlog (vec_len s.scratch) s.cm };
 }
 
 impl TribSource {
@@ -53,7 +53,7 @@ impl TribSource {
     /// `Memory` where there is none.
     pub fn new(alloc: Global, slots: &Slots) -> Result<TribSource, Memory>
         ensures stands { IfOk result (λ s. (port : ℕ) → StandsAfter (tributary_of slots.now port) [] 0 s) }
-        ensures rest { IfOk result (λ s. s.rest ≡ 0) }
+        ensures cnd { IfOk result (λ s. s.cnd ≡ 0) }
         ensures slots { IfOk result (λ s. s.slots ≡ slots.now) }
     {
         let m = slots.count() as usize;
@@ -64,11 +64,11 @@ impl TribSource {
         Ok(TribSource {
             slots,
             said: None,
-            number: 0,
+            cm: 0,
             runner: Runner::start(0),
             backlog,
             scratch,
-            rest: 0,
+            cnd: 0,
             message: [0; 6],
             filled: 0,
         })
@@ -98,14 +98,14 @@ impl TribSource {
     /// Begins anew, as a new source of the same slots.
     pub fn restart(&mut self)
         ensures stands { (port : ℕ) → StandsAfter (tributary_of self.old.slots port) [] 0 self.new }
-        ensures rest { self.new.rest ≡ 0 }
+        ensures cnd { self.new.cnd ≡ 0 }
         ensures slots { self.new.slots ≡ self.old.slots }
     {
         self.said = None;
-        self.number = 0;
+        self.cm = 0;
         self.runner = Runner::start(0);
         self.backlog.clear();
-        self.rest = 0;
+        self.cnd = 0;
         self.filled = 0;
     }
 
@@ -113,23 +113,23 @@ impl TribSource {
     /// were filled, is dropped as if it had been put. The groups that the bytes complete are at most
     /// 15,232: those of what a sink of as many slots emits are (`most_groups`).
     pub fn begin_turn(&mut self, bytes: &[u8])
-        requires fits { (self.old.rest + length bytes.now) / length self.old.slots.list ≤ GROUPS }
+        requires fits { (self.old.cnd + length bytes.now) / length self.old.slots.list ≤ GROUPS }
         ensures stands { (own : Tributary) (turns : List (List ℕ)) (filled : ℕ) → StandsAfter own turns filled self.old
             → StandsAfter own (turns ++ bytes.now ∷ []) 0 self.new }
         ensures begun { IsSome self.new.said }
-        ensures rest { self.new.rest ≡ (self.old.rest + length bytes.now) % length self.old.slots.list }
+        ensures cnd { self.new.cnd ≡ (self.old.cnd + length bytes.now) % length self.old.slots.list }
         ensures filled { self.new.filled ≡ 0 }
         ensures slots { self.new.slots ≡ self.old.slots }
     {
         let m = self.slots.count() as usize;
-        self.backlog.pass(to_keep(m, self.said, self.rest));
+        self.backlog.pass(to_keep(m, self.said, self.cnd));
         self.backlog.push(bytes);
         let message = begin_groups(
             m,
             bytes.len(),
             &mut self.said,
-            &mut self.rest,
-            &mut self.number,
+            &mut self.cnd,
+            &mut self.cm,
             &mut self.runner,
         );
         self.message = message;
@@ -143,12 +143,12 @@ impl TribSource {
         requires in_order { bytes.start ≤ bytes.end }
         requires within { bytes.end ≤ vec_len buffer.old }
         requires room { vec_len buffer.old ≡ length self.old.slots.list * (GROUPS + 1) }
-        requires fits { (self.old.rest + length (slice_range buffer.old.items bytes.start bytes.end)) / length
+        requires fits { (self.old.cnd + length (slice_range buffer.old.items bytes.start bytes.end)) / length
             self.old.slots.list ≤ GROUPS }
         ensures stands { (own : Tributary) (turns : List (List ℕ)) (filled : ℕ) → StandsAfter own turns filled self.old
             → StandsAfter own (turns ++ slice_range buffer.old.items bytes.start bytes.end ∷ []) 0 self.new }
         ensures begun { IsSome self.new.said }
-        ensures rest { self.new.rest ≡ (self.old.rest + length
+        ensures cnd { self.new.cnd ≡ (self.old.cnd + length
             (slice_range buffer.old.items bytes.start bytes.end)) % length self.old.slots.list }
         ensures filled { self.new.filled ≡ 0 }
         ensures slots { self.new.slots ≡ self.old.slots }
@@ -156,14 +156,14 @@ impl TribSource {
     {
         let m = self.slots.count() as usize;
         let count = bytes.end - bytes.start;
-        self.backlog.pass(to_keep(m, self.said, self.rest));
+        self.backlog.pass(to_keep(m, self.said, self.cnd));
         self.backlog.take_over(buffer, bytes);
         let message = begin_groups(
             m,
             count,
             &mut self.said,
-            &mut self.rest,
-            &mut self.number,
+            &mut self.cnd,
+            &mut self.cm,
             &mut self.runner,
         );
         self.message = message;
@@ -173,10 +173,10 @@ impl TribSource {
     /// How many bytes the next turn may bring: those that, with the bytes over of the last turn, complete at
     /// most 15,232 groups.
     pub fn room(&self) -> usize
-        ensures { result + self.now.rest + 1 ≡ length self.now.slots.list * (GROUPS + 1) }
+        ensures { result + self.now.cnd + 1 ≡ length self.now.slots.list * (GROUPS + 1) }
     {
         let m = self.slots.count() as usize;
-        m * (GROUPS + 1) - 1 - self.rest as usize
+        m * (GROUPS + 1) - 1 - self.cnd as usize
     }
 
     /// Puts the turn's groups and message into its frame `n`, from 0 and below the number of the line's slots, where
@@ -196,13 +196,13 @@ impl TribSource {
             → StandsAfter own turns (n + 1) self.new }
         ensures begun { IsSome self.new.said }
         ensures filled { self.new.filled ≡ self.old.filled + 1 }
-        ensures rest { self.new.rest ≡ self.old.rest }
+        ensures cnd { self.new.cnd ≡ self.old.cnd }
         ensures slots { self.new.slots ≡ self.old.slots }
     {
         let asked = groups_before(self.slots.kind(), n);
         put_rows(
             &mut self.runner,
-            self.number as u32,
+            self.cm as u32,
             asked,
             &mut self.backlog,
             &self.slots,
@@ -215,11 +215,11 @@ impl TribSource {
 }
 
 // How many of the bytes that are left a new turn keeps: those that complete the groups that were said, and those over.
-fn to_keep(m: usize, said: Option<u16>, rest: u16) -> usize
+fn to_keep(m: usize, said: Option<u16>, cnd: u16) -> usize
     requires few { m ≤ MOST_SLOTS }
-    ensures { result ≡ m * said_number said + rest }
+    ensures { result ≡ m * said_cm said + cnd }
 {
-    m * number_of(said) as usize + rest as usize
+    m * cm_of(said) as usize + cnd as usize
 }
 
 // Begins the groups of a turn that brings so many bytes, for `m` slots: the groups that were said are put, and those
@@ -228,34 +228,34 @@ fn begin_groups(
     m: usize,
     count: usize,
     said: &mut Option<u16>,
-    rest: &mut u16,
-    number: &mut u16,
+    cnd: &mut u16,
+    cm: &mut u16,
     runner: &mut Runner,
 ) -> [u8; 6]
     requires some { 1 ≤ m }
     requires few { m ≤ MOST_SLOTS }
     requires former { ForSome said.old (λ n. n ≤ GROUPS) }
-    requires fits { (rest.old + count) / m ≤ GROUPS }
-    ensures said { said.new ≡ Some ((rest.old + count) / m) }
-    ensures rest { rest.new ≡ (rest.old + count) % m }
-    ensures number { number.new ≡ said_number said.old }
-    ensures runner { runner.new ≡ record { number = said_number said.old; asked = 0 } }
-    ensures message { result ≡ says said.old ((rest.old + count) / m) ++ says_rest ((rest.old + count) % m) }
+    requires fits { (cnd.old + count) / m ≤ GROUPS }
+    ensures said { said.new ≡ Some ((cnd.old + count) / m) }
+    ensures cnd { cnd.new ≡ (cnd.old + count) % m }
+    ensures cm { cm.new ≡ said_cm said.old }
+    ensures runner { runner.new ≡ record { cm = said_cm said.old; asked = 0 } }
+    ensures message { result ≡ says said.old ((cnd.old + count) / m) ++ says_cnd ((cnd.old + count) % m) }
 {
     let former = *said;
-    let total = *rest as usize + count;
+    let total = *cnd as usize + count;
     let groups = (total / m) as u16;
     let over = (total % m) as u16;
-    *number = number_of(former);
-    *runner = Runner::start(number_of(former) as u32);
+    *cm = cm_of(former);
+    *runner = Runner::start(cm_of(former) as u32);
     *said = Some(groups);
-    *rest = over;
+    *cnd = over;
     say_turn(former, groups, over)
 }
 
 // The number that was said, and 0 before any.
-fn number_of(said: Option<u16>) -> u16
-    ensures { result ≡ said_number said }
+fn cm_of(said: Option<u16>) -> u16
+    ensures { result ≡ said_cm said }
 {
     said.unwrap_or(0)
 }

@@ -12,7 +12,7 @@ use Rattle.line_side.proofs.Made.{frames_size}
 use Rattle.line_side.proofs.Mfas.{index_mfas, length_mfas}
 use Rattle.msi_table.specs.Marks.{msi_byte}
 use Rattle.multiframe.specs.LineTurns.{Lock, LineState, Hunting, Locked, Ended, Outcome, CutShort, Lost, Whole, after_hunt, after_outcome, after_turn, kept_if, line_state, lock_of, multiframe, multiframe_at, outcome_of, wrong_count}
-use Rattle.tributary_model.specs.Carries.{number_in}
+use Rattle.tributary_model.specs.Carries.{cm_in}
 use Rattle.tributary_model.specs.Laws.{IsTributary}
 use Rattle.tributary_model.specs.Places.{Tributary, Taken, byte_at, turn_view, IsOwnMsi}
 use Rattle.tributary_model.specs.Puts.{IsPut, lengths_of}
@@ -177,7 +177,7 @@ file_shows b own turns count t frames trib some file few =
 -- ---- all turns
 
 file_sends : (b : ℕ) (own : Tributary) (turns frames : List (List ℕ)) (u : ℕ) → IsSent own → own.line_slots ≡ 8 → 1 ≤ own.port → IsTributaryFile b own turns (8 * (u + 1)) frames → u + 1 ≤ length turns
-    → ((i : ℕ) → i ≤ u → number_in (length own.slots) (lengths_of turns) i ≤ 15232)
+    → ((i : ℕ) → i ≤ u → cm_in (length own.slots) (lengths_of turns) i ≤ 15232)
     → Sends own turns (λ t. option_map (frames_of own.line_slots (concat frames)) (multiframe own.line_slots (mfas_of (concat frames)) t)) 0 u
 file_sends b own turns frames u sent size some file enough fits = record {
   own_is = sent;

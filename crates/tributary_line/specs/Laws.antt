@@ -2,7 +2,7 @@
 use Rattle.std.specs.Prelude.{◌≡◌, ℕ, ◌+◌, ◌*◌, ◌≤◌, List, length}
 use Rattle.std.specs.List.{concat}
 use Rattle.otn_base.specs.declared.limits.TheConstants.{GROUPS, OTU2_SLOTS}
-use Rattle.tributary_model.specs.Carries.{number_in, Carries}
+use Rattle.tributary_model.specs.Carries.{cm_in, Carries}
 use Rattle.tributary_model.specs.Places.{Tributary}
 use Rattle.tributary_model.specs.Puts.{lengths_of}
 use Rattle.tributary_model.specs.Sending.{IsSent}
@@ -15,5 +15,5 @@ abbrev pub CarriesItsTurns : Type 0
 CarriesItsTurns = (b : ℕ) (own : Tributary) (turns frames : List (List ℕ)) (u : ℕ)
     → IsSent own → own.line_slots ≡ OTU2_SLOTS → 1 ≤ own.port
     → IsTributaryFile b own turns (OTU2_SLOTS * (u + 1)) frames → u + 1 ≤ length turns
-    → ((i : ℕ) → i ≤ u → number_in (length own.slots) (lengths_of turns) i ≤ GROUPS)
+    → ((i : ℕ) → i ≤ u → cm_in (length own.slots) (lengths_of turns) i ≤ GROUPS)
     → Carries own (concat turns) (lengths_of turns) (view_at own (concat frames)) 0 0 u

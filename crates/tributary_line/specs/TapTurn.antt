@@ -20,11 +20,11 @@ pub record TapView : Type 0 where
 
 -- The sink stands in turn t + 1 of its line, of whose place these bytes were taken: whatever else may come, it has seen
 -- the turns before, and of this one the frames that its pieces took.
-pub record TapStands (own : Tributary) (first now : InView) (taken : List ℕ) (t : ℕ) (tap : TapView) : Type 0 where
+pub record TapStands (own : Tributary) (first now : InView) (read : List ℕ) (t : ℕ) (tap : TapView) : Type 0 where
   pub size : own.line_slots ≡ OTU2_SLOTS
-  pub line : LineStands plain_otu2 first now taken t tap.line
-  pub sink : (given : List ℕ) → MayBe false tap.line.reader.ending taken given
-      → StandsAfter own (views_until own given t) (frames_in OTU2_SLOTS given t tap.line.pieces) tap.sink
+  pub line : LineStands plain_otu2 first now read t tap.line
+  pub sink : (available : List ℕ) → MayBe false tap.line.reader.ending read available
+      → StandsAfter own (views_until own available t) (frames_in OTU2_SLOTS available t tap.line.pieces) tap.sink
 
 -- What holds of a tap in the turn in which it stands, t + 1, whichever that is and whatever its line may turn out to
 -- have: `available` are all bytes of the line.
@@ -47,13 +47,13 @@ pub record IsBetweenTurns (tap : TapView) : Type 0 where
   pub step : IsInStep 0 tap
 
 -- turn t + 1 went by, and emitted these bytes
-pub record TurnMoves (own : Tributary) (first now : InView) (taken : List ℕ) (t : ℕ) (old new : TapView)
+pub record TurnMoves (own : Tributary) (first now : InView) (read : List ℕ) (t : ℕ) (old new : TapView)
     (emitted : List ℕ) : Type 0 where
   pub came : List ℕ
-  pub stands : TapStands own first now (taken ++ came) (t + 1) new
-  pub earlier : (given : List ℕ) → MayBe false new.line.reader.ending (taken ++ came) given
-      → MayBe false old.line.reader.ending taken given
-  pub emits : (given : List ℕ) → MayBe false new.line.reader.ending (taken ++ came) given
-      → emitted ≡ emitted_at own given t
-  pub ended : (given : List ℕ) → MayBe false new.line.reader.ending (taken ++ came) given
-      → new.line.ended ≡ has_ended (line_state OTU2_SLOTS (mfas_of given) (t + 1))
+  pub stands : TapStands own first now (read ++ came) (t + 1) new
+  pub earlier : (available : List ℕ) → MayBe false new.line.reader.ending (read ++ came) available
+      → MayBe false old.line.reader.ending read available
+  pub emits : (available : List ℕ) → MayBe false new.line.reader.ending (read ++ came) available
+      → emitted ≡ emitted_at own available t
+  pub ended : (available : List ℕ) → MayBe false new.line.reader.ending (read ++ came) available
+      → new.line.ended ≡ has_ended (line_state OTU2_SLOTS (mfas_of available) (t + 1))

@@ -80,7 +80,7 @@ impl Feed {
             (turns ++ slice_range buffer.old.items bytes.start bytes.end ∷ []) self.new }
         ensures slots { self.new.source.slots ≡ self.old.source.slots }
         ensures room_stays { vec_len buffer.new ≡ vec_len buffer.old }
-        ensures gained { (went : List ℕ) × Gained (out_view K.Sink place.old) went (out_view K.Sink place.new) }
+        ensures gained { (written : List ℕ) × Gained (out_view K.Sink place.old) written (out_view K.Sink place.new) }
     {
         take_bytes(&mut self.source, buffer, bytes);
         for n in 0..OTU2_SLOTS as u8 {
@@ -101,7 +101,7 @@ impl Feed {
             → FeedIn own first (out_view K.Sink place.new) turns (n + 1) self.new }
         ensures begun { IsBegun (n + 1) self.new.source }
         ensures slots { self.new.source.slots ≡ self.old.source.slots }
-        ensures gained { (went : List ℕ) × Gained (out_view K.Sink place.old) went (out_view K.Sink place.new) }
+        ensures gained { (written : List ℕ) × Gained (out_view K.Sink place.old) written (out_view K.Sink place.new) }
     {
         fill_line(&mut self.source, n, &mut self.line);
         self.line.finish(self.mfas, &self.map, place);

@@ -59,9 +59,9 @@ impl Tap {
     pub fn turn<I: Source>(&mut self, place: &mut InPlaceOf<I>, room: &mut Vec<u8>) -> Range<usize>
         requires between { IsBetweenTurns self.old }
         requires room { vec_len room.old ≡ length self.old.sink.slots.list * (GROUPS + 1) }
-        ensures moves { (own : Tributary) (first : InView) (taken : List ℕ) (t : ℕ)
-            → TapStands own first (in_view I.Source place.old) taken t self.old
-            → TurnMoves own first (in_view I.Source place.new) taken t self.old self.new
+        ensures moves { (own : Tributary) (first : InView) (read : List ℕ) (t : ℕ)
+            → TapStands own first (in_view I.Source place.old) read t self.old
+            → TurnMoves own first (in_view I.Source place.new) read t self.old self.new
             (slice_range room.new.items result.start result.end) }
         ensures in_order { result.start ≤ result.end }
         ensures within { result.end ≤ vec_len room.new }
@@ -77,9 +77,9 @@ impl Tap {
     // The eight pieces of a turn.
     fn take_frames<I: Source>(&mut self, place: &mut InPlaceOf<I>)
         requires between { IsBetweenTurns self.old }
-        ensures moves { (own : Tributary) (first : InView) (taken : List ℕ) (t : ℕ)
-            → TapStands own first (in_view I.Source place.old) taken t self.old
-            → TapMoves own first (in_view I.Source place.new) taken t self.old self.new }
+        ensures moves { (own : Tributary) (first : InView) (read : List ℕ) (t : ℕ)
+            → TapStands own first (in_view I.Source place.old) read t self.old
+            → TapMoves own first (in_view I.Source place.new) read t self.old self.new }
         ensures pieces { self.new.line.pieces ≡ OTU2_SLOTS }
         ensures step { IsInStep self.new.sink.taken self.new }
         ensures slots { self.new.sink.slots ≡ self.old.sink.slots }
@@ -94,9 +94,9 @@ impl Tap {
     fn take_piece<I: Source>(&mut self, place: &mut InPlaceOf<I>, frames: u8) -> u8
         requires pieces { self.old.line.pieces < OTU2_SLOTS }
         requires step { IsInStep frames self.old }
-        ensures moves { (own : Tributary) (first : InView) (taken : List ℕ) (t : ℕ)
-            → TapStands own first (in_view I.Source place.old) taken t self.old
-            → TapMoves own first (in_view I.Source place.new) taken t self.old self.new }
+        ensures moves { (own : Tributary) (first : InView) (read : List ℕ) (t : ℕ)
+            → TapStands own first (in_view I.Source place.old) read t self.old
+            → TapMoves own first (in_view I.Source place.new) read t self.old self.new }
         ensures pieces { self.new.line.pieces ≡ self.old.line.pieces + 1 }
         ensures step { IsInStep result self.new }
         ensures slots { self.new.sink.slots ≡ self.old.sink.slots }

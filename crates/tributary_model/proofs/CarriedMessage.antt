@@ -9,10 +9,10 @@ use Rattle.jc_codec.specs.Message.{Word, says, hears, hears_word, word_said, wor
 use Rattle.jc_codec.proofs.Turned.{turned_same}
 use Rattle.jc_codec.proofs.Hears.{hears_right}
 use Rattle.jc_codec.proofs.HeardBack.{said_is_heard}
-use Rattle.cnd_codec.specs.Remainder.{says_rest, hears_rest, rest_in}
+use Rattle.cnd_codec.specs.Remainder.{says_cnd, hears_cnd, cnd_in}
 use Rattle.cnd_codec.proofs.HeardRest.{hears_right as hears_right_rest}
 use Rattle.tributary_model.specs.declared.turns.Hearing.TheVariants.{Pair}
-use Rattle.tributary_model.specs.Messages.{hears_message, heard_as, with_rest}
+use Rattle.tributary_model.specs.Messages.{hears_message, heard_as, with_cnd}
 use Rattle.tributary_model.specs.Carries.{cleared}
 use Rattle.tributary_model.specs.Carriage.{HasEqualIndicators}
 
@@ -43,17 +43,17 @@ six (b0 ∷ b1 ∷ b2 ∷ b3 ∷ b4 ∷ b5 ∷ rest) a b k x y z e = record {
 
 -- a message says a number after a former one, and a remainder
 abbrev pub Says : (former : Option ℕ) → (c d : ℕ) → List ℕ → Type 0
-Says former c d bytes = cleared bytes ≡ says former c ++ says_rest d
+Says former c d bytes = cleared bytes ≡ says former c ++ says_cnd d
 
 said_bytes : (former : Option ℕ) (c d : ℕ) (bytes : List ℕ) → Says former c d bytes
     → let w = word_value (word_said former c) in Six bytes (w / 256) (w % 256) (crc8_of (w / 256 ∷ w % 256 ∷ [])) (d / 32) (d % 32) (crc5_of d)
-unfolding says says_rest
+unfolding says says_cnd
 said_bytes former c d bytes e = let w = word_value (word_said former c) in six bytes (w / 256) (w % 256) (crc8_of (w / 256 ∷ w % 256 ∷ [])) (d / 32) (d % 32) (crc5_of d) e
 
 -- the remainder
-rest_back : (m d jc4 jc5 jc6 : ℕ) → d < m → jc4 % 32 ≡ d / 32 → jc5 % 32 ≡ d % 32 → jc6 % 32 ≡ crc5_of d → hears_rest m jc4 jc5 jc6 ≡ Some d
+rest_back : (m d jc4 jc5 jc6 : ℕ) → d < m → jc4 % 32 ≡ d / 32 → jc5 % 32 ≡ d % 32 → jc6 % 32 ≡ crc5_of d → hears_cnd m jc4 jc5 jc6 ≡ Some d
 rest_back m d jc4 jc5 jc6 h e f g =
-    let is : rest_in jc4 jc5 ≡ d = omega arith in
+    let is : cnd_in jc4 jc5 ≡ d = omega arith in
     hears_right_rest m jc4 jc5 jc6 (g ∙ ap crc5_of (sym is)) (omega arith) ∙ ap (λ x. Some x) is
 
 -- the number
@@ -75,7 +75,7 @@ unfolding hears_message
 heard_back m former c d bytes hf hc hd e =
     let s = said_bytes former c d bytes e in
     ap (λ o. heard_as o (hears former (slice_index bytes 0) (slice_index bytes 1) (slice_index bytes 2))) (rest_back m d _ _ _ hd s.jc4 s.jc5 s.jc6)
-    ∙ ap (λ x. with_rest x d) (number_back former c _ _ _ hf hc s.jc1 s.jc2 s.jc3)
+    ∙ ap (λ x. with_cnd x d) (number_back former c _ _ _ hf hc s.jc1 s.jc2 s.jc3)
 
 -- ---- with equal indicators
 
@@ -121,11 +121,11 @@ number_anew former kept c jc1 jc2 jc3 hc e f g even =
     let right : jc3 ≡ crc8_of (jc1 ∷ jc2 ∷ []) = g ∙ ap (λ a. crc8_of (a ∷ w % 256 ∷ [])) (sym e) ∙ ap (λ b. crc8_of (jc1 ∷ b ∷ [])) (sym f) in
     let is : jc1 * 256 + jc2 ≡ w = whole_word w jc1 jc2 e f in
     let same : w / 2 % 2 ≡ w % 2 = even_word w jc2 f even in
-    let number : w / 4 ≡ c = plain_said former c hc same in
+    let cm : w / 4 ≡ c = plain_said former c hc same in
     hears_right kept jc1 jc2 jc3 right
     ∙ ap (hears_word kept) is
     ∙ equal_word kept w same
-    ∙ ap (λ n. in_range n true) number
+    ∙ ap (λ n. in_range n true) cm
     ∙ cond-true (nat_le c 15232) (Accepted c true) DamagedNumber (le-leb c 15232 hc)
   where
     whole_word : (w a b : ℕ) → a ≡ w / 256 → b ≡ w % 256 → a * 256 + b ≡ w
@@ -141,7 +141,7 @@ unfolding hears_message
 heard_anew m former kept c d bytes hc hd e even =
     let s = said_bytes former c d bytes e in
     ap (λ o. heard_as o (hears kept (slice_index bytes 0) (slice_index bytes 1) (slice_index bytes 2))) (rest_back m d _ _ _ hd s.jc4 s.jc5 s.jc6)
-    ∙ ap (λ x. with_rest x d) (number_anew former kept c _ _ _ hc s.jc1 s.jc2 s.jc3 even)
+    ∙ ap (λ x. with_cnd x d) (number_anew former kept c _ _ _ hc s.jc1 s.jc2 s.jc3 even)
 
 -- The first message has equal indicators.
 pub first_says_anew : (c d : ℕ) (bytes : List ℕ) → Says None c d bytes → HasEqualIndicators bytes

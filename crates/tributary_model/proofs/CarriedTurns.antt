@@ -14,7 +14,7 @@ use Rattle.tributary_model.specs.Messages.{hears_message}
 use Rattle.tributary_model.specs.Stretches.{any_marked}
 use Rattle.tributary_model.specs.Emission.{data_bytes, emission}
 use Rattle.tributary_model.specs.Machine.{Machine, begun, next_said, waits_on, opened, went_on, given_of, kept_of, up_gives, after, gives, machine_after}
-use Rattle.tributary_model.specs.Carries.{sent, number_in, rest_in, CarriesTurn, past_of}
+use Rattle.tributary_model.specs.Carries.{sent, cm_in, cnd_in, CarriesTurn, past_of}
 use Rattle.tributary_model.proofs.Law.{machine_next, machine_is_emission}
 use Rattle.tributary_model.proofs.Totals.{emitted_pieces, left_piece, groups_next}
 use Rattle.tributary_model.proofs.CarriedGroups.{carried_data}
@@ -28,23 +28,23 @@ up_at said pending = record { standing = Up said; pending = pending; place = 0 }
 
 -- what is said after a turn with this pair
 abbrev pub said_now : (c d : ℕ) → Option ℕ → Said
-said_now c d former = record { number = c; rest = d; damaged = 0; due = former }
+said_now c d former = record { cm = c; cnd = d; damaged = 0; due = former }
 
-up_after : (m : ℕ) (said : Said) (pending : List ℕ) (view : View) (c d : ℕ) (equal : Bool) → hears_message (Some said.number) m view.message ≡ Pair c d equal
-    → after m false (Some view) (up_at said pending) ≡ up_at (said_now c d (Some said.rest)) (kept_of said.due pending (data_bytes said.number view.groups))
-up_after m said pending view c d equal e = ap (λ h. went_on (next_said said h) said pending (data_bytes said.number view.groups)) e
+up_after : (m : ℕ) (said : Said) (pending : List ℕ) (view : View) (c d : ℕ) (equal : Bool) → hears_message (Some said.cm) m view.message ≡ Pair c d equal
+    → after m false (Some view) (up_at said pending) ≡ up_at (said_now c d (Some said.cnd)) (kept_of said.due pending (data_bytes said.cm view.groups))
+up_after m said pending view c d equal e = ap (λ h. went_on (next_said said h) said pending (data_bytes said.cm view.groups)) e
 
-up_emits : (m : ℕ) (ais : ℕ → ℕ) (said : Said) (pending : List ℕ) (view : View) (c d : ℕ) (equal : Bool) → hears_message (Some said.number) m view.message ≡ Pair c d equal
-    → gives m ais false (Some view) (up_at said pending) ≡ given_of said.due pending (data_bytes said.number view.groups)
-up_emits m ais said pending view c d equal e = ap (λ h. up_gives (next_said said h) said pending (data_bytes said.number view.groups)) e
+up_emits : (m : ℕ) (ais : ℕ → ℕ) (said : Said) (pending : List ℕ) (view : View) (c d : ℕ) (equal : Bool) → hears_message (Some said.cm) m view.message ≡ Pair c d equal
+    → gives m ais false (Some view) (up_at said pending) ≡ given_of said.due pending (data_bytes said.cm view.groups)
+up_emits m ais said pending view c d equal e = ap (λ h. up_gives (next_said said h) said pending (data_bytes said.cm view.groups)) e
 
 -- a machine that is Up with this pair
 pub record IsUpWith (c d : ℕ) (s : Machine) : Type 0 where
   pub said : Said
   pub pending : List ℕ
   pub is : s ≡ up_at said pending
-  pub number : said.number ≡ c
-  pub rest : said.rest ≡ d
+  pub cm : said.cm ≡ c
+  pub cnd : said.cnd ≡ d
 
 -- a pair with equal indicators is taken up, however the machine stands
 pub anew_after : (m : ℕ) (view : View) (c d : ℕ) (s : Machine) → ((kept : Option ℕ) → hears_message kept m view.message ≡ Pair c d true) → IsUpWith c d (after m false (Some view) s)
@@ -55,22 +55,22 @@ anew_after m view c d s heard = go s.standing s.pending s.place
       said = said_now c d None;
       pending = [];
       is = ap (λ h. opened (begun (Some h)) (waits_on n)) (heard None);
-      number = refl;
-      rest = refl;
+      cm = refl;
+      cnd = refl;
     }
     go Down pending place = record {
       said = said_now c d None;
       pending = [];
       is = ap (λ h. opened (begun (Some h)) (record { standing = Down; pending = []; place = place + m * 15168 })) (heard None);
-      number = refl;
-      rest = refl;
+      cm = refl;
+      cnd = refl;
     }
     go (Up said) pending place = record {
-      said = said_now c d (Some said.rest);
-      pending = kept_of said.due pending (data_bytes said.number view.groups);
-      is = ap (λ h. went_on (next_said said h) said pending (data_bytes said.number view.groups)) (heard (Some said.number));
-      number = refl;
-      rest = refl;
+      said = said_now c d (Some said.cnd);
+      pending = kept_of said.due pending (data_bytes said.cm view.groups);
+      is = ap (λ h. went_on (next_said said h) said pending (data_bytes said.cm view.groups)) (heard (Some said.cm));
+      cm = refl;
+      cnd = refl;
     }
 
 -- ---- a turn that carries
@@ -81,7 +81,7 @@ pub record IsCarried (own : Tributary) (bytes p : List ℕ) (views : ℕ → Opt
   pub is : views (a + n) ≡ Some view
   pub turn : CarriesTurn own bytes p i view
   pub whole : IsWhole (length own.slots) view
-  pub fits : number_in (length own.slots) p i ≤ 15232
+  pub fits : cm_in (length own.slots) p i ≤ 15232
   pub within : i < length p
   pub reaches : sent p (i - 1) ≤ length own.slots * (sent p i / length own.slots)
 
@@ -116,7 +116,7 @@ emission_on own ais views a n view h whole is unmarked =
     ∙ ap (λ t. gives m ais t (views (a + n)) s) unmarked
     ∙ ap (λ v. gives m ais false v s) is
 
-pub rest_less : (m : ℕ) (p : List ℕ) (i : ℕ) → 0 < m → rest_in m p i < m
+pub rest_less : (m : ℕ) (p : List ℕ) (i : ℕ) → 0 < m → cnd_in m p i < m
 rest_less m p i h = mod-lt (sent p (i + 1)) h
 
 some_low : (c : ℕ) → c ≤ 15232 → ForSome (Some c) (λ n. n ≤ 15232)
@@ -128,22 +128,22 @@ some_low c h x e = subst (λ n. n ≤ 15232) (ap value e) h
 
 -- what is heard in it, after the number of the turn before
 heard_next : (own : Tributary) (bytes p : List ℕ) (views : ℕ → Option View) (a n i : ℕ) → 0 < length own.slots → (t : IsCarried own bytes p views a n (suc i))
-    → number_in (length own.slots) p i ≤ 15232
-    → (equal : Bool) × (hears_message (Some (number_in (length own.slots) p i)) (length own.slots) t.view.message ≡ Pair (number_in (length own.slots) p (suc i)) (rest_in (length own.slots) p (suc i)) equal)
+    → cm_in (length own.slots) p i ≤ 15232
+    → (equal : Bool) × (hears_message (Some (cm_in (length own.slots) p i)) (length own.slots) t.view.message ≡ Pair (cm_in (length own.slots) p (suc i)) (cnd_in (length own.slots) p (suc i)) equal)
 heard_next own bytes p views a n i h t low =
     let m = length own.slots in
-    let word = word_said (Some (number_in m p i)) (number_in m p (suc i)) in (
+    let word = word_said (Some (cm_in m p i)) (cm_in m p (suc i)) in (
       word.ii == word.di,
-      heard_back m (Some (number_in m p i)) (number_in m p (suc i)) (rest_in m p (suc i)) t.view.message (some_low (number_in m p i) low) t.fits (rest_less m p (suc i) h) t.turn.message,
+      heard_back m (Some (cm_in m p i)) (cm_in m p (suc i)) (cnd_in m p (suc i)) t.view.message (some_low (cm_in m p i) low) t.fits (rest_less m p (suc i) h) t.turn.message,
     )
 
 -- what it extracts: the groups from those of the turns up to two before on
 fresh_next : (own : Tributary) (bytes p : List ℕ) (views : ℕ → Option View) (a n i : ℕ) → 0 < length own.slots → (t : IsCarried own bytes p views a n (suc i))
-    → number_in (length own.slots) p i ≤ 15232
-    → data_bytes (number_in (length own.slots) p i) t.view.groups ≡ slice_range bytes (length own.slots * (sent p i / length own.slots)) (length own.slots * (sent p (suc i) / length own.slots))
+    → cm_in (length own.slots) p i ≤ 15232
+    → data_bytes (cm_in (length own.slots) p i) t.view.groups ≡ slice_range bytes (length own.slots * (sent p i / length own.slots)) (length own.slots * (sent p (suc i) / length own.slots))
 fresh_next own bytes p views a n i h t low =
     let m = length own.slots in
-    let c = number_in m p i in
+    let c = cm_in m p i in
     let before : suc i - 1 ≡ i = omega arith in
     let each : (j : ℕ) → 1 ≤ j → j ≤ 15232 → IsData c j → slice_get t.view.groups (j - 1) ≡ Some (take m (drop (m * (sent p i / m + j * c / 15232 - 1)) bytes)) =
     λ j l r d. t.turn.groups j l r d ∙ ap (λ x. Some (take m (drop (m * (sent p x / m + j * c / 15232 - 1)) bytes))) before in
@@ -155,58 +155,58 @@ fresh_next own bytes p views a n i h t low =
 
 -- it is Up with the pair of the i-th turn
 abbrev pub Kept : Tributary → (p : List ℕ) → (views : ℕ → Option View) → (a n i : ℕ) → Type 0
-Kept own p views a n i = IsUpWith (number_in (length own.slots) p i) (rest_in (length own.slots) p i) (machine_after own (past_of views a n))
+Kept own p views a n i = IsUpWith (cm_in (length own.slots) p i) (cnd_in (length own.slots) p i) (machine_after own (past_of views a n))
 
 -- after the turn behind it, it keeps the remainder of both
 pub record IsNear (own : Tributary) (p : List ℕ) (views : ℕ → Option View) (a n i : ℕ) : Type 0 where
   pub pending : List ℕ
   pub machine : machine_after own (past_of views a n)
-      ≡ up_at (said_now (number_in (length own.slots) p (suc i)) (rest_in (length own.slots) p (suc i)) (Some (rest_in (length own.slots) p i))) pending
+      ≡ up_at (said_now (cm_in (length own.slots) p (suc i)) (cnd_in (length own.slots) p (suc i)) (Some (cnd_in (length own.slots) p i))) pending
 
 -- and after one more what is pending are the bytes from those of the turns up to two before on
 abbrev pub IsExact : Tributary → (bytes p : List ℕ) → (views : ℕ → Option View) → (a n i : ℕ) → Type 0
 IsExact own bytes p views a n i =
     machine_after own (past_of views a n)
-    ≡ up_at (said_now (number_in (length own.slots) p (suc i)) (rest_in (length own.slots) p (suc i)) (Some (rest_in (length own.slots) p i)))
+    ≡ up_at (said_now (cm_in (length own.slots) p (suc i)) (cnd_in (length own.slots) p (suc i)) (Some (cnd_in (length own.slots) p i)))
     (slice_range bytes (sent p i) (length own.slots * (sent p (suc i) / length own.slots)))
 
 -- a turn more, after a machine that is Up with the pair of the turn before
 pub kept_next : (own : Tributary) (bytes p : List ℕ) (views : ℕ → Option View) (a n i : ℕ) (former : Option ℕ) (pending : List ℕ) → 0 < length own.slots
-    → (t : IsCarried own bytes p views a n (suc i)) → number_in (length own.slots) p i ≤ 15232 → any_marked own (past_of views a (suc n)) ≡ false
-    → machine_after own (past_of views a n) ≡ up_at (said_now (number_in (length own.slots) p i) (rest_in (length own.slots) p i) former) pending
+    → (t : IsCarried own bytes p views a n (suc i)) → cm_in (length own.slots) p i ≤ 15232 → any_marked own (past_of views a (suc n)) ≡ false
+    → machine_after own (past_of views a n) ≡ up_at (said_now (cm_in (length own.slots) p i) (cnd_in (length own.slots) p i) former) pending
     → machine_after own (past_of views a (suc n))
-    ≡ up_at (said_now (number_in (length own.slots) p (suc i)) (rest_in (length own.slots) p (suc i)) (Some (rest_in (length own.slots) p i)))
+    ≡ up_at (said_now (cm_in (length own.slots) p (suc i)) (cnd_in (length own.slots) p (suc i)) (Some (cnd_in (length own.slots) p i)))
     (kept_of former pending (slice_range bytes (length own.slots * (sent p i / length own.slots)) (length own.slots * (sent p (suc i) / length own.slots))))
 kept_next own bytes p views a n i former pending h t low unmarked e =
     let m = length own.slots in
-    let said = said_now (number_in m p i) (rest_in m p i) former in
+    let said = said_now (cm_in m p i) (cnd_in m p i) former in
     let heard = heard_next own bytes p views a n i h t low in
     machine_on own views a n t.view t.is unmarked
     ∙ ap (after m false (Some t.view)) e
-    ∙ up_after m said pending t.view (number_in m p (suc i)) (rest_in m p (suc i)) heard.0 heard.1
-    ∙ ap (λ xs. up_at (said_now (number_in m p (suc i)) (rest_in m p (suc i)) (Some (rest_in m p i))) (kept_of former pending xs)) (fresh_next own bytes p views a n i h t low)
+    ∙ up_after m said pending t.view (cm_in m p (suc i)) (cnd_in m p (suc i)) heard.0 heard.1
+    ∙ ap (λ xs. up_at (said_now (cm_in m p (suc i)) (cnd_in m p (suc i)) (Some (cnd_in m p i))) (kept_of former pending xs)) (fresh_next own bytes p views a n i h t low)
 
 pub emits_next : (own : Tributary) (ais : ℕ → ℕ) (bytes p : List ℕ) (views : ℕ → Option View) (a n i : ℕ) (former : Option ℕ) (pending : List ℕ) → 0 < length own.slots
     → AreWholeTurns (length own.slots) (past_of views a (suc n))
-    → (t : IsCarried own bytes p views a n (suc i)) → number_in (length own.slots) p i ≤ 15232 → any_marked own (past_of views a (suc n)) ≡ false
-    → machine_after own (past_of views a n) ≡ up_at (said_now (number_in (length own.slots) p i) (rest_in (length own.slots) p i) former) pending
+    → (t : IsCarried own bytes p views a n (suc i)) → cm_in (length own.slots) p i ≤ 15232 → any_marked own (past_of views a (suc n)) ≡ false
+    → machine_after own (past_of views a n) ≡ up_at (said_now (cm_in (length own.slots) p i) (cnd_in (length own.slots) p i) former) pending
     → emission own ais (past_of views a n) (views (a + n))
     ≡ given_of former pending (slice_range bytes (length own.slots * (sent p i / length own.slots)) (length own.slots * (sent p (suc i) / length own.slots)))
 emits_next own ais bytes p views a n i former pending h whole t low unmarked e =
     let m = length own.slots in
-    let said = said_now (number_in m p i) (rest_in m p i) former in
+    let said = said_now (cm_in m p i) (cnd_in m p i) former in
     let heard = heard_next own bytes p views a n i h t low in
     emission_on own ais views a n t.view h whole t.is unmarked
     ∙ ap (gives m ais false (Some t.view)) e
-    ∙ up_emits m ais said pending t.view (number_in m p (suc i)) (rest_in m p (suc i)) heard.0 heard.1
+    ∙ up_emits m ais said pending t.view (cm_in m p (suc i)) (cnd_in m p (suc i)) heard.0 heard.1
     ∙ ap (given_of former pending) (fresh_next own bytes p views a n i h t low)
 
-rest_is : (m : ℕ) (p : List ℕ) (i : ℕ) → rest_in m p i ≡ sent p (suc i) % m
+rest_is : (m : ℕ) (p : List ℕ) (i : ℕ) → cnd_in m p i ≡ sent p (suc i) % m
 rest_is m p i = ap (λ x. sent p x % m) (let e : i + 1 ≡ suc i = omega arith in e)
 
 -- what is kept of the bytes extracted, once the remainder is right
 exact_kept : (own : Tributary) (bytes p : List ℕ) (i : ℕ) → sent p (suc i) ≤ length own.slots * (sent p (suc (suc i)) / length own.slots)
-    → drop (rest_in (length own.slots) p i) (slice_range bytes (length own.slots * (sent p (suc i) / length own.slots)) (length own.slots * (sent p (suc (suc i)) / length own.slots)))
+    → drop (cnd_in (length own.slots) p i) (slice_range bytes (length own.slots * (sent p (suc i) / length own.slots)) (length own.slots * (sent p (suc (suc i)) / length own.slots)))
     ≡ slice_range bytes (sent p (suc i)) (length own.slots * (sent p (suc (suc i)) / length own.slots))
 exact_kept own bytes p i now =
     let m = length own.slots in
@@ -216,7 +216,7 @@ exact_kept own bytes p i now =
 exact_emitted : (own : Tributary) (bytes p : List ℕ) (i : ℕ) → sent p i ≤ length own.slots * (sent p (suc i) / length own.slots)
     → sent p (suc i) ≤ length own.slots * (sent p (suc (suc i)) / length own.slots)
     → slice_range bytes (sent p i) (length own.slots * (sent p (suc i) / length own.slots))
-    ++ take (rest_in (length own.slots) p i) (slice_range bytes (length own.slots * (sent p (suc i) / length own.slots)) (length own.slots * (sent p (suc (suc i)) / length own.slots)))
+    ++ take (cnd_in (length own.slots) p i) (slice_range bytes (length own.slots * (sent p (suc i) / length own.slots)) (length own.slots * (sent p (suc (suc i)) / length own.slots)))
     ≡ slice_range bytes (sent p i) (sent p (suc i))
 exact_emitted own bytes p i before now =
     let m = length own.slots in
@@ -229,40 +229,40 @@ reached own bytes p views a n i t = subst (λ x. sent p x ≤ length own.slots *
 
 -- from the turn taken up anew to the next
 pub near_next : (own : Tributary) (bytes p : List ℕ) (views : ℕ → Option View) (a n i : ℕ) → 0 < length own.slots
-    → (t : IsCarried own bytes p views a n (suc i)) → number_in (length own.slots) p i ≤ 15232 → any_marked own (past_of views a (suc n)) ≡ false
+    → (t : IsCarried own bytes p views a n (suc i)) → cm_in (length own.slots) p i ≤ 15232 → any_marked own (past_of views a (suc n)) ≡ false
     → Kept own p views a n i → IsNear own p views a (suc n) i
 near_next own bytes p views a n i h t low unmarked kept =
     let m = length own.slots in
     let s = machine_after own (past_of views a n) in
-    let said : s ≡ up_at (record { number = number_in m p i; rest = rest_in m p i; damaged = kept.said.damaged; due = kept.said.due }) kept.pending =
+    let said : s ≡ up_at (record { cm = cm_in m p i; cnd = cnd_in m p i; damaged = kept.said.damaged; due = kept.said.due }) kept.pending =
     kept.is
-    ∙ ap (λ x. up_at (record { number = x; rest = kept.said.rest; damaged = kept.said.damaged; due = kept.said.due }) kept.pending) kept.number
-    ∙ ap (λ x. up_at (record { number = number_in m p i; rest = x; damaged = kept.said.damaged; due = kept.said.due }) kept.pending) kept.rest in
+    ∙ ap (λ x. up_at (record { cm = x; cnd = kept.said.cnd; damaged = kept.said.damaged; due = kept.said.due }) kept.pending) kept.cm
+    ∙ ap (λ x. up_at (record { cm = cm_in m p i; cnd = x; damaged = kept.said.damaged; due = kept.said.due }) kept.pending) kept.cnd in
     let heard = heard_next own bytes p views a n i h t low in
     record {
-      pending = kept_of kept.said.due kept.pending (data_bytes (number_in m p i) t.view.groups);
+      pending = kept_of kept.said.due kept.pending (data_bytes (cm_in m p i) t.view.groups);
       machine =
           machine_on own views a n t.view t.is unmarked
           ∙ ap (after m false (Some t.view)) said
-          ∙ up_after m (record { number = number_in m p i; rest = rest_in m p i; damaged = kept.said.damaged; due = kept.said.due }) kept.pending t.view (number_in m p (suc i)) (rest_in m p (suc i)) heard.0 heard.1;
+          ∙ up_after m (record { cm = cm_in m p i; cnd = cnd_in m p i; damaged = kept.said.damaged; due = kept.said.due }) kept.pending t.view (cm_in m p (suc i)) (cnd_in m p (suc i)) heard.0 heard.1;
     }
 
 -- and to the one after it
 pub exact_after_near : (own : Tributary) (bytes p : List ℕ) (views : ℕ → Option View) (a n i : ℕ) → 0 < length own.slots
-    → (t : IsCarried own bytes p views a n (suc (suc i))) → number_in (length own.slots) p (suc i) ≤ 15232 → any_marked own (past_of views a (suc n)) ≡ false
+    → (t : IsCarried own bytes p views a n (suc (suc i))) → cm_in (length own.slots) p (suc i) ≤ 15232 → any_marked own (past_of views a (suc n)) ≡ false
     → IsNear own p views a n i → IsExact own bytes p views a (suc n) (suc i)
 exact_after_near own bytes p views a n i h t low unmarked near =
     let m = length own.slots in
-    kept_next own bytes p views a n (suc i) (Some (rest_in m p i)) near.pending h t low unmarked near.machine
-    ∙ ap (up_at (said_now (number_in m p (suc (suc i))) (rest_in m p (suc (suc i))) (Some (rest_in m p (suc i))))) (exact_kept own bytes p i (reached own bytes p views a n (suc i) t))
+    kept_next own bytes p views a n (suc i) (Some (cnd_in m p i)) near.pending h t low unmarked near.machine
+    ∙ ap (up_at (said_now (cm_in m p (suc (suc i))) (cnd_in m p (suc (suc i))) (Some (cnd_in m p (suc i))))) (exact_kept own bytes p i (reached own bytes p views a n (suc i) t))
 
 -- what a turn emits then
 pub exact_emits : (own : Tributary) (ais : ℕ → ℕ) (bytes p : List ℕ) (views : ℕ → Option View) (a n i : ℕ) → 0 < length own.slots
     → AreWholeTurns (length own.slots) (past_of views a (suc n))
-    → (t : IsCarried own bytes p views a n (suc (suc i))) → number_in (length own.slots) p (suc i) ≤ 15232 → any_marked own (past_of views a (suc n)) ≡ false
+    → (t : IsCarried own bytes p views a n (suc (suc i))) → cm_in (length own.slots) p (suc i) ≤ 15232 → any_marked own (past_of views a (suc n)) ≡ false
     → sent p i ≤ length own.slots * (sent p (suc i) / length own.slots)
     → IsExact own bytes p views a n i → emission own ais (past_of views a n) (views (a + n)) ≡ slice_range bytes (sent p i) (sent p (suc i))
 exact_emits own ais bytes p views a n i h whole t low unmarked before exact =
     let m = length own.slots in
-    emits_next own ais bytes p views a n (suc i) (Some (rest_in m p i)) (slice_range bytes (sent p i) (m * (sent p (suc i) / m))) h whole t low unmarked exact
+    emits_next own ais bytes p views a n (suc i) (Some (cnd_in m p i)) (slice_range bytes (sent p i) (m * (sent p (suc i) / m))) h whole t low unmarked exact
     ∙ exact_emitted own bytes p i before (reached own bytes p views a n (suc i) t)

@@ -11,7 +11,7 @@ use Rattle.tributary_model.specs.Messages.{hears_message}
 use Rattle.tributary_model.specs.Stretches.{Member, Part, WaitingTurn, DownTurn, StretchTurn, EndingTurn, groups_of, any_marked, goes_on, continues, next_part, course, state_of, state_after}
 use Rattle.tributary_model.specs.Emission.{data_bytes, emission}
 use Rattle.tributary_model.specs.Machine.{Machine, start, begun, gone_on, waits_on, opened, went_on, heard_in, after, up_gives, gives, machine_after, state_of_standing}
-use Rattle.tributary_model.specs.Carries.{sent, number_in, rest_in, former_of, CarriesTurn, past_of}
+use Rattle.tributary_model.specs.Carries.{sent, cm_in, cnd_in, former_of, CarriesTurn, past_of}
 use Rattle.tributary_model.specs.Carriage.{Arrives, IsUpAfter, EmitsTwoLater, EmitsWhatIsCarried, IsUpWhileCarried, EmitsTheRest, HasEqualIndicators, SaysAnew, EmitsAfterDamage, IsUpAfterDamage}
 use Rattle.tributary_model.proofs.Law.{course_next, machine_next, machine_is_emission, state_is}
 use Rattle.tributary_model.proofs.Ranges.{none_between}
@@ -44,13 +44,13 @@ carried_turn own bytes p views a s b u n i r e low high =
       is = seen.1.0;
       turn = subst (λ x. CarriesTurn own bytes p x seen.0) place seen.1.1;
       whole = subst (IsWholeTurn m) seen.1.0 (r.whole (a + n) (omega arith) high);
-      fits = subst (λ x. number_in m p x ≤ 15232) place (r.carries.fits (a + n) low high);
+      fits = subst (λ x. cm_in m p x ≤ 15232) place (r.carries.fits (a + n) low high);
       within = omega arith;
       reaches = reached_before own bytes p views a s b u i r (omega arith);
     }
 
-fits_at : (own : Tributary) (bytes p : List ℕ) (views : ℕ → Option View) (a s b u i : ℕ) → Arrives own bytes p views a s b u → b ≤ s + i → s + i ≤ u → number_in (length own.slots) p i ≤ 15232
-fits_at own bytes p views a s b u i r low high = subst (λ x. number_in (length own.slots) p x ≤ 15232) (let e : s + i - s ≡ i = omega arith in e) (r.carries.fits (s + i) low high)
+fits_at : (own : Tributary) (bytes p : List ℕ) (views : ℕ → Option View) (a s b u i : ℕ) → Arrives own bytes p views a s b u → b ≤ s + i → s + i ≤ u → cm_in (length own.slots) p i ≤ 15232
+fits_at own bytes p views a s b u i r low high = subst (λ x. cm_in (length own.slots) p x ≤ 15232) (let e : s + i - s ≡ i = omega arith in e) (r.carries.fits (s + i) low high)
 
 all_whole : (own : Tributary) (bytes p : List ℕ) (views : ℕ → Option View) (a s b u n : ℕ) → Arrives own bytes p views a s b u → a + n ≤ u + 1 → AreWholeTurns (length own.slots) (past_of views a n)
 all_whole own bytes p views a s b u zero r h = tt
@@ -72,10 +72,10 @@ kept_anew own bytes p views a s b u n i up high =
     let t : IsCarried own bytes p views a n i = carried_turn own bytes p views a s b u n i r up.place up.low high in
     let before = machine_after own (past_of views a n) in
     let now : machine_after own (past_of views a (suc n)) ≡ after m false (Some t.view) before = machine_on own views a n t.view t.is up.unmarked in
-    let heard : (kept : Option ℕ) → hears_message kept m t.view.message ≡ Pair (number_in m p i) (rest_in m p i) true =
-    λ kept. heard_anew m (former_of m p i) kept (number_in m p i) (rest_in m p i) t.view.message t.fits (rest_less m p i r.slots) t.turn.message (up.message t.view t.is) in
-    let with_pair = anew_after m t.view (number_in m p i) (rest_in m p i) before heard in
-    record { said = with_pair.said; pending = with_pair.pending; is = now ∙ with_pair.is; number = with_pair.number; rest = with_pair.rest }
+    let heard : (kept : Option ℕ) → hears_message kept m t.view.message ≡ Pair (cm_in m p i) (cnd_in m p i) true =
+    λ kept. heard_anew m (former_of m p i) kept (cm_in m p i) (cnd_in m p i) t.view.message t.fits (rest_less m p i r.slots) t.turn.message (up.message t.view t.is) in
+    let with_pair = anew_after m t.view (cm_in m p i) (cnd_in m p i) before heard in
+    record { said = with_pair.said; pending = with_pair.pending; is = now ∙ with_pair.is; cm = with_pair.cm; cnd = with_pair.cnd }
 
 -- no own slot is marked from it on
 unmarked_from : (own : Tributary) (bytes p : List ℕ) (views : ℕ → Option View) (a s b u n0 i0 : ℕ) → TakenUp own bytes p views a s b u n0 i0
@@ -114,11 +114,11 @@ kept_from own bytes p views a s b u n0 i0 up (suc k) (suc n) (suc i) e f high =
     let near = near_from own bytes p views a s b u n0 i0 up k n i (omega arith) (omega arith) (omega arith) (kept_from own bytes p views a s b u n0 i0 up k n i (omega arith) (omega arith) (omega arith)) in
     let m = length own.slots in
     record {
-      said = said_now (number_in m p (suc i)) (rest_in m p (suc i)) (Some (rest_in m p i));
+      said = said_now (cm_in m p (suc i)) (cnd_in m p (suc i)) (Some (cnd_in m p i));
       pending = near.pending;
       is = near.machine;
-      number = refl;
-      rest = refl;
+      cm = refl;
+      cnd = refl;
     }
 
 -- from the third turn on it is exact
@@ -236,7 +236,7 @@ first_anew own bytes p views s u r high =
     let unmarked : any_marked own (past_of views s 1) ≡ false = turns_next own views s 0 seen.0 is ∙ unmarked_next own [] seen.0 (unmarked_first own) turn.msi in
     record {
       message = λ view e.
-          subst (λ (v : View). HasEqualIndicators v.message) (some_view seen.0 view (sym seen.1.0 ∙ e)) (first_says_anew (number_in m p 0) (rest_in m p 0) seen.0.message turn.message);
+          subst (λ (v : View). HasEqualIndicators v.message) (some_view seen.0 view (sym seen.1.0 ∙ e)) (first_says_anew (cm_in m p 0) (cnd_in m p 0) seen.0.message turn.message);
       unmarked = subst (λ n. any_marked own (past_of views s n) ≡ false) (let e : 1 ≡ s + 1 - s = omega arith in e) unmarked;
     }
 
@@ -255,14 +255,14 @@ begins_here own bytes p views s u r high =
     record { arrives = r; up = subst (λ n. TakenUp own bytes p views s s s u n n) zeroth (taken_up own bytes p views s s s u s r (omega arith) (first_anew own bytes p views s u r high)) }
 
 first_machine : (own : Tributary) (bytes p : List ℕ) (views : ℕ → Option View) (s u : ℕ) → Begins own bytes p views s u → s ≤ u
-    → machine_after own (past_of views s 1) ≡ up_at (said_now (number_in (length own.slots) p 0) (rest_in (length own.slots) p 0) None) []
+    → machine_after own (past_of views s 1) ≡ up_at (said_now (cm_in (length own.slots) p 0) (cnd_in (length own.slots) p 0) None) []
 first_machine own bytes p views s u b high =
     let m = length own.slots in
     let r = b.arrives in
     let t : IsCarried own bytes p views s 0 0 = carried_turn own bytes p views s s s u 0 0 r refl (omega arith) (omega arith) in
     machine_on own views s 0 t.view t.is b.up.unmarked
     ∙ ap (after m false (Some t.view)) (start_is own)
-    ∙ first_after m t.view (number_in m p 0) (rest_in m p 0) (heard_anew m None None (number_in m p 0) (rest_in m p 0) t.view.message t.fits (rest_less m p 0 r.slots) t.turn.message (b.up.message t.view t.is))
+    ∙ first_after m t.view (cm_in m p 0) (cnd_in m p 0) (heard_anew m None None (cm_in m p 0) (cnd_in m p 0) t.view.message t.fits (rest_less m p 0 r.slots) t.turn.message (b.up.message t.view t.is))
 
 first_emits : (own : Tributary) (ais : ℕ → ℕ) (bytes p : List ℕ) (views : ℕ → Option View) (s u : ℕ) → Begins own bytes p views s u → s ≤ u
     → emission own ais (past_of views s 0) (views (s + 0)) ≡ slice_range bytes (sent p 0) (sent p 0)
@@ -292,7 +292,7 @@ second_exact own bytes p views s u b high =
     let none : m * (0 / m) ≡ 0 = (let e = div-add-mod 0 m in omega arith) in
     kept_next own bytes p views s 1 0 None [] r.slots t (fits_at own bytes p views s s s u 0 r (omega arith) (omega arith))
     (unmarked_from own bytes p views s s s u 0 0 b.up 1 2 refl (omega arith)) (first_machine own bytes p views s u b (omega arith))
-    ∙ ap (λ x. up_at (said_now (number_in m p 1) (rest_in m p 1) (Some (rest_in m p 0))) (slice_range bytes x (m * (sent p 1 / m)))) none
+    ∙ ap (λ x. up_at (said_now (cm_in m p 1) (cnd_in m p 1) (Some (cnd_in m p 0))) (slice_range bytes x (m * (sent p 1 / m)))) none
 
 third_emits : (own : Tributary) (ais : ℕ → ℕ) (bytes p : List ℕ) (views : ℕ → Option View) (s u : ℕ) → Begins own bytes p views s u → s + 2 ≤ u
     → emission own ais (past_of views s 2) (views (s + 2)) ≡ slice_range bytes (sent p 0) (sent p 1)
@@ -323,10 +323,10 @@ up_while_carried own bytes p views s u r t low high = healed_up own bytes p view
 -- a machine that is Up, and Down after the turn, gives what is pending
 ends_pending : (m : ℕ) (ais : ℕ → ℕ) (marked : Bool) (view : Option View) (said : Said) (pending : List ℕ) → state_of_standing (after m marked view (up_at said pending)).standing ≡ StateDown
     → gives m ais marked view (up_at said pending) ≡ pending
-ends_pending m ais marked view said pending e = go (gone_on (heard_in (Some said.number) m marked view) said) e
+ends_pending m ais marked view said pending e = go (gone_on (heard_in (Some said.cm) m marked view) said) e
   where
     fresh : List ℕ
-    fresh = data_bytes said.number (groups_of view)
+    fresh = data_bytes said.cm (groups_of view)
 
     go : (o : Option Said) → state_of_standing (went_on o said pending fresh).standing ≡ StateDown → up_gives o said pending fresh ≡ pending
     go (Some next) f = absurd (let bad : ⊥ = cc in bad)
@@ -349,7 +349,7 @@ rest_after own ais bytes p views s u zero view r e whole down =
     let m = length own.slots in
     let b = begins_here own bytes p views s u r (omega arith) in
     let none : m * (0 / m) ≡ 0 = (let e = div-add-mod 0 m in omega arith) in
-    ends_here own ais (past_of views s 1) view (said_now (number_in m p 0) (rest_in m p 0) None) [] r.slots (whole, all_whole own bytes p views s s s u 1 r (omega arith))
+    ends_here own ais (past_of views s 1) view (said_now (cm_in m p 0) (cnd_in m p 0) None) [] r.slots (whole, all_whole own bytes p views s s s u 1 r (omega arith))
     (first_machine own bytes p views s u b (omega arith)) down
     ∙ sym (none_between bytes 0)
     ∙ ap (slice_range bytes 0) (sym none)

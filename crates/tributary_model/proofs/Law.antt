@@ -13,9 +13,9 @@ use Rattle.tributary_model.specs.declared.turns.SinkState.TheVariants.{Waiting a
 use Rattle.tributary_model.specs.Places.{Tributary, View, IsWhole, IsWholeTurn, AreWholeTurns}
 use Rattle.tributary_model.specs.Messages.{hears_message}
 use Rattle.tributary_model.specs.Stretches.{Member, Part, WaitingTurn, DownTurn, StretchTurn, EndingTurn, groups_of, any_marked, fit_pair, fit, is_damaged, two_damaged, goes_on_with, goes_on, is_of_stretch, idle, opens, continues, next_part, course, state_of, state_after}
-use Rattle.tributary_model.specs.Emission.{data_bytes, extracted, extracted_total, emitted_total, numbers_sum, emits_in, emits_at_end, down_run, stream_bytes, emits, emission, amount_of}
+use Rattle.tributary_model.specs.Emission.{data_bytes, extracted, extracted_total, emitted_total, cm_sum, emits_in, emits_at_end, down_run, stream_bytes, emits, emission, amount_of}
 use Rattle.tributary_model.specs.Machine.{Machine, start, first_said, begun, next_said, gone_on, given_of, kept_of, waits_on, opened, went_on, heard_in, after, down_gives, up_gives, gives, machine_after, state_of_standing}
-use Rattle.tributary_model.proofs.Stretches.{IsSound, former_rest, left_over, sound_first, nothing_left, Grows, grows, left_at_end, end_count}
+use Rattle.tributary_model.proofs.Stretches.{IsSound, former_cnd, left_over, sound_first, nothing_left, Grows, grows, left_at_end, end_count}
 use Rattle.tributary_model.proofs.Heard.{IsSmallPair, small_message}
 
 -- ---- the machine at the end of a course
@@ -26,7 +26,7 @@ damaged_run [] = 0
 damaged_run (last ∷ before) = cond (is_damaged last.heard) (damaged_run before + 1) 0
 
 abbrev pub said_of : Member → List Member → Said
-said_of last before = record { number = last.number; rest = last.rest; damaged = damaged_run (last ∷ before); due = former_rest before }
+said_of last before = record { cm = last.cm; cnd = last.cnd; damaged = damaged_run (last ∷ before); due = former_cnd before }
 
 abbrev pub up_machine : (m : ℕ) → List Member → Machine
 up_machine m [] = start
@@ -90,7 +90,7 @@ next_is v last before Lost = refl
 next_is v last before Damaged = go (nat_le 2 (damaged_run (last ∷ before))) (two_damaged (last ∷ before)) (two_is (last ∷ before))
   where
     go : (s t : Bool) → s ≡ t
-        → cond {A = Option Said} s None (Some (record { number = last.number; rest = last.rest; damaged = damaged_run (last ∷ before) + 1; due = Some last.rest }))
+        → cond {A = Option Said} s None (Some (record { cm = last.cm; cnd = last.cnd; damaged = damaged_run (last ∷ before) + 1; due = Some last.cnd }))
         ≡ option_map (λ next. said_of next (last ∷ before)) (goes_on_with v t last Damaged)
     go true true e = refl
     go false false e = refl
@@ -98,17 +98,17 @@ next_is v last before Damaged = go (nat_le 2 (damaged_run (last ∷ before))) (t
     go false true e = cc
 
 gone_on_is : (own : Tributary) (marked : Bool) (view : Option View) (last : Member) (before : List Member)
-    → gone_on (heard_in (Some last.number) (length own.slots) marked view) (said_of last before) ≡ option_map (λ next. said_of next (last ∷ before)) (goes_on own marked view (last ∷ before))
+    → gone_on (heard_in (Some last.cm) (length own.slots) marked view) (said_of last before) ≡ option_map (λ next. said_of next (last ∷ before)) (goes_on own marked view (last ∷ before))
 gone_on_is own true view last before = refl
 gone_on_is own false None last before = refl
-gone_on_is own false (Some v) last before = next_is v last before (hears_message (Some last.number) (length own.slots) v.message)
+gone_on_is own false (Some v) last before = next_is v last before (hears_message (Some last.cm) (length own.slots) v.message)
 
 -- ---- what a turn brings
 
 -- a turn of a stretch has a small pair, and the groups of its view
 record IsTurn (m : ℕ) (view : Option View) (turn : Member) : Type 0 where
-  number : turn.number ≤ 15232
-  rest : turn.rest < m
+  cm : turn.cm ≤ 15232
+  cnd : turn.cnd < m
   groups : turn.groups ≡ groups_of view
 
 fit_turn : (own : Tributary) (marked : Bool) (view : Option View) (first : Member) → fit own marked view ≡ Some first → IsTurn (length own.slots) view first
@@ -118,31 +118,31 @@ fit_turn own false (Some v) first e = go (hears_message None (length own.slots) 
   where
     go : (h : Hearing) → IsSmallPair (length own.slots) h → fit_pair v h ≡ Some first → IsTurn (length own.slots) (Some v) first
     go (Pair n r true) small f =
-        let made : Member = record { heard = Pair n r true; number = n; rest = r; groups = v.groups } in
+        let made : Member = record { heard = Pair n r true; cm = n; cnd = r; groups = v.groups } in
         let same : made ≡ first = cc in
-        subst (IsTurn (length own.slots) (Some v)) same (record { number = small.number_at_most n r true refl; rest = small.rest_below n r true refl; groups = refl })
+        subst (IsTurn (length own.slots) (Some v)) same (record { cm = small.cm_at_most n r true refl; cnd = small.cnd_below n r true refl; groups = refl })
     go (Pair n r false) small f = absurd (let bad : ⊥ = cc in bad)
     go Damaged small f = absurd (let bad : ⊥ = cc in bad)
     go Lost small f = absurd (let bad : ⊥ = cc in bad)
 
 next_turn : (own : Tributary) (marked : Bool) (view : Option View) (last : Member) (before : List Member) (next : Member)
-    → goes_on own marked view (last ∷ before) ≡ Some next → last.number ≤ 15232 → last.rest < length own.slots → IsTurn (length own.slots) view next
+    → goes_on own marked view (last ∷ before) ≡ Some next → last.cm ≤ 15232 → last.cnd < length own.slots → IsTurn (length own.slots) view next
 next_turn own true view last before next e low less = absurd (let bad : ⊥ = cc in bad)
 next_turn own false None last before next e low less = absurd (let bad : ⊥ = cc in bad)
 next_turn own false (Some v) last before next e low less =
-    go (two_damaged (last ∷ before)) (hears_message (Some last.number) (length own.slots) v.message)
-    (small_message (Some last.number) (length own.slots) v.message) e
+    go (two_damaged (last ∷ before)) (hears_message (Some last.cm) (length own.slots) v.message)
+    (small_message (Some last.cm) (length own.slots) v.message) e
   where
     go : (two : Bool) (h : Hearing) → IsSmallPair (length own.slots) h → goes_on_with v two last h ≡ Some next → IsTurn (length own.slots) (Some v) next
     go two (Pair n r equal) small f =
-        let made : Member = record { heard = Pair n r equal; number = n; rest = r; groups = v.groups } in
+        let made : Member = record { heard = Pair n r equal; cm = n; cnd = r; groups = v.groups } in
         let same : made ≡ next = cc in
-        subst (IsTurn (length own.slots) (Some v)) same (record { number = small.number_at_most n r equal refl; rest = small.rest_below n r equal refl; groups = refl })
+        subst (IsTurn (length own.slots) (Some v)) same (record { cm = small.cm_at_most n r equal refl; cnd = small.cnd_below n r equal refl; groups = refl })
     go true Damaged small f = absurd (let bad : ⊥ = cc in bad)
     go false Damaged small f =
-        let made : Member = record { heard = Damaged; number = last.number; rest = last.rest; groups = v.groups } in
+        let made : Member = record { heard = Damaged; cm = last.cm; cnd = last.cnd; groups = v.groups } in
         let same : made ≡ next = cc in
-        subst (IsTurn (length own.slots) (Some v)) same (record { number = low; rest = less; groups = refl })
+        subst (IsTurn (length own.slots) (Some v)) same (record { cm = low; cnd = less; groups = refl })
     go two Lost small f = absurd (let bad : ⊥ = cc in bad)
 
 -- only a turn with a view goes on
@@ -320,7 +320,7 @@ idle_amount m ais parts false None e =
     ∙ ap (λ t. amount_of m (cond t WaitingTurn DownTurn)) (sym e)
 
 idle_sound : (m : ℕ) (parts : List Part) (w : Bool) (o : Option Member) → waits parts ≡ w
-    → ((first : Member) → o ≡ Some first → (first.number ≤ 15232) × (first.rest < m)) → SoundCourse m (opens parts o ∷ parts)
+    → ((first : Member) → o ≡ Some first → (first.cm ≤ 15232) × (first.cnd < m)) → SoundCourse m (opens parts o ∷ parts)
 idle_sound m parts w (Some first) e small = sound_first m first (small first refl).0 (small first refl).1
 idle_sound m parts true None e small = subst (λ t. SoundCourse m (cond t WaitingTurn DownTurn ∷ parts)) (sym e) e
 idle_sound m parts false None e small = subst (λ t. SoundCourse m (cond t WaitingTurn DownTurn ∷ parts)) (sym e) e
@@ -374,7 +374,7 @@ idle_turn own ais marked view parts h idle =
           ∙ idle_machine_after m marked view w (length parts) place
           ∙ ap (λ b. cond w (opened b (waits_on (length parts))) (opened b (down_at (place + m * 15168)))) first
           ∙ idle_next m parts w o refl;
-      sound = idle_sound m parts w o refl (λ first e. let turn = fit_turn own marked view first e in (turn.number, turn.rest));
+      sound = idle_sound m parts w o refl (λ first e. let turn = fit_turn own marked view first e in (turn.cm, turn.cnd));
       few = idle_few m (length (emits m ais parts part)) h count;
       amount = idle_amount m ais parts w o refl;
       groups = idle_groups m (length (emits m ais parts part)) (emitted_in m parts) (emitted_in m (part ∷ parts)) h (idle_emitted m parts idle) (idle_left m parts w o refl) count;
@@ -392,7 +392,7 @@ groups_ahead m s e h near =
     mul-le-mul_left m (omega arith)
 
 -- all that is extracted is whole groups
-whole_groups : (m : ℕ) (last : Member) (before : List Member) → extracted_total m (last ∷ before) ≡ m * numbers_sum before
+whole_groups : (m : ℕ) (last : Member) (before : List Member) → extracted_total m (last ∷ before) ≡ m * cm_sum before
 whole_groups m last before = refl
 
 no_place : (m : ℕ) → down_at 0 ≡ down_at (0 * (m * 15168))
@@ -420,22 +420,22 @@ stretch_turn own ais marked view last before parts (Some next) h whole sound e =
     let seen = next_view own marked view stretch next e in
     let groups : next.groups ≡ seen.0.groups = turn.groups ∙ ap groups_of seen.1 in
     let is_whole : IsWhole m seen.0 = subst (IsWholeTurn m) seen.1 whole in
-    let grown : Grows m next stretch (former_rest before) (data_bytes last.number next.groups) =
-    grows m next last before sound turn.number turn.rest (ap length groups ∙ is_whole.many) (subst (All (λ g. length g ≡ m)) (sym groups) is_whole.each) in
-    let fresh : data_bytes last.number (groups_of view) ≡ data_bytes last.number next.groups = ap (data_bytes last.number) (sym turn.groups) in
-    let said : gone_on (heard_in (Some last.number) m marked view) (said_of last before) ≡ Some (said_of next stretch) = gone_on_is own marked view last before ∙ ap (option_map (λ next. said_of next stretch)) e in
+    let grown : Grows m next stretch (former_cnd before) (data_bytes last.cm next.groups) =
+    grows m next last before sound turn.cm turn.cnd (ap length groups ∙ is_whole.many) (subst (All (λ g. length g ≡ m)) (sym groups) is_whole.each) in
+    let fresh : data_bytes last.cm (groups_of view) ≡ data_bytes last.cm next.groups = ap (data_bytes last.cm) (sym turn.groups) in
+    let said : gone_on (heard_in (Some last.cm) m marked view) (said_of last before) ≡ Some (said_of next stretch) = gone_on_is own marked view last before ∙ ap (option_map (λ next. said_of next stretch)) e in
     let up_to = grown.up_to in
     let near = sound.near in
-    let ahead : extracted_total m stretch ≤ m * (emitted_total m stretch / m + 15232) = groups_ahead m (numbers_sum before) (emitted_total m stretch) h sound.near in
+    let ahead : extracted_total m stretch ≤ m * (emitted_total m stretch / m + 15232) = groups_ahead m (cm_sum before) (emitted_total m stretch) h sound.near in
     let count = grown.count in
     record {
       bytes =
-          ap (λ o. up_gives o (said_of last before) (left_over m stretch) (data_bytes last.number (groups_of view))) said
-          ∙ ap (given_of (former_rest before) (left_over m stretch)) fresh
+          ap (λ o. up_gives o (said_of last before) (left_over m stretch) (data_bytes last.cm (groups_of view))) said
+          ∙ ap (given_of (former_cnd before) (left_over m stretch)) fresh
           ∙ grown.gives;
       next =
-          ap (λ o. went_on o (said_of last before) (left_over m stretch) (data_bytes last.number (groups_of view))) said
-          ∙ ap (λ f. record { standing = Up (said_of next stretch); pending = kept_of (former_rest before) (left_over m stretch) f; place = 0 }) fresh
+          ap (λ o. went_on o (said_of last before) (left_over m stretch) (data_bytes last.cm (groups_of view))) said
+          ∙ ap (λ f. record { standing = Up (said_of next stretch); pending = kept_of (former_cnd before) (left_over m stretch) f; place = 0 }) fresh
           ∙ ap (λ p. record { standing = Up (said_of next stretch); pending = p; place = 0 }) grown.keeps;
       sound = grown.sound;
       few = grown.few;
@@ -445,19 +445,19 @@ stretch_turn own ais marked view last before parts (Some next) h whole sound e =
 stretch_turn own ais marked view last before parts None h whole sound e =
     let m = length own.slots in
     let stretch = last ∷ before in
-    let said : gone_on (heard_in (Some last.number) m marked view) (said_of last before) ≡ None = gone_on_is own marked view last before ∙ ap (option_map (λ next. said_of next stretch)) e in
+    let said : gone_on (heard_in (Some last.cm) m marked view) (said_of last before) ≡ None = gone_on_is own marked view last before ∙ ap (option_map (λ next. said_of next stretch)) e in
     let gives_left : left_over m stretch ≡ emits_at_end m stretch = left_at_end m stretch sound in
-    let count : emitted_total m stretch + length (emits_at_end m stretch) ≡ m * numbers_sum before = end_count m stretch sound in
+    let count : emitted_total m stretch + length (emits_at_end m stretch) ≡ m * cm_sum before = end_count m stretch sound in
     let near = sound.near in
-    let ahead : extracted_total m stretch ≤ m * (emitted_total m stretch / m + 15232) = groups_ahead m (numbers_sum before) (emitted_total m stretch) h sound.near in
+    let ahead : extracted_total m stretch ≤ m * (emitted_total m stretch / m + 15232) = groups_ahead m (cm_sum before) (emitted_total m stretch) h sound.near in
     let whole_is = whole_groups m last before in
     record {
-      bytes = ap (λ o. up_gives o (said_of last before) (left_over m stretch) (data_bytes last.number (groups_of view))) said ∙ gives_left;
-      next = ap (λ o. went_on o (said_of last before) (left_over m stretch) (data_bytes last.number (groups_of view))) said ∙ ending_next m stretch (StretchTurn stretch ∷ parts);
+      bytes = ap (λ o. up_gives o (said_of last before) (left_over m stretch) (data_bytes last.cm (groups_of view))) said ∙ gives_left;
+      next = ap (λ o. went_on o (said_of last before) (left_over m stretch) (data_bytes last.cm (groups_of view))) said ∙ ending_next m stretch (StretchTurn stretch ∷ parts);
       sound = tt;
       few = omega arith;
       amount = omega arith;
-      groups = (numbers_sum before, (omega arith, omega arith));
+      groups = (cm_sum before, (omega arith, omega arith));
     }
 
 -- ---- all turns

@@ -10,7 +10,7 @@ use Rattle.tributary_model.specs.declared.turns.SinkState.TheVariants.{Waiting, 
 use Rattle.tributary_model.specs.Places.{Tributary, View}
 use Rattle.tributary_model.specs.Messages.{hears_message}
 use Rattle.tributary_model.specs.Stretches.{Member, Part, WaitingTurn, DownTurn, StretchTurn, EndingTurn, came, msi_of, any_marked, fit, is_damaged, two_damaged, goes_on_with, goes_on, is_of_stretch, opens, continues, next_part, course, state_of, state_after}
-use Rattle.tributary_model.specs.Emission.{data_bytes, extracted, extracted_total, due_total, emitted_total, numbers_sum, emits_in, emits_at_end, down_run, stream_bytes, emits, emission}
+use Rattle.tributary_model.specs.Emission.{data_bytes, extracted, extracted_total, due_total, emitted_total, cm_sum, emits_in, emits_at_end, down_run, stream_bytes, emits, emission}
 use Rattle.tributary_model.specs.Damage.{pair_had, is_third, NeverThree, emissions, states, IsAsIfRepeated}
 use Rattle.tributary_model.proofs.Law.{course_next}
 use Rattle.msi_table.specs.Marks.{is_marked}
@@ -19,7 +19,7 @@ use Rattle.msi_table.specs.Marks.{is_marked}
 
 -- a turn of a stretch without what was heard
 abbrev mute : Member → Member
-mute turn = record { heard = Damaged; number = turn.number; rest = turn.rest; groups = turn.groups }
+mute turn = record { heard = Damaged; cm = turn.cm; cnd = turn.cnd; groups = turn.groups }
 
 abbrev mutes : List Member → List Member
 mutes [] = []
@@ -41,21 +41,21 @@ mute_extracted : (stretch : List Member) → extracted (mutes stretch) ≡ extra
 unfolding extracted
 mute_extracted [] = refl
 mute_extracted (first ∷ []) = refl
-mute_extracted (turn ∷ before ∷ rest) = ap (λ xs. xs ++ data_bytes before.number turn.groups) (mute_extracted (before ∷ rest))
+mute_extracted (turn ∷ before ∷ rest) = ap (λ xs. xs ++ data_bytes before.cm turn.groups) (mute_extracted (before ∷ rest))
 
-mute_numbers : (stretch : List Member) → numbers_sum (mutes stretch) ≡ numbers_sum stretch
-mute_numbers [] = refl
-mute_numbers (turn ∷ rest) = ap (λ n. n + turn.number) (mute_numbers rest)
+mute_cm_sum : (stretch : List Member) → cm_sum (mutes stretch) ≡ cm_sum stretch
+mute_cm_sum [] = refl
+mute_cm_sum (turn ∷ rest) = ap (λ n. n + turn.cm) (mute_cm_sum rest)
 
 mute_total : (m : ℕ) (stretch : List Member) → extracted_total m (mutes stretch) ≡ extracted_total m stretch
 mute_total m [] = refl
-mute_total m (turn ∷ rest) = ap (λ n. m * n) (mute_numbers rest)
+mute_total m (turn ∷ rest) = ap (λ n. m * n) (mute_cm_sum rest)
 
 mute_due : (m : ℕ) (stretch : List Member) → due_total m (mutes stretch) ≡ due_total m stretch
 mute_due m [] = refl
 mute_due m (first ∷ []) = refl
 mute_due m (second ∷ first ∷ []) = refl
-mute_due m (turn ∷ before ∷ two_before ∷ rest) = ap (λ n. m * n + two_before.rest) (mute_numbers (two_before ∷ rest))
+mute_due m (turn ∷ before ∷ two_before ∷ rest) = ap (λ n. m * n + two_before.cnd) (mute_cm_sum (two_before ∷ rest))
 
 mute_emitted : (m : ℕ) (stretch : List Member) → emitted_total m (mutes stretch) ≡ emitted_total m stretch
 unfolding emitted_total
@@ -117,7 +117,7 @@ abbrev calm_on : Tributary → (marked : Bool) → Option View → List Member �
 calm_on own true view stretch = None
 calm_on own false None stretch = None
 calm_on own false (Some view) [] = None
-calm_on own false (Some view) (last ∷ before) = goes_on_with view false last (hears_message (Some last.number) (length own.slots) view.message)
+calm_on own false (Some view) (last ∷ before) = goes_on_with view false last (hears_message (Some last.cm) (length own.slots) view.message)
 
 -- the next turn without what was heard, after turns without what was heard
 abbrev mute_on : List Member → Option Member → Part
@@ -148,7 +148,7 @@ calm_is : (own : Tributary) (marked : Bool) (view : Option View) (stretch : List
 calm_is own true view stretch parts e = refl
 calm_is own false None stretch parts e = refl
 calm_is own false (Some v) [] parts e = refl
-calm_is own false (Some v) (last ∷ before) parts e = calm v (two_damaged (last ∷ before)) last (hears_message (Some last.number) (length own.slots) v.message) e
+calm_is own false (Some v) (last ∷ before) parts e = calm v (two_damaged (last ∷ before)) last (hears_message (Some last.cm) (length own.slots) v.message) e
 
 -- what goes on is the same after the turns without what was heard
 mute_goes : (v : View) (last : Member) (h : Hearing) (stretch : List Member) → mute_on stretch (goes_on_with v false last h) ≡ mute_on stretch (goes_on_with v false (mute last) h)
@@ -161,7 +161,7 @@ mute_calm : (own : Tributary) (marked : Bool) (view : Option View) (stretch : Li
 mute_calm own true view stretch = refl
 mute_calm own false None stretch = refl
 mute_calm own false (Some v) [] = refl
-mute_calm own false (Some v) (last ∷ before) = mute_goes v last (hears_message (Some last.number) (length own.slots) v.message) (mutes (last ∷ before))
+mute_calm own false (Some v) (last ∷ before) = mute_goes v last (hears_message (Some last.cm) (length own.slots) v.message) (mutes (last ∷ before))
 
 -- a turn that is in no stretch
 mute_opens : (parts : List Part) (o : Option Member) → mute_part (opens parts o) ≡ mute_part (opens (mute_parts parts) o)
@@ -204,60 +204,60 @@ marked_same : (own : Tributary) (past later : List (Option View)) (view : View) 
 marked_same own past later view said = any_same _ _ own.slots (λ k. ap (is_marked own.port) (came_same k past later view said))
 
 -- the turn itself: the pair of the turn before stays
-mute_turn : (own : Tributary) (marked : Bool) (view : View) (said : List ℕ) (number rest : ℕ) (equal : Bool) (parts : List Part)
-    → pair_had parts ≡ Some (number, rest)
-    → hears_message (Some number) (length own.slots) view.message ≡ Damaged
-    → hears_message (Some number) (length own.slots) said ≡ Pair number rest equal
+mute_turn : (own : Tributary) (marked : Bool) (view : View) (said : List ℕ) (cm cnd : ℕ) (equal : Bool) (parts : List Part)
+    → pair_had parts ≡ Some (cm, cnd)
+    → hears_message (Some cm) (length own.slots) view.message ≡ Damaged
+    → hears_message (Some cm) (length own.slots) said ≡ Pair cm cnd equal
     → is_third own (Some view) parts ≡ false
     → mute_part (next_part own marked (Some view) parts) ≡ mute_part (next_part own marked (Some (record view { message = said })) parts)
-mute_turn own marked view said number rest equal [] had damaged repeats third = absurd (let bad : ⊥ = cc in bad)
-mute_turn own marked view said number rest equal (WaitingTurn ∷ parts) had damaged repeats third = absurd (let bad : ⊥ = cc in bad)
-mute_turn own marked view said number rest equal (DownTurn ∷ parts) had damaged repeats third = absurd (let bad : ⊥ = cc in bad)
-mute_turn own marked view said number rest equal (EndingTurn stretch ∷ parts) had damaged repeats third = absurd (let bad : ⊥ = cc in bad)
-mute_turn own marked view said number rest equal (StretchTurn [] ∷ parts) had damaged repeats third = absurd (let bad : ⊥ = cc in bad)
-mute_turn own true view said number rest equal (StretchTurn (last ∷ before) ∷ parts) had damaged repeats third = refl
-mute_turn own false view said number rest equal (StretchTurn (last ∷ before) ∷ parts) had damaged repeats third =
-    let c : last.number ≡ number = ap (λ o. number_in_pair o) had in
-    let d : last.rest ≡ rest = ap (λ o. rest_in_pair o) had in
-    let one : hears_message (Some last.number) (length own.slots) view.message ≡ Damaged = ap (λ n. hears_message (Some n) (length own.slots) view.message) c ∙ damaged in
-    let other : hears_message (Some last.number) (length own.slots) said ≡ Pair number rest equal = ap (λ n. hears_message (Some n) (length own.slots) said) c ∙ repeats in
+mute_turn own marked view said cm cnd equal [] had damaged repeats third = absurd (let bad : ⊥ = cc in bad)
+mute_turn own marked view said cm cnd equal (WaitingTurn ∷ parts) had damaged repeats third = absurd (let bad : ⊥ = cc in bad)
+mute_turn own marked view said cm cnd equal (DownTurn ∷ parts) had damaged repeats third = absurd (let bad : ⊥ = cc in bad)
+mute_turn own marked view said cm cnd equal (EndingTurn stretch ∷ parts) had damaged repeats third = absurd (let bad : ⊥ = cc in bad)
+mute_turn own marked view said cm cnd equal (StretchTurn [] ∷ parts) had damaged repeats third = absurd (let bad : ⊥ = cc in bad)
+mute_turn own true view said cm cnd equal (StretchTurn (last ∷ before) ∷ parts) had damaged repeats third = refl
+mute_turn own false view said cm cnd equal (StretchTurn (last ∷ before) ∷ parts) had damaged repeats third =
+    let c : last.cm ≡ cm = ap (λ o. cm_in_pair o) had in
+    let d : last.cnd ≡ cnd = ap (λ o. cnd_in_pair o) had in
+    let one : hears_message (Some last.cm) (length own.slots) view.message ≡ Damaged = ap (λ n. hears_message (Some n) (length own.slots) view.message) c ∙ damaged in
+    let other : hears_message (Some last.cm) (length own.slots) said ≡ Pair cm cnd equal = ap (λ n. hears_message (Some n) (length own.slots) said) c ∙ repeats in
     ap (λ o. mute_part (continues (last ∷ before) o)) (calm_is own false (Some view) (last ∷ before) parts third)
     ∙ ap (λ h. mute_part (continues (last ∷ before) (goes_on_with view false last h))) one
-    ∙ ap (λ n. StretchTurn (record { heard = Damaged; number = n; rest = last.rest; groups = view.groups } ∷ mutes (last ∷ before))) c
-    ∙ ap (λ r. StretchTurn (record { heard = Damaged; number = number; rest = r; groups = view.groups } ∷ mutes (last ∷ before))) d
+    ∙ ap (λ n. StretchTurn (record { heard = Damaged; cm = n; cnd = last.cnd; groups = view.groups } ∷ mutes (last ∷ before))) c
+    ∙ ap (λ r. StretchTurn (record { heard = Damaged; cm = cm; cnd = r; groups = view.groups } ∷ mutes (last ∷ before))) d
     ∙ ap (λ h. mute_part (continues (last ∷ before) (goes_on_with (record view { message = said }) (two_damaged (last ∷ before)) last h))) (sym other)
   where
-    number_in_pair : Option (ℕ × ℕ) → ℕ
-    number_in_pair (Some p) = p.0
-    number_in_pair None = 0
+    cm_in_pair : Option (ℕ × ℕ) → ℕ
+    cm_in_pair (Some p) = p.0
+    cm_in_pair None = 0
 
-    rest_in_pair : Option (ℕ × ℕ) → ℕ
-    rest_in_pair (Some p) = p.1
-    rest_in_pair None = 0
+    cnd_in_pair : Option (ℕ × ℕ) → ℕ
+    cnd_in_pair (Some p) = p.1
+    cnd_in_pair None = 0
 
 -- what the law speaks of
-record Differ (own : Tributary) (past : List (Option View)) (view : View) (said : List ℕ) (number rest : ℕ) (equal : Bool) : Type 0 where
-  had : pair_had (course own past) ≡ Some (number, rest)
-  damaged : hears_message (Some number) (length own.slots) view.message ≡ Damaged
-  repeats : hears_message (Some number) (length own.slots) said ≡ Pair number rest equal
+record Differ (own : Tributary) (past : List (Option View)) (view : View) (said : List ℕ) (cm cnd : ℕ) (equal : Bool) : Type 0 where
+  had : pair_had (course own past) ≡ Some (cm, cnd)
+  damaged : hears_message (Some cm) (length own.slots) view.message ≡ Damaged
+  repeats : hears_message (Some cm) (length own.slots) said ≡ Pair cm cnd equal
 
 mute_course_next : (own : Tributary) (past : List (Option View)) (view : Option View)
     → mute_parts (course own (view ∷ past)) ≡ mute_part (next_part own (any_marked own (view ∷ past)) view (course own past)) ∷ mute_parts (course own past)
 mute_course_next own past view = ap mute_parts (course_next own past view)
 
 -- without what was heard, both courses are one
-mute_same : (own : Tributary) (past later : List (Option View)) (view : View) (said : List ℕ) (number rest : ℕ) (equal : Bool)
-    → Differ own past view said number rest equal
+mute_same : (own : Tributary) (past later : List (Option View)) (view : View) (said : List ℕ) (cm cnd : ℕ) (equal : Bool)
+    → Differ own past view said cm cnd equal
     → NeverThree own (later ++ Some view ∷ past) → NeverThree own (later ++ Some (record view { message = said }) ∷ past)
     → mute_parts (course own (later ++ Some view ∷ past)) ≡ mute_parts (course own (later ++ Some (record view { message = said }) ∷ past))
-mute_same own past [] view said number rest equal differ one other =
+mute_same own past [] view said cm cnd equal differ one other =
     mute_course_next own past (Some view)
     ∙ ap (λ part. part ∷ mute_parts (course own past))
-    (mute_turn own (any_marked own (Some view ∷ past)) view said number rest equal (course own past) differ.had differ.damaged differ.repeats one.0
+    (mute_turn own (any_marked own (Some view ∷ past)) view said cm cnd equal (course own past) differ.had differ.damaged differ.repeats one.0
     ∙ ap (λ t. mute_part (next_part own t (Some (record view { message = said })) (course own past))) (marked_same own past [] view said))
     ∙ sym (mute_course_next own past (Some (record view { message = said })))
-mute_same own past (v ∷ later) view said number rest equal differ one other =
-    let before = mute_same own past later view said number rest equal differ one.1 other.1 in
+mute_same own past (v ∷ later) view said cm cnd equal differ one other =
+    let before = mute_same own past later view said cm cnd equal differ one.1 other.1 in
     let first = later ++ Some view ∷ past in
     let second = later ++ Some (record view { message = said }) ∷ past in
     mute_course_next own first v
@@ -297,19 +297,19 @@ alike_state : (own : Tributary) (past others : List (Option View)) → mute_part
 alike_state own past others e = sym (mute_state (course own past)) ∙ ap state_of e ∙ mute_state (course own others)
 
 -- all turns
-all_alike : (own : Tributary) (ais : ℕ → ℕ) (past later : List (Option View)) (view : View) (said : List ℕ) (number rest : ℕ) (equal : Bool)
-    → Differ own past view said number rest equal
+all_alike : (own : Tributary) (ais : ℕ → ℕ) (past later : List (Option View)) (view : View) (said : List ℕ) (cm cnd : ℕ) (equal : Bool)
+    → Differ own past view said cm cnd equal
     → NeverThree own (later ++ Some view ∷ past) → NeverThree own (later ++ Some (record view { message = said }) ∷ past)
     → (emissions own ais (later ++ Some view ∷ past) ≡ emissions own ais (later ++ Some (record view { message = said }) ∷ past))
     × (states own (later ++ Some view ∷ past) ≡ states own (later ++ Some (record view { message = said }) ∷ past))
-all_alike own ais past [] view said number rest equal differ one other =
-    let same = mute_same own past [] view said number rest equal differ one other in
+all_alike own ais past [] view said cm cnd equal differ one other =
+    let same = mute_same own past [] view said cm cnd equal differ one other in
     let a = alike_emission own ais past past (Some view) (Some (record view { message = said })) same in
     let b = alike_state own (Some view ∷ past) (Some (record view { message = said }) ∷ past) same in
     (ap (λ x. x ∷ emissions own ais past) a, ap (λ x. x ∷ states own past) b)
-all_alike own ais past (v ∷ later) view said number rest equal differ one other =
-    let same = mute_same own past (v ∷ later) view said number rest equal differ one other in
-    let before = all_alike own ais past later view said number rest equal differ one.1 other.1 in
+all_alike own ais past (v ∷ later) view said cm cnd equal differ one other =
+    let same = mute_same own past (v ∷ later) view said cm cnd equal differ one other in
+    let before = all_alike own ais past later view said cm cnd equal differ one.1 other.1 in
     let first = later ++ Some view ∷ past in
     let second = later ++ Some (record view { message = said }) ∷ past in
     let a = alike_emission own ais first second v v same in
@@ -320,5 +320,5 @@ all_alike own ais past (v ∷ later) view said number rest equal differ one othe
 
 -- One damaged message is as the pair of the turn before, said again.
 pub as_if_repeated : IsAsIfRepeated
-as_if_repeated own ais past later view said number rest equal had damaged repeats one other =
-    all_alike own ais past later view said number rest equal (record { had = had; damaged = damaged; repeats = repeats }) one other
+as_if_repeated own ais past later view said cm cnd equal had damaged repeats one other =
+    all_alike own ais past later view said cm cnd equal (record { had = had; damaged = damaged; repeats = repeats }) one other

@@ -6,10 +6,10 @@ use Rattle.std.proofs.lemmas.List.Elements.{All-take}
 use Rattle.std.proofs.lemmas.Bool.{cases_lt}
 use Rattle.gmp_rule.specs.DataRule.{IsData}
 use Rattle.jc_codec.specs.Message.{says}
-use Rattle.cnd_codec.specs.Remainder.{says_rest}
+use Rattle.cnd_codec.specs.Remainder.{says_cnd}
 use Rattle.tributary_model.specs.Places.{Tributary, View}
 use Rattle.tributary_model.specs.Emission.{emission}
-use Rattle.tributary_model.specs.Carries.{sent, number_in, rest_in, former_of, number_before, CarriesGroups, CarriesTurn, IsSteady, past_of}
+use Rattle.tributary_model.specs.Carries.{sent, cm_in, cnd_in, former_of, cm_before, CarriesGroups, CarriesTurn, IsSteady, past_of}
 use Rattle.tributary_model.specs.Damage.{emissions}
 use Rattle.tributary_model.specs.Carriage.{Arrives, EmitsTwoLater}
 use Rattle.tributary_model.specs.Passing.{joined_back, lengths_back, JoinsToWhatIsCarried, JoinsToWholeGroups, EmitsAsMany, CarriesAllByFronts, PassesOn, SaysThreeLater, later, last_of, CarriesToTheEnd}
@@ -91,14 +91,14 @@ as_many own ais bytes p views s u (suc n) r h =
 record SameTotals (p q : List ℕ) (n : ℕ) : Type 0 where
   each : (i : ℕ) → i ≤ n + 1 → sent p i ≡ sent q i
 
-same_number : (m : ℕ) (p q : List ℕ) (n i : ℕ) → SameTotals p q n → i ≤ n → number_in m p i ≡ number_in m q i
+same_number : (m : ℕ) (p q : List ℕ) (n i : ℕ) → SameTotals p q n → i ≤ n → cm_in m p i ≡ cm_in m q i
 same_number m p q n i e h = ap (λ x. x / m - sent p i / m) (e.each (i + 1) (omega arith)) ∙ ap (λ x. sent q (i + 1) / m - x / m) (e.each i (omega arith))
 
 same_former : (m : ℕ) (p q : List ℕ) (n i : ℕ) → SameTotals p q n → i ≤ n → former_of m p i ≡ former_of m q i
 same_former m p q n zero e h = refl
 same_former m p q n (suc i) e h = ap (λ x. Some x) (same_number m p q n i e (omega arith))
 
-same_before : (m : ℕ) (p q : List ℕ) (n i : ℕ) → SameTotals p q n → i ≤ n → number_before m p i ≡ number_before m q i
+same_before : (m : ℕ) (p q : List ℕ) (n i : ℕ) → SameTotals p q n → i ≤ n → cm_before m p i ≡ cm_before m q i
 same_before m p q n zero e h = refl
 same_before m p q n (suc i) e h = same_number m p q n i e (omega arith)
 
@@ -107,18 +107,18 @@ groups_on : (m : ℕ) (all front p q : List ℕ) (k n : ℕ) (groups : List (Lis
     → CarriesGroups m front p n groups → CarriesGroups m all q n groups
 groups_on m all front p q k zero groups hm f low e up h = λ j l r d. absurd (let less : (j * 0) % 15232 < 0 = d in omega arith)
 groups_on m all front p q k (suc n) groups hm f low e up h = λ j l r d.
-    let c = number_in m q n in
-    let same : number_in m p n ≡ c = same_number m p q (suc n) n e (omega arith) in
+    let c = cm_in m q n in
+    let same : cm_in m p n ≡ c = same_number m p q (suc n) n e (omega arith) in
     let before : suc n - 1 ≡ n = omega arith in
     let total : sent p (suc n - 1) ≡ sent q n = e.each (suc n - 1) (omega arith) ∙ ap (sent q) before in
-    let old : slice_get groups (j - 1) ≡ Some (take m (drop (m * (sent p (suc n - 1) / m + j * number_in m p n / 15232 - 1)) front)) = h j l r (subst (λ c. IsData c j) (sym same) d) in
+    let old : slice_get groups (j - 1) ≡ Some (take m (drop (m * (sent p (suc n - 1) / m + j * cm_in m p n / 15232 - 1)) front)) = h j l r (subst (λ c. IsData c j) (sym same) d) in
     let place = m * (sent q n / m + j * c / 15232 - 1) in
     let ends : place + m ≤ m * (sent q n / m + c) = group_ends m (sent q n / m) c j d r in
     let next : n + 1 ≡ suc n = omega arith in
     let up_here : sent q n ≤ sent q (n + 1) = subst (λ x. sent q n ≤ sent q x) (sym next) (subst (λ x. sent q x ≤ sent q (suc n)) before up) in
     let whole : m * (sent q n / m + c) ≤ sent q (suc n) = subst (λ x. m * (sent q n / m + c) ≤ sent q x) next (groups_within m (sent q n) (sent q (n + 1)) hm up_here) in
     old
-    ∙ ap (λ t. Some (take m (drop (m * (t / m + j * number_in m p n / 15232 - 1)) front))) total
+    ∙ ap (λ t. Some (take m (drop (m * (t / m + j * cm_in m p n / 15232 - 1)) front))) total
     ∙ ap (λ c. Some (take m (drop (m * (sent q n / m + j * c / 15232 - 1)) front))) same
     ∙ ap (λ xs. Some (take m (drop place xs))) f
     ∙ ap (λ xs. Some xs) (within_front all m place k (omega arith))
@@ -131,9 +131,9 @@ turn_on own all front p q k n view hm f low e up h =
     record {
       message =
           h.message
-          ∙ ap (λ o. says o (number_in m p n) ++ says_rest (rest_in m p n)) (same_former m p q n n e (omega arith))
-          ∙ ap (λ c. says (former_of m q n) c ++ says_rest (rest_in m p n)) (same_number m p q n n e (omega arith))
-          ∙ ap (λ x. says (former_of m q n) (number_in m q n) ++ says_rest (x % m)) (e.each (n + 1) (omega arith));
+          ∙ ap (λ o. says o (cm_in m p n) ++ says_cnd (cnd_in m p n)) (same_former m p q n n e (omega arith))
+          ∙ ap (λ c. says (former_of m q n) c ++ says_cnd (cnd_in m p n)) (same_number m p q n n e (omega arith))
+          ∙ ap (λ x. says (former_of m q n) (cm_in m q n) ++ says_cnd (x % m)) (e.each (n + 1) (omega arith));
       msi = h.msi;
       groups = groups_on m all front p q k n view.groups hm f low e up h.groups;
     }
@@ -153,7 +153,7 @@ later_pairs m p t =
 -- ---- one node
 
 -- the numbers three turns later can be said where the numbers can
-later_fits : (m : ℕ) (p : List ℕ) (n : ℕ) → ((i : ℕ) → i + 3 ≡ n → number_in m p i ≤ 15232) → number_in m (0 ∷ 0 ∷ 0 ∷ p) n ≤ 15232
+later_fits : (m : ℕ) (p : List ℕ) (n : ℕ) → ((i : ℕ) → i + 3 ≡ n → cm_in m p i ≤ 15232) → cm_in m (0 ∷ 0 ∷ 0 ∷ p) n ≤ 15232
 later_fits m p n fits =
     let now = sent_later p n in
     let next = sent_later p (n + 1) in
@@ -209,8 +209,8 @@ passes_on own next ais bytes p views others s u w r stop sends =
         numbers = omega arith;
         enough = (let a = sent_later p (w + 1 - s) in let b = sent_up p (w + 1 - s - 3) (u + 1 - s) (omega arith) in omega arith);
         fits = λ t low high.
-            subst (λ k. number_in k q (t - s) ≤ 15232) (sym slots)
-            (later_fits m p (t - s) (λ i e. subst (λ x. number_in m p x ≤ 15232) (let f : s + i - s ≡ i = omega arith in f) (r.carries.fits (s + i) (omega arith) (omega arith))));
+            subst (λ k. cm_in k q (t - s) ≤ 15232) (sym slots)
+            (later_fits m p (t - s) (λ i e. subst (λ x. cm_in m p x ≤ 15232) (let f : s + i - s ≡ i = omega arith in f) (r.carries.fits (s + i) (omega arith) (omega arith))));
         each = λ t low high.
             let seen = sends.each t low high in
             (seen.0, (seen.1.0, sent_turn own next ais bytes p views others s u (t - s) seen.0 r slots (omega arith) seen.1.1));

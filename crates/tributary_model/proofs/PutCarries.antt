@@ -13,10 +13,10 @@ use Rattle.gmp_rule.proofs.CountLaw.{data_count_is}
 use Rattle.msi_table.specs.Marks.{msi_byte}
 use Rattle.odtu_columns.specs.Message.{message_of}
 use Rattle.jc_codec.specs.Message.{says}
-use Rattle.cnd_codec.specs.Remainder.{says_rest}
+use Rattle.cnd_codec.specs.Remainder.{says_cnd}
 use Rattle.tributary_model.specs.Places.{Tributary, Taken, byte_at, greatest, frame_groups, message_in, msi_at, msi_in, view_of, IsOwnMsi}
 use Rattle.tributary_model.specs.Laws.{IsTributary}
-use Rattle.tributary_model.specs.Carries.{sent, number_in, rest_in, number_before, former_of, cleared, CarriesGroups}
+use Rattle.tributary_model.specs.Carries.{sent, cm_in, cnd_in, cm_before, former_of, cleared, CarriesGroups}
 use Rattle.tributary_model.specs.Puts.{lengths_of, group_from, group_put, message_put, IsPut}
 use Rattle.tributary_model.specs.Sending.{IsSent, ShowsTurn, CarriesWhatIsPut}
 use Rattle.tributary_model.proofs.Totals.{group_ends}
@@ -64,18 +64,18 @@ group_long m c q bytes j h low high enough = go (is_data_at c j) refl
         omega arith
     go false e = length-replicate m 0
 
-put_long : (m : ℕ) (turns : List (List ℕ)) (t : ℕ) → 0 < m → number_before m (lengths_of turns) t ≤ 15232 → AllLong m (group_put m turns t) 15232
+put_long : (m : ℕ) (turns : List (List ℕ)) (t : ℕ) → 0 < m → cm_before m (lengths_of turns) t ≤ 15232 → AllLong m (group_put m turns t) 15232
 unfolding group_put
 put_long m turns t some fits j low high =
     let p = lengths_of turns in
     let within = turn_within m p t some in
     let inside = sent_inside turns t in
-    group_long m (number_before m p t) (sent p (t - 1) / m) (concat turns) j fits low high (omega arith)
+    group_long m (cm_before m p t) (sent p (t - 1) / m) (concat turns) j fits low high (omega arith)
 
-put_data : (m : ℕ) (turns : List (List ℕ)) (t j : ℕ) → number_before m (lengths_of turns) t ≤ 15232 → 1 ≤ j → IsData (number_before m (lengths_of turns) t) j
-    → group_put m turns t j ≡ take m (drop (m * (sent (lengths_of turns) (t - 1) / m + j * number_before m (lengths_of turns) t / 15232 - 1)) (concat turns))
+put_data : (m : ℕ) (turns : List (List ℕ)) (t j : ℕ) → cm_before m (lengths_of turns) t ≤ 15232 → 1 ≤ j → IsData (cm_before m (lengths_of turns) t) j
+    → group_put m turns t j ≡ take m (drop (m * (sent (lengths_of turns) (t - 1) / m + j * cm_before m (lengths_of turns) t / 15232 - 1)) (concat turns))
 unfolding group_put
-put_data m turns t j fits low d = data_group m (number_before m (lengths_of turns) t) (sent (lengths_of turns) (t - 1) / m) (concat turns) j fits low d
+put_data m turns t j fits low d = data_group m (cm_before m (lengths_of turns) t) (sent (lengths_of turns) (t - 1) / m) (concat turns) j fits low d
 
 -- ---- the groups of the view
 
@@ -84,7 +84,7 @@ all_cycles own n tr e =
     let even = tr.even in
     ap (λ k. 3808 / own.line_slots * (4 * k)) e ∙ (let f : 3808 / own.line_slots * (4 * own.line_slots) ≡ 4 * (own.line_slots * (3808 / own.line_slots)) = omega arith in f) ∙ ap (λ k. 4 * k) even
 
-view_groups : (own : Tributary) (turns : List (List ℕ)) (t : ℕ) (frames : List Taken) → IsSent own → number_before (length own.slots) (lengths_of turns) t ≤ 15232 → ShowsTurn own turns t frames
+view_groups : (own : Tributary) (turns : List (List ℕ)) (t : ℕ) (frames : List Taken) → IsSent own → cm_before (length own.slots) (lengths_of turns) t ≤ 15232 → ShowsTurn own turns t frames
     → (n : ℕ) → n ≡ 15232 → flat_map (λ f. frame_groups own f.frame) frames ≡ map (group_put (length own.slots) turns t) (range_with_len 1 n)
 view_groups own turns t frames is fits shows n all =
     let c = 3808 / own.line_slots in
@@ -97,7 +97,7 @@ view_groups own turns t frames is fits shows n all =
     ∙ ap (λ k. map g (range_with_len k (c * (4 * length frames)))) (let e : c * (4 * 0) + 1 ≡ 1 = omega arith in e)
     ∙ ap (λ k. map g (range_with_len 1 k)) (cycles ∙ sym all)
 
-carries_groups : (own : Tributary) (turns : List (List ℕ)) (t : ℕ) (frames : List Taken) (n : ℕ) → n ≡ 15232 → IsSent own → number_before (length own.slots) (lengths_of turns) t ≤ 15232 → ShowsTurn own turns t frames
+carries_groups : (own : Tributary) (turns : List (List ℕ)) (t : ℕ) (frames : List Taken) (n : ℕ) → n ≡ 15232 → IsSent own → cm_before (length own.slots) (lengths_of turns) t ≤ 15232 → ShowsTurn own turns t frames
     → CarriesGroups (length own.slots) (concat turns) (lengths_of turns) t (flat_map (λ f. frame_groups own f.frame) frames)
 carries_groups own turns t frames n all is fits shows = λ j low high d.
     let m = length own.slots in
@@ -127,7 +127,7 @@ six_bytes a b c x y z f h =
     cc
 
 frame_message : (own : Tributary) (turns : List (List ℕ)) (t n : ℕ) (frame : List ℕ) → n + 1 ≡ greatest own.slots → IsPut own turns t n frame → message_of frame ≡ message_put (length own.slots) turns t
-unfolding message_put says says_rest
+unfolding message_put says says_cnd
 frame_message own turns t n frame e put =
     six_bytes _ _ _ _ _ _ (λ row column. byte_at frame row column) (λ row column a b c d. put.message row column (record { frame = e; rows = (a, b); columns = (c, d) }))
 
@@ -175,12 +175,12 @@ msi_of_frames own (f ∷ frames) h =
 -- ---- a turn
 
 put_clear : (m : ℕ) (turns : List (List ℕ)) (t : ℕ) → 0 < m → m ≤ 32
-    → let p = lengths_of turns in cleared (message_put m turns t) ≡ says (former_of m p t) (number_in m p t) ++ says_rest (rest_in m p t)
+    → let p = lengths_of turns in cleared (message_put m turns t) ≡ says (former_of m p t) (cm_in m p t) ++ says_cnd (cnd_in m p t)
 unfolding message_put
 put_clear m turns t some few =
     let p = lengths_of turns in
-    let less : rest_in m p t < m = mod-lt (sent p (t + 1)) some in
-    clear_already (former_of m p t) (number_in m p t) (rest_in m p t) (omega arith)
+    let less : cnd_in m p t < m = mod-lt (sent p (t + 1)) some in
+    clear_already (former_of m p t) (cm_in m p t) (cnd_in m p t) (omega arith)
 
 pub carries_what_is_put : CarriesWhatIsPut
 unfolding view_of

@@ -10,7 +10,7 @@ use Rattle.std.proofs.lemmas.List.Sums.{sum_by-cons, sum_by_push}
 use Rattle.std.proofs.Math.Seq.{take-append-add}
 use Rattle.tributary_model.specs.Places.{Tributary, Taken, View, view_of, turn_view, IsWholeTurn, AreWholeTurns}
 use Rattle.tributary_model.specs.Emission.{emission, emitted_so_far}
-use Rattle.tributary_model.specs.Carries.{sent, number_in, number_before, CarriesTurn, past_of}
+use Rattle.tributary_model.specs.Carries.{sent, cm_in, cm_before, CarriesTurn, past_of}
 use Rattle.tributary_model.specs.Damage.{emissions}
 use Rattle.tributary_model.specs.Passing.{joined_back, lengths_back}
 use Rattle.tributary_model.specs.Puts.{lengths_of}
@@ -35,21 +35,21 @@ front_bytes (x ∷ turns) (suc n) =
 front_lengths : (turns : List (List ℕ)) (n : ℕ) → lengths_of (take n turns) ≡ take n (lengths_of turns)
 front_lengths turns n = sym (take-map length n turns)
 
-front_number : (m : ℕ) (p : List ℕ) (k i : ℕ) → i < k → number_in m (take k p) i ≡ number_in m p i
+front_number : (m : ℕ) (p : List ℕ) (k i : ℕ) → i < k → cm_in m (take k p) i ≡ cm_in m p i
 front_number m p k i l = ap (λ x. x / m - sent (take k p) i / m) (sent_front p k (i + 1) (omega arith)) ∙ ap (λ x. sent p (i + 1) / m - x / m) (sent_front p k i (omega arith))
 
-front_fits : (m : ℕ) (p : List ℕ) (k t : ℕ) → t < k → ((i : ℕ) → i < t → number_in m p i ≤ 15232) → number_before m (take k p) t ≤ 15232
+front_fits : (m : ℕ) (p : List ℕ) (k t : ℕ) → t < k → ((i : ℕ) → i < t → cm_in m p i ≤ 15232) → cm_before m (take k p) t ≤ 15232
 front_fits m p k zero l h = omega arith
 front_fits m p k (suc i) l h = let same = front_number m p k i (omega arith) in let fits = h i (omega arith) in omega arith
 
 -- a turn of the sending
-turn_sent : (own : Tributary) (turns : List (List ℕ)) (k t : ℕ) (frames : List Taken) → IsSent own → t < k → ((i : ℕ) → i < t → number_in (length own.slots) (lengths_of turns) i ≤ 15232)
+turn_sent : (own : Tributary) (turns : List (List ℕ)) (k t : ℕ) (frames : List Taken) → IsSent own → t < k → ((i : ℕ) → i < t → cm_in (length own.slots) (lengths_of turns) i ≤ 15232)
     → ShowsTurn own (take k turns) t frames → CarriesTurn own (concat turns) (lengths_of turns) t (view_of own frames)
 turn_sent own turns k t frames is l fits shows =
     let m = length own.slots in
     let p = lengths_of turns in
     let view = view_of own frames in
-    let low : number_before m (lengths_of (take k turns)) t ≤ 15232 = subst (λ q. number_before m q t ≤ 15232) (sym (front_lengths turns k)) (front_fits m p k t l fits) in
+    let low : cm_before m (lengths_of (take k turns)) t ≤ 15232 = subst (λ q. cm_before m q t ≤ 15232) (sym (front_lengths turns k)) (front_fits m p k t l fits) in
     let front : CarriesTurn own (concat (take k turns)) (lengths_of (take k turns)) t view = carries_what_is_put own (take k turns) t frames is low shows in
     all_by_fronts own (concat turns) p (sent p k) k t view is.tributary.slots.taken (sent_up p t k (omega arith)) l
     (subst (λ xs. CarriesTurn own xs (take k p) t view) (front_bytes turns k) (subst (λ q. CarriesTurn own (concat (take k turns)) q t view) (front_lengths turns k) front))
@@ -152,7 +152,7 @@ whole_past m views s (suc n) h = (h n (omega arith), whole_past m views s n (λ 
 
 -- the numbers fit of themselves
 emissions_fit : (own : Tributary) (ais : ℕ → ℕ) (views : ℕ → Option View) (s n : ℕ) → 0 < length own.slots → ((i : ℕ) → i < n → IsWholeTurn (length own.slots) (views (s + i)))
-    → number_before (length own.slots) (0 ∷ lengths_back (emissions own ais (past_of views s n))) n ≤ 15232
+    → cm_before (length own.slots) (0 ∷ lengths_back (emissions own ais (past_of views s n))) n ≤ 15232
 emissions_fit own ais views s zero some whole = omega arith
 emissions_fit own ais views s (suc zero) some whole =
     let m = length own.slots in
@@ -185,9 +185,9 @@ sends_on_what_is_put own next ais views frames s u is same whole each =
           let es = emissions own ais (past_of views s (t - s)) in
           let view = view_of next seen.0 in
           let lengths : lengths_of (turns_of es) ≡ 0 ∷ lengths_back es = ap (λ xs. 0 ∷ xs) (turn_lengths es) in
-          let few : number_before (length own.slots) (0 ∷ lengths_back es) (t - s) ≤ 15232 = emissions_fit own ais views s (t - s) some (λ i l. whole (s + i) (omega arith) (omega arith)) in
-          let fits : number_before m (lengths_of (turns_of es)) (t - s) ≤ 15232 =
-          subst (λ q. number_before m q (t - s) ≤ 15232) (sym lengths) (subst (λ k. number_before k (0 ∷ lengths_back es) (t - s) ≤ 15232) (sym same) few) in
+          let few : cm_before (length own.slots) (0 ∷ lengths_back es) (t - s) ≤ 15232 = emissions_fit own ais views s (t - s) some (λ i l. whole (s + i) (omega arith) (omega arith)) in
+          let fits : cm_before m (lengths_of (turns_of es)) (t - s) ≤ 15232 =
+          subst (λ q. cm_before m q (t - s) ≤ 15232) (sym lengths) (subst (λ k. cm_before k (0 ∷ lengths_back es) (t - s) ≤ 15232) (sym same) few) in
           let turn : CarriesTurn next (concat (turns_of es)) (lengths_of (turns_of es)) (t - s) view = carries_what_is_put next (turns_of es) (t - s) seen.0 is fits seen.1.1 in (
             view,
             (

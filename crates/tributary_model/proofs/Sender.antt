@@ -11,9 +11,9 @@ use Rattle.gmp_rule.specs.DataRule.{IsData, is_data_at}
 use Rattle.msi_table.specs.Marks.{msi_byte}
 use Rattle.crc_small.specs.LongDivision.{crc5_of, check_of, remainder_from, low_bits}
 use Rattle.jc_codec.specs.Message.{says}
-use Rattle.cnd_codec.specs.Remainder.{says_rest}
+use Rattle.cnd_codec.specs.Remainder.{says_cnd}
 use Rattle.tributary_model.specs.Places.{Tributary, View, IsWhole}
-use Rattle.tributary_model.specs.Carries.{sent, number_in, rest_in, former_of, number_before, cleared, CarriesTurn}
+use Rattle.tributary_model.specs.Carries.{sent, cm_in, cnd_in, former_of, cm_before, cleared, CarriesTurn}
 use Rattle.tributary_model.specs.Carriage.{CanBeCarried}
 use Rattle.tributary_model.proofs.Totals.{sent_up, groups_within, group_ends}
 
@@ -82,8 +82,8 @@ small_check : (d : ℕ) → d < 32 → crc5_of d < 32
 unfolding crc5_of check_of remainder_from low_bits
 small_check d h = ltb-true (crc5_of d) 32 (agree_below_at (λ d. nat_lt (crc5_of d) 32) (λ d. true) 32 d refl h)
 
-pub clear_already : (former : Option ℕ) (c d : ℕ) → d < 32 → cleared (says former c ++ says_rest d) ≡ says former c ++ says_rest d
-unfolding says says_rest
+pub clear_already : (former : Option ℕ) (c d : ℕ) → d < 32 → cleared (says former c ++ says_cnd d) ≡ says former c ++ says_cnd d
+unfolding says says_cnd
 clear_already former c d h =
     let a : d / 32 % 32 ≡ d / 32 = omega arith in
     let b : d % 32 % 32 ≡ d % 32 = omega arith in
@@ -97,8 +97,8 @@ clear_already former c d h =
 
 view_sent : Tributary → (bytes p : List ℕ) → (t : ℕ) → View
 view_sent own bytes p t = record {
-  groups = groups_sent (length own.slots) (number_before (length own.slots) p t) (sent p (t - 1) / length own.slots) bytes;
-  message = says (former_of (length own.slots) p t) (number_in (length own.slots) p t) ++ says_rest (rest_in (length own.slots) p t);
+  groups = groups_sent (length own.slots) (cm_before (length own.slots) p t) (sent p (t - 1) / length own.slots) bytes;
+  message = says (former_of (length own.slots) p t) (cm_in (length own.slots) p t) ++ says_cnd (cnd_in (length own.slots) p t);
   msi = [];
 }
 
@@ -106,28 +106,28 @@ sent_carries : (own : Tributary) (bytes p : List ℕ) (t : ℕ) → 0 < length o
 unfolding view_sent
 sent_carries own bytes p t some few =
     let m = length own.slots in
-    let less : rest_in m p t < m = mod-lt (sent p (t + 1)) some in
+    let less : cnd_in m p t < m = mod-lt (sent p (t + 1)) some in
     record {
-      message = clear_already (former_of m p t) (number_in m p t) (rest_in m p t) (omega arith);
+      message = clear_already (former_of m p t) (cm_in m p t) (cnd_in m p t) (omega arith);
       msi = All-nil (λ (x : ℕ × ℕ). x.1 ≡ msi_byte own.port);
-      groups = λ j low high d. get_sent m (number_before m p t) (sent p (t - 1) / m) bytes j low high d;
+      groups = λ j low high d. get_sent m (cm_before m p t) (sent p (t - 1) / m) bytes j low high d;
     }
 
 -- the groups of a turn lie in the bytes of the turns before it
-pub turn_within : (m : ℕ) (p : List ℕ) (t : ℕ) → 0 < m → m * (sent p (t - 1) / m + number_before m p t) ≤ sent p t
+pub turn_within : (m : ℕ) (p : List ℕ) (t : ℕ) → 0 < m → m * (sent p (t - 1) / m + cm_before m p t) ≤ sent p t
 turn_within m p zero h = (let e = div-add-mod 0 m in omega arith)
 turn_within m p (suc t) h =
     let before : suc t - 1 ≡ t = omega arith in
     let next : t + 1 ≡ suc t = omega arith in
-    subst (λ x. m * (sent p x / m + number_in m p t) ≤ sent p (suc t)) (sym before)
-    (subst (λ x. m * (sent p t / m + number_in m p t) ≤ sent p x) next (groups_within m (sent p t) (sent p (t + 1)) h (sent_up p t (t + 1) (omega arith))))
+    subst (λ x. m * (sent p x / m + cm_in m p t) ≤ sent p (suc t)) (sym before)
+    (subst (λ x. m * (sent p t / m + cm_in m p t) ≤ sent p x) next (groups_within m (sent p t) (sent p (t + 1)) h (sent_up p t (t + 1) (omega arith))))
 
 sent_whole : (own : Tributary) (bytes p : List ℕ) (t : ℕ) → 0 < length own.slots → sent p t ≤ length bytes → IsWhole (length own.slots) (view_sent own bytes p t)
 unfolding view_sent
 sent_whole own bytes p t some enough =
     let m = length own.slots in
     let within = turn_within m p t some in
-    record { many = sent_many m (number_before m p t) (sent p (t - 1) / m) bytes; each = sent_each m (number_before m p t) (sent p (t - 1) / m) bytes (omega arith) }
+    record { many = sent_many m (cm_before m p t) (sent p (t - 1) / m) bytes; each = sent_each m (cm_before m p t) (sent p (t - 1) / m) bytes (omega arith) }
 
 pub can_be_carried : CanBeCarried
 can_be_carried own bytes p s u some few numbers enough fits steady = (

@@ -6,14 +6,14 @@ use Rattle.std.proofs.lemmas.List.{drop-append-le, take_min, drop_min, length-dr
 use Rattle.std.proofs.Math.Nat.{mul-le-mul_left}
 use Rattle.std.proofs.Math.Seq.{take-append-add, drop-append-add, take-length}
 use Rattle.tributary_model.specs.Stretches.{Member}
-use Rattle.tributary_model.specs.Emission.{data_bytes, extracted, extracted_total, due_total, emitted_total, numbers_sum, emits_in, emits_at_end}
+use Rattle.tributary_model.specs.Emission.{data_bytes, extracted, extracted_total, due_total, emitted_total, cm_sum, emits_in, emits_at_end}
 use Rattle.tributary_model.specs.Machine.{given_of, kept_of}
 use Rattle.tributary_model.proofs.Sizes.{data_length}
 
 -- the pairs of a stretch are those of messages that are not damaged
 abbrev pub AreSmall : (m : ℕ) → List Member → Type 0
 AreSmall m [] = Unit {0}
-AreSmall m (turn ∷ rest) = (turn.number ≤ 15232) × (turn.rest < m) × AreSmall m rest
+AreSmall m (turn ∷ rest) = (turn.cm ≤ 15232) × (turn.cnd < m) × AreSmall m rest
 
 -- what holds of every stretch: Ext has X bytes, E is at most X, and at most a multiframe's bytes are left
 pub record IsSound (m : ℕ) (stretch : List Member) : Type 0 where
@@ -23,15 +23,15 @@ pub record IsSound (m : ℕ) (stretch : List Member) : Type 0 where
   pub near : extracted_total m stretch ≤ emitted_total m stretch + m * 15232
 
 -- the remainder of the turn before the last
-abbrev pub former_rest : List Member → Option ℕ
-former_rest [] = None
-former_rest (before ∷ rest) = Some before.rest
+abbrev pub former_cnd : List Member → Option ℕ
+former_cnd [] = None
+former_cnd (before ∷ rest) = Some before.cnd
 
 -- what is extracted and not emitted
 unfoldable pub left_over : (m : ℕ) → List Member → List ℕ
 left_over m stretch = drop (emitted_total m stretch) (extracted stretch)
 
-pub sound_first : (m : ℕ) (first : Member) → first.number ≤ 15232 → first.rest < m → IsSound m (first ∷ [])
+pub sound_first : (m : ℕ) (first : Member) → first.cm ≤ 15232 → first.cnd < m → IsSound m (first ∷ [])
 unfolding extracted emitted_total
 sound_first m first h k = record { small = (h, k, tt); size = omega arith; below = omega arith; near = omega arith }
 
@@ -48,7 +48,7 @@ range_across xs ys e n h =
     let long : length xs + n - e ≡ length (drop e xs) + n = (let d = length-drop e xs in omega arith) in
     ap (λ i. take i (drop e (xs ++ ys))) long ∙ ap (take (length (drop e xs) + n)) (drop-append-le e xs ys h) ∙ take-append-add (drop e xs) ys n
 
-extracted_more : (next last : Member) (before : List Member) → extracted (next ∷ last ∷ before) ≡ extracted (last ∷ before) ++ data_bytes last.number next.groups
+extracted_more : (next last : Member) (before : List Member) → extracted (next ∷ last ∷ before) ≡ extracted (last ∷ before) ++ data_bytes last.cm next.groups
 unfolding extracted
 extracted_more next last before = refl
 
@@ -73,10 +73,10 @@ emitted_later m next last before rest = refl
 -- from the third turn on, a turn brings what is emitted up to all that was extracted before it and the remainder of two
 -- turns ago
 emitted_is : (m : ℕ) (next last before : Member) (rest : List Member) → emitted_total m (last ∷ before ∷ rest) ≤ extracted_total m (last ∷ before ∷ rest)
-    → emitted_total m (next ∷ last ∷ before ∷ rest) ≡ extracted_total m (last ∷ before ∷ rest) + min before.rest (m * last.number)
+    → emitted_total m (next ∷ last ∷ before ∷ rest) ≡ extracted_total m (last ∷ before ∷ rest) + min before.cnd (m * last.cm)
 emitted_is m next last before rest h =
     let here = emitted_later m next last before rest in
-    let more : m * (numbers_sum (before ∷ rest) + last.number) ≡ m * numbers_sum (before ∷ rest) + m * last.number = omega arith in
+    let more : m * (cm_sum (before ∷ rest) + last.cm) ≡ m * cm_sum (before ∷ rest) + m * last.cm = omega arith in
     omega arith
 
 -- what a turn more owes
@@ -88,22 +88,22 @@ pub record Grows (m : ℕ) (next : Member) (stretch : List Member) (former : Opt
   pub count : emitted_total m stretch + length (emits_in m (next ∷ stretch)) ≡ emitted_total m (next ∷ stretch)
   pub up_to : emitted_total m (next ∷ stretch) < extracted_total m stretch + m
 
-fresh_length : (m : ℕ) (next last : Member) → last.number ≤ 15232 → length next.groups ≡ 15232 → All (λ g. length g ≡ m) next.groups → length (data_bytes last.number next.groups) ≡ m * last.number
-fresh_length m next last h n each = data_length m last.number next.groups h n each
+fresh_length : (m : ℕ) (next last : Member) → last.cm ≤ 15232 → length next.groups ≡ 15232 → All (λ g. length g ≡ m) next.groups → length (data_bytes last.cm next.groups) ≡ m * last.cm
+fresh_length m next last h n each = data_length m last.cm next.groups h n each
 
-grows_second : (m : ℕ) (next first : Member) → IsSound m (first ∷ []) → next.number ≤ 15232 → next.rest < m → length next.groups ≡ 15232 → All (λ g. length g ≡ m) next.groups
-    → Grows m next (first ∷ []) None (data_bytes first.number next.groups)
+grows_second : (m : ℕ) (next first : Member) → IsSound m (first ∷ []) → next.cm ≤ 15232 → next.cnd < m → length next.groups ≡ 15232 → All (λ g. length g ≡ m) next.groups
+    → Grows m next (first ∷ []) None (data_bytes first.cm next.groups)
 unfolding left_over
 grows_second m next first sound low less many each =
-    let fresh = data_bytes first.number next.groups in
-    let long : length fresh ≡ m * first.number = fresh_length m next first sound.small.0 many each in
-    let less_first : first.rest < m = sound.small.1 in
-    let low_first : first.number ≤ 15232 = sound.small.0 in
-    let most : m * first.number ≤ m * 15232 = mul-le-mul_left m low_first in
+    let fresh = data_bytes first.cm next.groups in
+    let long : length fresh ≡ m * first.cm = fresh_length m next first sound.small.0 many each in
+    let less_first : first.cnd < m = sound.small.1 in
+    let low_first : first.cm ≤ 15232 = sound.small.0 in
+    let most : m * first.cm ≤ m * 15232 = mul-le-mul_left m low_first in
     let grown : extracted (next ∷ first ∷ []) ≡ fresh = extracted_more next first [] ∙ ap (λ y. y ++ fresh) (extracted_first first) in
     let e0 = emitted_first m first in
     let e1 = emitted_second m next first in
-    let total : extracted_total m (next ∷ first ∷ []) ≡ m * first.number = (let e : m * (0 + first.number) ≡ m * first.number = omega arith in e) in
+    let total : extracted_total m (next ∷ first ∷ []) ≡ m * first.cm = (let e : m * (0 + first.cm) ≡ m * first.cm = omega arith in e) in
     let none : emits_in m (next ∷ first ∷ []) ≡ [] = ap (λ i. slice_range (extracted (next ∷ first ∷ [])) (emitted_total m (first ∷ [])) i) e1 ∙ ap (λ i. slice_range (extracted (next ∷ first ∷ [])) i 0) e0 in
     record {
       gives = sym none;
@@ -119,24 +119,24 @@ grows_second m next first sound low less many each =
       up_to = omega arith;
     }
 
-grows_later : (m : ℕ) (next last before : Member) (rest : List Member) → IsSound m (last ∷ before ∷ rest) → next.number ≤ 15232 → next.rest < m
+grows_later : (m : ℕ) (next last before : Member) (rest : List Member) → IsSound m (last ∷ before ∷ rest) → next.cm ≤ 15232 → next.cnd < m
     → length next.groups ≡ 15232 → All (λ g. length g ≡ m) next.groups
-    → Grows m next (last ∷ before ∷ rest) (Some before.rest) (data_bytes last.number next.groups)
+    → Grows m next (last ∷ before ∷ rest) (Some before.cnd) (data_bytes last.cm next.groups)
 unfolding left_over
 grows_later m next last before rest sound low less many each =
-    let fresh = data_bytes last.number next.groups in
+    let fresh = data_bytes last.cm next.groups in
     let old = extracted (last ∷ before ∷ rest) in
     let e = emitted_total m (last ∷ before ∷ rest) in
-    let due = before.rest in
-    let long : length fresh ≡ m * last.number = fresh_length m next last sound.small.0 many each in
-    let low_last : last.number ≤ 15232 = sound.small.0 in
+    let due = before.cnd in
+    let long : length fresh ≡ m * last.cm = fresh_length m next last sound.small.0 many each in
+    let low_last : last.cm ≤ 15232 = sound.small.0 in
     let less_before : due < m = sound.small.2.1 in
-    let most : m * last.number ≤ m * 15232 = mul-le-mul_left m low_last in
+    let most : m * last.cm ≤ m * 15232 = mul-le-mul_left m low_last in
     let grown : extracted (next ∷ last ∷ before ∷ rest) ≡ old ++ fresh = extracted_more next last (before ∷ rest) in
     let size : length old ≡ extracted_total m (last ∷ before ∷ rest) = sound.size in
-    let total : extracted_total m (next ∷ last ∷ before ∷ rest) ≡ extracted_total m (last ∷ before ∷ rest) + m * last.number =
-    (let d : m * (numbers_sum (before ∷ rest) + last.number) ≡ m * numbers_sum (before ∷ rest) + m * last.number = omega arith in d) in
-    let least : min due (m * last.number) ≡ min due (length fresh) = ap (min due) (sym long) in
+    let total : extracted_total m (next ∷ last ∷ before ∷ rest) ≡ extracted_total m (last ∷ before ∷ rest) + m * last.cm =
+    (let d : m * (cm_sum (before ∷ rest) + last.cm) ≡ m * cm_sum (before ∷ rest) + m * last.cm = omega arith in d) in
+    let least : min due (m * last.cm) ≡ min due (length fresh) = ap (min due) (sym long) in
     let now : emitted_total m (next ∷ last ∷ before ∷ rest) ≡ length old + min due (length fresh) = (let i = emitted_is m next last before rest sound.below in omega arith) in
     let inside : e ≤ length old = (let b = sound.below in omega arith) in
     let given : emits_in m (next ∷ last ∷ before ∷ rest) ≡ drop e old ++ take due fresh =
@@ -170,9 +170,9 @@ grows_later m next last before rest sound low less many each =
     }
 
 -- what one turn more gives and leaves, whatever the stretch
-pub grows : (m : ℕ) (next last : Member) (before : List Member) → IsSound m (last ∷ before) → next.number ≤ 15232 → next.rest < m
+pub grows : (m : ℕ) (next last : Member) (before : List Member) → IsSound m (last ∷ before) → next.cm ≤ 15232 → next.cnd < m
     → length next.groups ≡ 15232 → All (λ g. length g ≡ m) next.groups
-    → Grows m next (last ∷ before) (former_rest before) (data_bytes last.number next.groups)
+    → Grows m next (last ∷ before) (former_cnd before) (data_bytes last.cm next.groups)
 grows m next first [] sound low less many each = grows_second m next first sound low less many each
 grows m next last (before ∷ rest) sound low less many each = grows_later m next last before rest sound low less many each
 

@@ -5,7 +5,7 @@ use Rattle.std.proofs.lemmas.List.{take-take, length-take-le}
 use Rattle.std.proofs.lemmas.List.Sums.{sum_by_more, sum_by-cons, sum_by-take-le}
 use Rattle.std.proofs.Math.Nat.{mul-le-mul_left, lt-mul-div-succ, div-add-mod, div-add-mod', le-div_iff_mul-le}
 use Rattle.gmp_rule.specs.DataRule.{IsData}
-use Rattle.tributary_model.specs.Carries.{sent, number_in, IsSteady}
+use Rattle.tributary_model.specs.Carries.{sent, cm_in, IsSteady}
 use Rattle.tributary_model.proofs.Sizes.{All_first}
 use Rattle.tributary_model.proofs.Ranges.{front_of, back_of, joined}
 
@@ -82,7 +82,7 @@ pub div_up : (m a b : ℕ) → 0 < m → a ≤ b → a / m ≤ b / m
 div_up m a b h k = (le-div_iff_mul-le h).1 (let e = div-add-mod' a m in omega arith)
 
 -- a turn's number leads from the whole groups before it to those after it
-pub groups_next : (m : ℕ) (p : List ℕ) (i : ℕ) → 0 < m → i < length p → sent p i / m + number_in m p i ≡ sent p (i + 1) / m
+pub groups_next : (m : ℕ) (p : List ℕ) (i : ℕ) → 0 < m → i < length p → sent p i / m + cm_in m p i ≡ sent p (i + 1) / m
 groups_next m p i h l =
     let more : sent p i ≤ sent p (i + 1) = (let e = sent_next p i l in omega arith) in
     let up : sent p i / m ≤ sent p (i + 1) / m = div_up m (sent p i) (sent p (i + 1)) h more in

@@ -6,7 +6,7 @@ use Rattle.tributary_model.specs.declared.turns.SinkState.TheVariants.{Up, Down}
 use Rattle.tributary_model.specs.Places.{Tributary, View, IsWholeTurn}
 use Rattle.tributary_model.specs.Stretches.{any_marked, state_after}
 use Rattle.tributary_model.specs.Emission.{emission}
-use Rattle.tributary_model.specs.Carries.{sent, number_in, Carries, IsSteady, past_of}
+use Rattle.tributary_model.specs.Carries.{sent, cm_in, Carries, IsSteady, past_of}
 
 -- The views of a connection that began with turn a. Whatever those before turn b are, those from b to u carry the bytes
 -- by the numbers of p, of a sender that began with turn s. Up to turn u the numbers are steady.
@@ -81,6 +81,6 @@ IsUpAfterDamage = (own : Tributary) (bytes p : List ℕ) (views : ℕ → Option
 abbrev pub CanBeCarried : Type 0
 CanBeCarried = (own : Tributary) (bytes p : List ℕ) (s u : ℕ)
     → 0 < length own.slots → length own.slots ≤ MOST_SLOTS → u + 1 - s ≤ length p → sent p (u + 1 - s) ≤ length bytes
-    → ((i : ℕ) → s + i ≤ u → number_in (length own.slots) p i ≤ GROUPS)
+    → ((i : ℕ) → s + i ≤ u → cm_in (length own.slots) p i ≤ GROUPS)
     → IsSteady (length own.slots) (take (u + 1 - s) p)
     → (views : ℕ → Option View) × Arrives own bytes p views s s s u

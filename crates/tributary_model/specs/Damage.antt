@@ -14,7 +14,7 @@ pair_had (WaitingTurn ∷ parts) = None
 pair_had (DownTurn ∷ parts) = None
 pair_had (EndingTurn stretch ∷ parts) = None
 pair_had (StretchTurn [] ∷ parts) = None
-pair_had (StretchTurn (last ∷ before) ∷ parts) = Some (last.number, last.rest)
+pair_had (StretchTurn (last ∷ before) ∷ parts) = Some (last.cm, last.cnd)
 
 -- whether the message of a turn with this view is the third damaged one in a row of the stretch that goes on
 abbrev pub is_third : Tributary → Option View → List Part → Bool
@@ -25,7 +25,7 @@ is_third own view (EndingTurn stretch ∷ parts) = false
 is_third own view (StretchTurn [] ∷ parts) = false
 is_third own None (StretchTurn (last ∷ before) ∷ parts) = false
 is_third own (Some view) (StretchTurn (last ∷ before) ∷ parts) =
-    two_damaged (last ∷ before) && is_damaged (hears_message (Some last.number) (length own.slots) view.message)
+    two_damaged (last ∷ before) && is_damaged (hears_message (Some last.cm) (length own.slots) view.message)
 
 -- no stretch has a third damaged message in a row in any of these turns, the last first; outside a stretch damaged ones
 -- do not count
@@ -48,10 +48,10 @@ states own (view ∷ past) = state_after own (view ∷ past) ∷ states own past
 -- every emission and every state is equal for both.
 abbrev pub IsAsIfRepeated : Type 0
 IsAsIfRepeated = (own : Tributary) (ais : ℕ → ℕ) (past later : List (Option View)) (view : View) (said : List ℕ)
-    (number rest : ℕ) (equal : Bool)
-    → pair_had (course own past) ≡ Some (number, rest)
-    → hears_message (Some number) (length own.slots) view.message ≡ Damaged
-    → hears_message (Some number) (length own.slots) said ≡ Pair number rest equal
+    (cm cnd : ℕ) (equal : Bool)
+    → pair_had (course own past) ≡ Some (cm, cnd)
+    → hears_message (Some cm) (length own.slots) view.message ≡ Damaged
+    → hears_message (Some cm) (length own.slots) said ≡ Pair cm cnd equal
     → NeverThree own (later ++ Some view ∷ past)
     → NeverThree own (later ++ Some (record view { message = said }) ∷ past)
     → (emissions own ais (later ++ Some view ∷ past)

@@ -16,24 +16,24 @@ data_bytes c groups = flat_map (λ p. if is_data_at c (p.0) then p.1 else []) (e
 unfoldable pub extracted : List Member → List ℕ
 extracted [] = []
 extracted (first ∷ []) = []
-extracted (turn ∷ before ∷ earlier) = extracted (before ∷ earlier) ++ data_bytes before.number turn.groups
+extracted (turn ∷ before ∷ earlier) = extracted (before ∷ earlier) ++ data_bytes before.cm turn.groups
 
 -- C(a) + .. + C(t)
-abbrev pub numbers_sum : List Member → ℕ
-numbers_sum [] = 0
-numbers_sum (turn ∷ earlier) = numbers_sum earlier + turn.number
+abbrev pub cm_sum : List Member → ℕ
+cm_sum [] = 0
+cm_sum (turn ∷ earlier) = cm_sum earlier + turn.cm
 
 -- X(t) = M * (C(a) + .. + C(t - 1)): how many bytes are extracted up to the end of the last turn, t
 abbrev pub extracted_total : (m : ℕ) → List Member → ℕ
 extracted_total m [] = 0
-extracted_total m (turn ∷ earlier) = m * numbers_sum earlier
+extracted_total m (turn ∷ earlier) = m * cm_sum earlier
 
 -- Due(t) = M * (C(a) + .. + C(t - 2)) + D(t - 2) from t = a + 2 on, else 0: how many bytes the messages make due
 abbrev pub due_total : (m : ℕ) → List Member → ℕ
 due_total m [] = 0
 due_total m (first ∷ []) = 0
 due_total m (second ∷ first ∷ []) = 0
-due_total m (turn ∷ before ∷ two_before ∷ earlier) = m * numbers_sum (two_before ∷ earlier) + two_before.rest
+due_total m (turn ∷ before ∷ two_before ∷ earlier) = m * cm_sum (two_before ∷ earlier) + two_before.cnd
 
 -- E(t) = max (E(t - 1), min (X(t), Due(t))), and 0 at the first turn: how many bytes are emitted up to the end of the
 -- last turn

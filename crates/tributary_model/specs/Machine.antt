@@ -30,13 +30,13 @@ start = record { standing = Waiting 0; pending = []; place = 0 }
 abbrev pub former_of : Standing → Option ℕ
 former_of (Waiting n) = None
 former_of Down = None
-former_of (Up said) = Some said.number
+former_of (Up said) = Some said.cm
 
 -- the number by which the groups of the next turn are data: the last one of the stretch, or 0 outside one
-abbrev pub number_of : Standing → ℕ
-number_of (Waiting n) = 0
-number_of Down = 0
-number_of (Up said) = said.number
+abbrev pub cm_of : Standing → ℕ
+cm_of (Waiting n) = 0
+cm_of Down = 0
+cm_of (Up said) = said.cm
 
 -- what is heard in a turn: nothing without a multiframe or where an own slot is marked
 abbrev pub heard_in : Option ℕ → (m : ℕ) → (marked : Bool) → Option View → Option Hearing
@@ -46,8 +46,8 @@ heard_in former m false (Some view) = Some (hears_message former m view.message)
 
 -- what is said in the first turn of a stretch, where a message begins one
 abbrev pub first_said : Hearing → Option Said
-first_said (Pair number rest true) = Some (record { number = number; rest = rest; damaged = 0; due = None })
-first_said (Pair number rest false) = None
+first_said (Pair cm cnd true) = Some (record { cm = cm; cnd = cnd; damaged = 0; due = None })
+first_said (Pair cm cnd false) = None
 first_said Damaged = None
 first_said Lost = None
 
@@ -58,12 +58,12 @@ begun (Some heard) = first_said heard
 
 -- what is said in the next turn, where the stretch goes on
 abbrev pub next_said : Said → Hearing → Option Said
-next_said said (Pair number rest equal) = Some
-    (record { number = number; rest = rest; damaged = 0; due = Some said.rest })
+next_said said (Pair cm cnd equal) = Some
+    (record { cm = cm; cnd = cnd; damaged = 0; due = Some said.cnd })
 next_said said Lost = None
 next_said said Damaged =
     if nat_le 2 said.damaged then None
-    else Some (record { number = said.number; rest = said.rest; damaged = said.damaged + 1; due = Some said.rest })
+    else Some (record { cm = said.cm; cnd = said.cnd; damaged = said.damaged + 1; due = Some said.cnd })
 
 -- the same of what a turn has: the stretch ends where nothing is heard in it
 abbrev pub gone_on : Option Hearing → Said → Option Said
@@ -138,12 +138,12 @@ gives_heard m ais heard fresh s = gives_standing m ais heard fresh s s.standing
 -- the machine after a turn with this view
 abbrev pub after : (m : ℕ) → (marked : Bool) → Option View → Machine → Machine
 after m marked view s = after_heard m (heard_in (former_of s.standing) m marked view)
-    (data_bytes (number_of s.standing) (groups_of view)) s
+    (data_bytes (cm_of s.standing) (groups_of view)) s
 
 -- what the machine emits in a turn with this view
 abbrev pub gives : (m : ℕ) → (ais : ℕ → ℕ) → (marked : Bool) → Option View → Machine → List ℕ
 gives m ais marked view s = gives_heard m ais (heard_in (former_of s.standing) m marked view)
-    (data_bytes (number_of s.standing) (groups_of view)) s
+    (data_bytes (cm_of s.standing) (groups_of view)) s
 
 -- the machine after these turns, the last first
 unfoldable pub machine_after : Tributary → List (Option View) → Machine

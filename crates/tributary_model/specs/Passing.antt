@@ -3,7 +3,7 @@ use Rattle.std.specs.Prelude.{◌≡◌, ℕ, zero, suc, ◌+◌, ◌-◌, ◌*�
 use Rattle.tributary_model.specs.declared.turns.SinkState.TheVariants.{Down}
 use Rattle.tributary_model.specs.Places.{Tributary, View, IsWholeTurn}
 use Rattle.tributary_model.specs.Stretches.{state_after}
-use Rattle.tributary_model.specs.Carries.{sent, number_in, rest_in, CarriesTurn, past_of}
+use Rattle.tributary_model.specs.Carries.{sent, cm_in, cnd_in, CarriesTurn, past_of}
 use Rattle.tributary_model.specs.Damage.{emissions}
 use Rattle.tributary_model.specs.Carriage.{Arrives}
 
@@ -64,7 +64,7 @@ PassesOn = (own next : Tributary) (ais : ℕ → ℕ) (bytes p : List ℕ) (view
 -- The pairs C and D that they say are the sender's, three turns later.
 abbrev pub SaysThreeLater : Type 0
 SaysThreeLater = (m : ℕ) (p : List ℕ) (t : ℕ)
-    → (number_in m (0 ∷ 0 ∷ 0 ∷ p) (t + 3) ≡ number_in m p t) × (rest_in m (0 ∷ 0 ∷ 0 ∷ p) (t + 3) ≡ rest_in m p t)
+    → (cm_in m (0 ∷ 0 ∷ 0 ∷ p) (t + 3) ≡ cm_in m p t) × (cnd_in m (0 ∷ 0 ∷ 0 ∷ p) (t + 3) ≡ cnd_in m p t)
 
 -- three turns later for each of k nodes
 abbrev pub later : (k : ℕ) → List ℕ → List ℕ

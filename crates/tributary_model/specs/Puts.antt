@@ -6,10 +6,10 @@ use Rattle.std.specs.List.{concat, Contains}
 use Rattle.otn_base.specs.declared.limits.TheConstants.{LINE_COLUMNS, PAYLOAD_COLUMNS}
 use Rattle.gmp_rule.specs.DataRule.{is_data_at, data_count}
 use Rattle.jc_codec.specs.Message.{says}
-use Rattle.cnd_codec.specs.Remainder.{says_rest}
+use Rattle.cnd_codec.specs.Remainder.{says_cnd}
 use Rattle.odtu_columns.specs.Columns.{slot_of}
 use Rattle.tributary_model.specs.Places.{Tributary, byte_at, greatest, IsOwnPayload, IsOwnMessage}
-use Rattle.tributary_model.specs.Carries.{sent, number_in, rest_in, number_before, former_of}
+use Rattle.tributary_model.specs.Carries.{sent, cm_in, cnd_in, cm_before, former_of}
 
 -- how many bytes each of the turns brings
 abbrev pub lengths_of : List (List ℕ) → List ℕ
@@ -28,13 +28,13 @@ group_from m c q bytes j = if is_data_at c j then take m (drop (m * (q + data_co
 unfoldable pub group_put : (m : ℕ) → (turns : List (List ℕ)) → (t j : ℕ) → List ℕ
 group_put m turns t j =
     let p = lengths_of turns in
-    group_from m (number_before m p t) (sent p (t - 1) / m) (concat turns) j
+    group_from m (cm_before m p t) (sent p (t - 1) / m) (concat turns) j
 
 -- The message of turn t: C(t) after C(t - 1), or after none in the first turn, and D(t).
 unfoldable pub message_put : (m : ℕ) → (turns : List (List ℕ)) → (t : ℕ) → List ℕ
 message_put m turns t =
     let p = lengths_of turns in
-    says (former_of m p t) (number_in m p t) ++ says_rest (rest_in m p t)
+    says (former_of m p t) (cm_in m p t) ++ says_cnd (cnd_in m p t)
 
 -- ---- by own place, in frame n, from 0, of the multiframe
 

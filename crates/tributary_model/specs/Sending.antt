@@ -5,7 +5,7 @@ use Rattle.otn_base.specs.declared.limits.TheConstants.{GROUPS, MOST_SLOTS}
 use Rattle.msi_table.specs.Marks.{msi_byte}
 use Rattle.tributary_model.specs.Places.{Tributary, Taken, View, byte_at, IsOwnMsi, view_of, turn_view, IsWholeTurn}
 use Rattle.tributary_model.specs.Laws.{IsTributary}
-use Rattle.tributary_model.specs.Carries.{number_in, number_before, CarriesTurn, Carries, IsSteady, past_of}
+use Rattle.tributary_model.specs.Carries.{cm_in, cm_before, CarriesTurn, Carries, IsSteady, past_of}
 use Rattle.tributary_model.specs.Damage.{emissions}
 use Rattle.tributary_model.specs.Carriage.{Arrives}
 use Rattle.tributary_model.specs.Passing.{SendsOn}
@@ -26,7 +26,7 @@ pub record ShowsTurn (own : Tributary) (turns : List (List ℕ)) (t : ℕ) (fram
 -- Their view carries the bytes of the turns, whatever else stands in them.
 abbrev pub CarriesWhatIsPut : Type 0
 CarriesWhatIsPut = (own : Tributary) (turns : List (List ℕ)) (t : ℕ) (frames : List Taken)
-    → IsSent own → number_before (length own.slots) (lengths_of turns) t ≤ GROUPS → ShowsTurn own turns t frames
+    → IsSent own → cm_before (length own.slots) (lengths_of turns) t ≤ GROUPS → ShowsTurn own turns t frames
     → CarriesTurn own (concat turns) (lengths_of turns) t (view_of own frames)
 
 -- In each turn from s to u of a line the frames have what a source puts that began with turn s, by the turns that it
@@ -34,7 +34,7 @@ CarriesWhatIsPut = (own : Tributary) (turns : List (List ℕ)) (t : ℕ) (frames
 pub record Sends (own : Tributary) (turns : List (List ℕ)) (frames : ℕ → Option (List Taken)) (s u : ℕ) : Type 0 where
   pub own_is : IsSent own
   pub enough : u + 1 - s ≤ length turns
-  pub fits : (i : ℕ) → s + i ≤ u → number_in (length own.slots) (lengths_of turns) i ≤ GROUPS
+  pub fits : (i : ℕ) → s + i ≤ u → cm_in (length own.slots) (lengths_of turns) i ≤ GROUPS
   pub each : (t : ℕ) → s ≤ t → t ≤ u → (multiframe : List Taken)
       × ((frames t ≡ Some multiframe) × ShowsTurn own (take (t + 1 - s) turns) (t - s) multiframe)
 

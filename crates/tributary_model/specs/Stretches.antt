@@ -40,8 +40,8 @@ any_marked own past = list_any (λ k. is_marked own.port (came k past)) own.slot
 -- a turn of a stretch: what its message was heard as, its pair C and D, and its groups
 pub record Member : Type 0 where
   pub heard : Hearing
-  pub number : ℕ
-  pub rest : ℕ
+  pub cm : ℕ
+  pub cnd : ℕ
   pub groups : List (List ℕ)
 
 -- What a turn is: in no stretch, Waiting or Down; or in a stretch, whose turns so far are listed with this one first;
@@ -55,9 +55,9 @@ pub data Part : Type 0 where
 
 -- a message that begins a stretch: a pair with equal indicators
 abbrev pub fit_pair : View → Hearing → Option Member
-fit_pair view (Pair number rest true) = Some
-    (record { heard = Pair number rest true; number = number; rest = rest; groups = view.groups })
-fit_pair view (Pair number rest false) = None
+fit_pair view (Pair cm cnd true) = Some
+    (record { heard = Pair cm cnd true; cm = cm; cnd = cnd; groups = view.groups })
+fit_pair view (Pair cm cnd false) = None
 fit_pair view Damaged = None
 fit_pair view Lost = None
 
@@ -72,7 +72,7 @@ fit own false (Some view) = fit_pair view (hears_message None (length own.slots)
 abbrev pub is_damaged : Hearing → Bool
 is_damaged Damaged = true
 is_damaged Lost = false
-is_damaged (Pair number rest equal) = false
+is_damaged (Pair cm cnd equal) = false
 
 -- whether the last two messages of a stretch were damaged
 abbrev pub two_damaged : List Member → Bool
@@ -83,11 +83,11 @@ two_damaged (last ∷ before ∷ earlier) = is_damaged last.heard && is_damaged 
 -- the next turn of a stretch by what was heard: with that pair, or with the last pair again where the message is
 -- damaged; none where it is lost, or damaged after two damaged ones
 abbrev pub goes_on_with : View → (two : Bool) → (last : Member) → Hearing → Option Member
-goes_on_with view two last (Pair number rest equal) = Some
-    (record { heard = Pair number rest equal; number = number; rest = rest; groups = view.groups })
+goes_on_with view two last (Pair cm cnd equal) = Some
+    (record { heard = Pair cm cnd equal; cm = cm; cnd = cnd; groups = view.groups })
 goes_on_with view true last Damaged = None
 goes_on_with view false last Damaged = Some
-    (record { heard = Damaged; number = last.number; rest = last.rest; groups = view.groups })
+    (record { heard = Damaged; cm = last.cm; cnd = last.cnd; groups = view.groups })
 goes_on_with view two last Lost = None
 
 -- The next turn of a stretch, its message heard after the last number. The stretch ends where there is none: where the
@@ -98,7 +98,7 @@ goes_on own false None stretch = None
 goes_on own false (Some view) [] = None
 goes_on own false (Some view) (last ∷ before) =
     goes_on_with view (two_damaged (last ∷ before)) last
-    (hears_message (Some last.number) (length own.slots) view.message)
+    (hears_message (Some last.cm) (length own.slots) view.message)
 
 -- whether a turn is of a stretch, or ends one
 abbrev pub is_of_stretch : Part → Bool

@@ -26,9 +26,9 @@ pub enum SinkState {
 #[derive(Clone, Copy, PartialEq, Eq, Debug)]
 pub struct Said {
     /// The number of data groups of the last turn.
-    pub number: u16,
+    pub cm: u16,
     /// Its remainder, in bytes.
-    pub rest: u16,
+    pub cnd: u16,
     /// How many damaged messages in a row the stretch ends with.
     pub damaged: u8,
     /// The remainder of the turn before the last, where that is of the stretch: so many bytes of the next turn are due

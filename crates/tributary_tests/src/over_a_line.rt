@@ -31,9 +31,9 @@ fn bytes_of(alloc: Global, slots: &Slots, turn: u8) -> Result<Vec<u8>, Memory>
 
 // Begins a turn that takes these bytes.
 fn begin(source: &mut TribSource, bytes: &[u8])
-    requires rest { source.old.rest < length source.old.slots.list }
+    requires cnd { source.old.cnd < length source.old.slots.list }
     requires size { length bytes.now ≤ length source.old.slots.list * GROUPS }
-    ensures rest { source.new.rest < length source.old.slots.list }
+    ensures cnd { source.new.cnd < length source.old.slots.list }
     ensures begun { IsSome source.new.said }
     ensures filled { source.new.filled ≡ 0 }
     ensures slots { source.new.slots ≡ source.old.slots }
@@ -50,10 +50,10 @@ fn put_turn(
     map: &SlotMap,
     place: &mut OutPlaceOf<MemSink>,
 )
-    requires rest { source.old.rest < length source.old.slots.list }
+    requires cnd { source.old.cnd < length source.old.slots.list }
     requires size { length bytes.now ≤ length source.old.slots.list * GROUPS }
     requires slots { slots ≡ slots_of source.old.slots.kind }
-    ensures rest { source.new.rest < length source.old.slots.list }
+    ensures cnd { source.new.cnd < length source.old.slots.list }
     ensures slots { source.new.slots ≡ source.old.slots }
 {
     begin(source, bytes);

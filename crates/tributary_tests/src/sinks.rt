@@ -268,12 +268,12 @@ const FULL: [(u16, u16, usize); 4] = [
 ];
 
 // The message that says this pair, after one that said the former number.
-fn saying(former: Option<u16>, number: u16, rest: u16) -> [u8; 6]
+fn saying(former: Option<u16>, cm: u16, cnd: u16) -> [u8; 6]
     requires former { ForSome former (λ n. n ≤ GROUPS) }
-    requires number { number ≤ GROUPS }
+    requires cm { cm ≤ GROUPS }
 {
-    let [jc1, jc2, jc3] = say(former, number);
-    let [jc4, jc5, jc6] = say_d(rest.min(1023));
+    let [jc1, jc2, jc3] = say(former, cm);
+    let [jc4, jc5, jc6] = say_d(cnd.min(1023));
     [jc1, jc2, jc3, jc4, jc5, jc6]
 }
 
@@ -295,10 +295,10 @@ fn first_wrong_pair(
     let mut former = None;
     for pair in pairs {
         t = t.saturating_add(1);
-        let (number, rest, count) = *pair;
-        let number = number.min(15_232);
-        let message = saying(former, number, rest);
-        former = Some(number);
+        let (cm, cnd, count) = *pair;
+        let cm = cm.min(15_232);
+        let message = saying(former, cm, cnd);
+        former = Some(cm);
         let shown = Shown {
             kind,
             at,
@@ -383,10 +383,10 @@ fn first_unlike(
     let mut former = None;
     for turn in turns {
         t = t.saturating_add(1);
-        let (number, rest, whole) = *turn;
-        let number = number.min(15_232);
-        let message = saying(former, number, rest);
-        former = Some(number);
+        let (cm, cnd, whole) = *turn;
+        let cm = cm.min(15_232);
+        let message = saying(former, cm, cnd);
+        former = Some(cm);
         let shown = Shown {
             kind: LineKind::Otu2,
             at: 2,

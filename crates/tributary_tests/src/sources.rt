@@ -72,10 +72,10 @@ fn numbered(alloc: Global, size: usize) -> Result<Vec<u8>, Memory>
 
 // Begins a turn that takes these bytes.
 fn begin(source: &mut TribSource, bytes: &[u8])
-    requires rest { source.old.rest < length source.old.slots.list }
+    requires cnd { source.old.cnd < length source.old.slots.list }
     requires size { length bytes.now ≤ length source.old.slots.list * GROUPS }
     ensures slots { source.new.slots ≡ source.old.slots }
-    ensures rest { source.new.rest < length source.old.slots.list }
+    ensures cnd { source.new.cnd < length source.old.slots.list }
     ensures begun { IsSome source.new.said }
     ensures filled { source.new.filled ≡ 0 }
 {
@@ -91,10 +91,10 @@ fn take_turn(
     frame: &mut Frame<4080>,
 ) -> (u8, [u8; 6])
     requires frames { frames ≡ slots_of source.old.slots.kind }
-    requires rest { source.old.rest < length source.old.slots.list }
+    requires cnd { source.old.cnd < length source.old.slots.list }
     requires size { length bytes.now ≤ length source.old.slots.list * GROUPS }
     ensures slots { source.new.slots ≡ source.old.slots }
-    ensures rest { source.new.rest < length source.old.slots.list }
+    ensures cnd { source.new.cnd < length source.old.slots.list }
 {
     begin(source, bytes);
     let mut said = (frames, [0; 6]);
@@ -123,7 +123,7 @@ fn first_wrong(
     frame: &mut Frame<4080>,
 ) -> u8
     requires frames { frames ≡ slots_of source.old.slots.kind }
-    requires rest { source.old.rest < length source.old.slots.list }
+    requires cnd { source.old.cnd < length source.old.slots.list }
     requires size { length bytes.now ≡ length source.old.slots.list * GROUPS }
 {
     let mut t = 0u8;
@@ -201,7 +201,7 @@ type Place = (u32, u32, u8);
 // Has the source fill frame `at` of a turn after one that takes these bytes.
 fn fill_to(source: &mut TribSource, bytes: &[u8], at: u8, frame: &mut Frame<4080>)
     requires at { at < slots_of source.old.slots.kind }
-    requires rest { source.old.rest < length source.old.slots.list }
+    requires cnd { source.old.cnd < length source.old.slots.list }
     requires size { length bytes.now ≤ length source.old.slots.list * GROUPS }
 {
     begin(source, bytes);
@@ -328,13 +328,13 @@ fn groups(rt: HostRuntime) -> Result<(), Fail> {
 
 // Begins a turn that takes these bytes, and hands over the buffer in which they stand.
 fn hand(source: &mut TribSource, buffer: &mut Vec<u8>, bytes: Range<usize>)
-    requires rest { source.old.rest < length source.old.slots.list }
+    requires cnd { source.old.cnd < length source.old.slots.list }
     requires in_order { bytes.start ≤ bytes.end }
     requires within { bytes.end ≤ vec_len buffer.old }
     requires size { bytes.end - bytes.start ≤ length source.old.slots.list * GROUPS }
     requires room { vec_len buffer.old ≡ length source.old.slots.list * (GROUPS + 1) }
     ensures slots { source.new.slots ≡ source.old.slots }
-    ensures rest { source.new.rest < length source.old.slots.list }
+    ensures cnd { source.new.cnd < length source.old.slots.list }
     ensures begun { IsSome source.new.said }
     ensures filled { source.new.filled ≡ 0 }
     ensures room_stays { vec_len buffer.new ≡ vec_len buffer.old }
@@ -357,8 +357,8 @@ fn put_alike(
     requires other_filled { other.old.filled ≡ 0 }
     ensures slots { one.new.slots ≡ one.old.slots }
     ensures other_slots { other.new.slots ≡ other.old.slots }
-    ensures rest { one.new.rest ≡ one.old.rest }
-    ensures other_rest { other.new.rest ≡ other.old.rest }
+    ensures cnd { one.new.cnd ≡ one.old.cnd }
+    ensures other_cnd { other.new.cnd ≡ other.old.cnd }
 {
     let mut alike = true;
     for n in 0..8u8 {
@@ -384,8 +384,8 @@ fn first_unlike(
 ) -> u8
     requires kind { given.old.slots.kind ≡ LineKind.Otu2 }
     requires handed_slots { handed.old.slots ≡ given.old.slots }
-    requires rest { given.old.rest < length given.old.slots.list }
-    requires handed_rest { handed.old.rest < length given.old.slots.list }
+    requires cnd { given.old.cnd < length given.old.slots.list }
+    requires handed_cnd { handed.old.cnd < length given.old.slots.list }
     requires size { length bytes.now ≡ length given.old.slots.list * GROUPS }
     requires room { vec_len buffer.old ≡ length given.old.slots.list * (GROUPS + 1) }
 {

@@ -21,10 +21,10 @@ TurnWrote next.LineEnded ended old new emitted = (new ≡ after old emitted) × 
 TurnWrote next.ReportFailed ended old new emitted = GainsPart old new emitted
 
 -- turn t + 1, from the line and the report as they were to how they are
-pub record TurnRun (own : Tributary) (first now : InView) (taken : List ℕ) (t : ℕ) (before later : TapView)
+pub record TurnRun (own : Tributary) (first now : InView) (read : List ℕ) (t : ℕ) (before later : TapView)
     (old new : Option (List ℕ)) (answer : After) : Type 0 where
   pub emitted : List ℕ
-  pub moves : TurnMoves own first now taken t before later emitted
+  pub moves : TurnMoves own first now read t before later emitted
   pub wrote : TurnWrote answer later.line.ended old new emitted
 
 -- how the command ends after the last turn: by the rest where the end was seen, else by one byte more

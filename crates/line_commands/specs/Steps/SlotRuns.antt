@@ -13,20 +13,20 @@ use Rattle.otn_ports.specs.declared.ended.Ended.{Ended}
 use Rattle.otn_ports.specs.declared.ended.Ended.TheVariants.{Done, Unfinished, Cut, ReportFault, Memory}
 
 -- the answer of a step that took these bytes
-abbrev pub StepEnds : Option Ended → (slot : ℕ) → (taken : List ℕ) → (first now : InView) → (old new : Option (List ℕ))
+abbrev pub StepEnds : Option Ended → (slot : ℕ) → (read : List ℕ) → (first now : InView) → (old new : Option (List ℕ))
     → Type 0
-StepEnds None slot taken first now old new = (length taken ≡ LINE_FRAME_BYTES) × (now.state ≡ first.state)
-    × (new ≡ after old (slot_bytes slot taken)) × (now.ended ≡ first.ended)
-StepEnds (Some ReportFault) slot taken first now old new =
-    (length taken ≡ LINE_FRAME_BYTES) × (now.state ≡ first.state) × GainsPart old new (slot_bytes slot taken)
-StepEnds (Some Done) slot taken first now old new = (taken ≡ []) × (now.state ≡ first.state)
+StepEnds None slot read first now old new = (length read ≡ LINE_FRAME_BYTES) × (now.state ≡ first.state)
+    × (new ≡ after old (slot_bytes slot read)) × (now.ended ≡ first.ended)
+StepEnds (Some ReportFault) slot read first now old new =
+    (length read ≡ LINE_FRAME_BYTES) × (now.state ≡ first.state) × GainsPart old new (slot_bytes slot read)
+StepEnds (Some Done) slot read first now old new = (read ≡ []) × (now.state ≡ first.state)
     × HasEnded now.left now.ended × (new ≡ old)
-StepEnds (Some Unfinished) slot taken first now old new =
-    (0 < length taken) × (length taken < LINE_FRAME_BYTES) × (now.state ≡ first.state) × HasEnded now.left now.ended
+StepEnds (Some Unfinished) slot read first now old new =
+    (0 < length read) × (length read < LINE_FRAME_BYTES) × (now.state ≡ first.state) × HasEnded now.left now.ended
     × (new ≡ old)
-StepEnds (Some Cut) slot taken first now old new = (length taken < LINE_FRAME_BYTES) × (now.state ≡ Dead) × (new ≡ old)
+StepEnds (Some Cut) slot read first now old new = (length read < LINE_FRAME_BYTES) × (now.state ≡ Dead) × (new ≡ old)
     × (now.ended ≡ first.ended)
-StepEnds (Some Memory) slot taken first now old new = ⊥
+StepEnds (Some Memory) slot read first now old new = ⊥
 
 -- a step: a frame was asked for, and where it came whole its slot's bytes were written
 pub record SlotStep (slot : ℕ) (first now : InView) (old new : Option (List ℕ)) (answer : Option Ended) : Type 0 where

@@ -29,17 +29,17 @@ abbrev pub PassesOver : LineView → ℕ → LineView → Type 0
 PassesOver old m new = (before : ℕ) → old.lead_in ≡ saturated before → new.lead_in ≡ saturated (before + m)
 
 -- frame u is in hand, and taken into the alignment
-pub record TookFrame (given : List ℕ) (n u w : ℕ) (old new : LineView) : Type 0 where
-  pub read : HasRead given n (u + 1) w new.reader
-  pub there : u < whole_frames given
-  pub hand : new.reader.hand ≡ frame_at given u
-  pub alignment : new.alignment ≡ option_map (with_frame (slice_index (mfas_of given) u)) old.alignment
+pub record TookFrame (available : List ℕ) (n u w : ℕ) (old new : LineView) : Type 0 where
+  pub read : HasRead available n (u + 1) w new.reader
+  pub there : u < whole_frames available
+  pub hand : new.reader.hand ≡ frame_at available u
+  pub alignment : new.alignment ≡ option_map (with_frame (slice_index (mfas_of available) u)) old.alignment
   pub ended : new.ended ≡ old.ended
 
 -- there is no frame u, and the line ends
-pub record FoundNone (given : List ℕ) (n u w : ℕ) (old new : LineView) : Type 0 where
-  pub read : HasRead given n u w new.reader
-  pub end : u ≡ whole_frames given
+pub record FoundNone (available : List ℕ) (n u w : ℕ) (old new : LineView) : Type 0 where
+  pub read : HasRead available n u w new.reader
+  pub end : u ≡ whole_frames available
   pub alignment : new.alignment ≡ old.alignment
   pub ended : new.ended ≡ true
 
@@ -52,23 +52,23 @@ pub record TakesNext (result : Bool) (old : LineView) (was : InView) (new : Line
   pub lead_in : new.lead_in ≡ old.lead_in
   pub over : result ≡ false → new.ended ≡ true
   pub frame : result ≡ true → OnAnyLine old.reader new.reader came
-      (λ given n u w. TookFrame given n u (max w (u + 1)) old new)
+      (λ available n u w. TookFrame available n u (max w (u + 1)) old new)
   pub none : result ≡ false → OnAnyLine old.reader new.reader came
-      (λ given n u w. FoundNone given n u (max w (u + 1)) old new)
+      (λ available n u w. FoundNone available n u (max w (u + 1)) old new)
 
 -- the line is locked on the multiframe that begins with frame u
-pub record LockedAt (size : ℕ) (given : List ℕ) (n u w : ℕ) (old new : LineView) : Type 0 where
-  pub read : HasRead given n (u + 1) w new.reader
-  pub start : is_start size (mfas_of given) u ≡ true
-  pub hand : new.reader.hand ≡ frame_at given u
-  pub alignment : new.alignment ≡ Some (with_frame (slice_index (mfas_of given) u)
-      (aligned_at (slice_index (mfas_of given) u)))
+pub record LockedAt (size : ℕ) (available : List ℕ) (n u w : ℕ) (old new : LineView) : Type 0 where
+  pub read : HasRead available n (u + 1) w new.reader
+  pub start : is_start size (mfas_of available) u ≡ true
+  pub hand : new.reader.hand ≡ frame_at available u
+  pub alignment : new.alignment ≡ Some (with_frame (slice_index (mfas_of available) u)
+      (aligned_at (slice_index (mfas_of available) u)))
   pub ended : new.ended ≡ old.ended
 
 -- no multiframe may begin at frame u, which is lead-in
-pub record PassedBy (size : ℕ) (given : List ℕ) (n u w : ℕ) (r : ReaderView) : Type 0 where
-  pub read : HasRead given n (u + 1) w r
-  pub start : is_start size (mfas_of given) u ≡ false
+pub record PassedBy (size : ℕ) (available : List ℕ) (n u w : ℕ) (r : ReaderView) : Type 0 where
+  pub read : HasRead available n (u + 1) w r
+  pub start : is_start size (mfas_of available) u ≡ false
 
 -- whether the frame that was tried is lead-in
 abbrev pub is_passed : Tried → Bool
@@ -93,26 +93,27 @@ pub record Tries (size : ℕ) (tried : Tried) (old : LineView) (was : InView) (n
   pub passes_over : PassesOver old (one_if (is_passed tried)) new
   pub passed : tried ≡ Passes → (new.alignment ≡ old.alignment) × (new.ended ≡ old.ended)
   pub locks : tried ≡ Locks → OnAnyLine old.reader new.reader came
-      (λ given n u w. LockedAt size given n u (max w (u + 1 + 1)) old new)
+      (λ available n u w. LockedAt size available n u (max w (u + 1 + 1)) old new)
   pub passes : tried ≡ Passes → OnAnyLine old.reader new.reader came
-      (λ given n u w. PassedBy size given n u (max w (u + 1 + one_if (looked_ahead size (mfas_of given) u))) new.reader)
+      (λ available n u w. PassedBy size available n u
+      (max w (u + 1 + one_if (looked_ahead size (mfas_of available) u))) new.reader)
   pub ends : tried ≡ Ends → OnAnyLine old.reader new.reader came
-      (λ given n u w. FoundNone given n u (max w (u + 1)) old new)
+      (λ available n u w. FoundNone available n u (max w (u + 1)) old new)
 
 -- a hunt from frame i on has locked at the least of the frames of a multiframe at which a multiframe may begin
-pub record HuntLocked (size : ℕ) (given : List ℕ) (n i w m : ℕ) (old new : LineView) : Type 0 where
-  pub least : least_start size (mfas_of given) i size ≡ Some m
-  pub locked : LockedAt size given n (i + m) (max w (i + m + 2)) old new
+pub record HuntLocked (size : ℕ) (available : List ℕ) (n i w m : ℕ) (old new : LineView) : Type 0 where
+  pub least : least_start size (mfas_of available) i size ≡ Some m
+  pub locked : LockedAt size available n (i + m) (max w (i + m + 2)) old new
   pub passes_over : PassesOver old m new
 
 -- a hunt from frame i on found no such frame among those of a multiframe, or among those that are left
-pub record HuntFailed (size : ℕ) (given : List ℕ) (n i w : ℕ) (old new : LineView) : Type 0 where
-  pub least : least_start size (mfas_of given) i size ≡ None
-  pub read : HasRead given n (min (length (mfas_of given)) (i + size))
-      (max w (i + size + one_if (looked_ahead size (mfas_of given) (i + size - 1)))) new.reader
+pub record HuntFailed (size : ℕ) (available : List ℕ) (n i w : ℕ) (old new : LineView) : Type 0 where
+  pub least : least_start size (mfas_of available) i size ≡ None
+  pub read : HasRead available n (min (length (mfas_of available)) (i + size))
+      (max w (i + size + one_if (looked_ahead size (mfas_of available) (i + size - 1)))) new.reader
   pub alignment : new.alignment ≡ old.alignment
-  pub ended : new.ended ≡ nat_lt (length (mfas_of given)) (i + size)
-  pub passes_over : PassesOver old (min size (length (mfas_of given) - i)) new
+  pub ended : new.ended ≡ nat_lt (length (mfas_of available)) (i + size)
+  pub passes_over : PassesOver old (min size (length (mfas_of available) - i)) new
 
 -- the first piece of a turn that hunts: frame after frame is tried until the line locks or ends, but no more than a
 -- multiframe has
@@ -123,8 +124,9 @@ pub record Hunts (size : ℕ) (result : Bool) (old : LineView) (was : InView) (n
   pub keeps : Keeps old new
   pub member : TakesMember result old new
   pub locks : result ≡ true → OnAnyLine old.reader new.reader came
-      (λ given n i w. (m : ℕ) × HuntLocked size given n i w m old new)
-  pub fails : result ≡ false → OnAnyLine old.reader new.reader came (λ given n i w. HuntFailed size given n i w old new)
+      (λ available n i w. (m : ℕ) × HuntLocked size available n i w m old new)
+  pub fails : result ≡ false
+      → OnAnyLine old.reader new.reader came (λ available n i w. HuntFailed size available n i w old new)
 
 -- nothing was read
 pub record Waits (result : Bool) (old : LineView) (was : InView) (new : LineView) (is : InView) : Type 0 where

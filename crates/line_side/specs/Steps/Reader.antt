@@ -17,12 +17,13 @@ use Rattle.line_side.specs.declared.ending.Ending.{Ending}
 use Rattle.line_side.specs.declared.ending.Ending.TheVariants.{Open, Seen, Died}
 use Rattle.line_side.specs.Reader.{ReaderView, HasRead, EndedAs}
 
--- What a move of a reader comes to, whatever line it may be on and however far it has read. `given` are all bytes of
--- the line; of them n are read after the move, in which these came; u frames were used before it, and w were wanted.
-abbrev pub OnAnyLine : (old new : ReaderView) → (came : List ℕ) → ((given : List ℕ) → (n u w : ℕ) → Type 0) → Type 0
-OnAnyLine old new came Comes = (given taken : List ℕ) (u w : ℕ) → MayBe new.scrambled new.ending (taken ++ came) given
-    → HasRead given (length taken) u w old
-    → Comes given (length (taken ++ came)) u w
+-- What a move of a reader comes to, whatever line it may be on and however far it has read. `available` are all bytes
+-- of the line; of them n are read after the move, in which these came; u frames were used before it, and w were wanted.
+abbrev pub OnAnyLine : (old new : ReaderView) → (came : List ℕ) → ((available : List ℕ) → (n u w : ℕ) → Type 0) → Type 0
+OnAnyLine old new came Comes = (available read : List ℕ) (u w : ℕ)
+    → MayBe new.scrambled new.ending (read ++ came) available
+    → HasRead available (length read) u w old
+    → Comes available (length (read ++ came)) u w
 
 -- what a read of a frame says: a whole frame came, which is read through the mask, or the place gives no more
 pub record FrameRead (scrambled : Bool) (reading : Reading) (was : InView) (frame : List ℕ) (is : InView) : Type 0 where
@@ -84,34 +85,35 @@ pub record ReadStep (old : ReaderView) (was : InView) (came : List ℕ) (new : R
   pub unended : new.ending ≢ Seen → (old.ending ≢ Seen) × (is.ended ≡ was.ended)
 
 -- the frame after those that are used came into the hand, or there is none
-pub record Advanced (given : List ℕ) (n u w : ℕ) (result : Bool) (r : ReaderView) : Type 0 where
-  pub frame : result ≡ true → HasRead given n (u + 1) w r × (u < whole_frames given) × (r.hand ≡ frame_at given u)
-  pub none : result ≡ false → HasRead given n u w r × (u ≡ whole_frames given) × (r.ending ≢ Open)
+pub record Advanced (available : List ℕ) (n u w : ℕ) (result : Bool) (r : ReaderView) : Type 0 where
+  pub frame : result ≡ true → HasRead available n (u + 1) w r × (u < whole_frames available)
+      × (r.hand ≡ frame_at available u)
+  pub none : result ≡ false → HasRead available n u w r × (u ≡ whole_frames available) × (r.ending ≢ Open)
 
 -- the reader went on to the next frame, which it wanted
 pub record Advances (result : Bool) (old : ReaderView) (was : InView) (new : ReaderView) (is : InView) : Type 0 where
   pub came : List ℕ
   pub step : ReadStep old was came new is
   pub alone : new.ahead ≡ None
-  pub line : OnAnyLine old new came (λ given n u w. Advanced given n u (max w (u + 1)) result new)
+  pub line : OnAnyLine old new came (λ available n u w. Advanced available n u (max w (u + 1)) result new)
 
 -- the frame after those that are used was looked at, or there is none
-pub record LookedAhead (given : List ℕ) (n u w : ℕ) (result : Bool) (r : ReaderView) : Type 0 where
-  pub read : HasRead given n u w r
-  pub frame : result ≡ true → (u < whole_frames given) × (r.ahead ≡ Some (frame_at given u))
-  pub none : result ≡ false → (u ≡ whole_frames given) × (r.ahead ≡ None)
+pub record LookedAhead (available : List ℕ) (n u w : ℕ) (result : Bool) (r : ReaderView) : Type 0 where
+  pub read : HasRead available n u w r
+  pub frame : result ≡ true → (u < whole_frames available) × (r.ahead ≡ Some (frame_at available u))
+  pub none : result ≡ false → (u ≡ whole_frames available) × (r.ahead ≡ None)
 
 -- the reader looked ahead at the next frame, which it wanted
 pub record LooksAhead (result : Bool) (old : ReaderView) (was : InView) (new : ReaderView) (is : InView) : Type 0 where
   pub came : List ℕ
   pub step : ReadStep old was came new is
   pub hand : new.hand ≡ old.hand
-  pub line : OnAnyLine old new came (λ given n u w. LookedAhead given n u (max w (u + 1)) result new)
+  pub line : OnAnyLine old new came (λ available n u w. LookedAhead available n u (max w (u + 1)) result new)
 
 -- whether a multiframe may begin with the frame in hand, the last one that is used: by it and the next frame
-pub record Began (size : ℕ) (given : List ℕ) (n u w : ℕ) (result : Bool) (r : ReaderView) : Type 0 where
-  pub read : HasRead given n (u + 1) (max w (u + 1 + one_if (looked_ahead size (mfas_of given) u))) r
-  pub start : is_start size (mfas_of given) u ≡ result
+pub record Began (size : ℕ) (available : List ℕ) (n u w : ℕ) (result : Bool) (r : ReaderView) : Type 0 where
+  pub read : HasRead available n (u + 1) (max w (u + 1 + one_if (looked_ahead size (mfas_of available) u))) r
+  pub start : is_start size (mfas_of available) u ≡ result
 
 -- the reader has the last used frame in hand, and tells whether a multiframe may begin with it
 pub record Begins (size : ℕ) (result : Bool) (old : ReaderView) (was : InView) (new : ReaderView)
@@ -119,5 +121,5 @@ pub record Begins (size : ℕ) (result : Bool) (old : ReaderView) (was : InView)
   pub came : List ℕ
   pub step : ReadStep old was came new is
   pub hand : new.hand ≡ old.hand
-  pub line : OnAnyLine old new came (λ given n used w. (u : ℕ) → used ≡ u + 1 → old.hand ≡ frame_at given u
-      → Began size given n u w result new)
+  pub line : OnAnyLine old new came (λ available n used w. (u : ℕ) → used ≡ u + 1 → old.hand ≡ frame_at available u
+      → Began size available n u w result new)

@@ -35,12 +35,12 @@ TurnWrote next.LineEnded ended old new lines = SinkWrites written.Whole old line
 TurnWrote next.ReportFailed ended old new lines = SinkWrites written.Lost old lines new
 
 -- turn t + 1, from the line and the report as they were to how they are
-pub record TurnRun (form : LineForm) (first now : InView) (taken : List ℕ) (t : ℕ) (line later : LineView)
+pub record TurnRun (form : LineForm) (first now : InView) (read : List ℕ) (t : ℕ) (line later : LineView)
     (olds news : List Watched) (old new : SinkView) (answer : After)
     : Type 0 where
   pub seen : TurnSeen
   pub msi : List (ℕ × ℕ)
-  pub moves : TurnMoves form first now taken t line later olds news seen msi
+  pub moves : TurnMoves form first now read t line later olds news seen msi
   pub wrote : TurnWrote answer seen.ended old new (lines_of t seen msi news)
 
 -- how a view ends after its last turn: by the rest where the end was seen, else by one byte more, unless a write failed

@@ -31,44 +31,45 @@ pub record IsInStep (line : LineView) (t : ℕ) (one : Watched) : Type 0 where
   pub port : one.port ≡ one.sink.port
 
 -- its sink has seen the turns from its first to turn t, and of the next one the frames that so many pieces came to
-abbrev pub HasSeen : LineForm → (given : List ℕ) → (t pieces : ℕ) → Watched → Type 0
-HasSeen form given t pieces one =
-    StandsAfter (own_of one) (views_from (own_of one) one.first given t)
-    (frames_by (begun one t) (frames_in (size_of form) given t pieces)) one.sink
+abbrev pub HasSeen : LineForm → (available : List ℕ) → (t pieces : ℕ) → Watched → Type 0
+HasSeen form available t pieces one =
+    StandsAfter (own_of one) (views_from (own_of one) one.first available t)
+    (frames_by (begun one t) (frames_in (size_of form) available t pieces)) one.sink
 
 -- The line stands in turn t + 1, of whose place these bytes were taken: whatever else may come, each sink has seen the
 -- turns before, and of this one the frames that its pieces took; and these are the MSI bytes of these frames.
-pub record ViewStands (form : LineForm) (first now : InView) (taken : List ℕ) (t : ℕ) (line : LineView)
+pub record ViewStands (form : LineForm) (first now : InView) (read : List ℕ) (t : ℕ) (line : LineView)
     (watched : List Watched) (msi : List (ℕ × ℕ)) : Type 0 where
-  pub line_is : LineStands form first now taken t line
+  pub line_is : LineStands form first now read t line
   pub step : (i : ℕ) (one : Watched) → slice_get watched i ≡ Some one → IsInStep line t one
-  pub sinks : (given : List ℕ) → MayBe form.scrambled line.reader.ending taken given → (i : ℕ) (one : Watched)
+  pub sinks : (available : List ℕ) → MayBe form.scrambled line.reader.ending read available → (i : ℕ) (one : Watched)
       → slice_get watched i ≡ Some one
-      → HasSeen form given t line.pieces one
-  pub msi_is : (given : List ℕ) → MayBe form.scrambled line.reader.ending taken given
-      → msi ≡ flat_map (msi_in (all_slots form)) (frames_in (size_of form) given t line.pieces)
+      → HasSeen form available t line.pieces one
+  pub msi_is : (available : List ℕ) → MayBe form.scrambled line.reader.ending read available
+      → msi ≡ flat_map (msi_in (all_slots form)) (frames_in (size_of form) available t line.pieces)
 
 -- some pieces of a turn went by
-pub record ViewMoves (form : LineForm) (first now : InView) (taken : List ℕ) (t : ℕ) (old new : LineView)
+pub record ViewMoves (form : LineForm) (first now : InView) (read : List ℕ) (t : ℕ) (old new : LineView)
     (olds news : List Watched) (msi : List (ℕ × ℕ)) : Type 0 where
   pub came : List ℕ
-  pub stands : ViewStands form first now (taken ++ came) t new news msi
-  pub earlier : (given : List ℕ) → MayBe form.scrambled new.reader.ending (taken ++ came) given
-      → MayBe form.scrambled old.reader.ending taken given
+  pub stands : ViewStands form first now (read ++ came) t new news msi
+  pub earlier : (available : List ℕ) → MayBe form.scrambled new.reader.ending (read ++ came) available
+      → MayBe form.scrambled old.reader.ending read available
   pub shows : map showing_of news ≡ map showing_of olds
 
 -- turn t + 1 went by, and this was seen of the line
-pub record TurnMoves (form : LineForm) (first now : InView) (taken : List ℕ) (t : ℕ) (old new : LineView)
+pub record TurnMoves (form : LineForm) (first now : InView) (read : List ℕ) (t : ℕ) (old new : LineView)
     (olds news : List Watched) (seen : TurnSeen) (msi : List (ℕ × ℕ)) : Type 0 where
   pub came : List ℕ
-  pub stands : ViewStands form first now (taken ++ came) (t + 1) new news []
-  pub earlier : (given : List ℕ) → MayBe form.scrambled new.reader.ending (taken ++ came) given
-      → MayBe form.scrambled old.reader.ending taken given
+  pub stands : ViewStands form first now (read ++ came) (t + 1) new news []
+  pub earlier : (available : List ℕ) → MayBe form.scrambled new.reader.ending (read ++ came) available
+      → MayBe form.scrambled old.reader.ending read available
   pub shows : map showing_of news ≡ map showing_of olds
-  pub seen_is : (given : List ℕ) → MayBe form.scrambled new.reader.ending (taken ++ came) given
-      → seen ≡ seen_at form given t
-  pub msi_is : (given : List ℕ) → MayBe form.scrambled new.reader.ending (taken ++ came) given
-      → msi ≡ msi_came form given t
-  pub told : (given : List ℕ) → MayBe form.scrambled new.reader.ending (taken ++ came) given → (i : ℕ) (one : Watched)
+  pub seen_is : (available : List ℕ) → MayBe form.scrambled new.reader.ending (read ++ came) available
+      → seen ≡ seen_at form available t
+  pub msi_is : (available : List ℕ) → MayBe form.scrambled new.reader.ending (read ++ came) available
+      → msi ≡ msi_came form available t
+  pub told : (available : List ℕ) → MayBe form.scrambled new.reader.ending (read ++ came) available
+      → (i : ℕ) (one : Watched)
       → slice_get news i ≡ Some one
-      → begun one t ≡ true → one.told ≡ told_at (own_of one) one.first given t
+      → begun one t ≡ true → one.told ≡ told_at (own_of one) one.first available t

@@ -5,20 +5,21 @@ use Rattle.otn_ports.specs.Views.{InView}
 use Rattle.packet_text.specs.LinesStand.{LinesView, MayBe}
 use Rattle.odu_client.specs.Framing.{FramerState, TextStands, Framed}
 
--- a framer that has made frames, of which these bytes are gone
-pub record FramedSome (first now : InView) (taken gone : List ℕ) (lines : LinesView)
+-- a framer that has made frames, of which these bytes were emitted
+pub record FramedSome (first now : InView) (read emitted : List ℕ) (lines : LinesView)
     (framer : FramerState) : Type 0 where
   pub packets : List (List ℕ)
   pub given : List ℕ
   pub count : ℕ
-  pub text : TextStands first now taken packets lines framer.stream
-  pub framed : Framed packets given count gone framer
+  pub text : TextStands first now read packets lines framer.stream
+  pub framed : Framed packets given count emitted framer
 
 -- a call in which the text may have gone on
-pub record Makes (first now : InView) (taken gone : List ℕ) (old new : LinesView) (was is : FramerState) : Type 0 where
+pub record Makes (first now : InView) (read emitted : List ℕ) (old new : LinesView)
+    (was is : FramerState) : Type 0 where
   pub came : List ℕ
-  pub stands : FramedSome first now (taken ++ came) gone new is
-  pub earlier : (text : List ℕ) → MayBe new (taken ++ came) text → MayBe old taken text
+  pub stands : FramedSome first now (read ++ came) emitted new is
+  pub earlier : (text : List ℕ) → MayBe new (read ++ came) text → MayBe old read text
   pub sapi : is.sapi ≡ was.sapi
   pub fcs : is.stream.fcs ≡ was.stream.fcs
 

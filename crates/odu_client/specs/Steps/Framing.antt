@@ -12,33 +12,33 @@ use Rattle.odu_client.specs.Framing.{StreamState, StreamMade, TextStands}
 
 -- the same where the next byte may be that of a packet's frame that is not begun, or of the first idle frame behind the
 -- packets
-pub record StreamReady (packets : List (List ℕ)) (given : List ℕ) (stream : StreamState) : Type 0 where
+pub record StreamReady (packets : List (List ℕ)) (emitted : List ℕ) (stream : StreamState) : Type 0 where
   pub idles : ℕ
-  pub made : HasMade (stream_frames packets stream.fcs idles) given stream.maker
+  pub made : HasMade (stream_frames packets stream.fcs idles) emitted stream.maker
   pub going : stream.answer ≡ Packet → (idles ≡ 0) × (stream.maker.hand ≢ [])
   pub begun : (before : List (List ℕ)) (last : List ℕ) → packets ≡ before ++ last ∷ []
-      → gfp_length before stream.fcs ≤ length given
-  pub seen : stream.answer ≢ Packet → gfp_length packets stream.fcs ≤ length given
+      → gfp_length before stream.fcs ≤ length emitted
+  pub seen : stream.answer ≢ Packet → gfp_length packets stream.fcs ≤ length emitted
   pub count : stream.packets ≡ saturated (length packets)
 
 -- what came of the text in a call: it may have gone on, if its lines had not ended
-pub record TextGoes (first now : InView) (taken : List ℕ) (packets : List (List ℕ)) (old new : LinesView) (fcs : Bool)
+pub record TextGoes (first now : InView) (read : List ℕ) (packets : List (List ℕ)) (old new : LinesView) (fcs : Bool)
     (stream : StreamState) : Type 0 where
   pub came : List ℕ
   pub more : List (List ℕ)
-  pub text : TextStands first now (taken ++ came) (packets ++ more) new stream
-  pub earlier : (text : List ℕ) → MayBe new (taken ++ came) text → MayBe old taken text
+  pub text : TextStands first now (read ++ came) (packets ++ more) new stream
+  pub earlier : (text : List ℕ) → MayBe new (read ++ came) text → MayBe old read text
   pub still : old.answer ≢ Packet → (more ≡ []) × (new ≡ old)
   pub same : stream.fcs ≡ fcs
 
 -- so the text goes on, and the stream is ready for its next byte
-pub record GetsReady (first now : InView) (taken given : List ℕ) (packets : List (List ℕ)) (old new : LinesView)
+pub record GetsReady (first now : InView) (read emitted : List ℕ) (packets : List (List ℕ)) (old new : LinesView)
     (fcs : Bool) (stream : StreamState) : Type 0 where
-  pub goes : TextGoes first now taken packets old new fcs stream
-  pub ready : StreamReady (packets ++ goes.more) given stream
+  pub goes : TextGoes first now read packets old new fcs stream
+  pub ready : StreamReady (packets ++ goes.more) emitted stream
 
--- so the text goes on, and the stream has given these bytes
-pub record StreamGoes (first now : InView) (taken given : List ℕ) (packets : List (List ℕ)) (old new : LinesView)
+-- so the text goes on, and the stream has emitted these bytes
+pub record StreamGoes (first now : InView) (read emitted : List ℕ) (packets : List (List ℕ)) (old new : LinesView)
     (fcs : Bool) (stream : StreamState) : Type 0 where
-  pub goes : TextGoes first now taken packets old new fcs stream
-  pub made : StreamMade (packets ++ goes.more) given stream
+  pub goes : TextGoes first now read packets old new fcs stream
+  pub made : StreamMade (packets ++ goes.more) emitted stream

@@ -10,9 +10,9 @@ use Rattle.odu_client.specs.Framing.{StreamState}
 use Rattle.odu_client.specs.Steps.Framing.{TextGoes}
 
 -- the next packet was asked for: its frame is in hand, if there was one
-pub record Asked (first now : InView) (taken : List ℕ) (packets : List (List ℕ)) (lines next : LinesView)
+pub record Asked (first now : InView) (read : List ℕ) (packets : List (List ℕ)) (lines next : LinesView)
     (old new : StreamState) : Type 0 where
-  pub goes : TextGoes first now taken packets lines next old.fcs new
+  pub goes : TextGoes first now read packets lines next old.fcs new
   pub packet : new.answer ≡ Packet → (goes.more ≡ next.packet ∷ [])
       × (new.maker ≡ made_frame (client_area next.packet old.fcs) old.maker.register)
       × (new.packets ≡ saturated (old.packets + 1))

@@ -7,4 +7,4 @@ use Rattle.tributary_model.specs.declared.turns.Standing.TheVariants.{Waiting, D
 abbrev pub pair_of_standing : Standing → Option (ℕ × ℕ)
 pair_of_standing (Waiting n) = None
 pair_of_standing Down = None
-pair_of_standing (Up said) = Some (said.number, said.rest)
+pair_of_standing (Up said) = Some (said.cm, said.cnd)

@@ -41,6 +41,6 @@ with_frame fresh c before slots frame =
 abbrev pub after_frame : (slots : LineSlots) → (frame : List ℕ) → Extraction → Extraction
 after_frame slots frame e = record e {
   asked = e.asked + row_cycles slots.kind + row_cycles slots.kind + row_cycles slots.kind + row_cycles slots.kind;
-  fresh = with_frame e.fresh e.number e.asked slots frame;
+  fresh = with_frame e.fresh e.cm e.asked slots frame;
   emitted = [];
 }

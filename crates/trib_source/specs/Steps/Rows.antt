@@ -39,6 +39,6 @@ groups_laid m c asked left cycles = map (λ n. byte_laid m c asked left (n / m) 
 -- So many bytes are those of the data groups among so many groups of a turn.
 pub record CanLay (m c asked long cycles : ℕ) : Type 0 where
   pub some : 1 ≤ m
-  pub number : c ≤ GROUPS
+  pub cm : c ≤ GROUPS
   pub asked_high : asked + cycles ≤ GROUPS
   pub fresh : long ≡ data_bytes m c asked cycles

@@ -6,8 +6,8 @@ use Rattle.tributary_model.specs.Places.{Tributary}
 use Rattle.tributary_line.specs.TapTurn.{TapView, TapStands}
 
 -- some pieces of a turn went by
-pub record TapMoves (own : Tributary) (first now : InView) (taken : List ℕ) (t : ℕ) (old new : TapView) : Type 0 where
+pub record TapMoves (own : Tributary) (first now : InView) (read : List ℕ) (t : ℕ) (old new : TapView) : Type 0 where
   pub came : List ℕ
-  pub stands : TapStands own first now (taken ++ came) t new
-  pub earlier : (given : List ℕ) → MayBe false new.line.reader.ending (taken ++ came) given
-      → MayBe false old.line.reader.ending taken given
+  pub stands : TapStands own first now (read ++ came) t new
+  pub earlier : (available : List ℕ) → MayBe false new.line.reader.ending (read ++ came) available
+      → MayBe false old.line.reader.ending read available

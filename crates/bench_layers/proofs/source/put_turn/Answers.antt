@@ -4,8 +4,8 @@ use Rattle.otn_base.specs.LineSlots.{LineSlots}
 use Rattle.otn_base.specs.declared.limits.TheConstants.{NOMINAL}
 use Rattle.bench_layers.proofs.source.put_turn.Goals as goal
 
-none_over : (rest n m k : ℕ) → rest ≡ 0 → n ≡ m * k → (rest + n) % m ≡ 0
-none_over rest n m k e f = ap (λ x. x % m) (let g : rest + n ≡ m * k = omega arith in g) ∙ mul-mod_right m k
+none_over : (cnd n m k : ℕ) → cnd ≡ 0 → n ≡ m * k → (cnd + n) % m ≡ 0
+none_over cnd n m k e f = ap (λ x. x % m) (let g : cnd + n ≡ m * k = omega arith in g) ∙ mul-mod_right m k
 
 pub loop-n-init : goal.loop-n-init
 loop-n-init c =
@@ -14,7 +14,7 @@ loop-n-init c =
     record {
       filled = turn.filled;
       begun = turn.begun;
-      rest = turn.rest ∙ none_over source.rest (length c.args.bytes.now) (length source.slots.list) NOMINAL c.requires.rest c.requires.size;
+      cnd = turn.cnd ∙ none_over source.cnd (length c.args.bytes.now) (length source.slots.list) NOMINAL c.requires.cnd c.requires.size;
       kind = ap (λ (s : LineSlots). s.kind) turn.slots ∙ c.requires.kind;
       slots = turn.slots;
     }

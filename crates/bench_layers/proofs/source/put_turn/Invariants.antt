@@ -7,7 +7,7 @@ abbrev pub invariant-loop-n : goal.invariant-loop-n
 invariant-loop-n l = record {
   filled : l.source.filled ≡ l.n;
   begun : IsSome l.source.said;
-  rest : l.source.rest ≡ 0;
+  cnd : l.source.cnd ≡ 0;
   kind : l.source.slots.kind ≡ Otu2;
   slots : l.source.slots ≡ l.fn.source.slots;
 }

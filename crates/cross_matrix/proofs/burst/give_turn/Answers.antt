@@ -15,8 +15,8 @@ returns-clause-stands c = λ own turns filled h few.
     let fits : (sent (lengths_of turns) (length turns) + (at.end - at.start)) / length own.slots ≤ sent (lengths_of turns) (length turns) / length own.slots + 15232 =
     subst (λ k. (sent (lengths_of turns) (length turns) + k) / length own.slots ≤ sent (lengths_of turns) (length turns) / length own.slots + 15232) (sym out.count) few in
     let many : length s.slots.list ≡ length own.slots = sym (ap (λ (t : Tributary). length t.slots) h.own_is) in
-    let free : c.room.result + s.rest + 1 ≡ length own.slots * 15233 = c.room.ensures ∙ ap (λ m. m * 15233) many in
-    let all : at.end - at.start ≤ c.room.result = room_is (length own.slots) (sent (lengths_of turns) (length turns)) (at.end - at.start) c.room.result s.rest free h.rest fits in
+    let free : c.room.result + s.cnd + 1 ≡ length own.slots * 15233 = c.room.ensures ∙ ap (λ m. m * 15233) many in
+    let all : at.end - at.start ≤ c.room.result = room_is (length own.slots) (sent (lengths_of turns) (length turns)) (at.end - at.start) c.room.result s.cnd free h.cnd fits in
     let end : at.start + c.min-count.result ≡ at.end = (let least = c.min-count.ensures in let ordered = out.in_order in omega arith) in
     let given = subst (λ last. StandsAfter own (turns ++ slice_range buffer.items at.start last ∷ []) 0 c.take_over.new.self) end (c.take_over.ensures.stands own turns filled h) in
     subst (λ bytes. StandsAfter own (turns ++ bytes ∷ []) 0 c.take_over.new.self) out.bytes given

@@ -29,22 +29,22 @@ put_cycles-end-requires-clause-room g c =
 
 pub loop-cycle-preserved : goal.loop-cycle-preserved
 loop-cycle-preserved g c =
-    let number = c.args.runner.now.number in
+    let cm = c.args.runner.now.cm in
     let before = c.args.runner.now.asked in
     let x = c.loop-cycle.cycle in
     let run = c.data_run-run.result in
     let front = take c.loop-cycle.end c.loop-cycle.into in
     let here = payload_group (slots_of c.args.slots.now.kind) (payload_row_of 4080 c.args.row (g.F.TakeFrame.bytes c.args.frame.now)) c.args.slots.now.list x in
-    let asked : c.take_cycle-end.new.runner ≡ record { number = number; asked = before + x + 1 } =
+    let asked : c.take_cycle-end.new.runner ≡ record { cm = cm; asked = before + x + 1 } =
     c.take_cycle-end.ensures.runner ∙ ap (λ (r : Progress). record r { asked = r.asked + 1 }) c.loop-cycle.invariant.runner in
-    let one : take c.take_cycle-end.result c.take_cycle-end.new.into ≡ front ++ cond (is_data_at number (before + x + 1)) here [] =
-    c.take_cycle-end.ensures.bytes ∙ ap (λ (r : Progress). front ++ cond (is_data_at r.number (r.asked + 1)) here []) c.loop-cycle.invariant.runner in
+    let one : take c.take_cycle-end.result c.take_cycle-end.new.into ≡ front ++ cond (is_data_at cm (before + x + 1)) here [] =
+    c.take_cycle-end.ensures.bytes ∙ ap (λ (r : Progress). front ++ cond (is_data_at r.cm (r.asked + 1)) here []) c.loop-cycle.invariant.runner in
     record {
       cycles = omega arith;
       runner = c.data_run-run.ensures.step ∙ ap (λ (r : Progress). record r { asked = r.asked + run }) asked
-          ∙ ap (λ n. record { number = number; asked = n }) (let e : before + x + 1 + run ≡ before + (x + (run + 1)) = omega arith in e);
+          ∙ ap (λ n. record { cm = cm; asked = n }) (let e : before + x + 1 + run ≡ before + (x + (run + 1)) = omega arith in e);
       few = grind arith;
-      bytes = row_more (slots_of c.args.slots.now.kind) number before (payload_row_of 4080 c.args.row (g.F.TakeFrame.bytes c.args.frame.now)) c.args.slots.now.list (take c.args.at c.args.into.now) c.loop-cycle.into c.take_cycle-end.new.into c.put_cycles-end.new.into
+      bytes = row_more (slots_of c.args.slots.now.kind) cm before (payload_row_of 4080 c.args.row (g.F.TakeFrame.bytes c.args.frame.now)) c.args.slots.now.list (take c.args.at c.args.into.now) c.loop-cycle.into c.take_cycle-end.new.into c.put_cycles-end.new.into
           c.loop-cycle.end c.take_cycle-end.result c.put_cycles-end.result x run c.loop-cycle.invariant.bytes one c.put_cycles-end.ensures.bytes
-          (λ i below. subst (λ (r : Progress). IsData r.number (r.asked + i + 1)) asked (c.data_run-run.ensures.«data» i below));
+          (λ i below. subst (λ (r : Progress). IsData r.cm (r.asked + i + 1)) asked (c.data_run-run.ensures.«data» i below));
     }

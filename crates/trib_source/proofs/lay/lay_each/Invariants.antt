@@ -6,5 +6,5 @@ abbrev pub invariant-loop-cycle : goal.invariant-loop-cycle
 invariant-loop-cycle l = record {
   runner : l.own ≡ record l.fn.runner { asked = l.fn.runner.asked + l.cycle };
   clear : (n : ℕ) → l.m * l.cycle ≤ n → get_or l.into n 0 ≡ 0;
-  laid : LaidTo l.m l.fn.runner.number l.fn.runner.asked l.fresh l.cycle l.from l.into;
+  laid : LaidTo l.m l.fn.runner.cm l.fn.runner.asked l.fresh l.cycle l.from l.into;
 }

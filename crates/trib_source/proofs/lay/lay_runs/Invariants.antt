@@ -6,7 +6,7 @@ abbrev pub invariant-loop-cycle : goal.invariant-loop-cycle
 invariant-loop-cycle l = record {
   inside : l.cycle ≤ l.cycles;
   runner : l.runner ≡ record l.initial.runner { asked = l.initial.runner.asked + l.cycle };
-  laid : LaidTo l.m l.initial.runner.number l.initial.runner.asked l.fresh l.cycle l.from l.into;
+  laid : LaidTo l.m l.initial.runner.cm l.initial.runner.asked l.fresh l.cycle l.from l.into;
 }
 
 abbrev pub decreases-loop-cycle : goal.decreases-loop-cycle

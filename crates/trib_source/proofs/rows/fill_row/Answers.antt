@@ -12,7 +12,7 @@ use Rattle.trib_source.proofs.rows.fill_row.Goals as goal
 
 pub overflow_add-next : goal.overflow_add-next
 overflow_add-next g c =
-    let n = c.args.number in
+    let n = c.args.cm in
     let a = c.args.asked in
     let m = c.args.m in
     let row = c.args.row in
@@ -28,7 +28,7 @@ overflow_add-next g c =
 
 pub slice_bounds-new-end : goal.slice_bounds-new-end
 slice_bounds-new-end g c =
-    let n = c.args.number in
+    let n = c.args.cm in
     let a = c.args.asked in
     let m = c.args.m in
     let row = c.args.row in
@@ -43,7 +43,7 @@ slice_bounds-new-end g c =
 
 pub new-groups-requires-clause-fresh : goal.new-groups-requires-clause-fresh
 new-groups-requires-clause-fresh g c =
-    let n = c.args.number in
+    let n = c.args.cm in
     let a = c.args.asked in
     let m = c.args.m in
     let row = c.args.row in
@@ -62,7 +62,7 @@ new-groups-requires-clause-fresh g c =
 
 pub lay_row_groups-requires-clause-size : goal.lay_row_groups-requires-clause-size
 lay_row_groups-requires-clause-size g c =
-    let n = c.args.number in
+    let n = c.args.cm in
     let a = c.args.asked in
     let m = c.args.m in
     let row = c.args.row in
@@ -81,7 +81,7 @@ lay_row_groups-requires-clause-size g c =
 
 pub lay_row_groups-requires-clause-scratch : goal.lay_row_groups-requires-clause-scratch
 lay_row_groups-requires-clause-scratch g c =
-    let n = c.args.number in
+    let n = c.args.cm in
     let a = c.args.asked in
     let m = c.args.m in
     let row = c.args.row in
@@ -99,7 +99,7 @@ lay_row_groups-requires-clause-scratch g c =
 
 pub returns-clause-next : goal.returns-clause-next
 returns-clause-next g c =
-    let n = c.args.number in
+    let n = c.args.cm in
     let a = c.args.asked in
     let m = c.args.m in
     let row = c.args.row in
@@ -114,7 +114,7 @@ returns-clause-next g c =
 
 pub returns-clause-rows : goal.returns-clause-rows
 returns-clause-rows g c = λ before rows.
-    let n = c.args.number in
+    let n = c.args.cm in
     let a = c.args.asked in
     let m = c.args.m in
     let row = c.args.row in

@@ -20,7 +20,7 @@ returns-clause-stands c = λ own turns filled h few.
     let fits : (sent (lengths_of turns) (length turns) + (last - first)) / length own.slots ≤ sent (lengths_of turns) (length turns) / length own.slots + 15232 =
     subst (λ k. (sent (lengths_of turns) (length turns) + k) / length own.slots ≤ sent (lengths_of turns) (length turns) / length own.slots + 15232) size few in
     let many : length s.slots.list ≡ length own.slots = sym (ap (λ (t : Tributary). length t.slots) h.own_is) in
-    let free : c.room.result + s.rest + 1 ≡ length own.slots * 15233 = c.room.ensures ∙ ap (λ m. m * 15233) many in
-    let all : last - first ≤ c.room.result = all_taken (length own.slots) (sent (lengths_of turns) (length turns)) (last - first) c.room.result s.rest free h.rest fits in
+    let free : c.room.result + s.cnd + 1 ≡ length own.slots * 15233 = c.room.ensures ∙ ap (λ m. m * 15233) many in
+    let all : last - first ≤ c.room.result = all_taken (length own.slots) (sent (lengths_of turns) (length turns)) (last - first) c.room.result s.cnd free h.cnd fits in
     let end : first + c.min-count.result ≡ last = (let least = c.min-count.ensures in let ordered = c.requires.in_order in omega arith) in
     subst (λ last. StandsAfter own (turns ++ slice_range items first last ∷ []) 0 c.take_over.new.self) end (c.take_over.ensures.stands own turns filled h)

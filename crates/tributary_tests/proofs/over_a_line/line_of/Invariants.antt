@@ -3,6 +3,6 @@ use Rattle.tributary_tests.proofs.over_a_line.line_of.Given as goal
 
 abbrev pub invariant-loop-turn : goal.invariant-loop-turn
 invariant-loop-turn l = record {
-  rest : l.source.rest < length l.source.slots.list;
+  cnd : l.source.cnd < length l.source.slots.list;
   slots : l.source.slots ≡ l.fn.slots;
 }

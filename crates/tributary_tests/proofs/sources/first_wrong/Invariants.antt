@@ -4,6 +4,6 @@ use Rattle.tributary_tests.proofs.sources.first_wrong.Given as goal
 
 abbrev pub invariant-loop-turn : goal.invariant-loop-turn
 invariant-loop-turn l = record {
-  rest : l.source.rest < length l.source.slots.list;
+  cnd : l.source.cnd < length l.source.slots.list;
   slots : l.source.slots ≡ l.fn.source.slots;
 }

@@ -10,6 +10,6 @@ invariant-loop-n l = record {
   other_begun : IsSome l.other.said;
   slots : l.one.slots ≡ l.initial.one.slots;
   other_slots : l.other.slots ≡ l.initial.other.slots;
-  rest : l.one.rest ≡ l.initial.one.rest;
-  other_rest : l.other.rest ≡ l.initial.other.rest;
+  cnd : l.one.cnd ≡ l.initial.one.cnd;
+  other_cnd : l.other.cnd ≡ l.initial.other.cnd;
 }

@@ -6,6 +6,6 @@ abbrev pub invariant-loop-n : goal.invariant-loop-n
 invariant-loop-n l = record {
   filled : l.source.filled ≡ l.n;
   begun : IsSome l.source.said;
-  rest : l.source.rest < length l.source.slots.list;
+  cnd : l.source.cnd < length l.source.slots.list;
   slots : l.source.slots ≡ l.fn.source.slots;
 }

@@ -5,8 +5,8 @@ use Rattle.jc_codec.proofs.listener.Listener.hear.Goals as goal
 
 pub invariant_of-self : goal.invariant_of-self
 invariant_of-self c = λ x e.
-    let same : c.in-Accepted.number ≡ x = cc in
-    let small : c.in-Accepted.number ≤ 15232 = accepted_in_range _ _ _ _ _ _ (sym c.heard_after-heard.ensures.heard ∙ c.in-Accepted.is) in
+    let same : c.in-Accepted.cm ≡ x = cc in
+    let small : c.in-Accepted.cm ≤ 15232 = accepted_in_range _ _ _ _ _ _ (sym c.heard_after-heard.ensures.heard ∙ c.in-Accepted.is) in
     omega arith
 
 pub returns-in-Accepted-clause-one_byte_changed : goal.returns-in-Accepted-clause-one_byte_changed

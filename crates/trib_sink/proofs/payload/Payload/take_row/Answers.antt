@@ -28,7 +28,7 @@ invariant_of-self g c =
     let asked : c.take_row-self-inside.new.runner.asked ≡ i.runner.asked + n = ap (λ (r : Progress). r.asked) c.take_row-self-inside.ensures.runner in
     record {
       few = search rules;
-      number_high = search rules;
+      cm_high = search rules;
       asked_high = search rules;
       in_order = search rules;
       last_high = search rules;

@@ -22,4 +22,4 @@ returns-clause-stands c =
     let list : IsSlotList (slots_of c.in_ok-slots.slots.kind) c.in_ok-slots.slots.list = subst (λ (x : LineSlots). IsSlotList (slots_of x.kind) x.list) (sym same) c.count.ensures.list in
     rw (c.new-3.ensures, ← same)
     (stands_start c.in_ok-slots.slots (0 ∷ 0 ∷ 0 ∷ 0 ∷ 0 ∷ 0 ∷ []) c.args.port c.in_ok-follower.follower (replicate 32 w)
-    list c.in_ok-follower.ensures.at c.in_ok-follower.ensures.fresh c.in_ok-follower.ensures.number (none_taken c.args.port w c.new-2.ensures))
+    list c.in_ok-follower.ensures.at c.in_ok-follower.ensures.fresh c.in_ok-follower.ensures.cm (none_taken c.args.port w c.new-2.ensures))

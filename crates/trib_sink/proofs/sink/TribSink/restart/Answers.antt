@@ -8,4 +8,4 @@ returns-clause-stands c =
     let w = c.new-watches.result in
     rw (c.clear.ensures, ← c.self.view_is)
     (stands_start i.slots i.message i.port c.restart.new.self (replicate 32 w) c.self.invariant.list
-    c.restart.ensures.at c.restart.ensures.fresh c.restart.ensures.number (none_taken i.port w c.new-watches.ensures))
+    c.restart.ensures.at c.restart.ensures.fresh c.restart.ensures.cm (none_taken i.port w c.new-watches.ensures))
