@@ -1,13 +1,13 @@
 -- What is handed out, from what was put into the block.
-use Rattle.std.proofs.Common.{◌≡◌, ◌≢◌, ◌≤◌, ◌<◌, ◌⊎◌, ℕ, zero, suc, List, Some, length, take, refl, sym, ap, ◌∙◌, subst, arith}
+use Rattle.std.proofs.Common.{◌≡◌, ◌≤◌, ◌<◌, ◌⊎◌, ℕ, List, Some, length, take, refl, sym, ap, ◌∙◌, subst, arith}
 use Rattle.otn_ports.specs.PortViews.{SinkView}
 use Rattle.otn_ports.specs.Views.{BaysView}
 use Rattle.line_tool.specs.Codes.{code_of}
 use Rattle.command_base.specs.declared.status.Status.{Status}
 use Rattle.command_base.specs.declared.status.Status.TheVariants as status
-use Rattle.otn_c.specs.Blocks.{end_of, words_said}
-use Rattle.otn_c.specs.Calls.{CallEnds, Gives, IsAnswered, IsHandedOut, Needs, Tells, fresh_sink, no_room}
-use Rattle.otn_c.specs.Places.{OpensWith, OutUpTo}
+use Rattle.otn_c.specs.Blocks.{words_said}
+use Rattle.otn_c.specs.Calls.{CallEnds, IsAnswered, IsHandedOut, Tells, fresh_sink}
+use Rattle.otn_c.specs.Places.{OpensWith, InputsAreWell, OutUpTo}
 use Rattle.otn_c.specs.declared.answer.Answer.{Answer}
 
 -- a status is no want of room
@@ -56,16 +56,17 @@ module _ (answer : Status) (last : BaysView) (report_now : SinkView) (told : Ans
   }
 
 pub is_called : (line plan block ends present : List ℕ) (code : ℕ) (told : Answer) (outputs output_ends report : List ℕ) (words : List (List ℕ)) (answer : Status)
-    (first last : BaysView) (fresh report_now : SinkView) → words ≡ words_said line → fresh ≡ fresh_sink → OpensWith present block ends first
+    (first last : BaysView) (fresh report_now : SinkView) → words ≡ words_said line → fresh ≡ fresh_sink → OpensWith present block ends first → InputsAreWell last
     → IsAnswered words plan first last fresh report_now answer → IsHandedOut code answer last report_now told outputs output_ends report
     → CallEnds line plan block ends present code told outputs output_ends report
-is_called line plan block ends present code told outputs output_ends report words answer first last fresh report_now said is opens answered handed = record {
+is_called line plan block ends present code told outputs output_ends report words answer first last fresh report_now said is opens well answered handed = record {
   called = λ other. record {
     answer = answer;
     first = first;
     last = last;
     report_now = report_now;
     opens = opens;
+    well = well;
     answered = subst (λ w. IsAnswered w plan first last fresh_sink report_now answer) said (subst (λ f. IsAnswered words plan first last f report_now answer) is answered);
     handed = handed;
   };

@@ -1,6 +1,10 @@
 mod Answering
+mod ByteRuns
+mod Calm
 mod Filling
 mod Handing
+mod Isolated
+mod LineBytes
 mod Parts
+mod PlanBytes
 mod Said
-mod SlotBytes

@@ -1,5 +1,5 @@
 -- Parts of a block that are put one behind the other.
-use Rattle.std.proofs.Common.{◌≡◌, ◌≢◌, ◌≤◌, ◌<◌, ◌+◌, ◌-◌, ◌++◌, ℕ, zero, suc, List, length, get_or, set, take, drop, refl, sym, ap, ◌∙◌, subst, arith}
+use Rattle.std.proofs.Common.{◌≡◌, ◌≢◌, ◌≤◌, ◌<◌, ◌+◌, ◌-◌, ◌++◌, ℕ, zero, suc, List, length, set, take, drop, refl, sym, ap, ◌∙◌, subst, arith}
 use Rattle.std.proofs.lemmas.List.{take-take, drop-take, length-take-le, drop_at, take_at, get_or-set_same, get_or-set_other}
 use Rattle.otn_ports.specs.Views.{BaysView}
 use Rattle.otn_c.proofs.Filling.{extended}

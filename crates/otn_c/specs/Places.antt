@@ -23,6 +23,11 @@ pub record OpensWith (present block ends : List ℕ) (bays : BaysView) : Type 0 
   pub client_in : (n : ℕ) → n < 16 → client_in_at bays n ≡ input_at present block ends (4 + n)
   pub client_out : (n : ℕ) → n < 16 → client_out_at bays n ≡ waiting
 
+-- no input has failed: bytes in memory can be read
+pub record InputsAreWell (bays : BaysView) : Type 0 where
+  pub line_in : (a : ℕ) → (line_in_at bays a).faults ≡ 0
+  pub client_in : (n : ℕ) → (client_in_at bays n).faults ≡ 0
+
 -- one of the 20 inputs is no part of their block
 abbrev pub HasNoPart : (block ends : List ℕ) → Type 0
 HasNoPart block ends = (n : ℕ) × (n < 20) × IsNoPart block ends n

@@ -20,7 +20,8 @@ pub(crate) fn answer(
     report: &mut GrowingSink,
 ) -> Status
     ensures { IsAnswered (texts words.now) plan.now
-        (bays_view ⟦<SliceSource<'static> as Source>⟧ ⟦<GrowingSink as Sink>⟧ bays.old) (bays_view ⟦<SliceSource<'static> as Source>⟧ ⟦<GrowingSink as Sink>⟧ bays.new)
+        (bays_view ⟦<SliceSource<'static> as Source>⟧ ⟦<GrowingSink as Sink>⟧ bays.old)
+        (bays_view ⟦<SliceSource<'static> as Source>⟧ ⟦<GrowingSink as Sink>⟧ bays.new)
         (sink_view ⟦<GrowingSink as Sink>⟧ report.old) (sink_view ⟦<GrowingSink as Sink>⟧ report.new) result }
 {
     match order_of(words) {
@@ -46,7 +47,8 @@ fn answer_by<C: Chooser>(
 ) -> Status
     requires { C.asked chooser.old ≡ 0 }
     ensures { IsAnswered (texts words.now) plan.now
-        (bays_view ⟦<SliceSource<'static> as Source>⟧ ⟦<GrowingSink as Sink>⟧ bays.old) (bays_view ⟦<SliceSource<'static> as Source>⟧ ⟦<GrowingSink as Sink>⟧ bays.new)
+        (bays_view ⟦<SliceSource<'static> as Source>⟧ ⟦<GrowingSink as Sink>⟧ bays.old)
+        (bays_view ⟦<SliceSource<'static> as Source>⟧ ⟦<GrowingSink as Sink>⟧ bays.new)
         (sink_view ⟦<GrowingSink as Sink>⟧ report.old) (sink_view ⟦<GrowingSink as Sink>⟧ report.new) result }
 {
     let mut source = SliceSource::new(plan);

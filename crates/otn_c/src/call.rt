@@ -120,7 +120,8 @@ fn hand_out(
 ) -> Result<u32, Memory>
     requires { length output_ends.old ≡ 20 }
     ensures { IfOk result (λ code. IsHandedOut code status
-        (bays_view ⟦<SliceSource<'static> as Source>⟧ ⟦<GrowingSink as Sink>⟧ bays.now) (sink_view ⟦<GrowingSink as Sink>⟧ got.now)
+        (bays_view ⟦<SliceSource<'static> as Source>⟧ ⟦<GrowingSink as Sink>⟧ bays.now)
+        (sink_view ⟦<GrowingSink as Sink>⟧ got.now)
         told.new outputs.new output_ends.new report.new) }
 {
     let Some(total) = put_outputs(bays, awaited, outputs, output_ends) else {

@@ -7,13 +7,14 @@
 //! - `awaited`: what is known of the outputs before a run.
 //! - `blocks`: parts that lie one behind the other in one slice.
 //! - `growing_sink`: a sink in memory that grows.
+//! - `laws`: the promise of isolation, of any two calls, by their bytes alone.
 //! - `slice_source`: a source over bytes that are lent.
 //! - `version`: the version of the library.
 //! - `words`: the words of a line.
 #![tactic(auto)]
 
 ghost use Rattle.std.specs.Prelude.{◌≡◌, ◌≢◌, ◌≤◌};
-ghost use Rattle.otn_c.specs.Calls.{Called, IsNoCall, SlotOverBytes, no_call, no_memory};
+ghost use Rattle.otn_c.specs.Calls.{Called, IsNoCall, PlanOverBytes, PullOverBytes, SlotOverBytes, no_call, no_memory};
 
 mod answer;
 mod answered;
@@ -21,6 +22,7 @@ mod awaited;
 mod blocks;
 mod call;
 mod growing_sink;
+mod laws;
 mod outputs;
 mod places;
 mod slice_source;
@@ -30,7 +32,8 @@ mod words;
 pub use answer::Answer;
 use call::answer_call;
 pub use growing_sink::GrowingSink;
-use line_tool::slot_of_given;
+pub use laws::headline_of_bytes;
+use line_tool::{check_of_text, pull_of_given, run_of_text, slot_of_given};
 pub use slice_source::SliceSource;
 use std::alloc::Global;
 pub use version::otn_version;
@@ -70,8 +73,15 @@ pub extern "C" fn otn_run(
     ensures codes { result ≤ no_call }
     // Of `slot K`, by the bytes alone: the report is the slot's payload bytes in each whole frame of input 0.
     ensures slot { SlotOverBytes words.now inputs.now ends.now present.now result told.new report.new }
+    // Of `pull PORT K,K`: what the sink of that tributary emits in each turn of input 0.
+    ensures pull { PullOverBytes words.now inputs.now ends.now present.now result told.new report.new }
+    // Of `check` and `run`: whether the text is a plan, and which rule it breaks first, and where.
+    ensures plan { PlanOverBytes words.now plan.now result told.new report.new }
 {
     slot_of_given();
+    pull_of_given();
+    check_of_text();
+    run_of_text();
     answer_call(
         alloc,
         words,

@@ -31,7 +31,8 @@ pub(crate) fn places_of<'a>(
     requires ends { length ends.now ≡ 20 }
     requires present { length present.now ≡ 20 }
     ensures { IfOk result (λ made. MatchOption made (HasNoPart block.now ends.now)
-        (λ bays. OpensWith present.now block.now ends.now (bays_view ⟦<SliceSource<'static> as Source>⟧ ⟦<GrowingSink as Sink>⟧ bays))) }
+        (λ bays. OpensWith present.now block.now ends.now
+        (bays_view ⟦<SliceSource<'static> as Source>⟧ ⟦<GrowingSink as Sink>⟧ bays))) }
 {
     let mut bays = Rack::new(alloc)?;
     let Some(()) = fill_lines(alloc, &mut bays, block, ends, present, awaited)? else {
@@ -55,7 +56,9 @@ fn fill_lines<'a>(
     requires ends { length ends.now ≡ 20 }
     requires present { length present.now ≡ 20 }
     ensures { IfOk result (λ made. MatchOption made (HasNoPart block.now ends.now)
-        (λ _. LinesUpTo present.now block.now ends.now 4 (bays_view ⟦<SliceSource<'static> as Source>⟧ ⟦<GrowingSink as Sink>⟧ bays.old) (bays_view ⟦<SliceSource<'static> as Source>⟧ ⟦<GrowingSink as Sink>⟧ bays.new))) }
+        (λ _. LinesUpTo present.now block.now ends.now 4
+        (bays_view ⟦<SliceSource<'static> as Source>⟧ ⟦<GrowingSink as Sink>⟧ bays.old)
+        (bays_view ⟦<SliceSource<'static> as Source>⟧ ⟦<GrowingSink as Sink>⟧ bays.new))) }
 {
     for n in 0..LINES as u8 {
         let Some(place) = input(block, ends, present, n as usize) else {
@@ -79,7 +82,9 @@ fn fill_clients<'a>(
     requires ends { length ends.now ≡ 20 }
     requires present { length present.now ≡ 20 }
     ensures { IfOk result (λ made. MatchOption made (HasNoPart block.now ends.now)
-        (λ _. ClientsUpTo present.now block.now ends.now 16 (bays_view ⟦<SliceSource<'static> as Source>⟧ ⟦<GrowingSink as Sink>⟧ bays.old) (bays_view ⟦<SliceSource<'static> as Source>⟧ ⟦<GrowingSink as Sink>⟧ bays.new))) }
+        (λ _. ClientsUpTo present.now block.now ends.now 16
+        (bays_view ⟦<SliceSource<'static> as Source>⟧ ⟦<GrowingSink as Sink>⟧ bays.old)
+        (bays_view ⟦<SliceSource<'static> as Source>⟧ ⟦<GrowingSink as Sink>⟧ bays.new))) }
 {
     for n in 0..CLIENTS as u8 {
         let Some(place) = input(block, ends, present, LINES + n as usize) else {
