@@ -11,12 +11,14 @@
  * or OTN_REPORT_FAULT, both plans have the connection's entry, and its input agrees, then what it sends agrees: its
  * client's text, or its own places on its line. An entry is its keys with their defaults (`stop` is `turns`), and which
  * of its lines are OTU3s. Of a client input there agree its packets and how they end; of a line, unscrambled, the
- * number of whole frames, their MFAS bytes, and the bytes at the connection's own places. An output line is scrambled
- * by both plans, or by neither. Where its output was cut for want of memory the promise goes up to there.
+ * number of whole frames, their MFAS bytes, and the bytes at the connection's own places. An input that is not there
+ * has no bytes. An output line is scrambled by both plans, or by neither. All of what is sent agrees where both calls
+ * answer OTN_DONE or OTN_UNFINISHED; else what both have of it does.
  *
- * This is proved of the library's code as it was before compilation (docs/PROMISES.md, "The library"). NOT PROVED, and
- * tested only: the bytes that are handed out of a client output whose connection says `retire = true` in the plan. Nor
- * does any proof speak of the program that calls: it has to keep the rules below.
+ * This is proved of the library's code as it was before compilation: the law `headline_of_bytes` of crates/otn_c says
+ * it of any two calls of `otn_run` (docs/PROMISES.md, "Isolation of two calls of the library"). NOT PROVED, and tested
+ * only: the bytes that are handed out of a client output whose connection says `retire = true` in the plan. Nor does
+ * any proof speak of the program that calls: it has to keep the rules below.
  *
  * HOW IT IS CALLED. It takes bytes with their length. It calls the system for nothing but memory: malloc,
  * posix_memalign, realloc, free, and on Linux advice on the pages of large blocks. It gives all of it back. What comes
@@ -30,7 +32,7 @@
  *
  * Link with libotn.a, or with libotn.so; library/build makes both. C99 and C++.
  *
- *     static const uint8_t words[] = "check", plan[] = "turns = 64\n", none[1];
+ *     static const uint8_t words[] = "check", plan[] = "turns = 64\n", none[1] = {0};
  *     size_t ends[OTN_PORTS] = {0}, output_ends[OTN_PORTS];
  *     uint8_t present[OTN_PORTS] = {0}, outputs[1], report[1000];
  *     struct otn_answer told;
