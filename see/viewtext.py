@@ -1,7 +1,8 @@
 """The numbers of a line as otn_view tells them, which is proved: alignment, counts, MSI bytes, states, Cm, CnD, bytes.
 
 `lay_over` runs otn_view on a line that otnlines.py has read, and puts its numbers in the place of those read there.
-What the text does not say stays as it was read: traces, wrong MFAS bytes, how a message was damaged, client packets and signals.
+What the text does not say stays as it was read: traces, wrong MFAS bytes, how a message was damaged, client packets and
+signals.
 """
 import os
 import pathlib
