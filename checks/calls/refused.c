@@ -1,5 +1,6 @@
 /* Each request for memory is refused in turn: refused WORDS PLAN [NUMBER FILE]..
  *
+ * Where large blocks are asked for, it is done once more with none to be had, so that outputs grow.
  * Whatever is refused, all memory is given back. The answer is that there was no memory, or what it is with memory, but
  * for one output or the report, of which a part from the front is handed out: what all others got stays the same. So
  * it is seen with ports that fail that no connection touches another. Linked with --wrap for malloc, posix_memalign,
@@ -7,7 +8,8 @@
 #include "call.h"
 #include <errno.h>
 
-static long asked, refused, held;
+static long asked, refused, held, blocks;
+static int no_blocks;
 
 void *__real_malloc(size_t size);
 int __real_posix_memalign(void **at, size_t alignment, size_t size);
@@ -29,7 +31,8 @@ void *__wrap_malloc(size_t size)
 
 int __wrap_posix_memalign(void **at, size_t alignment, size_t size)
 {
-    if (++asked == refused)
+    blocks++;
+    if (no_blocks || ++asked == refused)
         return ENOMEM;
     int fault = __real_posix_memalign(at, alignment, size);
     held += !fault;
@@ -85,21 +88,25 @@ int main(int count, char **said)
     struct got now = room_of(whole.told.outputs, whole.told.report + 4096);
     long codes[10] = { 0 }, outputs_cut = 0, wrong = 0;
     int is_run = !strncmp(said[1], "run", 3);
-    for (refused = 1; ; refused++) {
-        asked = held = 0;
-        carry_out(&in, &now);
-        long requests = asked;
-        if (requests < refused)
-            break;
-        if (now.code > OTN_MEMORY || held || !is_explained(&now, &whole, is_run)) {
-            printf("request %ld refused: code %u, %ld not given back\n", refused, (unsigned)now.code, held);
-            wrong++;
+    long tried = 0;
+    for (no_blocks = 0; no_blocks < 1 + (blocks > 0); no_blocks++) {
+        for (refused = 1; ; refused++) {
+            asked = held = 0;
+            carry_out(&in, &now);
+            if (asked < refused)
+                break;
+            tried++;
+            if (now.code > OTN_MEMORY || held || !is_explained(&now, &whole, is_run)) {
+                printf("request %ld refused%s: code %u, %ld not given back\n", refused,
+                       no_blocks ? ", and large blocks" : "", (unsigned)now.code, held);
+                wrong++;
+            }
+            codes[now.code < 10 ? now.code : 9]++;
+            outputs_cut += now.code == OTN_CUT && shorter(&now, &whole) == 1;
         }
-        codes[now.code < 10 ? now.code : 9]++;
-        outputs_cut += now.code == OTN_CUT && shorter(&now, &whole) == 1;
+        wrong += held || !are_same(&now, &whole);
     }
-    wrong += held || !are_same(&now, &whole);
-    printf("%s: %ld requests for memory refused in turn:", said[1], refused - 1);
+    printf("%s: %ld requests for memory refused in turn:", said[1], tried);
     for (int code = 0; code < 10; code++)
         if (codes[code])
             printf(" %ld answered %d,", codes[code], code);
