@@ -44,10 +44,10 @@ use Rattle.run_command.proofs.RunCalls.{accepted_plan, run_carries, same_answer}
 use Rattle.command_words.specs.declared.words.Command.TheVariants as command
 use Rattle.line_tool.specs.TrialRuns.{waiting}
 use Rattle.otn_c.specs.Blocks.{part_of, words_said}
-use Rattle.otn_c.specs.Calls.{Called, Gives, IsAnswered, fresh_sink, no_call, no_memory, no_room, source_of}
-use Rattle.otn_c.specs.Isolation.{Call, CarriedPlan, HasCarried, IsRunForm, IsRunOf, IsWhole, WasCalled, bytes_by, input_of, output_of}
+use Rattle.otn_c.specs.Calls.{Called, Gives, IsAnswered, IsRunForm, fresh_sink, no_call, no_memory, no_room, source_of}
+use Rattle.otn_c.specs.Isolation.{Call, CarriedPlan, HasCarried, IsRunOf, IsWhole, WasCalled, bytes_by, input_of, output_of}
 use Rattle.otn_c.specs.Places.{IsKept, input_as, output_at}
-use Rattle.otn_c.proofs.SlotBytes.{had_by}
+use Rattle.otn_c.proofs.LineBytes.{had_by}
 
 -- ---- the code of a call that carried a plan
 
@@ -88,7 +88,7 @@ is_carried status.Memory code is ended = absurd (not_memory code ended is)
 
 -- ---- what `run` answers for
 
-run_answers : (words : List (List ℕ)) (plan : List ℕ) (first last : BaysView) (report report_now : SinkView) (answer : Status) → IsAnswered words plan first last report report_now answer → IsRunForm words
+pub run_answers : (words : List (List ℕ)) (plan : List ℕ) (first last : BaysView) (report report_now : SinkView) (answer : Status) → IsAnswered words plan first last report report_now answer → IsRunForm words
     → (left : SourceView) × (asked : ℕ)
     × RunAnswers (record { plan = source_of plan; bays = first; report = report }) (record { plan = left; bays = last; report = report_now }) 0 asked answer
 run_answers words plan first last report report_now answer is (inl form) = is.answers command.Run form

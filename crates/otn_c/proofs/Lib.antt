@@ -4,6 +4,7 @@ mod Calm
 mod Filling
 mod Handing
 mod Isolated
+mod LineBytes
 mod Parts
+mod PlanBytes
 mod Said
-mod SlotBytes

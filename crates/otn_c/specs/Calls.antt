@@ -1,18 +1,25 @@
 -- Believed: what a call of the library answers for: the command of its words, over the bytes that it was handed.
-use Rattle.std.specs.Prelude.{◌≡◌, ◌≢◌, ◌<◌, ◌≤◌, ◌-◌, ◌⊎◌, ◌↔◌, ℕ, false, true, List, [], Some, get_or, length, take}
+use Rattle.std.specs.Prelude.{◌≡◌, ◌≢◌, ◌<◌, ◌≤◌, ◌-◌, ◌⊎◌, ◌↔◌, ℕ, false, true, List, [], Ok, Err, Some, get_or, length, take}
 use Rattle.std.specs.Str.{IsUtf8}
+use Rattle.otn_base.specs.LineSlots.{LineSlots}
 use Rattle.otn_ports.specs.PortViews.{SourceView, SinkView}
 use Rattle.otn_ports.specs.Views.{BaysView}
+use Rattle.plan_file.specs.Answer.{plan_of_text}
 use Rattle.plan_file.specs.Code as rule
+use Rattle.plan_file.specs.declared.error.NoPlan.TheVariants.{Refused}
+use Rattle.plan_file.specs.declared.error.PlanError.{PlanError}
+use Rattle.plan_file.specs.declared.plan.Plan.{Plan}
 use Rattle.line_tool.specs.AnswerWords.{IsRefusal}
 use Rattle.line_tool.specs.Answers.{Answers}
 use Rattle.line_tool.specs.Codes.{code_of}
+use Rattle.line_tool.specs.PlanCheck.{plan_text}
+use Rattle.line_tool.specs.PullReport.{pull_report, tributary}
 use Rattle.line_tool.specs.SlotReport.{slot_report}
 use Rattle.line_tool.specs.Words.{IsForm, IsNoForm}
 use Rattle.command_base.specs.declared.status.Status.{Status}
 use Rattle.command_base.specs.declared.status.Status.TheVariants as status
 use Rattle.command_words.specs.declared.words.Command.{Command}
-use Rattle.command_words.specs.declared.words.Command.TheVariants.{Slot}
+use Rattle.command_words.specs.declared.words.Command.TheVariants.{Slot, Pull, Check, Run, RunOrdered, RunCaptures}
 use Rattle.otn_c.specs.Blocks.{words_said, part_of, start_of, end_of}
 use Rattle.otn_c.specs.Places.{OpensWith, InputsAreWell, HasNoPart, HasSize, IsKept, output_at}
 use Rattle.otn_c.specs.declared.answer.Answer.{Answer}
@@ -116,11 +123,30 @@ pub record CallEnds (line plan block ends present : List ℕ) (code : ℕ) (told
   pub called : code ≢ no_call → Called line plan block ends present code told outputs output_ends report
   pub none : code ≡ no_call → (IsUtf8 line → ⊥) ⊎ HasNoPart block ends
 
--- ---- `slot K` over the bytes of a call
+-- ---- commands over the bytes of a call
 
--- Where line 0 is there and the answer is Done or Unfinished, the report is the payload bytes of the slot in each whole
--- frame of the very bytes of input 0, as many frames as the command reads.
+-- the words are those of `run`, with whatever option
+abbrev pub IsRunForm : List (List ℕ) → Type 0
+IsRunForm words = IsForm words Run ⊎ ((number : ℕ) × IsForm words (RunOrdered number)) ⊎ IsForm words RunCaptures
+
+-- `slot K`: where line 0 is there and the answer is Done or Unfinished, the report is the payload bytes of the slot in
+-- each whole frame of the very bytes of input 0, as many frames as the command reads.
 abbrev pub SlotOverBytes : (line block ends present : List ℕ) (code : ℕ) (told : Answer) (report : List ℕ) → Type 0
 SlotOverBytes line block ends present code told report = (slot : ℕ) → IsForm (words_said line) (Slot slot)
     → get_or present 0 0 ≢ 0
     → (code ≡ 0) ⊎ (code ≡ 1) → take told.report report ≡ slot_report slot (part_of block ends 0)
+
+-- `pull PORT K,K`: likewise it is what the sink of this port and these slots emits, turn by turn.
+abbrev pub PullOverBytes : (line block ends present : List ℕ) (code : ℕ) (told : Answer) (report : List ℕ) → Type 0
+PullOverBytes line block ends present code told report = (port : ℕ) (slots : LineSlots)
+    → IsForm (words_said line) (Pull port slots) → get_or present 0 0 ≢ 0
+    → (code ≡ 0) ⊎ (code ≡ 1) → take told.report report ≡ pull_report (tributary port slots.list) (part_of block ends 0)
+
+-- `check`, and `run`, by the text of the plan: an accepted one is told by the report of `check`; one that is refused
+-- breaks the rule that is told, at the place that is told, and no rule before it.
+pub record PlanOverBytes (line text : List ℕ) (code : ℕ) (told : Answer) (report : List ℕ) : Type 0 where
+  pub accepted : IsForm (words_said line) Check → code ≡ 0
+      → (plan : Plan) × (plan_of_text text ≡ Ok plan) × (take told.report report ≡ plan_text plan)
+  pub refused : IsForm (words_said line) Check ⊎ IsRunForm (words_said line) → code ≡ 3
+      → (error : PlanError) × (place : ℕ) × (plan_of_text text ≡ Err (Refused error place))
+      × (told.rule ≡ rule.code_of error) × (told.place ≡ place)

@@ -18,10 +18,8 @@ use Rattle.connection_laws.specs.TwoWorlds.{HaveSameByte}
 use Rattle.run_laws.specs.RunsAlike.{IsFrontOfOther, HasPlace, HasGone}
 use Rattle.run_laws.specs.SeenRuns.{Run, LineGave, ClientGave, LineGot, ClientGot, LineLived, ClientLived}
 use Rattle.run_command.specs.Headline.{Ran}
-use Rattle.command_words.specs.Words.{IsForm}
-use Rattle.command_words.specs.declared.words.Command.TheVariants as command
 use Rattle.otn_c.specs.Blocks.{part_of, words_said}
-use Rattle.otn_c.specs.Calls.{Called, no_call, no_memory}
+use Rattle.otn_c.specs.Calls.{Called, IsRunForm, no_call, no_memory}
 use Rattle.otn_c.specs.declared.answer.Answer.{Answer}
 
 -- ---- calls
@@ -45,11 +43,6 @@ abbrev pub WasCalled : Call → Type 0
 WasCalled call = call.code ≢ no_memory → call.code ≢ no_call
     → Called call.words call.text call.inputs call.ends call.present call.code call.told call.outputs call.output_ends
     call.report
-
--- the words are those of `run`, with whatever option
-abbrev pub IsRunForm : List (List ℕ) → Type 0
-IsRunForm words = IsForm words command.Run ⊎ ((number : ℕ) × IsForm words (command.RunOrdered number))
-    ⊎ IsForm words command.RunCaptures
 
 -- Done or Unfinished: every output is whole
 abbrev pub IsWhole : (code : ℕ) → Type 0

@@ -14,7 +14,7 @@
 #![tactic(auto)]
 
 ghost use Rattle.std.specs.Prelude.{◌≡◌, ◌≢◌, ◌≤◌};
-ghost use Rattle.otn_c.specs.Calls.{Called, IsNoCall, SlotOverBytes, no_call, no_memory};
+ghost use Rattle.otn_c.specs.Calls.{Called, IsNoCall, PlanOverBytes, PullOverBytes, SlotOverBytes, no_call, no_memory};
 
 mod answer;
 mod answered;
@@ -33,7 +33,7 @@ pub use answer::Answer;
 use call::answer_call;
 pub use growing_sink::GrowingSink;
 pub use laws::headline_of_bytes;
-use line_tool::slot_of_given;
+use line_tool::{check_of_text, pull_of_given, run_of_text, slot_of_given};
 pub use slice_source::SliceSource;
 use std::alloc::Global;
 pub use version::otn_version;
@@ -73,8 +73,15 @@ pub extern "C" fn otn_run(
     ensures codes { result ≤ no_call }
     // Of `slot K`, by the bytes alone: the report is the slot's payload bytes in each whole frame of input 0.
     ensures slot { SlotOverBytes words.now inputs.now ends.now present.now result told.new report.new }
+    // Of `pull PORT K,K`: what the sink of that tributary emits in each turn of input 0.
+    ensures pull { PullOverBytes words.now inputs.now ends.now present.now result told.new report.new }
+    // Of `check` and `run`: whether the text is a plan, and which rule it breaks first, and where.
+    ensures plan { PlanOverBytes words.now plan.now result told.new report.new }
 {
     slot_of_given();
+    pull_of_given();
+    check_of_text();
+    run_of_text();
     answer_call(
         alloc,
         words,
