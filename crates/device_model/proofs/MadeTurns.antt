@@ -8,7 +8,7 @@ use Rattle.std.proofs.Math.Nat.{mod-eq_of_lt, mul-suc, mul-zero, div-add-mod}
 use Rattle.line_side.specs.LineFile.{mfas_of}
 use Rattle.line_side.specs.LineForm.{size_of}
 use Rattle.line_side.proofs.Mfas.{index_mfas, length_mfas}
-use Rattle.multiframe.specs.LineTurns.{starts, is_start, least_or, least_start, Lock, LineState, Hunting, Locked, Ended, lock_from, lock_of, one_unless, wrong_count, CutShort, Lost, Whole, outcome_of, after_outcome, after_hunt, after_turn, line_state, kept_if, multiframe_at, multiframe}
+use Rattle.multiframe.specs.LineTurns.{starts, is_start, least_or, least_start, Lock, LineState, Hunting, Locked, Ended, lock_from, lock_of, wrong_count, CutShort, Lost, Whole, outcome_of, after_outcome, after_hunt, after_turn, line_state, kept_if, multiframe_at, multiframe}
 use Rattle.plan_file.specs.declared.plan.Plan.{Plan}
 use Rattle.otn_base.specs.LineSlots.{slots_of}
 use Rattle.otn_base.specs.declared.line_kind.LineKind.{LineKind}
@@ -60,7 +60,7 @@ none_wrong e f [] same h = refl
 none_wrong e f (x ∷ xs) same h =
     let here : x ≡ e % 256 = (let z = h 0 (omega arith) in omega arith) in
     let rest = none_wrong (e + 1) (f + 1) xs (omega arith) (λ k l. let z = h (suc k) (omega arith) in omega arith) in
-    ap (λ t. one_unless t + wrong_count (e + 1) xs) (eq-eqb x (e % 256) here) ∙ (let sum : 0 + wrong_count (e + 1) xs ≡ 0 = omega arith in sum)
+    ap (λ t. cond t 0 1 + wrong_count (e + 1) xs) (eq-eqb x (e % 256) here) ∙ (let sum : 0 + wrong_count (e + 1) xs ≡ 0 = omega arith in sum)
 
 members : (f size : ℕ) (ms : List ℕ) → f + size ≤ length ms → GoOn ms → wrong_count (f % 256) (take size (drop f ms)) ≡ 0
 members f size ms many on = none_wrong (f % 256) f (take size (drop f ms)) (omega arith) (λ k l.

@@ -1,8 +1,8 @@
 -- A piece of any turn, of a line of which all bytes are fixed.
 use Rattle.std.proofs.Common.{◌≡◌, ◌<◌, ◌≤◌, ◌+◌, ◌-◌, min, max, ℕ, zero, suc, Bool, true, false, List, [], ◌∷◌, ◌++◌, Option, Some, None, length, take, drop, arith, refl, sym, ap, ◌∙◌, subst}
-use Rattle.std.specs.Prelude.{slice_index, IfSome}
+use Rattle.std.specs.Prelude.{slice_index, IfSome, unwrap_or}
 use Rattle.std.proofs.lemmas.Bool.{lt-ltb, le-ltb}
-use Rattle.multiframe.specs.LineTurns.{Lock, LineState, Hunting, Locked, Ended, one_if, looked_ahead, least_start, lock_from, lock_of, used_in, used_at, wanted_in, wanted_from, wanted, lead_in, lead_in_from, lost_count}
+use Rattle.multiframe.specs.LineTurns.{Lock, LineState, Hunting, Locked, Ended, one_if, looked_ahead, least_start, lock_from, lock_of, used_in, used_at, wanted_in, wanted_from, wanted, lead_in, lost_count}
 use Rattle.multiframe.specs.Alignment.{Alignment}
 use Rattle.line_side.specs.LineFile.{frame_at, mfas_of}
 use Rattle.line_side.specs.Reader.{HasRead}
@@ -33,7 +33,7 @@ pub record HuntIs (size : ℕ) (given : List ℕ) (n t i : ℕ) (least : Option 
   pub read : HasRead given n (used_at size (mfas_of given) (lock_from (mfas_of given) i least) i (suc k)) (max (wanted size (mfas_of given) t) (wanted_from size (mfas_of given) i least (suc k))) line.reader
   pub alignment : aligned_by (mfas_of given) (lock_from (mfas_of given) i least) (suc k) line.alignment
   pub ended : line.ended ≡ ended_at size (mfas_of given) (lock_from (mfas_of given) i least) i (suc k)
-  pub lead_in : line.lead_in ≡ saturated (lead_in size (mfas_of given) t + lead_in_from size (mfas_of given) i least)
+  pub lead_in : line.lead_in ≡ saturated (lead_in size (mfas_of given) t + unwrap_or least (min size (length (mfas_of given) - i)))
   pub lost : line.lost ≡ saturated (lost_count size (mfas_of given) t)
 
 -- the same where the turn hunts at frame i

@@ -13,20 +13,17 @@ frame_at bytes f = take LINE_FRAME_BYTES (drop (LINE_FRAME_BYTES * f) bytes)
 abbrev pub frame_mfas : List ℕ → ℕ
 frame_mfas frame = slice_index frame (place_of LINE_COLUMNS SECTION_ROW MFAS_COLUMN)
 
--- how many whole frames these bytes have
+-- how many whole frames these bytes have, the MFAS bytes of the first n, these frames, and the MFAS bytes of all
 abbrev pub whole_frames : List ℕ → ℕ
 whole_frames bytes = length bytes / LINE_FRAME_BYTES
 
--- the MFAS bytes of the first n frames
 unfoldable pub first_mfas : List ℕ → ℕ → List ℕ
 first_mfas bytes zero = []
 first_mfas bytes (suc n) = first_mfas bytes n ++ frame_mfas (frame_at bytes n) ∷ []
 
--- the first n frames
 unfoldable pub first_frames : List ℕ → ℕ → List (List ℕ)
 first_frames bytes zero = []
 first_frames bytes (suc n) = first_frames bytes n ++ frame_at bytes n ∷ []
 
--- the MFAS bytes of all whole frames
 abbrev pub mfas_of : List ℕ → List ℕ
 mfas_of bytes = first_mfas bytes (whole_frames bytes)

@@ -19,14 +19,13 @@ plain_otu2 = record { kind = Otu2; scrambled = false }
 abbrev pub size_of : LineForm → ℕ
 size_of form = slots_of form.kind
 
--- bytes of a line's file, the first of which stands at this place of the file, each with the mask's byte at its place
--- in its frame, by exclusive or
+-- G.709 clause 11.2: bytes from a place of a line's file on, or from the first one of a frame on, each through the
+-- mask's byte at its place in its frame, by exclusive or, where the line is scrambled. So the frames of a line become
+-- its file, and its file becomes the frames.
 unfoldable pub masked_from : (place : ℕ) → List ℕ → List ℕ
 masked_from place [] = []
 masked_from place (byte ∷ bytes) = bit_xor byte (mask_byte (place % LINE_FRAME_BYTES)) ∷ masked_from (place + 1) bytes
 
--- G.709 clause 11.2: bytes from the first one of a frame on, through the mask where the line is scrambled. So the
--- frames of a line become its file, and its file becomes the frames.
 abbrev pub through_mask : (scrambled : Bool) → List ℕ → List ℕ
 through_mask false bytes = bytes
 through_mask true bytes = masked_from 0 bytes

@@ -14,11 +14,11 @@ use Rattle.otu_overhead.specs.Section.{otu_byte}
 use Rattle.line_side.specs.LineForm.{LineForm, through_mask}
 use Rattle.otn_base.specs.Counts.{saturated}
 
--- the source access point identifier of line n, 0 to 3, in SM and PM: LINE-n
+-- G.709 clause 15.2: the source access point identifier of line n, 0 to 3, in SM and PM, which is LINE-n, and its trail
+-- trace byte in the frame with this MFAS
 abbrev pub line_sapi : (n : ℕ) → List ℕ
 line_sapi n = 76 ∷ 73 ∷ 78 ∷ 69 ∷ 45 ∷ (48 + n) ∷ []
 
--- G.709 clause 15.2: its trail trace byte in the frame with this MFAS
 abbrev pub line_tti : (n mfas : ℕ) → ℕ
 line_tti n mfas = slice_index (trail_trace (line_sapi n)) (mfas % 64)
 
@@ -37,8 +37,7 @@ psi_byte_at ports mfas row col byte = if (row == PSI_ROW) && (col == PSI_COLUMN)
 -- and the columns of the FEC, path overhead, and the PSI byte by the ports of the slots. Every other byte is as it was
 -- put.
 abbrev pub line_byte : (n bip : ℕ) → FramePut → (row col byte : ℕ) → ℕ
-line_byte n bip put row col byte =
-    otu_byte put.mfas (line_tti n put.mfas) bip row col
+line_byte n bip put row col byte = otu_byte put.mfas (line_tti n put.mfas) bip row col
     (path_byte (line_tti n put.mfas) bip row col (psi_byte_at put.ports put.mfas row col byte))
 
 -- the frame of line n that carries this BIP-8, in which this was put
@@ -54,8 +53,7 @@ abbrev pub AreLineFrames : (n : ℕ) → (before : List (List ℕ)) → (puts : 
 AreLineFrames n before [] [] = ⊤
 AreLineFrames n before (put ∷ puts) (frame ∷ frames) = IsLineFrame n
     (or_zero (parity_due LINE_COLUMNS before)) put frame × AreLineFrames n (before ++ frame ∷ []) puts frames
-AreLineFrames n before (put ∷ puts) [] = ⊥
-AreLineFrames n before [] (frame ∷ frames) = ⊥
+AreLineFrames n before puts frames = ⊥
 
 -- what is seen of an output line: what is fixed of it, its identifier, the frame to come, what its writers keep, and
 -- how many frames count
@@ -70,8 +68,7 @@ pub record LineOutView : Type 0 where
 -- how many frames count of those that were made: all on an empty place, else those that went out whole
 abbrev pub counted_frames : State → (made : List (List ℕ)) → (written : List ℕ) → ℕ
 counted_frames Empty made written = length made
-counted_frames Live made written = length written / LINE_FRAME_BYTES
-counted_frames Dead made written = length written / LINE_FRAME_BYTES
+counted_frames other made written = length written / LINE_FRAME_BYTES
 
 -- whether a frame counts, by how its place stood before and after it was written: it was made on an empty place, or
 -- went out whole

@@ -27,9 +27,8 @@ count_of (Some x) = 1
 
 -- the bytes after the last whole frame, where the end was seen
 abbrev pub rest_of : Ending → List ℕ → ℕ
-rest_of Open available = 0
 rest_of Seen available = length available % LINE_FRAME_BYTES
-rest_of Died available = 0
+rest_of other available = 0
 
 -- n bytes of all that are available were read, u frames of them are used, and w frames were wanted. One frame more than
 -- those that are used may have been looked ahead at. While the bytes have not ended, so many frames were read as were

@@ -5,16 +5,14 @@ use Rattle.std.specs.Prelude.{◌≡◌, ℕ, ◌+◌, ◌-◌, ◌==◌, Bool, 
 abbrev pub msi_byte : (port : ℕ) → ℕ
 msi_byte port = 0x80 + port - 1
 
--- whether the first of some bytes is another
+-- whether the first of some bytes is another, and whether the first two are
 abbrev pub first_wrong : (right : ℕ) → List ℕ → Bool
 first_wrong right [] = false
 first_wrong right (x ∷ rest) = not (x == right)
 
--- whether the first two are
 abbrev pub both_wrong : (right : ℕ) → List ℕ → Bool
-both_wrong right [] = false
-both_wrong right (x ∷ []) = false
 both_wrong right (x ∷ y ∷ rest) = not (x == right) && not (y == right)
+both_wrong right other = false
 
 -- A slot is marked where the last two of its MSI bytes, which are listed as they came, were both wrong.
 abbrev pub is_marked : (port : ℕ) → List ℕ → Bool

@@ -13,9 +13,8 @@ slot_msi port = if port == 0 then 0xC0 else msi_byte port
 -- G.709 clauses 15.9.2.1 and 19.4.1: the PSI byte of the frame with this MFAS. PSI[0] is the payload type 21, PSI[1 +
 -- k] the MSI byte of slot k, and every other one 0.
 abbrev pub psi_of : (ports : List ℕ) → (mfas : ℕ) → ℕ
-psi_of ports mfas =
-    if mfas == 0 then 0x21 else (if nat_le 2 mfas && nat_le mfas (length ports + 1)
-    then slot_msi (port_at ports (mfas - 1)) else 0)
+psi_of ports mfas = if mfas == 0 then 0x21 else
+    (if nat_le 2 mfas && nat_le mfas (length ports + 1) then slot_msi (port_at ports (mfas - 1)) else 0)
 
 -- these slots, and no others, were given to a port, or to none where it is 0
 pub record IsGiven (slots : List ℕ) (port : ℕ) (old new : List ℕ) : Type 0 where

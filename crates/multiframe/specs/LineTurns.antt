@@ -3,7 +3,7 @@
 -- and `ms` the list of the MFAS bytes of the line's whole frames, which count from 0. Turns count from 1. A name in
 -- `_in` is of the first k pieces of a turn, in `_of` of a whole turn by the state before it, in `_so_far` of the turns
 -- 1 to t and k pieces more; `_at`, `_from` and `_by` are cases of these.
-use Rattle.std.specs.Prelude.{ℕ, zero, suc, ◌+◌, ◌-◌, ◌*◌, ◌/◌, ◌%◌, min, max, Bool, true, false, ◌&&◌, ◌==◌, nat_lt, nat_le, if◌then◌else◌, List, [], ◌∷◌, length, take, drop, slice_index, Option, Some, None}
+use Rattle.std.specs.Prelude.{ℕ, zero, suc, ◌+◌, ◌-◌, ◌*◌, ◌/◌, ◌%◌, min, max, Bool, true, false, ◌&&◌, ◌==◌, nat_lt, nat_le, if◌then◌else◌, List, [], ◌∷◌, length, take, drop, slice_index, Option, Some, None, unwrap_or}
 
 -- a multiframe may begin with a frame of this MFAS where the next frame has that one: the first is a multiple of the
 -- number of frames of a multiframe, and the second one more
@@ -14,13 +14,12 @@ starts size first second = (first % size == 0) && (second == first + 1)
 abbrev pub is_start : ℕ → List ℕ → ℕ → Bool
 is_start size ms f = nat_lt (f + 1) (length ms) && starts size (slice_index ms f) (slice_index ms (f + 1))
 
--- the least n that was found so far, or k where none was and a multiframe may begin there
+-- the least n below k such that a multiframe may begin at frame i + n: the one found so far, or else the next
 abbrev pub least_or : Option ℕ → Bool → ℕ → Option ℕ
 least_or (Some n) here k = Some n
 least_or None true k = Some k
 least_or None false k = None
 
--- the least n below k such that a multiframe may begin at frame i + n
 unfoldable pub least_start : ℕ → List ℕ → ℕ → ℕ → Option ℕ
 least_start size ms i zero = None
 least_start size ms i (suc k) = least_or (least_start size ms i k) (is_start size ms (i + k)) k
@@ -57,18 +56,12 @@ lock_of size ms Ended = None
 
 -- 1 where it is so, else 0
 abbrev pub one_if : Bool → ℕ
-one_if true = 1
-one_if false = 0
-
--- 0 where it is so, else 1
-abbrev pub one_unless : Bool → ℕ
-one_unless true = 0
-one_unless false = 1
+one_if so = if so then 1 else 0
 
 -- how many of these MFAS bytes, those of frames in a row, differ from the expected ones: e, e + 1 and so on, modulo 256
 abbrev pub wrong_count : ℕ → List ℕ → ℕ
 wrong_count e [] = 0
-wrong_count e (m ∷ ms) = one_unless (m == e % 256) + wrong_count (e + 1) ms
+wrong_count e (m ∷ ms) = (if m == e % 256 then 0 else 1) + wrong_count (e + 1) ms
 
 -- what becomes of a turn that is locked: the line ends within it, its multiframe is lost, or it has its multiframe
 pub data Outcome : Type 0 where
@@ -78,8 +71,7 @@ pub data Outcome : Type 0 where
 
 -- the line ends before the multiframe's last frame; else more than half of the MFAS bytes differ; else it is there
 abbrev pub outcome_of : ℕ → List ℕ → Lock → Outcome
-outcome_of size ms lock =
-    if nat_lt (length ms) (lock.frame + size) then CutShort
+outcome_of size ms lock = if nat_lt (length ms) (lock.frame + size) then CutShort
     else (if nat_lt (size / 2) (wrong_count lock.expected (take size (drop lock.frame ms))) then Lost else Whole)
 
 -- the state of a line after a locked turn: ended; hunting from behind the lost multiframe on; or locked at the frame
@@ -89,13 +81,12 @@ after_outcome size lock CutShort = Ended
 after_outcome size lock Lost = Hunting (lock.frame + size)
 after_outcome size lock Whole = Locked (record { frame = lock.frame + size; expected = (lock.expected + size) % 256 })
 
--- the state of a line after a turn that hunted at i: as its lock's outcome says; without a lock it hunts size frames
--- further on, or has ended
+-- the state of a line after a turn, by the one before it: as the outcome of its lock says. A turn that hunted at i
+-- without a lock hunts size frames further on, or has ended
 abbrev pub after_hunt : ℕ → List ℕ → ℕ → Option Lock → LineState
 after_hunt size ms i (Some lock) = after_outcome size lock (outcome_of size ms lock)
 after_hunt size ms i None = if nat_le (i + size) (length ms) then Hunting (i + size) else Ended
 
--- the state of a line after a turn, by the one before it
 abbrev pub after_turn : ℕ → List ℕ → LineState → LineState
 after_turn size ms (Hunting i) = after_hunt size ms i (lock_of size ms (Hunting i))
 after_turn size ms (Locked lock) = after_outcome size lock (outcome_of size ms lock)
@@ -106,64 +97,50 @@ unfoldable pub line_state : ℕ → List ℕ → ℕ → LineState
 line_state size ms zero = Hunting 0
 line_state size ms (suc t) = after_turn size ms (line_state size ms t)
 
--- the lock of a turn that has its whole multiframe
+-- the multiframe that turn t + 1 has: none without a lock, or where it is lost or cut short; else that of the frames
+-- from `frame` to `frame + size - 1`, the n-th of which, from 0, has the expected MFAS `(expected + n) mod 256`
 abbrev pub kept_if : Outcome → Lock → Option Lock
 kept_if Whole lock = Some lock
-kept_if Lost lock = None
-kept_if CutShort lock = None
+kept_if other lock = None
 
--- the multiframe of a turn that is locked so: none without a lock, or where it is lost or cut short
 abbrev pub multiframe_at : ℕ → List ℕ → Option Lock → Option Lock
 multiframe_at size ms None = None
 multiframe_at size ms (Some lock) = kept_if (outcome_of size ms lock) lock
 
--- the multiframe that turn t + 1 has, if it has one: that of the frames from `frame` to `frame + size - 1`, the n-th of
--- which, from 0, has the expected MFAS `(expected + n) mod 256`
 abbrev pub multiframe : ℕ → List ℕ → ℕ → Option Lock
 multiframe size ms t = multiframe_at size ms (lock_of size ms (line_state size ms t))
 
--- the lead-in frames of a turn that hunts at i: n where it locks at frame i + n, else a multiframe's number of frames,
--- or all that are left
-abbrev pub lead_in_from : ℕ → List ℕ → ℕ → Option ℕ → ℕ
-lead_in_from size ms i (Some n) = n
-lead_in_from size ms i None = min size (length ms - i)
-
--- how many frames a turn passes over as lead-in, from the first one on that is not used before
+-- how many frames a turn passes over as lead-in, from the first one on that is not used before: n where it hunts at i
+-- and locks at frame i + n; where it hunts and does not lock, a multiframe's number of frames, or all that are left
 abbrev pub lead_in_of : ℕ → List ℕ → LineState → ℕ
-lead_in_of size ms (Hunting i) = lead_in_from size ms i (least_start size ms i size)
-lead_in_of size ms (Locked lock) = 0
-lead_in_of size ms Ended = 0
+lead_in_of size ms (Hunting i) = unwrap_or (least_start size ms i size) (min size (length ms - i))
+lead_in_of size ms other = 0
 
 -- the lead-in frames of turns 1 to t
 unfoldable pub lead_in : ℕ → List ℕ → ℕ → ℕ
 lead_in size ms zero = 0
 lead_in size ms (suc t) = lead_in size ms t + lead_in_of size ms (line_state size ms t)
 
--- whether a locked turn lost its multiframe
+-- how many of the turns 1 to t were locked and lost their multiframe
 abbrev pub is_lost : Outcome → Bool
 is_lost Lost = true
-is_lost Whole = false
-is_lost CutShort = false
+is_lost other = false
 
--- 1 where the turn that is locked so lost its multiframe, else 0
 abbrev pub lost_at : ℕ → List ℕ → Option Lock → ℕ
 lost_at size ms None = 0
 lost_at size ms (Some lock) = one_if (is_lost (outcome_of size ms lock))
 
--- how many of the turns 1 to t lost their multiframe
 unfoldable pub lost_count : ℕ → List ℕ → ℕ → ℕ
 lost_count size ms zero = 0
 lost_count size ms (suc t) = lost_count size ms t + lost_at size ms (lock_of size ms (line_state size ms t))
 
--- used_in, below, of a turn that hunts at i, where k is not 0: the frames before its multiframe and the first k of it;
--- without a lock all that it hunted over
+-- How many frames are used by the turns before and by the first k pieces of a turn. A turn is done in pieces of one
+-- frame each; the first one passes over the lead-in, which without a lock is all that was hunted over. Frames of a
+-- locked turn are used also where the line ends within it. A frame that was only looked ahead at is not used.
 abbrev pub used_at : ℕ → List ℕ → Option Lock → (i k : ℕ) → ℕ
 used_at size ms (Some lock) i k = min (length ms) (lock.frame + k)
 used_at size ms None i k = min (length ms) (i + size)
 
--- How many frames are used by the turns before and by the first k pieces of a turn. A turn is done in pieces of one
--- frame each; the first one passes over the lead-in. Frames of a locked turn are used also where the line ends within
--- it. A frame that was only looked ahead at is not used.
 abbrev pub used_in : ℕ → List ℕ → LineState → ℕ → ℕ
 used_in size ms (Hunting i) zero = i
 used_in size ms (Hunting i) (suc k) = used_at size ms (lock_of size ms (Hunting i)) i (suc k)
@@ -174,28 +151,26 @@ used_in size ms Ended k = length ms
 abbrev pub looked_ahead : ℕ → List ℕ → ℕ → Bool
 looked_ahead size ms f = nat_lt f (length ms) && (slice_index ms f % size == 0)
 
--- wanted_in, below, of a turn that hunts at i, where k is not 0: it locks at frame i + n, or nowhere
-abbrev pub wanted_from : ℕ → List ℕ → ℕ → Option ℕ → ℕ → ℕ
-wanted_from size ms i (Some n) k = i + n + max 2 k
-wanted_from size ms i None k = i + size + one_if (looked_ahead size ms (i + size - 1))
-
 -- How many frames, counted from the first of the line, the rule of a turn looks at in its first k pieces; a number
 -- above that of the whole frames says that it looked for a frame that is not whole. A hunt looks at each frame up to
 -- the one at which it locks and the one after it, and from piece 3 on at one more a piece, as a locked turn does. Where
 -- it doesn't lock, it looks at all frames of a multiframe, and at one beyond them only where a multiframe might begin
 -- at the last of them.
+abbrev pub wanted_from : ℕ → List ℕ → ℕ → Option ℕ → ℕ → ℕ
+wanted_from size ms i (Some n) k = i + n + max 2 k
+wanted_from size ms i None k = i + size + one_if (looked_ahead size ms (i + size - 1))
+
 abbrev pub wanted_in : ℕ → List ℕ → LineState → ℕ → ℕ
 wanted_in size ms (Hunting i) zero = 0
 wanted_in size ms (Hunting i) (suc k) = wanted_from size ms i (least_start size ms i size) (suc k)
 wanted_in size ms (Locked lock) k = lock.frame + k
 wanted_in size ms Ended k = 0
 
--- how many frames the turns 1 to t want
+-- how many frames the turns 1 to t want, and these with the first k pieces of the next turn
 unfoldable pub wanted : ℕ → List ℕ → ℕ → ℕ
 wanted size ms zero = 0
 wanted size ms (suc t) = max (wanted size ms t) (wanted_in size ms (line_state size ms t) size)
 
--- how many frames the turns 1 to t and the first k pieces of the next turn want
 abbrev pub wanted_so_far : ℕ → List ℕ → (t k : ℕ) → ℕ
 wanted_so_far size ms t k = max (wanted size ms t) (wanted_in size ms (line_state size ms t) k)
 

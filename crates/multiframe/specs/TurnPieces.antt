@@ -31,12 +31,11 @@ ended_in size ms (Hunting i) (suc k) = ended_at size ms (lock_of size ms (Huntin
 ended_in size ms (Locked lock) k = nat_lt (length ms) (lock.frame + k)
 ended_in size ms Ended k = true
 
--- the lead-in frames of the first k pieces of a turn: its first piece passes over all of them
+-- the lead-in frames of the turns 1 to t and of the first k pieces of the next turn, whose first passes over its own
 abbrev pub lead_in_by : ℕ → List ℕ → LineState → ℕ → ℕ
 lead_in_by size ms st zero = 0
 lead_in_by size ms st (suc k) = lead_in_of size ms st
 
--- the lead-in frames of the turns 1 to t and of the first k pieces of the next turn
 abbrev pub lead_in_so_far : ℕ → List ℕ → (t k : ℕ) → ℕ
 lead_in_so_far size ms t k = lead_in size ms t + lead_in_by size ms (line_state size ms t) k
 
