@@ -15,23 +15,19 @@ pub record Row : Type 0 where
   pub ii : ℕ
   pub di : ℕ
 
--- the letters of the change by 0: no bit is inverted
+-- the letters of the changes by 0, +1, -1, +2 and -2, from bit C1 to bit C14
 unfoldable pub same : List ℕ
 same = codes "UUUUUUUUUUUUUU"
 
--- the letters of the change by +1: the bits C1, C3 and so on to C13 are inverted
 unfoldable pub one_more : List ℕ
 one_more = codes "IUIUIUIUIUIUIU"
 
--- the letters of the change by -1: the bits C2, C4 and so on to C14 are inverted
 unfoldable pub one_less : List ℕ
 one_less = codes "UIUIUIUIUIUIUI"
 
--- the letters of the change by +2: the bits C2, C3, C6, C7, C10, C11 and C14 are inverted
 unfoldable pub two_more : List ℕ
 two_more = codes "UIIUUIIUUIIUUI"
 
--- the letters of the change by -2: the bits C1, C4, C5, C8, C9, C12 and C13 are inverted
 unfoldable pub two_less : List ℕ
 two_less = codes "IUUIIUUIIUUIIU"
 
@@ -45,28 +41,25 @@ table =
     ∷ record { more = 0; less = 2; letters = two_less; ii = 0; di = 1 }
     ∷ []
 
--- bits inverted where the letter is I
+-- a number's bits C1 to C14, the most significant first, inverted where the letter is I, and as a number again
 unfoldable pub inverted_at : (letters bits : List ℕ) → List ℕ
 inverted_at [] bits = bits
 inverted_at (letter ∷ letters) [] = []
 inverted_at (letter ∷ letters) (bit ∷ bits) = (if letter == 73 then 1 - bit else bit) ∷ inverted_at letters bits
 
--- the number of a bit list, the most significant first
 unfoldable pub number_of : List ℕ → ℕ
 number_of [] = 0
 number_of (bit ∷ bits) = bit * 2 ^ length bits + number_of bits
 
--- a number's bits C1 to C14 inverted where the letter is I, as a number
 unfoldable pub turned : List ℕ → ℕ → ℕ
 turned letters cm = number_of (inverted_at letters (low_bits 14 cm))
 
--- what JC1 and JC2 hold: the bits C1 to C14, as a number, and II and DI
+-- what JC1 and JC2 hold: the bits C1 to C14, as a number, and II and DI; and all sixteen bits as a number
 pub record Word : Type 0 where
   pub bits : ℕ
   pub ii : ℕ
   pub di : ℕ
 
--- the sixteen bits of JC1 and JC2 as a number
 abbrev pub word_value : Word → ℕ
 word_value word = 4 * word.bits + 2 * word.ii + word.di
 
@@ -74,20 +67,15 @@ word_value word = 4 * word.bits + 2 * word.ii + word.di
 abbrev pub is_change : (former next : ℕ) → Row → Bool
 is_change former next row = next + row.less == former + row.more
 
--- any other change, or no former number: the next number's own bits, and II and DI are 1
-abbrev pub binary : ℕ → Word
-binary next = record { bits = next; ii = 1; di = 1 }
-
--- a change by a row of the table: the former number's bits inverted by that row's pattern
+-- What JC1 and JC2 hold to say the next number. A change by a row of the table: the former number's bits inverted by
+-- that row's pattern. Any other change, or no former number: the next number's own bits, and II and DI are 1.
 abbrev pub word_in : List Row → (former next : ℕ) → Word
-word_in [] former next = binary next
-word_in (row ∷ rows) former next =
-    if is_change former next row then record { bits = turned row.letters former; ii = row.ii; di = row.di }
-    else word_in rows former next
+word_in [] former next = record { bits = next; ii = 1; di = 1 }
+word_in (row ∷ rows) former next = if is_change former next row
+    then record { bits = turned row.letters former; ii = row.ii; di = row.di } else word_in rows former next
 
--- what JC1 and JC2 hold to say the next number, with a former one or with none
 abbrev pub word_said : Option ℕ → ℕ → Word
-word_said None next = binary next
+word_said None next = record { bits = next; ii = 1; di = 1 }
 word_said (Some former) next = word_in table former next
 
 -- the bytes JC1 to JC3 that say the next number after the former one
@@ -95,11 +83,10 @@ unfoldable pub says : Option ℕ → ℕ → List ℕ
 says former next = let word = word_value (word_said former next) in
     word / 256 ∷ word % 256 ∷ crc8_of (word / 256 ∷ word % 256 ∷ []) ∷ []
 
--- a number heard: damaged where it is past the groups of a multiframe
+-- a number heard, and a change: damaged where the number is past the groups of a multiframe, or would be below 0
 abbrev pub in_range : ℕ → Bool → Heard
 in_range cm equal = if nat_le cm GROUPS then Accepted cm equal else Damaged
 
--- a change heard: damaged where the number would be below 0
 abbrev pub moved : (former more less : ℕ) → Heard
 moved former more less = if nat_le less (former + more) then in_range (former + more - less) false else Damaged
 
@@ -113,15 +100,13 @@ heard_in [] former bits ii di = BaseLost
 heard_in (row ∷ rows) former bits ii di =
     if fits former bits ii di row then moved former row.more row.less else heard_in rows former bits ii di
 
--- with unequal indicators: lost where there is no former number
+-- with equal indicators the number is the fourteen bits; with others it is a change, lost without a former number
 abbrev pub hears_change : (former : Option ℕ) (bits ii di : ℕ) → Heard
 hears_change None bits ii di = BaseLost
 hears_change (Some former) bits ii di = heard_in table former bits ii di
 
--- with equal indicators the number is the fourteen bits
 abbrev pub hears_word : Option ℕ → ℕ → Heard
-hears_word former word =
-    if word / 2 % 2 == word % 2 then in_range (word / 4) true
+hears_word former word = if word / 2 % 2 == word % 2 then in_range (word / 4) true
     else hears_change former (word / 4) (word / 2 % 2) (word % 2)
 
 -- what a listener that keeps this former number hears: damaged where the CRC-8 is wrong

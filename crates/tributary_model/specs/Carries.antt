@@ -22,12 +22,11 @@ cm_in m p t = sent p (t + 1) / m - sent p t / m
 abbrev pub cnd_in : (m : ℕ) → List ℕ → (t : ℕ) → ℕ
 cnd_in m p t = sent p (t + 1) % m
 
--- the number of the turn before, which is 0 at the first
+-- the number of the turn before, 0 at the first; and the one that a message is said after, none at the first
 abbrev pub cm_before : (m : ℕ) → List ℕ → (t : ℕ) → ℕ
 cm_before m p zero = 0
 cm_before m p (suc t) = cm_in m p t
 
--- the number that a message is said after: none at the first turn
 abbrev pub former_of : (m : ℕ) → List ℕ → (t : ℕ) → Option ℕ
 former_of m p zero = None
 former_of m p (suc t) = Some (cm_in m p t)

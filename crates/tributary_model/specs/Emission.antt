@@ -14,9 +14,8 @@ data_bytes c groups = flat_map (λ p. if is_data_at c (p.0) then p.1 else []) (e
 
 -- Ext: the bytes of the data groups of each turn after the first, by the number of the turn before it, in order
 unfoldable pub extracted : List Member → List ℕ
-extracted [] = []
-extracted (first ∷ []) = []
 extracted (turn ∷ before ∷ earlier) = extracted (before ∷ earlier) ++ data_bytes before.cm turn.groups
+extracted other = []
 
 -- C(a) + .. + C(t)
 abbrev pub cm_sum : List Member → ℕ
@@ -30,37 +29,29 @@ extracted_total m (turn ∷ earlier) = m * cm_sum earlier
 
 -- Due(t) = M * (C(a) + .. + C(t - 2)) + D(t - 2) from t = a + 2 on, else 0: how many bytes the messages make due
 abbrev pub due_total : (m : ℕ) → List Member → ℕ
-due_total m [] = 0
-due_total m (first ∷ []) = 0
-due_total m (second ∷ first ∷ []) = 0
 due_total m (turn ∷ before ∷ two_before ∷ earlier) = m * cm_sum (two_before ∷ earlier) + two_before.cnd
+due_total m other = 0
 
 -- E(t) = max (E(t - 1), min (X(t), Due(t))), and 0 at the first turn: how many bytes are emitted up to the end of the
 -- last turn
 unfoldable pub emitted_total : (m : ℕ) → List Member → ℕ
-emitted_total m [] = 0
-emitted_total m (first ∷ []) = 0
-emitted_total m (turn ∷ before ∷ earlier) =
-    max (emitted_total m (before ∷ earlier))
+emitted_total m (turn ∷ before ∷ earlier) = max (emitted_total m (before ∷ earlier))
     (min (extracted_total m (turn ∷ before ∷ earlier)) (due_total m (turn ∷ before ∷ earlier)))
+emitted_total m other = 0
 
--- a turn of a stretch emits Ext from E(t - 1) to E(t), and the one that began it nothing
+-- a turn of a stretch emits Ext from E(t - 1) to E(t), its first one nothing, its ending one from E(t - 1) to X(t - 1)
 abbrev pub emits_in : (m : ℕ) → List Member → List ℕ
 emits_in m [] = []
 emits_in m (turn ∷ earlier) = slice_range (extracted (turn ∷ earlier)) (emitted_total m earlier)
     (emitted_total m (turn ∷ earlier))
 
--- its ending turn e emits Ext from E(e - 1) to X(e - 1)
 abbrev pub emits_at_end : (m : ℕ) → List Member → List ℕ
 emits_at_end m stretch = slice_range (extracted stretch) (emitted_total m stretch) (extracted_total m stretch)
 
 -- how many Down turns without a break these turns end with
 abbrev pub down_run : List Part → ℕ
-down_run [] = 0
 down_run (DownTurn ∷ parts) = suc (down_run parts)
-down_run (WaitingTurn ∷ parts) = 0
-down_run (StretchTurn stretch ∷ parts) = 0
-down_run (EndingTurn stretch ∷ parts) = 0
+down_run other = 0
 
 -- n bytes of a stream from a place on
 unfoldable pub stream_bytes : (ℕ → ℕ) → (place n : ℕ) → List ℕ

@@ -8,8 +8,7 @@ use Rattle.odtu_columns.specs.Columns.{slot_of}
 use Rattle.odtu_columns.specs.Groups.{group_at}
 use Rattle.odtu_columns.specs.Message.{message_of}
 
--- A tributary of a line: how many slots the line has, which of them are its own, rising, and its tributary port, from
--- 1.
+-- A tributary of a line: how many slots the line has, its own ones, rising, and its tributary port, from 1.
 pub record Tributary : Type 0 where
   pub line_slots : ℕ
   pub slots : List ℕ
@@ -19,8 +18,7 @@ pub record Tributary : Type 0 where
 abbrev pub tributary_of : LineSlots → (port : ℕ) → Tributary
 tributary_of slots port = record { line_slots = slots_of slots.kind; slots = slots.list; port = port }
 
--- G.709 clause 11.1: the byte in a row and a column, both from 1, of a frame of an OTU2 or an OTU3 of 4 rows of 4,080
--- columns
+-- G.709 clause 11.1: the byte in a row and a column, from 1, of a frame of an OTU2 or OTU3, 4 rows of 4,080 columns
 abbrev pub byte_at : List ℕ → (row column : ℕ) → ℕ
 byte_at frame row column = slice_index frame (place_of LINE_COLUMNS row column)
 
@@ -60,12 +58,11 @@ IsOwn own n expected row column = IsOwnPayload own row column ⊎ IsOwnMessage o
 
 -- ---- what stands there
 
--- the groups of a row: its 3,808 payload columns in cycles
+-- the groups of a row, its 3,808 payload columns in cycles, and those of a frame, row by row
 unfoldable pub row_groups : Tributary → List ℕ → (row : ℕ) → List (List ℕ)
 row_groups own frame row = map (λ cycle. group_at own.line_slots own.slots row cycle frame)
     (range_with_len 0 (PAYLOAD_COLUMNS / own.line_slots))
 
--- the groups of a frame, row by row
 unfoldable pub frame_groups : Tributary → List ℕ → List (List ℕ)
 frame_groups own frame = flat_map (row_groups own frame) (1 ∷ 2 ∷ 3 ∷ 4 ∷ [])
 
@@ -74,11 +71,10 @@ abbrev pub message_in : Option Taken → List ℕ
 message_in None = []
 message_in (Some t) = message_of t.frame
 
--- the MSI byte of a frame with its slot, where that is one of these
+-- the MSI byte of a frame with its slot, where that is one of these, and where it is an own one
 abbrev pub msi_at : (slots : List ℕ) → (expected : ℕ) → (frame : List ℕ) → List (ℕ × ℕ)
 msi_at slots expected frame = flat_map (λ k. if expected == 1 + k then (k, byte_at frame 4 15) ∷ [] else []) slots
 
--- where it is an own one
 abbrev pub msi_in : Tributary → Taken → List (ℕ × ℕ)
 msi_in own t = msi_at own.slots t.expected t.frame
 
@@ -89,7 +85,7 @@ pub record View : Type 0 where
   pub message : List ℕ
   pub msi : List (ℕ × ℕ)
 
--- the view of a tributary in the frames of a multiframe
+-- the view of a tributary in the frames of a multiframe, and in a turn: None where it has none, so that no byte counts
 unfoldable pub view_of : Tributary → List Taken → View
 view_of own frames = record {
   groups = flat_map (λ t. frame_groups own t.frame) frames;
@@ -97,7 +93,6 @@ view_of own frames = record {
   msi = flat_map (msi_in own) frames;
 }
 
--- the view of a turn: None where it has no multiframe, so that no byte of it counts
 abbrev pub turn_view : Tributary → Option (List Taken) → Option View
 turn_view own turn = option_map (view_of own) turn
 

@@ -17,23 +17,20 @@ lengths_of turns = map length turns
 
 -- ---- by groups
 
--- Group j where the number is c and the data groups take the bytes from the whole group q of m bytes on, in order:
--- where it is data, the m bytes behind those of the data groups before it; else it is stuff, of bytes 0 (G.709 Annex
--- D).
+-- Group j where the number is c and the data groups take the bytes from the whole group q of m bytes on, in order: a
+-- data group the m bytes behind those of the data groups before it, a stuff group bytes 0 (G.709 Annex D).
 abbrev pub group_from : (m c q : ℕ) → (bytes : List ℕ) → (j : ℕ) → List ℕ
 group_from m c q bytes j = if is_data_at c j then take m (drop (m * (q + data_count c (j - 1))) bytes)
     else replicate m 0
 
 -- Group j of turn t: data by C(t - 1), from byte m * (A(t - 2) / m) on.
 unfoldable pub group_put : (m : ℕ) → (turns : List (List ℕ)) → (t j : ℕ) → List ℕ
-group_put m turns t j =
-    let p = lengths_of turns in
+group_put m turns t j = let p = lengths_of turns in
     group_from m (cm_before m p t) (sent p (t - 1) / m) (concat turns) j
 
 -- The message of turn t: C(t) after C(t - 1), or after none in the first turn, and D(t).
 unfoldable pub message_put : (m : ℕ) → (turns : List (List ℕ)) → (t : ℕ) → List ℕ
-message_put m turns t =
-    let p = lengths_of turns in
+message_put m turns t = let p = lengths_of turns in
     says (former_of m p t) (cm_in m p t) ++ says_cnd (cnd_in m p t)
 
 -- ---- by own place, in frame n, from 0, of the multiframe
@@ -46,8 +43,7 @@ place_among (k ∷ slots) slot = if k == slot then 0 else suc (place_among slots
 -- The group that has a byte in a payload column: on a line of so many slots a row has 3808 / slots groups, and they are
 -- counted from 1 on from row to row and from frame to frame.
 abbrev pub group_at_place : (line_slots n row column : ℕ) → ℕ
-group_at_place line_slots n row column =
-    let cycles = PAYLOAD_COLUMNS / line_slots in
+group_at_place line_slots n row column = let cycles = PAYLOAD_COLUMNS / line_slots in
     cycles * (4 * n + (row - 1)) + (column - 17) / line_slots + 1
 
 -- the byte in a payload column of an own slot: that of the slot in the column's group
@@ -56,25 +52,20 @@ payload_put own turns t n row column =
     slice_index (group_put (length own.slots) turns t (group_at_place own.line_slots n row column))
     (place_among own.slots (slot_of own.line_slots column))
 
--- the byte in row 1 to 3 of columns 16, JC1 to JC3, and 15, JC4 to JC6, in the frame of the greatest slot (G.709 clause
--- 19.4)
-abbrev pub message_byte_put : Tributary → (turns : List (List ℕ)) → (t row column : ℕ) → ℕ
-message_byte_put own turns t row column = slice_index (message_put (length own.slots) turns t)
-    (3 * (16 - column) + (row - 1))
-
--- the same places in the frames of the other slots
+-- columns 15 and 16 of rows 1 to 3 in the frames of the own slots but the greatest
 pub record IsOtherMessage (own : Tributary) (n row column : ℕ) : Type 0 where
   pub frame : Contains own.slots (n + 1)
   pub other : n + 1 ≢ greatest own.slots
   pub rows : (1 ≤ row) × (row ≤ 3)
   pub columns : (15 ≤ column) × (column ≤ 16)
 
--- A frame has in its own places what the source puts in turn t, and 0 in the message bytes of the other slots.
+-- A frame has in its own places what the source puts in turn t, JC1 to JC3 in column 16 of rows 1 to 3 and JC4 to JC6
+-- in column 15 (G.709 clause 19.4), and 0 in the message bytes of the other slots.
 pub record IsPut (own : Tributary) (turns : List (List ℕ)) (t n : ℕ) (frame : List ℕ) : Type 0 where
   pub payload : (row column : ℕ) → IsOwnPayload own row column
       → byte_at frame row column ≡ payload_put own turns t n row column
   pub message : (row column : ℕ) → IsOwnMessage own n row column
-      → byte_at frame row column ≡ message_byte_put own turns t row column
+      → byte_at frame row column ≡ slice_index (message_put (length own.slots) turns t) (3 * (16 - column) + (row - 1))
   pub others : (row column : ℕ) → IsOtherMessage own n row column → byte_at frame row column ≡ 0
 
 -- the places that a source writes

@@ -4,7 +4,7 @@ use Rattle.std.specs.Prelude.{ℕ, ◌==◌, nat_lt, List, [], ◌∷◌, ◌++�
 use Rattle.std.specs.List.{list_any}
 use Rattle.msi_table.specs.Marks.{is_marked}
 use Rattle.tributary_model.specs.declared.turns.Hearing.{Hearing}
-use Rattle.tributary_model.specs.declared.turns.Hearing.TheVariants.{Damaged, Lost, Pair}
+use Rattle.tributary_model.specs.declared.turns.Hearing.TheVariants.{Damaged, Pair}
 use Rattle.tributary_model.specs.declared.turns.SinkState.{SinkState}
 use Rattle.tributary_model.specs.declared.turns.SinkState.TheVariants.{Waiting, Up, Down}
 use Rattle.tributary_model.specs.Places.{Tributary, View}
@@ -17,16 +17,14 @@ abbrev pub groups_of : Option View → List (List ℕ)
 groups_of None = []
 groups_of (Some view) = view.groups
 
--- the bytes of slot k among bytes with their slots
+-- the MSI bytes of slot k: those among bytes with their slots, and that came in a turn, and in all turns so far
 abbrev pub bytes_of : (k : ℕ) → List (ℕ × ℕ) → List ℕ
 bytes_of k msi = map (λ p. p.1) (filter (λ p. p.0 == k) msi)
 
--- the MSI bytes of slot k that came in a turn
 abbrev pub msi_of : (k : ℕ) → Option View → List ℕ
 msi_of k None = []
 msi_of k (Some view) = bytes_of k view.msi
 
--- those that came in all turns so far, in the order in which they came
 unfoldable pub came : (k : ℕ) → List (Option View) → List ℕ
 came k [] = []
 came k (view ∷ past) = came k past ++ msi_of k view
@@ -53,82 +51,63 @@ pub data Part : Type 0 where
   StretchTurn : List Member → Part
   EndingTurn : List Member → Part
 
--- a message that begins a stretch: a pair with equal indicators
-abbrev pub fit_pair : View → Hearing → Option Member
-fit_pair view (Pair cm cnd true) = Some
-    (record { heard = Pair cm cnd true; cm = cm; cnd = cnd; groups = view.groups })
-fit_pair view (Pair cm cnd false) = None
-fit_pair view Damaged = None
-fit_pair view Lost = None
-
 -- A turn as the first of a stretch, where it is fit: it has a multiframe, no own slot is marked, and its message, heard
 -- after no number, is a pair with equal indicators.
-abbrev pub fit : Tributary → (marked : Bool) → Option View → Option Member
-fit own true view = None
-fit own false None = None
-fit own false (Some view) = fit_pair view (hears_message None (length own.slots) view.message)
+abbrev pub fit_pair : View → Hearing → Option Member
+fit_pair view (Pair cm cnd true) = Some (record { heard = Pair cm cnd true; cm = cm; cnd = cnd; groups = view.groups })
+fit_pair view other = None
 
--- a message that is damaged
+abbrev pub fit : Tributary → (marked : Bool) → Option View → Option Member
+fit own false (Some view) = fit_pair view (hears_message None (length own.slots) view.message)
+fit own marked view = None
+
+-- whether a message is damaged, and whether the last two of a stretch were
 abbrev pub is_damaged : Hearing → Bool
 is_damaged Damaged = true
-is_damaged Lost = false
-is_damaged (Pair cm cnd equal) = false
+is_damaged other = false
 
--- whether the last two messages of a stretch were damaged
 abbrev pub two_damaged : List Member → Bool
-two_damaged [] = false
-two_damaged (last ∷ []) = false
 two_damaged (last ∷ before ∷ earlier) = is_damaged last.heard && is_damaged before.heard
+two_damaged other = false
 
--- the next turn of a stretch by what was heard: with that pair, or with the last pair again where the message is
--- damaged; none where it is lost, or damaged after two damaged ones
+-- The next turn of a stretch, its message heard after the last number: with that pair, or with the last pair again
+-- where the message is damaged. There is none, and the stretch ends, where the message is lost, or damaged after two
+-- damaged ones, where the turn has no multiframe, or where an own slot is marked.
 abbrev pub goes_on_with : View → (two : Bool) → (last : Member) → Hearing → Option Member
 goes_on_with view two last (Pair cm cnd equal) = Some
     (record { heard = Pair cm cnd equal; cm = cm; cnd = cnd; groups = view.groups })
-goes_on_with view true last Damaged = None
 goes_on_with view false last Damaged = Some
     (record { heard = Damaged; cm = last.cm; cnd = last.cnd; groups = view.groups })
-goes_on_with view two last Lost = None
+goes_on_with view two last other = None
 
--- The next turn of a stretch, its message heard after the last number. The stretch ends where there is none: where the
--- turn has no multiframe, an own slot is marked, or goes_on_with gives none.
 abbrev pub goes_on : Tributary → (marked : Bool) → Option View → List Member → Option Member
-goes_on own true view stretch = None
-goes_on own false None stretch = None
-goes_on own false (Some view) [] = None
 goes_on own false (Some view) (last ∷ before) =
-    goes_on_with view (two_damaged (last ∷ before)) last
-    (hears_message (Some last.cm) (length own.slots) view.message)
+    goes_on_with view (two_damaged (last ∷ before)) last (hears_message (Some last.cm) (length own.slots) view.message)
+goes_on own marked view stretch = None
 
--- whether a turn is of a stretch, or ends one
+-- A turn that is in no stretch and begins none: Waiting where no turn before it was of a stretch, or ended one, and it
+-- is one of the first three, else Down.
 abbrev pub is_of_stretch : Part → Bool
 is_of_stretch WaitingTurn = false
 is_of_stretch DownTurn = false
-is_of_stretch (StretchTurn stretch) = true
-is_of_stretch (EndingTurn stretch) = true
+is_of_stretch other = true
 
--- a turn that is in no stretch and begins none: Waiting where no stretch began before it and it is one of the first
--- three, else Down
 abbrev pub idle : List Part → Part
 idle parts = if nat_lt (length parts) 3 && not (list_any is_of_stretch parts) then WaitingTurn else DownTurn
 
--- a fit turn that stands in no stretch begins one
+-- what a turn is after these: one that is fit and stands in no stretch begins one; one after a stretch's last turn is
+-- of the same stretch where that goes on, else its ending turn
 abbrev pub opens : List Part → Option Member → Part
 opens parts (Some first) = StretchTurn (first ∷ [])
 opens parts None = idle parts
 
--- the turn after a stretch's last one: of the same stretch where it goes on, else its ending turn
 abbrev pub continues : List Member → Option Member → Part
 continues stretch (Some next) = StretchTurn (next ∷ stretch)
 continues stretch None = EndingTurn stretch
 
--- what a turn is after these
 abbrev pub next_part : Tributary → (marked : Bool) → Option View → List Part → Part
-next_part own marked view [] = opens [] (fit own marked view)
-next_part own marked view (WaitingTurn ∷ parts) = opens (WaitingTurn ∷ parts) (fit own marked view)
-next_part own marked view (DownTurn ∷ parts) = opens (DownTurn ∷ parts) (fit own marked view)
-next_part own marked view (EndingTurn stretch ∷ parts) = opens (EndingTurn stretch ∷ parts) (fit own marked view)
 next_part own marked view (StretchTurn stretch ∷ parts) = continues stretch (goes_on own marked view stretch)
+next_part own marked view parts = opens parts (fit own marked view)
 
 -- The course of a sink: what each of its turns is, the last first.
 unfoldable pub course : Tributary → List (Option View) → List Part
@@ -136,15 +115,13 @@ course own [] = []
 course own (view ∷ past) = let before = course own past in next_part own (any_marked own (view ∷ past)) view before
     ∷ before
 
--- how the sink stands after these turns: Up within a stretch, Waiting after no turn, one or two where no stretch began,
--- else Down
+-- how the sink stands after these turns, or those of these views: Up within a stretch, Waiting after no turn, one or
+-- two where no stretch began, else Down
 abbrev pub state_of : List Part → SinkState
 state_of [] = Waiting
 state_of (StretchTurn stretch ∷ parts) = Up
-state_of (EndingTurn stretch ∷ parts) = Down
-state_of (DownTurn ∷ parts) = Down
 state_of (WaitingTurn ∷ parts) = if nat_lt (length parts) 2 then Waiting else Down
+state_of other = Down
 
--- how the sink stands after the turns of these views
 abbrev pub state_after : Tributary → List (Option View) → SinkState
 state_after own past = state_of (course own past)
