@@ -20,35 +20,29 @@ use Rattle.plan_file.specs.declared.plan.Plan.{Plan}
 abbrev pub first_turn : Connection → ℕ
 first_turn x = x.start - 1
 
--- it is active in turn past + 1: in its turns start to stop, both included
+-- it is active in turn past + 1: in its turns start to stop, both included; and which of its own turns that is
 pub record IsActive (x : Connection) (past : ℕ) : Type 0 where
   pub start : x.start ≤ past + 1
   pub stop : past + 1 ≤ x.stop
 
--- which of its own turns that is
 abbrev pub own_turn : Connection → (past : ℕ) → ℕ
 own_turn x past = past - first_turn x
 
 -- ---- ends
 
--- it comes from line a
+-- whether it comes from line a, or from client n, and goes to line b, or to client n
 abbrev pub is_from_line : (a : ℕ) → FromEnd → Bool
 is_from_line a (from_end.Line line port slots) = line == a
-is_from_line a (from_end.Client client) = false
-is_from_line a (from_end.Signal signal) = false
+is_from_line a other = false
 
--- it comes from client n
 abbrev pub is_from_client : (n : ℕ) → FromEnd → Bool
-is_from_client n (from_end.Line line port slots) = false
 is_from_client n (from_end.Client client) = client == n
-is_from_client n (from_end.Signal signal) = false
+is_from_client n other = false
 
--- it goes to line b
 abbrev pub is_to_line : (b : ℕ) → ToEnd → Bool
 is_to_line b (to_end.Line line port slots) = line == b
 is_to_line b (to_end.Client client) = false
 
--- it goes to client n
 abbrev pub is_to_client : (n : ℕ) → ToEnd → Bool
 is_to_client n (to_end.Line line port slots) = false
 is_to_client n (to_end.Client client) = client == n
@@ -65,23 +59,20 @@ slot_count x = slots_between x.from x.to
 
 -- ---- lines
 
--- a line's kind, where these lines are OTU3
+-- a line's kind, where these lines are OTU3; and the kind of an input or output line, and whether it is scrambled
 abbrev pub kind_by : (otu3 : List ℕ) → (line : ℕ) → LineKind
 kind_by otu3 line = if list_any (λ n. n == line) otu3 then Otu3 else Otu2
 
--- the kind of an input line, and whether it is scrambled
 abbrev pub form_in : Plan → (line : ℕ) → LineForm
 form_in plan line = record { kind = kind_by plan.otu3_in line; scrambled = list_any (λ n. n == line) plan.scrambled_in }
 
--- the kind of an output line, and whether it is scrambled
 abbrev pub form_out : Plan → (line : ℕ) → LineForm
 form_out plan line = record {
   kind = kind_by plan.otu3_out line;
   scrambled = list_any (λ n. n == line) plan.scrambled_out;
 }
 
--- A connection of the plan that is active in turn past + 1, and goes to these slots of line b, with this tributary
--- port.
+-- A connection of the plan, active in turn past + 1, that goes to these slots of line b, with this tributary port.
 pub record IsSentOn (plan : Plan) (b past : ℕ) (x : Connection) (port : ℕ) (slots : LineSlots) : Type 0 where
   pub is_of : Contains plan.connections x
   pub to : x.to ≡ to_end.Line b port slots

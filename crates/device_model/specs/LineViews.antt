@@ -10,12 +10,11 @@ use Rattle.tributary_model.specs.Emission.{emission}
 use Rattle.tributary_model.specs.Laws.{IsTributary}
 use Rattle.tributary_model.specs.Places.{Tributary, Taken, View, turn_view, IsWholeTurn}
 
--- frame n, from 0, of a multiframe, with the MFAS that is expected of it
+-- frame n, from 0, of a multiframe, with the MFAS that is expected of it, and all frames of a multiframe of so many
 abbrev pub member_at : List ℕ → Lock → (n : ℕ) → Taken
 member_at available lock n =
     record { frame = frame_at available (lock.frame + n); expected = (lock.expected + n) % 256 }
 
--- the frames of a multiframe of so many
 unfoldable pub frames_of : (size : ℕ) → List ℕ → Lock → List Taken
 frames_of size available lock = map (member_at available lock) (range_with_len 0 size)
 

@@ -16,25 +16,22 @@ use Rattle.device_model.specs.Entries.{first_turn, is_from_line, is_from_client,
 use Rattle.device_model.specs.LineFiles.{IsLineFile}
 use Rattle.device_model.specs.Through.{Inputs, OwnInput, text_by}
 
--- the connection comes from the port, or goes to it
+-- the connection comes from the port, or goes to it; some connection of the plan does
 abbrev pub touches : PortName → Connection → Bool
 touches (port.LineIn a) x = is_from_line a x.from
 touches (port.LineOut b) x = is_to_line b x.to
 touches (port.ClientIn n) x = is_from_client n x.from
 touches (port.ClientOut n) x = is_to_client n x.to
 
--- some connection of the plan does
 abbrev pub uses : Plan → PortName → Bool
 uses plan name = list_any (touches name) plan.connections
 
--- how many pieces a port has in a turn, where it is used
+-- how many pieces a port has in a turn where it is used, and how many it has: none where it is not
 abbrev pub pieces_by : Plan → PortName → ℕ
 pieces_by plan (port.LineIn a) = size_of (form_in plan a)
 pieces_by plan (port.LineOut b) = size_of (form_out plan b)
-pieces_by plan (port.ClientIn n) = 1
-pieces_by plan (port.ClientOut n) = 1
+pieces_by plan client = 1
 
--- how many it has
 unfoldable pub pieces_of : Plan → PortName → ℕ
 pieces_of plan name = if uses plan name then pieces_by plan name else 0
 

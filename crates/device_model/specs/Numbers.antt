@@ -2,7 +2,7 @@
 use Rattle.std.specs.Prelude.{◌≡◌, ◌-◌, ◌*◌, ◌==◌, ℕ, true, ◌&&◌, if◌then◌else◌, nat_le, nat_lt, List, length, filter, Option, Some, None, option_map, slice_get}
 use Rattle.std.specs.List.{Contains}
 use Rattle.otn_base.specs.declared.kind.PortName.TheVariants as port
-use Rattle.otn_ports.specs.Views.{State, Empty, Live, Dead, BaysView}
+use Rattle.otn_ports.specs.Views.{State, Empty, Dead, BaysView}
 use Rattle.line_side.specs.LineFile.{mfas_of}
 use Rattle.line_side.specs.LineForm.{LineForm, size_of}
 use Rattle.line_side.specs.LineNumbers.{numbers_of}
@@ -27,31 +27,27 @@ use Rattle.device_model.specs.declared.outcome.FromState.{FromState}
 
 -- ---- of a line
 
--- How a line that was read stands with its place in the end: the place is dead; or its end was seen, where the turns
--- wanted a frame that is not whole; or neither.
+-- How a line of this form that had these bytes available stands with its place after the turns 1 to `turns`: the place
+-- is dead; or its end was seen, where the turns wanted a frame that is not whole; or neither.
 abbrev pub ending_of : State → (whole wanted : ℕ) → Ending
 ending_of Dead whole wanted = Died
-ending_of Live whole wanted = if nat_lt whole wanted then Seen else Open
-ending_of Empty whole wanted = if nat_lt whole wanted then Seen else Open
+ending_of other whole wanted = if nat_lt whole wanted then Seen else Open
 
--- the same of a line of this form, which had these bytes available, after the turns 1 to `turns`
 abbrev pub line_ending : State → LineForm → (available : List ℕ) → (turns : ℕ) → Ending
 line_ending state form available turns = ending_of state (length (mfas_of available))
     (wanted (size_of form) (mfas_of available) turns)
 
 -- ---- of a client
 
--- how many whole lines a text has: each ends in a line feed
+-- how many lines a text has that end in a line feed; how many packets count: on an empty place all, else whole lines
 abbrev pub whole_lines : (text : List ℕ) → ℕ
 whole_lines text = length (filter (λ byte. byte == 10) text)
 
--- how many of the delivered packets count: on an empty place all, else those whose line went out whole
 abbrev pub counted_packets : State → (packets : List (List ℕ)) → (written : List ℕ) → ℕ
 counted_packets Empty packets written = length packets
-counted_packets Live packets written = whole_lines written
-counted_packets Dead packets written = whole_lines written
+counted_packets other packets written = whole_lines written
 
--- of the client input of a connection, when so many bytes of its stream are emitted
+-- of the client input of a connection, when so many bytes of its stream are emitted, and when all its turns are done
 abbrev pub client_numbers_by : Connection → ClientInput → (emitted : ℕ) → ClientInNumbers
 client_numbers_by x input emitted = record {
   packets = saturated (packets_begun input.packets x.fcs emitted);
@@ -59,7 +55,6 @@ client_numbers_by x input emitted = record {
   bad = option_map saturated (bad_line input x.fcs emitted);
 }
 
--- when all its turns are done
 abbrev pub client_numbers : Connection → ClientInput → ClientInNumbers
 client_numbers x input = client_numbers_by x input (emitted_in_all x)
 
@@ -92,9 +87,8 @@ pub record Went : Type 0 where
 pub record AreNumbers (plan : Plan) (inputs : Inputs) (written : Went) (first last : BaysView)
     (numbers : Numbers) : Type 0 where
   pub line_in : (a : ℕ) → uses plan (port.LineIn a) ≡ true
-      → numbers.line_in a ≡ numbers_of (form_in plan a)
-      (line_ending (place_state last (port.LineIn a)) (form_in plan a) (inputs.line a) plan.turns)
-      (inputs.line a) plan.turns 0
+      → numbers.line_in a ≡ numbers_of (form_in plan a) (line_ending (place_state last (port.LineIn a))
+      (form_in plan a) (inputs.line a) plan.turns) (inputs.line a) plan.turns 0
   pub line_out : (b : ℕ) (frames : List (List ℕ)) → uses plan (port.LineOut b) ≡ true
       → IsLineFile plan inputs b (size_of (form_out plan b) * plan.turns) frames
       → numbers.line_out b ≡ saturated (counted_frames (place_state first (port.LineOut b)) frames (written.line b))

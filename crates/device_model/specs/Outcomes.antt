@@ -14,14 +14,13 @@ use Rattle.device_model.specs.Through.{Inputs}
 use Rattle.device_model.specs.declared.outcome.Outcome.{Outcome}
 use Rattle.device_model.specs.declared.outcome.Outcome.TheVariants.{Done, Unfinished, Cut}
 
--- the state of a port's place
+-- the state of a port's place, and that some place which the plan uses is dead
 abbrev pub place_state : BaysView → PortName → State
 place_state bays (port.LineIn a) = (line_in_at bays a).state
 place_state bays (port.LineOut b) = (line_out_at bays b).state
 place_state bays (port.ClientIn n) = (client_in_at bays n).state
 place_state bays (port.ClientOut n) = (client_out_at bays n).state
 
--- some place that the plan uses is dead
 pub record HasDead (plan : Plan) (last : BaysView) : Type 0 where
   pub name : PortName
   pub used : uses plan name ≡ true

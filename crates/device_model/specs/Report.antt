@@ -17,8 +17,7 @@ use Rattle.device_model.specs.declared.outcome.Outcome.TheVariants as outcome
 
 -- ---- the numbers of the ports
 
--- of a client input: how many packets were begun, whether it is spent, and the number of its bad line, once that is
--- seen
+-- of a client input: the packets begun, whether it is spent, and the number of its bad line, once that is seen
 pub record ClientInNumbers : Type 0 where
   pub packets : ℕ
   pub spent : Bool
@@ -41,13 +40,13 @@ pub record Numbers : Type 0 where
 
 -- ---- words
 
--- how a place is
+-- how a place is; what a connection's from end was, off where it was not active; how the run ended; and that a client's
+-- text is spent, or at which line it is bad, else open
 abbrev pub state_word : State → List ℕ
 state_word Live = codes "live"
 state_word Dead = codes "dead"
 state_word Empty = codes "empty"
 
--- what a connection's from end was; off where it was not active
 abbrev pub from_word : Option FromState → List ℕ
 from_word None = codes "off"
 from_word (Some from.Client) = codes "client"
@@ -56,13 +55,11 @@ from_word (Some from.Waiting) = codes "waiting"
 from_word (Some from.Up) = codes "up"
 from_word (Some from.Down) = codes "down"
 
--- how the run ended
 abbrev pub outcome_word : Outcome → List ℕ
 outcome_word outcome.Done = codes "done"
 outcome_word outcome.Unfinished = codes "unfinished"
 outcome_word outcome.Cut = codes "cut"
 
--- spent, or at which line the text is bad, else open
 abbrev pub client_word : (spent : Bool) → (bad : Option ℕ) → List ℕ
 client_word true bad = codes "spent"
 client_word false (Some n) = codes "bad " ++ decimal n
@@ -74,48 +71,39 @@ client_word false None = codes "open"
 abbrev pub line_of : List (List ℕ) → List ℕ
 line_of parts = concat parts ++ 10 ∷ []
 
--- an input line: its frames, its lead-in, its lost multiframes, its rest, its wrong FAS and BIP-8, and its place
+-- an input line, an output line, a client input, a client output, each with its place; a connection with its from end
 unfoldable pub line_in_line : (a : ℕ) → LineCounts → State → List ℕ
 line_in_line a counts state = line_of (codes "line-in " ∷ decimal a ∷ codes " frames " ∷ decimal counts.frames
-    ∷ codes " lead-in " ∷ decimal counts.lead_in
-    ∷ codes " lost " ∷ decimal counts.lost ∷ codes " rest " ∷ decimal counts.rest ∷ codes " fas " ∷ decimal counts.fas
-    ∷ codes " sm " ∷ decimal counts.sm
+    ∷ codes " lead-in " ∷ decimal counts.lead_in ∷ codes " lost " ∷ decimal counts.lost
+    ∷ codes " rest " ∷ decimal counts.rest ∷ codes " fas " ∷ decimal counts.fas ∷ codes " sm " ∷ decimal counts.sm
     ∷ codes " pm " ∷ decimal counts.pm ∷ codes " " ∷ state_word state ∷ [])
 
--- an output line: its frames, and its place
 unfoldable pub line_out_line : (b frames : ℕ) → State → List ℕ
 line_out_line b frames state = line_of (codes "line-out " ∷ decimal b ∷ codes " frames " ∷ decimal frames ∷ codes " "
     ∷ state_word state ∷ [])
 
--- a client input: its packets, how its text ends, and its place
 unfoldable pub client_in_line : (n : ℕ) → ClientInNumbers → State → List ℕ
-client_in_line n numbers state =
-    line_of (codes "client-in " ∷ decimal n ∷ codes " packets " ∷ decimal numbers.packets ∷ codes " "
-    ∷ client_word numbers.spent numbers.bad ∷ codes " " ∷ state_word state ∷ [])
+client_in_line n numbers state = line_of (codes "client-in " ∷ decimal n ∷ codes " packets "
+    ∷ decimal numbers.packets ∷ codes " " ∷ client_word numbers.spent numbers.bad ∷ codes " " ∷ state_word state ∷ [])
 
--- a client output: its frames, its packets, and its place
 unfoldable pub client_out_line : (n : ℕ) → ClientOutNumbers → State → List ℕ
-client_out_line n numbers state =
-    line_of (codes "client-out " ∷ decimal n ∷ codes " frames " ∷ decimal numbers.frames ∷ codes " packets "
-    ∷ decimal numbers.packets ∷ codes " " ∷ state_word state ∷ [])
+client_out_line n numbers state = line_of (codes "client-out " ∷ decimal n ∷ codes " frames "
+    ∷ decimal numbers.frames ∷ codes " packets " ∷ decimal numbers.packets ∷ codes " " ∷ state_word state ∷ [])
 
--- a connection: its name, and its from end
 unfoldable pub connection_line : (name : List ℕ) → Option FromState → List ℕ
 connection_line name state = line_of (codes "connection " ∷ name ∷ codes " " ∷ from_word state ∷ [])
 
 -- ---- the whole
 
--- the lines of the ports of one kind that the plan uses, by number
+-- the lines of the ports of one kind that the plan uses, by number, and of the connections from connection i on
 abbrev pub used_lines : (count : ℕ) → (is_used : ℕ → Bool) → (line : ℕ → List ℕ) → List ℕ
 used_lines count is_used line = flat_map (λ n. if is_used n then line n else []) (range_with_len 0 count)
 
--- the lines of the connections from connection i on, in the plan's order
 abbrev pub connection_lines : (i : ℕ) → (state : ℕ → Option FromState) → List Connection → List ℕ
 connection_lines i state [] = []
 connection_lines i state (x ∷ xs) = connection_line x.name (state i) ++ connection_lines (suc i) state xs
 
--- The report of a run over a plan that left the places so: the turns, a line for each port that is used, one for each
--- connection, and how the run ended.
+-- The report of a run over a plan that left the places so, with a line for each port that is used and each connection.
 unfoldable pub report_text : Plan → Numbers → (last : BaysView) → List ℕ
 report_text plan numbers last =
     line_of (codes "turns " ∷ decimal plan.turns ∷ [])

@@ -53,8 +53,7 @@ pub record ClientInLeft (retires : Bool) (first last : InView) (read : List ℕ)
 
 -- ---- outputs
 
--- of the bytes that were due to an output place these were written: a part from the front, and all of them where it is
--- live (as `IsSent` has it, with the bytes that went)
+-- of the bytes that were due to an output place these were written: a part from the front, and all where it is live
 pub record OutputLeft (first : OutView) (due written : List ℕ) (last : OutView) : Type 0 where
   pub rest : List ℕ
   pub parts : written ++ rest ≡ due
@@ -68,8 +67,7 @@ pub record LineOutLeft (plan : Plan) (inputs : Inputs) (b : ℕ) (first : OutVie
   pub is_due : LineDue plan inputs b plan.turns 0 due
   pub left : OutputLeft first due written last
 
--- to the client of a connection, the text of all that arrived; the place was emptied then where it was live and the
--- connection retires
+-- to the client of a connection, the text of all that arrived; a live place was emptied then if the connection retires
 pub record ClientOutLeft (plan : Plan) (inputs : Inputs) (x : Connection) (first : OutView) (written : List ℕ)
     (last : OutView) : Type 0 where
   pub was : OutView

@@ -33,67 +33,57 @@ pub record Inputs : Type 0 where
   pub line : (a : ℕ) → List ℕ
   pub client : (n : ℕ) → ClientInput
 
--- what of these is a from end's own
+-- what of these is a from end's own, and a connection's
 abbrev pub own_of : Inputs → FromEnd → OwnInput
 own_of inputs (from_end.Line a port slots) = of_line (view_at (tributary_of slots port) (inputs.line a))
 own_of inputs (from_end.Client n) = of_client (inputs.client n)
 own_of inputs (from_end.Signal signal) = of_signal
 
--- what of these is a connection's own
 abbrev pub own_input : Inputs → Connection → OwnInput
 own_input inputs x = own_of inputs x.from
 
 -- ---- what its from end emits
 
--- the bytes of a signal in own turn j: the next of its stream, as many as the turn's pace
-abbrev pub signal_emits : Signal → (paces : List ℕ) → (j : ℕ) → List ℕ
-signal_emits signal paces j = signal_bytes signal (emitted_before paces j) (pace_of paces j)
-
--- what a from end emits in own turn j: a line or a client nothing of an input of another sort
+-- what a from end emits in own turn j: the emission of a sink; the next bytes of a client's stream, or of a signal's,
+-- as many as the turn's pace; a line or a client nothing of an input of another sort
 abbrev pub emits_by : FromEnd → Connection → OwnInput → (j : ℕ) → List ℕ
 emits_by (from_end.Line a port slots) x (of_line shows) j =
     emission (tributary_of slots port) (signal_byte Ais) (past_of shows (first_turn x) j) (shows (first_turn x + j))
 emits_by (from_end.Client n) x (of_client input) j = input_emits x.trace x.fcs x.pace input j
-emits_by (from_end.Signal signal) x input j = signal_emits signal x.pace j
-emits_by (from_end.Line a port slots) x input j = []
-emits_by (from_end.Client n) x input j = []
+emits_by (from_end.Signal signal) x input j = signal_bytes signal (emitted_before x.pace j) (pace_of x.pace j)
+emits_by other x input j = []
 
--- what its from end emits in own turn j: the emission of a sink; the next bytes of a client's stream, or of a signal's,
--- as many as the pace
 unfoldable pub emits : Connection → OwnInput → (j : ℕ) → List ℕ
 emits x input j = emits_by x.from x input j
 
 -- ---- what its to end gets
 
--- in own turn j: nothing in the first one, then what was emitted in the turn before
+-- in own turn j: nothing in the first one, then what was emitted in the turn before; in the first n, turn by turn
 abbrev pub got_in : Connection → OwnInput → (j : ℕ) → List ℕ
 got_in x input zero = []
 got_in x input (suc j) = emits x input j
 
--- in the first n of its own turns, turn by turn
 unfoldable pub got_by : Connection → OwnInput → (n : ℕ) → List (List ℕ)
 got_by x input zero = []
 got_by x input (suc n) = got_by x input n ++ got_in x input n ∷ []
 
 -- ---- what leaves to a client
 
--- the bytes that arrive at it in the first n turns
+-- the bytes that arrive at it in the first n turns, and the text of the packets that they deliver
 abbrev pub arrived_by : Connection → OwnInput → (n : ℕ) → List ℕ
 arrived_by x input n = concat (got_by x input n)
 
--- the text of the packets that they deliver
 abbrev pub text_by : Connection → OwnInput → (n : ℕ) → List ℕ
 text_by x input n = arriving_text (arrived_by x input n)
 
 -- ---- how it stands
 
--- how the sink of a from end at a line stands
+-- what a from end is after n own turns: at a line by how its sink stands
 abbrev pub sink_state : SinkState → FromState
 sink_state sink.Waiting = from.Waiting
 sink_state sink.Up = from.Up
 sink_state sink.Down = from.Down
 
--- what a from end is after n own turns: at a line by its sink
 abbrev pub state_by : FromEnd → Connection → OwnInput → (n : ℕ) → FromState
 state_by (from_end.Line a port slots) x (of_line shows) n = sink_state
     (state_after (tributary_of slots port) (past_of shows (first_turn x) n))
@@ -101,6 +91,5 @@ state_by (from_end.Line a port slots) x input n = from.Waiting
 state_by (from_end.Client m) x input n = from.Client
 state_by (from_end.Signal signal) x input n = from.Signal
 
--- what its from end is after n of its own turns
 abbrev pub state_in : Connection → OwnInput → (n : ℕ) → FromState
 state_in x input n = state_by x.from x input n
