@@ -1,9 +1,8 @@
 // Reading until a slice is full.
 ghost use Rattle.std.specs.Prelude.{◌≡◌, ◌≢◌, ◌<◌, ◌≤◌, length, take};
 ghost use Rattle.otn_ports.specs.Bytes.{before, HasFailed};
-ghost use Rattle.otn_ports.specs.InPlace.{live_in};
 ghost use Rattle.otn_ports.specs.PortViews.{source_view, SourceReads};
-ghost use Rattle.otn_ports.specs.Reads.{Reads, IsReading, ended_by};
+ghost use Rattle.otn_ports.specs.Reads.{IsReading, ended_by};
 
 use crate::{Failed, Reading, Source};
 
@@ -31,15 +30,4 @@ pub fn read_whole<S: Source>(source: &mut S, into: &mut [u8]) -> (Reading, usize
         }
     }
     (Reading::Full, done)
-}
-
-/// Reads from the port of a live place until the slice is full, and counts the bytes.
-pub(crate) fn fill_counted<P: Source>(port: &mut P, number: &mut u64, into: &mut [u8]) -> Reading
-    ensures reads { Reads result (live_in P.Source port.old number.old) into.new
-        (live_in P.Source port.new number.new) }
-    ensures well { result ≢ Reading.Lost → P.faults port.new ≡ P.faults port.old }
-{
-    let (reading, came) = read_whole(port, into);
-    *number = number.saturating_add(came as u64);
-    reading
 }

@@ -5,8 +5,7 @@ ghost use Rattle.otn_ports.specs.Retiring.{retired_in};
 ghost use Rattle.otn_ports.specs.Reads.{Reads, state_after, idle_reading};
 ghost use Rattle.otn_ports.specs.Views.{Live, Dead};
 
-use crate::fill::fill_counted;
-use crate::{InPort, Sealed, Source};
+use crate::{InPort, Sealed, Source, read_whole};
 use std::mem;
 
 /// How a read of a whole slice ended: the slice is full, the input ended after so many bytes and
@@ -57,7 +56,11 @@ impl<P: Source> InPlaceOf<P> {
             return Reading::Full;
         }
         let reading = match self {
-            InPlaceOf::Live(port, number) => fill_counted(port, number, into),
+            InPlaceOf::Live(port, number) => {
+                let (reading, came) = read_whole(port, into);
+                *number = number.saturating_add(came as u64);
+                reading
+            }
             InPlaceOf::Empty => return Reading::End(0),
             InPlaceOf::Dead(..) => return Reading::End(0),
         };

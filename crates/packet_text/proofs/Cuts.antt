@@ -1,17 +1,15 @@
--- What the steps of a cutter meet.
-use Rattle.std.proofs.Common.{◌≡◌, ◌≢◌, ◌<◌, ◌≤◌, ◌+◌, ◌-◌, ◌%◌, ◌⊎◌, inl, inr, ℕ, Bool, true, false, List, [], ◌∷◌, ◌++◌, length, take, drop, arith, refl, sym, ap, ◌∙◌, append_assoc, append-nil}
-use Rattle.std.proofs.lemmas.List.{drop-drop, drop-take, length-take}
+-- How a cutter goes on with a line, block by block, and cuts it.
+use Rattle.std.proofs.Common.{◌≡◌, ◌≢◌, ◌<◌, ◌≤◌, ◌+◌, ◌-◌, ◌%◌, inl, inr, ℕ, Bool, true, false, List, [], ◌∷◌, ◌++◌, length, take, drop, arith, refl, sym, ap, ◌∙◌, append_assoc, append-nil, length-append}
+use Rattle.std.proofs.lemmas.List.{drop-drop, drop-take}
 use Rattle.std.proofs.Math.Seq.{take-length}
 use Rattle.otn_ports.specs.Views.{InView}
-use Rattle.otn_ports.proofs.GivenLaws.{gave_none}
-use Rattle.otn_ports.specs.declared.in_place.Reading.{Reading}
-use Rattle.otn_ports.specs.declared.in_place.Reading.TheVariants as reading
-use Rattle.packet_text.specs.Steps.Blocks.{BlockRead}
+use Rattle.otn_ports.proofs.GivenLaws.{gave_none, gave_twice}
+use Rattle.packet_text.specs.TextLines.{has_lf}
 use Rattle.packet_text.specs.Steps.Carrying.{Carried, NoneCarried}
 use Rattle.packet_text.specs.Cutting.{CutView}
-use Rattle.packet_text.specs.Steps.Cutting.{all_of, GoesOnBy, LastRead, CutsSome}
+use Rattle.packet_text.specs.Steps.Cutting.{GoesOnBy, BlockCame, BlockLost, Came, Goes, Met, Cuts, Loses}
 use Rattle.packet_text.specs.declared.cutter.Cut.{Cut}
-use Rattle.packet_text.specs.declared.cutter.Cut.TheVariants.{More, Line, Last, Long, End, Lost}
+use Rattle.packet_text.specs.declared.cutter.Cut.TheVariants.{Last, End}
 use Rattle.packet_text.proofs.Lists.{clean_both}
 
 -- the bytes behind a part of those in hand
@@ -41,230 +39,106 @@ by_none line line' hand hand' ended h none = record {
   all = λ _. (h.line, none);
 }
 
--- the line's LF was met
-pub cuts_line : (found : Bool) (old new : CutView) (was : InView) → found ≡ true → GoesOnBy found old new → CutsSome Line old was new was
-cuts_line found old new was met h = record {
+-- what is not so is false
+pub flag : (b : Bool) → (b ≡ true → ⊥) → b ≡ false
+flag true f = absurd (f refl)
+flag false f = refl
+
+-- while the end is not seen, it was not before
+pub was_open : {hand came : List ℕ} {ended seen : Bool} {was is : InView} → Came hand ended was came seen is → seen ≡ false → ended ≡ false
+was_open {ended = ended} k still = flag ended (λ e. let q = (k.quiet e).1 in cc)
+
+-- a line begins with the bytes in hand
+pub goes_none : (line hand : List ℕ) (ended : Bool) (p : InView) → line ≡ [] → Goes hand ended p (record { line = line; hand = hand; ended = ended }) p
+unfolding has_lf
+goes_none line hand ended p none = rw none (record {
   came = [];
-  cuts = record {
-    gave = gave_none was;
-    quiet = λ e. (refl, h.ended ∙ e, refl);
-    over = λ f e live. f (sym h.ended ∙ e) live;
-    unended = λ _. refl;
-    alive = λ _. refl;
-    blocks = λ _ _. refl;
-    clean = h.clean;
-    more = λ e. absurd (cc);
-    ends_line = λ _. ap (λ bytes. old.line ++ bytes) (append-nil old.hand) ∙ h.lf met;
-    last = λ e. absurd (cc);
-    long = λ e. absurd (cc);
-    end = λ e. absurd (cc);
-    lost = λ e. absurd (cc);
-    reads = inl (record { none = refl; ended = h.ended; alive = λ e. cc });
-  };
-}
+  reads = record { gave = gave_none p; quiet = λ e. (refl, e); over = λ f. f; unended = λ _. refl; alive = refl; blocks = λ _. refl; reads = inl (refl, refl) };
+  clean = refl;
+  all = append-nil hand;
+})
 
--- the line is too long
-pub cuts_long : (found : Bool) (old new : CutView) (was : InView) → found ≡ false → GoesOnBy found old new → 131055 < length new.line → CutsSome Long old was new was
-cuts_long found old new was no_lf h long = record {
-  came = [];
-  cuts = record {
-    gave = gave_none was;
-    quiet = λ e. (refl, h.ended ∙ e, refl);
-    over = λ f e live. f (sym h.ended ∙ e) live;
-    unended = λ _. refl;
-    alive = λ _. refl;
-    blocks = λ _ _. refl;
-    clean = h.clean;
-    more = λ e. absurd (cc);
-    ends_line = λ e. absurd (cc);
-    last = λ e. absurd (cc);
-    long = λ _. (let g = h.all no_lf in rw (g.0, g.1) (ap (λ bytes. old.line ++ bytes) (append-nil old.hand) ∙ sym (append-nil (old.line ++ old.hand))), long, (h.all no_lf).1);
-    end = λ e. absurd (cc);
-    lost = λ e. absurd (cc);
-    reads = inl (record { none = refl; ended = h.ended; alive = λ e. cc });
-  };
-}
+pub few_none : (line : List ℕ) → line ≡ [] → length line ≤ 131055
+few_none line none = rw none (omega arith)
 
--- the text has ended behind a last line
-pub cuts_last : (found : Bool) (old new : CutView) (was : InView) → found ≡ false → GoesOnBy found old new → new.ended ≡ true → new.line ≢ [] → CutsSome Last old was new was
-cuts_last found old new was no_lf h ended some = record {
-  came = [];
-  cuts = record {
-    gave = gave_none was;
-    quiet = λ e. (refl, ended, refl);
-    over = λ f e live. f (sym h.ended ∙ e) live;
-    unended = λ _. refl;
-    alive = λ _. refl;
-    blocks = λ _ _. refl;
-    clean = h.clean;
-    more = λ e. absurd (cc);
-    ends_line = λ e. absurd (cc);
-    last = λ _. (let g = h.all no_lf in (ap (λ bytes. old.line ++ bytes) (append-nil old.hand) ∙ sym g.0, g.1, ended, some));
-    long = λ e. absurd (cc);
-    end = λ e. absurd (cc);
-    lost = λ e. absurd (cc);
-    reads = inl (record { none = refl; ended = h.ended; alive = λ e. cc });
-  };
-}
+-- the bytes in hand go on with the line, and have no LF
+pub goes_all : {hand : List ℕ} {ended found : Bool} {p q : InView} {b c : CutView} → found ≡ false → GoesOnBy found b c → Goes hand ended p b q → Goes hand ended p c q
+goes_all {b = b} {c = c} no_lf g h =
+    let all = g.all no_lf in
+    record { came = h.came; reads = rw g.ended h.reads; clean = g.clean h.clean; all = h.all ∙ sym all.0 ∙ sym (ap (λ bytes. c.line ++ bytes) all.1 ∙ append-nil c.line) }
 
--- the text has ended where a line would begin
-pub cuts_end : (found : Bool) (old new : CutView) (was : InView) → found ≡ false → GoesOnBy found old new → new.ended ≡ true → new.line ≡ [] → CutsSome End old was new was
-cuts_end found old new was no_lf h ended none = record {
-  came = [];
-  cuts = record {
-    gave = gave_none was;
-    quiet = λ e. (refl, ended, refl);
-    over = λ f e live. f (sym h.ended ∙ e) live;
-    unended = λ _. refl;
-    alive = λ _. refl;
-    blocks = λ _ _. refl;
-    clean = h.clean;
-    more = λ e. absurd (cc);
-    ends_line = λ e. absurd (cc);
-    last = λ e. absurd (cc);
-    long = λ e. absurd (cc);
-    end = λ _. (let g = h.all no_lf in (ap (λ bytes. old.line ++ bytes) (append-nil old.hand) ∙ sym g.0 ∙ none, ended));
-    lost = λ e. absurd (cc);
-    reads = inl (record { none = refl; ended = h.ended; alive = λ e. cc });
-  };
-}
-
--- the text has ended
-pub cuts_close : (r : Cut) (found : Bool) (old new : CutView) (was : InView) → found ≡ false → GoesOnBy found old new → new.ended ≡ true
-    → (new.line ≢ [] → r ≡ Last) → (new.line ≡ [] → r ≡ End) → CutsSome r old was new was
-cuts_close r found old new was no_lf h ended last end = by_line new.line refl
-  where
-    by_line : (line : List ℕ) → new.line ≡ line → CutsSome r old was new was
-    by_line [] e = rw (end e) (cuts_end found old new was no_lf h ended e)
-    by_line (x ∷ xs) e = let some : new.line ≢ [] = λ none. (let f : x ∷ xs ≡ [] = sym e ∙ none in cc) in rw (last some) (cuts_last found old new was no_lf h ended some)
-
--- the bytes in hand are used
-pub goes_more : (found : Bool) (old new : CutView) (was : InView) → found ≡ false → GoesOnBy found old new → CutsSome More old was new was
-goes_more found old new was no_lf h = record {
-  came = [];
-  cuts = record {
-    gave = gave_none was;
-    quiet = λ e. (refl, h.ended ∙ e, refl);
-    over = λ f e live. f (sym h.ended ∙ e) live;
-    unended = λ _. refl;
-    alive = λ _. refl;
-    blocks = λ _ _. refl;
-    clean = h.clean;
-    more = λ _. (let g = h.all no_lf in rw (g.0, g.1) (ap (λ bytes. old.line ++ bytes) (append-nil old.hand) ∙ sym (append-nil (old.line ++ old.hand))));
-    ends_line = λ e. absurd (cc);
-    last = λ e. absurd (cc);
-    long = λ e. absurd (cc);
-    end = λ e. absurd (cc);
-    lost = λ e. absurd (cc);
-    reads = inl (record { none = refl; ended = h.ended; alive = λ e. cc });
-  };
-}
-
--- the first read of a step
-first_read : (r : Cut) (old : CutView) (came : List ℕ) (new : CutView) → old.hand ≡ [] → old.ended ≡ false → length old.line ≤ 131055 → length came ≤ 4096
-    → (r ≢ Lost → new.ended ≡ false → length came % 4096 ≡ 0) → ((new.ended ≡ true) ⊎ (r ≡ Lost) → length came < 4096) → LastRead r old came new
-first_read r old came new none still_open short most whole part =
-    let all : all_of old [] ≡ old.line = rw none (append-nil old.line) in
+-- a block goes on with the line
+pub goes_block : {hand : List ℕ} {ended : Bool} {p q s : InView} {c d : CutView} → c.hand ≡ [] → c.ended ≡ false → length c.line ≤ 131055 → BlockCame c q d s → Goes hand ended p c q → Goes hand ended p d s
+goes_block {hand = hand} {ended = ended} {p = p} {q = q} {s = s} {c = c} {d = d} none open_yet short k h =
+    let all : hand ++ h.came ≡ c.line = h.all ∙ ap (λ bytes. c.line ++ bytes) none ∙ append-nil c.line in
+    let blocks : length h.came % 4096 ≡ 0 = h.reads.blocks open_yet in
+    let still : ended ≡ false = was_open h.reads open_yet in
     record {
-      before = [];
-      last = came;
-      parts = refl;
-      blocks = refl;
-      most = most;
-      whole = whole;
-      part = part;
-      still_open = still_open;
-      clean = λ k. rw all k;
-      short = rw all short;
+      came = h.came ++ d.hand;
+      reads = record {
+        gave = gave_twice p q s h.came d.hand h.reads.gave k.gave;
+        quiet = λ e. absurd (cc);
+        over = λ _. k.over;
+        unended = λ e. k.unended e ∙ h.reads.unended open_yet;
+        alive = k.alive ∙ h.reads.alive;
+        blocks = λ e. (let size = k.whole e in rw (length-append h.came d.hand) (omega arith));
+        reads = inr (record {
+          before = h.came;
+          last = d.hand;
+          parts = refl;
+          blocks = blocks;
+          most = k.most;
+          whole = λ e. rw (k.whole e) refl;
+          part = k.part;
+          still_open = still;
+          clean = rw all h.clean;
+          short = rw all short;
+        });
+      };
+      clean = rw k.line h.clean;
+      all = sym (append_assoc hand h.came d.hand) ∙ ap (λ bytes. bytes ++ d.hand) (all ∙ sym k.line);
     }
 
-no_part : {n : ℕ} {ended : Bool} → ended ≡ false → (ended ≡ true) ⊎ (More ≡ Lost) → n < 4096
-no_part still (inl e) = absurd (cc)
-no_part still (inr e) = absurd (cc)
+-- such a line is cut
+pub cuts_by : {hand : List ℕ} {ended found : Bool} {p q : InView} {b c : CutView} (r : Cut) → GoesOnBy found b c → (h : Goes hand ended p b q) → Met r (hand ++ h.came) c → Cuts r hand ended p c q
+cuts_by r g h met = record { came = h.came; reads = rw g.ended h.reads; clean = g.clean h.clean; met = met }
 
-take_less : (n : ℕ) (came block : List ℕ) → came ≡ take n block → n < 4096 → length came < 4096
-take_less n came block e less = rw (e, length-take n block) (omega arith)
-
--- a block came
-pub reads_more : (old new : CutView) (r : Reading) (was is : InView) (block : List ℕ) → BlockRead r was block is → r ≡ reading.Full → length block ≡ 4096
-    → old.hand ≡ [] → old.ended ≡ false → new.line ≡ old.line → new.hand ≡ block → new.ended ≡ false → length old.line ≤ 131055 → CutsSome More old was new is
-reads_more old new r was is block h full size none still_open line hand still short = record {
-  came = h.came;
-  cuts = record {
-    gave = h.gave;
-    quiet = λ e. absurd (cc);
-    over = λ f e live. absurd (cc);
-    unended = λ _. h.unended (λ n e. cc);
-    alive = λ _. h.alive (λ e. cc);
-    blocks = λ _ _. rw (h.whole full, size) refl;
-    clean = λ k. rw line k;
-    more = λ _. rw (none, line, hand, h.whole full) refl;
-    ends_line = λ e. absurd (cc);
-    last = λ e. absurd (cc);
-    long = λ e. absurd (cc);
-    end = λ e. absurd (cc);
-    lost = λ e. absurd (cc);
-    reads = inr (first_read More old h.came new none still_open short (rw (h.whole full, size) (omega arith)) (λ _ _. rw (h.whole full, size) refl) (no_part still));
-  };
-}
-
--- the last bytes came
-pub reads_end : (old new : CutView) (r : Reading) (n : ℕ) (was is : InView) (block : List ℕ) → BlockRead r was block is → r ≡ reading.End n
-    → old.hand ≡ [] → old.ended ≡ false → new.line ≡ old.line → new.hand ≡ take n block → new.ended ≡ true → length old.line ≤ 131055 → CutsSome More old was new is
-reads_end old new r n was is block h end none still_open line hand seen short = record {
-  came = h.came;
-  cuts = record {
-    gave = h.gave;
-    quiet = λ e. absurd (cc);
-    over = λ f e live. h.over n end live;
-    unended = λ still. absurd (cc);
-    alive = λ _. h.alive (λ e. cc);
-    blocks = λ _ e. absurd (cc);
-    clean = λ k. rw line k;
-    more = λ _. rw (none, line, hand, (h.end n end).0) refl;
-    ends_line = λ e. absurd (cc);
-    last = λ e. absurd (cc);
-    long = λ e. absurd (cc);
-    end = λ e. absurd (cc);
-    lost = λ e. absurd (cc);
-    reads = inr (first_read More old h.came new none still_open short (let e = take_less n h.came block (h.end n end).0 (h.end n end).1 in omega arith) (λ _ e. absurd (cc)) (λ _. take_less n h.came block (h.end n end).0 (h.end n end).1));
-  };
-}
+-- the text has ended
+pub cuts_close : {hand : List ℕ} {ended found : Bool} {p q : InView} {b c : CutView} (r : Cut) → found ≡ false → GoesOnBy found b c → Goes hand ended p b q → c.ended ≡ true
+    → (c.line ≢ [] → r ≡ Last) → (c.line ≡ [] → r ≡ End) → Cuts r hand ended p c q
+cuts_close {hand = hand} {ended = ended} {p = p} {q = q} {c = c} r no_lf g h over last end = by_line c.line refl
+  where
+    by_line : (line : List ℕ) → c.line ≡ line → Cuts r hand ended p c q
+    by_line [] e = rw (end e) (cuts_by End g h (h.all ∙ sym (g.all no_lf).0 ∙ e, over))
+    by_line (x ∷ xs) e = let some : c.line ≢ [] = λ none. (let f : x ∷ xs ≡ [] = sym e ∙ none in cc) in rw (last some) (cuts_by Last g h (h.all ∙ sym (g.all no_lf).0, (g.all no_lf).1, over, some))
 
 -- the place died
-pub reads_lost : (old new : CutView) (r : Reading) (was is : InView) (block : List ℕ) → BlockRead r was block is → r ≡ reading.Lost
-    → old.hand ≡ [] → old.ended ≡ false → new.line ≡ old.line → new.ended ≡ false → length old.line ≤ 131055 → CutsSome Lost old was new is
-reads_lost old new r was is block h lost none still_open line still short = record {
-  came = h.came;
-  cuts = record {
-    gave = h.gave;
-    quiet = λ e. absurd (cc);
-    over = λ f e live. absurd (cc);
-    unended = λ _. h.unended (λ n e. cc);
-    alive = λ e. absurd (e refl);
-    blocks = λ e _. absurd (e refl);
-    clean = λ k. rw line k;
-    more = λ e. absurd (cc);
-    ends_line = λ e. absurd (cc);
-    last = λ e. absurd (cc);
-    long = λ e. absurd (cc);
-    end = λ e. absurd (cc);
-    lost = λ _. (
-      let g = h.lost lost in record {
-        whole = [];
-        part = h.came;
-        parts = refl;
-        blocks = refl;
-        short = g.0;
-        line = rw (none, line) (append-nil old.line);
-        live = g.1;
-        dead = g.2;
-      },
-      still,
-    );
-    reads = inr (first_read Lost old h.came new none still_open short (let e = (h.lost lost).0 in omega arith) (λ e _. absurd (e refl)) (λ _. (h.lost lost).0));
-  };
-}
+pub loses : {hand : List ℕ} {ended : Bool} {p q s : InView} {c d : CutView} → d ≡ record c { hand = [] } → c.hand ≡ [] → c.ended ≡ false → length c.line ≤ 131055 → BlockLost q s → Goes hand ended p c q → Loses hand ended p d s
+loses {q = q} {c = c} same none still few lost h = rw same (record {
+  mid = q;
+  goes = record { came = h.came; reads = h.reads; clean = h.clean; all = h.all ∙ ap (λ bytes. c.line ++ bytes) none };
+  none = refl;
+  still = still;
+  few = few;
+  lost = lost;
+})
+
+-- more bytes than this are not read for one line
+pub left : Bool → ℕ → ℕ
+left true n = 0
+left false n = 200000 - n
+
+pub left_less : {found : Bool} {q s : InView} {b c d : CutView} → found ≡ false → GoesOnBy found b c → c.ended ≡ false → length c.line ≤ 131055 → BlockCame c q d s
+    → left d.ended (length d.line + length d.hand) < left b.ended (length b.line + length b.hand)
+unfolding left
+left_less {b = b} {c = c} {d = d} no_lf g still short k = rw (sym g.ended ∙ still) (by_flag d.ended refl)
+  where
+    size : length c.line ≡ length b.line + length b.hand
+    size = ap length (g.all no_lf).0 ∙ length-append b.line b.hand
+
+    by_flag : (t : Bool) → d.ended ≡ t → left t (length d.line + length d.hand) < 200000 - (length b.line + length b.hand)
+    by_flag true e = omega (arith, short, size)
+    by_flag false e = let w = k.whole e in let l = ap length k.line in omega (arith, short, size, w, l)
 
 pub hand_none : (n : ℕ) (bytes : List ℕ) → take (n - n) bytes ≡ []
 hand_none n bytes = let e : n - n ≡ 0 = omega arith in rw e refl

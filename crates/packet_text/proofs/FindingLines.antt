@@ -1,213 +1,138 @@
 -- What the search for the next line that counts finds.
-use Rattle.std.proofs.Common.{◌≡◌, ◌+◌, ◌%◌, ◌⊎◌, inl, inr, ℕ, Bool, true, false, List, [], ◌∷◌, ◌++◌, length, arith, refl, sym, ap, ◌∙◌, length-append, append_assoc, append-nil}
+use Rattle.std.proofs.Common.{◌≡◌, ◌≢◌, ◌<◌, ◌+◌, ◌%◌, ℕ, true, false, List, [], ◌∷◌, ◌++◌, length, None, arith, refl, sym, ap, ◌∙◌, length-append, append_assoc, append-nil}
 use Rattle.otn_ports.specs.Views.{InView}
-use Rattle.otn_ports.proofs.GivenLaws.{dead_not_live, gave_none, gave_twice}
-use Rattle.packet_text.specs.TextLines.{has_lf, lines_of, full_lines, whole_blocks, text_of_dead}
-use Rattle.packet_text.specs.LinesStand.{LinesView, GoesOn, came_short, ReadAsNeeded}
+use Rattle.otn_ports.proofs.GivenLaws.{gave_twice}
+use Rattle.packet_text.specs.TextLines.{lines_of, full_lines, whole_blocks, text_of_dead}
+use Rattle.packet_text.specs.PacketText.{line_gives, behind, packets_behind, packets_of, shows_bad}
+use Rattle.packet_text.specs.LinesStand.{LinesView, Begins, HasBad, GoesOn, LinesStand, given_by}
 use Rattle.otn_base.specs.Counts.{saturated}
-use Rattle.packet_text.specs.Steps.Finding.{answer_of, Counts, Judges, Rests, Finds}
+use Rattle.packet_text.specs.Steps.Finding.{answer_of, Counts, Judges, with_answer, Seeks, Finds}
 use Rattle.packet_text.specs.Cutting.{CutView}
-use Rattle.packet_text.specs.Steps.Cutting.{CutsSome}
+use Rattle.packet_text.specs.Steps.Cutting.{Came, Cuts, Loses}
 use Rattle.packet_text.specs.declared.cutter.Cut.TheVariants as cut
 use Rattle.packet_text.specs.declared.found.Found.{Found}
 use Rattle.packet_text.specs.declared.found.Found.TheVariants as found
+use Rattle.packet_text.proofs.Cuts.{was_open}
 use Rattle.packet_text.proofs.Texts.{lines_of-line, lines_of-long, lines_of-last, LongLine, full_lines-none, whole_blocks-part}
 use Rattle.packet_text.proofs.Judging.{bad_gives, long_gives}
-use Rattle.packet_text.proofs.AsNeeded.{shown_by_lf, shown_too_long, alive_short, reads_on, rests_on}
-use Rattle.packet_text.proofs.GoingOn.{flag, start, all_lines, text_lines, sound_empty, sound_packet, has_bad, has_ended, line_goes, last_goes}
+use Rattle.packet_text.proofs.AsNeeded.{shown_by_lf, shown_too_long, needed_last, reached}
+use Rattle.packet_text.proofs.GoingOn.{all_lines, text_lines, sound_empty, sound_packet, has_bad, has_ended, line_goes, last_goes}
+use Rattle.packet_text.proofs.StandingLines.{packet_stands, bad_stands, end_stands, lost_stands}
 
-pub find_line : (taken : List ℕ) (packets : List (List ℕ)) (r : Found) (old new : LinesView) (cnew : CutView) (was is : InView) → (h : GoesOn taken packets old) → CutsSome cut.Line (start old) was cnew is
-    → ((lines : List (List ℕ)) → Counts lines old → Judges r lines cnew.line new) → new.hand ≡ cnew.hand → new.ended ≡ cnew.ended → Finds r taken packets old was new is
-unfolding has_lf
-find_line taken packets r old new cnew was is h s judges hand ended =
-    let k = s.cuts in
-    let j : Judges r h.lines cnew.line new = judges h.lines (record { number = h.number; empty = h.empty }) in
-    record {
-      came = s.came;
-      gave = k.gave;
-      quiet = λ e. (let q = k.quiet e in (q.0, ended ∙ q.1, q.2));
-      over = λ f e live. k.over f (sym ended ∙ e) live;
-      unended = λ e. k.unended (sym ended ∙ e);
-      alive = λ _. k.alive (λ e. cc);
-      empty = λ e. (let g = j.empty e in line_goes h k hand ended packets (sound_empty h.lines cnew.line packets h.sound g.0) g.1);
-      packet = λ e. (let g = j.packet e in line_goes h k hand ended (packets ++ new.packet ∷ []) (sound_packet h.lines cnew.line new.packet packets h.sound g.0 g.1) g.2);
-      bad = λ e text whole begins.
-          let g = j.bad e in
-          let t = text_lines h k text (λ f. whole (ended ∙ f)) begins in
-          let line : lines_of ((old.hand ++ s.came) ++ t.rest) ≡ cnew.line ∷ lines_of (cnew.hand ++ t.rest) =
-          ap (λ b. lines_of (b ++ t.rest)) (k.ends_line refl) ∙ ap lines_of (append_assoc cnew.line (10 ∷ cnew.hand) t.rest) ∙ lines_of-line cnew.line (cnew.hand ++ t.rest) (k.clean refl) in
-          has_bad h text cnew.line (lines_of (cnew.hand ++ t.rest)) new.number (t.parts ∙ ap (λ ls. h.lines ++ ls) line) g.0 g.1;
-      end = λ e. absurd (j.open_place.0 e);
-      lost = λ e. absurd (j.open_place.1 e);
-      shown = λ e still. (let g = j.bad e in shown_by_lf h k (sym ended ∙ still) g.0 new.number g.1);
-      reads = reads_on h r new ended (λ e. absurd (j.open_place.1 e)) (λ _ e. cc) k.reads;
-    }
-
-pub find_last : (taken : List ℕ) (packets : List (List ℕ)) (r : Found) (old new : LinesView) (cnew : CutView) (was is : InView) → (h : GoesOn taken packets old) → CutsSome cut.Last (start old) was cnew is
-    → ((lines : List (List ℕ)) → Counts lines old → Judges r lines cnew.line new) → new.hand ≡ cnew.hand → new.ended ≡ cnew.ended → Finds r taken packets old was new is
-unfolding has_lf
-find_last taken packets r old new cnew was is h s judges hand ended =
-    let k = s.cuts in
-    let j : Judges r h.lines cnew.line new = judges h.lines (record { number = h.number; empty = h.empty }) in
-    let last = k.last refl in
-    record {
-      came = s.came;
-      gave = k.gave;
-      quiet = λ e. (let q = k.quiet e in (q.0, ended ∙ q.1, q.2));
-      over = λ f e live. k.over f (sym ended ∙ e) live;
-      unended = λ e. k.unended (sym ended ∙ e);
-      alive = λ _. k.alive (λ e. cc);
-      empty = λ e. (let g = j.empty e in last_goes h k hand ended packets (sound_empty h.lines cnew.line packets h.sound g.0) g.1);
-      packet = λ e. (let g = j.packet e in last_goes h k hand ended (packets ++ new.packet ∷ []) (sound_packet h.lines cnew.line new.packet packets h.sound g.0 g.1) g.2);
-      bad = λ e text whole begins.
-          let g = j.bad e in
-          let t = text_lines h k text (λ f. whole (ended ∙ f)) begins in
-          let all : (old.hand ++ s.came) ++ t.rest ≡ cnew.line = ap (λ b. (old.hand ++ s.came) ++ b) (t.over last.2) ∙ append-nil (old.hand ++ s.came) ∙ last.0 in
-          has_bad h text cnew.line [] new.number (t.parts ∙ ap (λ ls. h.lines ++ ls) (ap lines_of all ∙ lines_of-last cnew.line (k.clean refl) last.3)) g.0 g.1;
-      end = λ e. absurd (j.open_place.0 e);
-      lost = λ e. absurd (j.open_place.1 e);
-      shown = λ e still. absurd (let f = ended ∙ last.2 in cc);
-      reads = reads_on h r new ended (λ e. absurd (j.open_place.1 e)) (λ _ e. cc) k.reads;
-    }
-
-pub find_long : (taken : List ℕ) (packets : List (List ℕ)) (r : Found) (old new : LinesView) (cnew : CutView) (was is : InView) → r ≡ found.Bad → (h : GoesOn taken packets old) → CutsSome cut.Long (start old) was cnew is
-    → new.number ≡ saturated (old.number + 1) → new.ended ≡ cnew.ended → Finds r taken packets old was new is
-unfolding has_lf
-find_long taken packets r old new cnew was is bad h s number ended =
-    let k = s.cuts in
-    let long = k.long refl in
-    record {
-      came = s.came;
-      gave = k.gave;
-      quiet = λ e. (let q = k.quiet e in (q.0, ended ∙ q.1, q.2));
-      over = λ f e live. k.over f (sym ended ∙ e) live;
-      unended = λ e. k.unended (sym ended ∙ e);
-      alive = λ _. k.alive (λ e. cc);
-      empty = λ e. absurd (cc);
-      packet = λ e. absurd (cc);
-      bad = λ e text whole begins.
-          let t = text_lines h k text (λ f. whole (ended ∙ f)) begins in
-          let l : LongLine cnew.line (lines_of (cnew.line ++ (cnew.hand ++ t.rest))) = lines_of-long cnew.line (cnew.hand ++ t.rest) (k.clean refl) (λ none. let z = ap length none in let size = long.1 in absurd (omega arith)) in
-          let line : lines_of ((old.hand ++ s.came) ++ t.rest) ≡ (cnew.line ++ l.more) ∷ l.later =
-          ap (λ b. lines_of (b ++ t.rest)) long.0 ∙ ap lines_of (append_assoc cnew.line cnew.hand t.rest) ∙ l.parts in
-          let none = bad_gives h.lines (cnew.line ++ l.more) (long_gives (cnew.line ++ l.more) (rw (length-append cnew.line l.more) (let size = long.1 in omega arith))) in
-          has_bad h text (cnew.line ++ l.more) l.later new.number (t.parts ∙ ap (λ ls. h.lines ++ ls) line) none (let e = h.number in omega (arith, number, e));
-      end = λ e. absurd (cc);
-      lost = λ e. absurd (cc);
-      shown = λ e still. shown_too_long h k (sym ended ∙ still);
-      reads = reads_on h r new ended (λ e. absurd (cc)) (λ _ e. cc) k.reads;
-    }
-
-pub find_end : (taken : List ℕ) (packets : List (List ℕ)) (old new : LinesView) (cnew : CutView) (was is : InView) → (h : GoesOn taken packets old) → CutsSome cut.End (start old) was cnew is
-    → new.ended ≡ cnew.ended → Finds found.End taken packets old was new is
-unfolding lines_of
-find_end taken packets old new cnew was is h s ended =
-    let k = s.cuts in
-    let end = k.end refl in
-    record {
-      came = s.came;
-      gave = k.gave;
-      quiet = λ e. (let q = k.quiet e in (q.0, ended ∙ q.1, q.2));
-      over = λ f e live. k.over f (sym ended ∙ e) live;
-      unended = λ e. k.unended (sym ended ∙ e);
-      alive = λ _. k.alive (λ e. cc);
-      empty = λ e. absurd (cc);
-      packet = λ e. absurd (cc);
-      bad = λ e text whole begins. absurd (cc);
-      end = λ _. (ended ∙ end.1, has_ended h (taken ++ s.came) (all_lines h k ∙ ap (λ b. h.lines ++ lines_of b) end.0));
-      lost = λ e. absurd (cc);
-      shown = λ e still. absurd (cc);
-      reads = reads_on h found.End new ended (λ e. absurd (cc)) (λ _ e. cc) k.reads;
-    }
-
-pub find_lost : (taken : List ℕ) (packets : List (List ℕ)) (old new : LinesView) (cnew : CutView) (was is : InView) → (h : GoesOn taken packets old) → CutsSome cut.Lost (start old) was cnew is
-    → new.ended ≡ cnew.ended → Finds found.Lost taken packets old was new is
-unfolding has_lf lines_of
-find_lost taken packets old new cnew was is h s ended =
-    let k = s.cuts in
-    let l = (k.lost refl).0 in
-    let still : old.ended ≡ false = still_open (λ e. let q = (k.quiet e).2 in dead_not_live (sym l.dead ∙ ap (λ (v : InView). v.state) q ∙ l.live)) in
-    let new_still : new.ended ≡ false = ended ∙ (k.lost refl).1 in
-    let blocks : length (taken ++ l.whole) % 4096 ≡ 0 = rw (length-append taken l.whole) (let a = h.blocks still in let b = l.blocks in omega arith) in
-    let whole : whole_blocks (taken ++ s.came) ≡ taken ++ l.whole =
-    ap whole_blocks (ap (λ b. taken ++ b) l.parts ∙ sym (append_assoc taken l.whole l.part)) ∙ whole_blocks-part (taken ++ l.whole) l.part blocks l.short in
-    let text : text_of_dead (taken ++ s.came) ≡ h.used =
-    ap full_lines (whole ∙ ap (λ b. b ++ l.whole) h.parts ∙ append_assoc h.used old.hand l.whole) ∙ h.full still (old.hand ++ l.whole)
-    ∙ ap (λ b. h.used ++ full_lines b) l.line ∙ ap (λ b. h.used ++ b) (full_lines-none cnew.line (k.clean refl)) ∙ append-nil h.used in
-    let lines : lines_of (text_of_dead (taken ++ s.came)) ≡ h.lines ++ [] = ap lines_of (text ∙ sym (append-nil h.used)) ∙ h.split still [] in
-    record {
-      came = s.came;
-      gave = k.gave;
-      quiet = λ e. (let q = k.quiet e in (q.0, ended ∙ q.1, q.2));
-      over = λ f e live. k.over f (sym ended ∙ e) live;
-      unended = λ e. k.unended (sym ended ∙ e);
-      alive = λ e. absurd (e refl);
-      empty = λ e. absurd (cc);
-      packet = λ e. absurd (cc);
-      bad = λ e text whole begins. absurd (cc);
-      end = λ e. absurd (cc);
-      lost = λ _. (l.live, l.dead, new_still, has_ended h (text_of_dead (taken ++ s.came)) lines);
-      shown = λ e still_open. absurd (cc);
-      reads = reads_on h found.Lost new ended (λ e. refl) (λ e. absurd (e refl)) k.reads;
-    }
+-- a line was judged that goes on with the lines so far, and may be bad
+judged : {first was is : InView} {taken came line : List ℕ} {packets : List (List ℕ)} {old new : LinesView} (r : Found) → (h : Seeks first taken packets old was) → Came old.hand old.ended was came new.ended is
+    → Judges r h.goes.lines line new → length new.hand < 4096
+    → ((given : List (List ℕ)) → ((later : List (List ℕ)) → packets_behind [] ((h.goes.lines ++ line ∷ []) ++ later) ≡ behind given (packets_behind (h.goes.lines ++ line ∷ []) later))
+    → Counts (h.goes.lines ++ line ∷ []) new → GoesOn (taken ++ came) given new)
+    → (line_gives h.goes.lines line ≡ None → new.number ≡ saturated (length h.goes.lines + 1) → (text : List ℕ) → (new.ended ≡ true → text ≡ taken ++ came) → Begins (taken ++ came) text → HasBad packets new.number (packets_of text))
+    → (line_gives h.goes.lines line ≡ None → new.number ≡ saturated (length h.goes.lines + 1) → new.ended ≡ false → shows_bad (taken ++ came) ≡ true) → Finds r first taken packets old new is
+judged {first = first} {is = is} {taken = taken} {came = came} {line = line} {packets = packets} {old = old} {new = new} r h k j near goes bad shows = record {
+  came = came;
+  quiet = k.quiet;
+  empty = λ e. (let g = j.empty e in record { reaches = reached h k; goes = goes packets (sound_empty h.goes.lines line packets h.goes.sound g.0) g.1 });
+  stands = by_found r j;
+}
   where
-    flag : (b : Bool) → (b ≡ true → ⊥) → b ≡ false
-    flag true f = absurd (f refl)
-    flag false f = refl
+    by_found : (q : Found) → Judges q h.goes.lines line new → q ≢ found.Empty → LinesStand first is (taken ++ came) (packets ++ given_by (answer_of q new.number) new.packet) (with_answer q new)
+    by_found found.Empty i f = absurd (f refl)
+    by_found found.Packet i f = let g = i.packet refl in packet_stands first is (taken ++ came) packets new (reached h k) (goes (packets ++ new.packet ∷ []) (sound_packet h.goes.lines line new.packet packets h.goes.sound g.0 g.1) g.2) near
+    by_found found.Bad i f = let g = i.bad refl in bad_stands first is (taken ++ came) packets new (reached h k) (bad g.0 g.1) (shows g.0 g.1)
+    by_found found.End i f = absurd (i.open_place.0 refl)
+    by_found found.Lost i f = absurd (i.open_place.1 refl)
 
-    still_open : (old.ended ≡ true → ⊥) → old.ended ≡ false
-    still_open f = flag old.ended f
+pub find_line : (r : Found) (first : InView) (taken : List ℕ) (packets : List (List ℕ)) (old new : LinesView) (cnew : CutView) (was is : InView) → Cuts cut.Line old.hand old.ended was cnew is
+    → ((lines : List (List ℕ)) → Counts lines old → Judges r lines cnew.line new) → new.hand ≡ cnew.hand → new.ended ≡ cnew.ended → length cnew.hand < 4096 → Seeks first taken packets old was → Finds r first taken packets old new is
+find_line r first taken packets old new cnew was is k judges hand ended near h =
+    judged r h (rw ended k.reads) (judges h.goes.lines (record { number = h.goes.number; empty = h.goes.empty })) (rw hand near) (line_goes h.goes k hand ended)
+    (λ none number text whole begins.
+    let t = text_lines h.goes k.reads text (λ f. whole (ended ∙ f)) begins in
+    let line : lines_of ((old.hand ++ k.came) ++ t.rest) ≡ cnew.line ∷ lines_of (cnew.hand ++ t.rest) =
+    ap (λ b. lines_of (b ++ t.rest)) k.met ∙ ap lines_of (append_assoc cnew.line (10 ∷ cnew.hand) t.rest) ∙ lines_of-line cnew.line (cnew.hand ++ t.rest) k.clean in
+    has_bad h.goes text cnew.line (lines_of (cnew.hand ++ t.rest)) new.number (t.parts ∙ ap (λ ls. h.goes.lines ++ ls) line) none number)
+    (λ none number still. shown_by_lf h.goes k (sym ended ∙ still) none new.number number)
+
+pub find_last : (r : Found) (first : InView) (taken : List ℕ) (packets : List (List ℕ)) (old new : LinesView) (cnew : CutView) (was is : InView) → Cuts cut.Last old.hand old.ended was cnew is
+    → ((lines : List (List ℕ)) → Counts lines old → Judges r lines cnew.line new) → new.hand ≡ cnew.hand → new.ended ≡ cnew.ended → length cnew.hand < 4096 → Seeks first taken packets old was → Finds r first taken packets old new is
+find_last r first taken packets old new cnew was is k judges hand ended near h =
+    let last = k.met in
+    judged r h (rw ended k.reads) (judges h.goes.lines (record { number = h.goes.number; empty = h.goes.empty })) (rw hand near) (last_goes h.goes k hand ended)
+    (λ none number text whole begins.
+    let t = text_lines h.goes k.reads text (λ f. whole (ended ∙ f)) begins in
+    let all : (old.hand ++ k.came) ++ t.rest ≡ cnew.line = ap (λ b. (old.hand ++ k.came) ++ b) (t.over last.2) ∙ append-nil (old.hand ++ k.came) ∙ last.0 in
+    has_bad h.goes text cnew.line [] new.number (t.parts ∙ ap (λ ls. h.goes.lines ++ ls) (ap lines_of all ∙ lines_of-last cnew.line k.clean last.3)) none number)
+    (λ none number still. absurd (let f = ended ∙ last.2 in cc))
+
+pub find_long : (r : Found) (first : InView) (taken : List ℕ) (packets : List (List ℕ)) (old new : LinesView) (cnew : CutView) (was is : InView) → Cuts cut.Long old.hand old.ended was cnew is
+    → r ≡ found.Bad → new.number ≡ saturated (old.number + 1) → new.ended ≡ cnew.ended → Seeks first taken packets old was → Finds r first taken packets old new is
+find_long r first taken packets old new cnew was is k bad number ended h =
+    let long = k.met in
+    let reads : Came old.hand old.ended was k.came new.ended is = rw ended k.reads in
+    rw bad (record {
+      came = k.came;
+      quiet = reads.quiet;
+      empty = λ e. absurd (cc);
+      stands = λ _. bad_stands first is (taken ++ k.came) packets new (reached h reads)
+          (λ text whole begins.
+          let t = text_lines h.goes k.reads text (λ f. whole (ended ∙ f)) begins in
+          let l : LongLine cnew.line (lines_of (cnew.line ++ t.rest)) = lines_of-long cnew.line t.rest k.clean (λ none. let z = ap length none in let size = long.2 in absurd (omega arith)) in
+          let line : lines_of ((old.hand ++ k.came) ++ t.rest) ≡ (cnew.line ++ l.more) ∷ l.later = ap (λ b. lines_of (b ++ t.rest)) long.0 ∙ l.parts in
+          let none = bad_gives h.goes.lines (cnew.line ++ l.more) (long_gives (cnew.line ++ l.more) (rw (length-append cnew.line l.more) (let size = long.2 in omega arith))) in
+          has_bad h.goes text (cnew.line ++ l.more) l.later new.number (t.parts ∙ ap (λ ls. h.goes.lines ++ ls) line) none (let e = h.goes.number in omega (arith, number, e)))
+          (λ still. shown_too_long h.goes k (sym ended ∙ still));
+    })
+
+pub find_end : (first : InView) (taken : List ℕ) (packets : List (List ℕ)) (old new : LinesView) (cnew : CutView) (was is : InView) → Cuts cut.End old.hand old.ended was cnew is
+    → new.ended ≡ cnew.ended → Seeks first taken packets old was → Finds found.End first taken packets old new is
+unfolding lines_of
+find_end first taken packets old new cnew was is k ended h =
+    let end = k.met in
+    let reads : Came old.hand old.ended was k.came new.ended is = rw ended k.reads in
+    record {
+      came = k.came;
+      quiet = reads.quiet;
+      empty = λ e. absurd (cc);
+      stands = λ _. end_stands first is (taken ++ k.came) packets new (reached h reads) (ended ∙ end.1) (has_ended h.goes (taken ++ k.came) (all_lines h.goes k.reads ∙ ap (λ b. h.goes.lines ++ lines_of b) end.0));
+    }
+
+pub find_lost : (first : InView) (taken : List ℕ) (packets : List (List ℕ)) (old new : LinesView) (cnew : CutView) (was is : InView) → Loses old.hand old.ended was cnew is
+    → new.ended ≡ cnew.ended → Seeks first taken packets old was → Finds found.Lost first taken packets old new is
+unfolding lines_of
+find_lost first taken packets old new cnew was is k ended h =
+    let g = h.goes in
+    let whole = k.goes.came in
+    let part = k.lost.part in
+    let came = whole ++ part in
+    let reads = k.goes.reads in
+    let still : old.ended ≡ false = was_open reads k.still in
+    let line : old.hand ++ whole ≡ cnew.line = k.goes.all ∙ ap (λ b. cnew.line ++ b) k.none ∙ append-nil cnew.line in
+    let blocks : length (taken ++ whole) % 4096 ≡ 0 = rw (length-append taken whole) (let a = g.blocks still in let b = reads.blocks k.still in omega arith) in
+    let front : whole_blocks (taken ++ came) ≡ taken ++ whole = ap whole_blocks (sym (append_assoc taken whole part)) ∙ whole_blocks-part (taken ++ whole) part blocks k.lost.short in
+    let text : text_of_dead (taken ++ came) ≡ g.used =
+    ap full_lines (front ∙ ap (λ b. b ++ whole) g.parts ∙ append_assoc g.used old.hand whole) ∙ g.full still (old.hand ++ whole)
+    ∙ ap (λ b. g.used ++ full_lines b) line ∙ ap (λ b. g.used ++ b) (full_lines-none cnew.line k.goes.clean) ∙ append-nil g.used in
+    let lines : lines_of (text_of_dead (taken ++ came)) ≡ g.lines ++ [] = ap lines_of (text ∙ sym (append-nil g.used)) ∙ g.split still [] in
+    record {
+      came = came;
+      quiet = λ e. absurd (cc);
+      empty = λ e. absurd (cc);
+      stands = λ _. lost_stands first is (taken ++ came) packets new (gave_twice first was is taken came h.reaches.gave (gave_twice was k.mid is whole part reads.gave k.lost.gave))
+          (k.lost.unended ∙ reads.unended k.still ∙ h.reaches.unended still) (sym (reads.alive ∙ h.reaches.alive) ∙ k.lost.live) k.lost.dead (ended ∙ k.still) (has_ended g (text_of_dead (taken ++ came)) lines)
+          (needed_last g still true whole part (reads.blocks k.still) (let s = k.lost.short in omega arith) (λ e. absurd (cc)) (λ _. k.lost.short) (rw line k.goes.clean) (rw line k.few));
+    }
 
 -- no line yet
-pub finds_none : (taken : List ℕ) (packets : List (List ℕ)) (view : LinesView) (place : InView) → GoesOn taken packets view → Finds found.Empty taken packets view place view place
-finds_none taken packets view place h = record {
-  came = [];
-  gave = gave_none place;
-  quiet = λ e. (refl, e, refl);
-  over = λ f. f;
-  unended = λ _. refl;
-  alive = λ _. refl;
-  empty = λ _. rw (append-nil taken) h;
-  packet = λ e. absurd (cc);
-  bad = λ e text whole begins. absurd (cc);
-  end = λ e. absurd (cc);
-  lost = λ e. absurd (cc);
-  shown = λ e still. absurd (cc);
-  reads = inl (record { none = refl; ended = refl; alive = λ e. cc });
-}
-
--- what was read in two searches was needed
-both_reads : (taken : List ℕ) (packets : List (List ℕ)) (r : Found) (a b c : LinesView) (p q s : InView) → (h : Finds found.Empty taken packets a p b q) → (k : Finds r (taken ++ h.came) packets b q c s)
-    → Rests found.Empty h.came a b ⊎ ReadAsNeeded (came_short b.ended (answer_of found.Empty b.number)) (length packets + 1) (taken ++ h.came)
-    → Rests r k.came b c ⊎ ReadAsNeeded (came_short c.ended (answer_of r c.number)) (length packets + 1) ((taken ++ h.came) ++ k.came)
-    → Rests r (h.came ++ k.came) a c ⊎ ReadAsNeeded (came_short c.ended (answer_of r c.number)) (length packets + 1) (taken ++ (h.came ++ k.came))
-both_reads taken packets r a b c p q s h k (inl f) (inl g) = inl (record { none = rw (f.none, g.none) refl; ended = g.ended ∙ f.ended; alive = g.alive })
-both_reads taken packets r a b c p q s h k (inr l) (inl g) =
-    let same : came_short c.ended (answer_of r c.number) ≡ b.ended = alive_short r c.ended c.number g.alive ∙ g.ended in
-    inr (rw (← append_assoc taken h.came k.came) (rests_on b.ended (came_short c.ended (answer_of r c.number)) (length packets + 1) (length packets + 1) (taken ++ h.came) k.came same (omega arith) g.none l))
-both_reads taken packets r a b c p q s h k f (inr l) = inr (rw (← append_assoc taken h.came k.came) l)
+pub finds_none : (first : InView) (taken : List ℕ) (packets : List (List ℕ)) (view : LinesView) (place : InView) → Seeks first taken packets view place → Finds found.Empty first taken packets view view place
+finds_none first taken packets view place h = record { came = []; quiet = λ e. (refl, e); empty = λ _. rw (append-nil taken) h; stands = λ f. absurd (f refl) }
 
 -- empty lines, and what was found behind them
-pub finds_then : (taken : List ℕ) (packets : List (List ℕ)) (r : Found) (a b c : LinesView) (p q s : InView) → (h : Finds found.Empty taken packets a p b q) → Finds r (taken ++ h.came) packets b q c s → Finds r taken packets a p c s
-finds_then taken packets r a b c p q s h k =
-    let x = h.came in
-    let y = k.came in
-    let e : (taken ++ x) ++ y ≡ taken ++ (x ++ y) = append_assoc taken x y in
+pub finds_then : (r : Found) (first : InView) (taken : List ℕ) (packets : List (List ℕ)) (a b c : LinesView) (p q : InView) → (h : Finds found.Empty first taken packets a b p)
+    → (Seeks first (taken ++ h.came) packets b p → Finds r first (taken ++ h.came) packets b c q) → Finds r first taken packets a c q
+finds_then r first taken packets a b c p q h more =
+    let k = more (h.empty refl) in
+    let e : (taken ++ h.came) ++ k.came ≡ taken ++ (h.came ++ k.came) = append_assoc taken h.came k.came in
     record {
-      came = x ++ y;
-      gave = gave_twice p q s x y h.gave k.gave;
-      quiet = λ f. (let u = h.quiet f in let v = k.quiet u.1 in (rw (u.0, v.0) refl, v.1, v.2 ∙ u.2));
-      over = λ f. k.over (h.over f);
-      unended = λ still. k.unended still ∙ h.unended (flag b.ended (λ e. let v = (k.quiet e).1 in cc));
-      alive = λ f. k.alive f ∙ h.alive (λ g. cc);
+      came = h.came ++ k.came;
+      quiet = λ f. (let u = h.quiet f in let v = k.quiet u.1 in (rw (u.0, v.0) refl, v.1));
       empty = λ f. rw (← e) (k.empty f);
-      packet = λ f. rw (← e) (k.packet f);
-      bad = λ f text whole begins. k.bad f text (λ u. whole u ∙ sym e) (rw e begins);
-      end = λ f. (let u = k.end f in (u.0, rw (← e) u.1));
-      lost = λ f. (let u = k.lost f in (sym (h.alive (λ g. cc)) ∙ u.0, u.1, u.2, rw (← e) u.3));
-      shown = λ f still. rw (← e) (k.shown f still);
-      reads = both_reads taken packets r a b c p q s h k h.reads k.reads;
+      stands = λ f. rw (← e) (k.stands f);
     }
-
-pub empty_then : (taken : List ℕ) (packets : List (List ℕ)) (r : Found) (a b c : LinesView) (p q s : InView) → r ≡ found.Empty → (h : Finds found.Empty taken packets a p b q) → Finds r (taken ++ h.came) packets b q c s → Finds found.Empty taken packets a p c s
-empty_then taken packets r a b c p q s e h k = finds_then taken packets found.Empty a b c p q s h (rw (← e) k)

@@ -7,26 +7,13 @@ use Rattle.packet_text.specs.LinesStand.{LinesView, Begins, HasBad, GoesOn}
 use Rattle.otn_base.specs.Counts.{saturated}
 use Rattle.packet_text.specs.Steps.Finding.{Counts}
 use Rattle.packet_text.specs.Cutting.{CutView}
-use Rattle.packet_text.specs.Steps.Cutting.{Cuts}
-use Rattle.packet_text.specs.declared.cutter.Cut.{Cut}
+use Rattle.packet_text.specs.Steps.Cutting.{Came, Cuts}
 use Rattle.packet_text.specs.declared.cutter.Cut.TheVariants as cut
+use Rattle.packet_text.proofs.Cuts.{was_open}
 use Rattle.packet_text.proofs.Texts.{lines_of-line, lines_of-last, full_lines-line}
 
--- a cutter at the end of the lines so far
-abbrev pub start : LinesView → CutView
-start view = record { line = []; hand = view.hand; ended = view.ended }
-
--- what is not so is false
-pub flag : (b : Bool) → (b ≡ true → ⊥) → b ≡ false
-flag true f = absurd (f refl)
-flag false f = refl
-
--- while a cutter has not seen the end, it had not before
-pub was_open : {r : Cut} {old new : CutView} {was is : InView} {came : List ℕ} → Cuts r old was came new is → new.ended ≡ false → old.ended ≡ false
-was_open {old = old} k still = flag old.ended (λ e. let q = (k.quiet e).1 in cc)
-
 -- the lines of all that was taken
-pub all_lines : {r : Cut} {new : CutView} {was is : InView} {came taken : List ℕ} {packets : List (List ℕ)} {old : LinesView} → (h : GoesOn taken packets old) → Cuts r (start old) was came new is
+pub all_lines : {seen : Bool} {was is : InView} {came taken : List ℕ} {packets : List (List ℕ)} {old : LinesView} → (h : GoesOn taken packets old) → Came old.hand old.ended was came seen is
     → lines_of (taken ++ came) ≡ h.lines ++ lines_of (old.hand ++ came)
 all_lines {came = came} {taken = taken} {old = old} h k = by_flag old.ended refl
   where
@@ -40,11 +27,11 @@ pub record TextLines (text taken came hand : List ℕ) (lines : List (List ℕ))
   pub over : ended ≡ true → rest ≡ []
   pub parts : lines_of text ≡ lines ++ lines_of ((hand ++ came) ++ rest)
 
-pub text_lines : {r : Cut} {new : CutView} {was is : InView} {came taken : List ℕ} {packets : List (List ℕ)} {old : LinesView} → (h : GoesOn taken packets old) → Cuts r (start old) was came new is
-    → (text : List ℕ) → (new.ended ≡ true → text ≡ taken ++ came) → Begins (taken ++ came) text → TextLines text taken came old.hand h.lines new.ended
-text_lines {new = new} {came = came} {taken = taken} {old = old} h k text whole begins = by_flag new.ended refl
+pub text_lines : {seen : Bool} {was is : InView} {came taken : List ℕ} {packets : List (List ℕ)} {old : LinesView} → (h : GoesOn taken packets old) → Came old.hand old.ended was came seen is
+    → (text : List ℕ) → (seen ≡ true → text ≡ taken ++ came) → Begins (taken ++ came) text → TextLines text taken came old.hand h.lines seen
+text_lines {seen = seen} {came = came} {taken = taken} {old = old} h k text whole begins = by_flag seen refl
   where
-    by_flag : (t : Bool) → new.ended ≡ t → TextLines text taken came old.hand h.lines new.ended
+    by_flag : (t : Bool) → seen ≡ t → TextLines text taken came old.hand h.lines seen
     by_flag true e = record { rest = []; over = λ _. refl; parts = ap lines_of (whole e) ∙ all_lines h k ∙ ap (λ bytes. h.lines ++ lines_of bytes) (sym (append-nil (old.hand ++ came))) }
     by_flag false e =
         let was = was_open k e in
@@ -92,50 +79,51 @@ has_ended {packets = packets} h text lines =
     ap (packets_behind []) lines ∙ h.sound [] ∙ ap (λ ps. let p : Packets = record { packets = ps; ending = Ended } in p) (append-nil packets)
 
 -- a line that ends with LF is used
-pub line_goes : {taken came : List ℕ} {packets : List (List ℕ)} {old new : LinesView} {cnew : CutView} {was is : InView} → (h : GoesOn taken packets old) → Cuts cut.Line (start old) was came cnew is
+pub line_goes : {taken : List ℕ} {packets : List (List ℕ)} {old new : LinesView} {cnew : CutView} {was is : InView} → (h : GoesOn taken packets old) → (k : Cuts cut.Line old.hand old.ended was cnew is)
     → new.hand ≡ cnew.hand → new.ended ≡ cnew.ended → (given : List (List ℕ))
     → ((later : List (List ℕ)) → packets_behind [] ((h.lines ++ cnew.line ∷ []) ++ later) ≡ behind given (packets_behind (h.lines ++ cnew.line ∷ []) later))
-    → Counts (h.lines ++ cnew.line ∷ []) new → GoesOn (taken ++ came) given new
-unfolding has_lf
-line_goes {taken = taken} {came = came} {old = old} {new = new} {cnew = cnew} h k hand ended given sound counts =
+    → Counts (h.lines ++ cnew.line ∷ []) new → GoesOn (taken ++ k.came) given new
+line_goes {taken = taken} {old = old} {new = new} {cnew = cnew} h k hand ended given sound counts =
+    let came = k.came in
     let line = cnew.line in
     let lf = line ++ 10 ∷ [] in
-    let all : old.hand ++ came ≡ line ++ 10 ∷ cnew.hand = k.ends_line refl in
-    let clean : has_lf line ≡ false = k.clean refl in
+    let all : old.hand ++ came ≡ line ++ 10 ∷ cnew.hand = k.met in
+    let clean : has_lf line ≡ false = k.clean in
     let behind_lf = λ (rest : List ℕ). append_assoc h.used lf rest ∙ ap (λ b. h.used ++ b) (append_assoc line (10 ∷ []) rest) in
-    let was = λ (still : new.ended ≡ false). was_open k (sym ended ∙ still) in
+    let was = λ (still : new.ended ≡ false). was_open k.reads (sym ended ∙ still) in
     record {
       lines = h.lines ++ line ∷ [];
       used = h.used ++ lf;
       parts = ap (λ b. b ++ came) h.parts ∙ append_assoc h.used old.hand came ∙ ap (λ b. h.used ++ b) (all ∙ ap (λ b. line ++ 10 ∷ b) (sym hand)) ∙ sym (behind_lf new.hand);
       split = λ still rest. ap lines_of (behind_lf rest) ∙ h.split (was still) (line ++ 10 ∷ rest) ∙ ap (λ ls. h.lines ++ ls) (lines_of-line line rest clean) ∙ sym (append_assoc h.lines (line ∷ []) (lines_of rest));
       full = λ still rest. ap full_lines (behind_lf rest) ∙ h.full (was still) (line ++ 10 ∷ rest) ∙ ap (λ b. h.used ++ b) (full_lines-line line rest) ∙ sym (append_assoc h.used lf (full_lines rest));
-      over = λ e. all_lines h k ∙ ap (λ b. h.lines ++ lines_of b) (all ∙ ap (λ b. line ++ 10 ∷ b) (sym hand)) ∙ ap (λ ls. h.lines ++ ls) (lines_of-line line new.hand clean) ∙ sym (append_assoc h.lines (line ∷ []) (lines_of new.hand));
+      over = λ e. all_lines h k.reads ∙ ap (λ b. h.lines ++ lines_of b) (all ∙ ap (λ b. line ++ 10 ∷ b) (sym hand)) ∙ ap (λ ls. h.lines ++ ls) (lines_of-line line new.hand clean) ∙ sym (append_assoc h.lines (line ∷ []) (lines_of new.hand));
       sound = sound;
       number = counts.number;
       empty = counts.empty;
-      blocks = λ still. rw (length-append taken came) (let a = h.blocks (was still) in let b = k.blocks (λ e. cc) (sym ended ∙ still) in omega arith);
+      blocks = λ still. rw (length-append taken came) (let a = h.blocks (was still) in let b = k.reads.blocks (sym ended ∙ still) in omega arith);
     }
 
 -- a last line without LF is used
-pub last_goes : {taken came : List ℕ} {packets : List (List ℕ)} {old new : LinesView} {cnew : CutView} {was is : InView} → (h : GoesOn taken packets old) → Cuts cut.Last (start old) was came cnew is
+pub last_goes : {taken : List ℕ} {packets : List (List ℕ)} {old new : LinesView} {cnew : CutView} {was is : InView} → (h : GoesOn taken packets old) → (k : Cuts cut.Last old.hand old.ended was cnew is)
     → new.hand ≡ cnew.hand → new.ended ≡ cnew.ended → (given : List (List ℕ))
     → ((later : List (List ℕ)) → packets_behind [] ((h.lines ++ cnew.line ∷ []) ++ later) ≡ behind given (packets_behind (h.lines ++ cnew.line ∷ []) later))
-    → Counts (h.lines ++ cnew.line ∷ []) new → GoesOn (taken ++ came) given new
-unfolding has_lf lines_of
-last_goes {taken = taken} {came = came} {old = old} {new = new} {cnew = cnew} h k hand ended given sound counts =
+    → Counts (h.lines ++ cnew.line ∷ []) new → GoesOn (taken ++ k.came) given new
+unfolding lines_of
+last_goes {taken = taken} {old = old} {new = new} {cnew = cnew} h k hand ended given sound counts =
+    let came = k.came in
     let line = cnew.line in
-    let last = k.last refl in
+    let last = k.met in
     let none : new.hand ≡ [] = hand ∙ last.1 in
     let over : new.ended ≡ true = ended ∙ last.2 in
-    let clean : has_lf line ≡ false = k.clean refl in
+    let clean : has_lf line ≡ false = k.clean in
     record {
       lines = h.lines ++ line ∷ [];
       used = taken ++ came;
       parts = rw none (sym (append-nil (taken ++ came)));
       split = λ still rest. absurd (cc);
       full = λ still rest. absurd (cc);
-      over = λ e. all_lines h k ∙ ap (λ b. h.lines ++ lines_of b) last.0 ∙ ap (λ ls. h.lines ++ ls) (lines_of-last line clean last.3) ∙ rw none (sym (append-nil (h.lines ++ line ∷ [])));
+      over = λ e. all_lines h k.reads ∙ ap (λ b. h.lines ++ lines_of b) last.0 ∙ ap (λ ls. h.lines ++ ls) (lines_of-last line clean last.3) ∙ rw none (sym (append-nil (h.lines ++ line ∷ [])));
       sound = sound;
       number = counts.number;
       empty = counts.empty;

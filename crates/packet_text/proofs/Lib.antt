@@ -5,7 +5,6 @@ pub mod DigitLanes
 pub mod ByteBlocks
 pub mod LineBytes
 pub mod Cuts
-pub mod CutsThen
 pub mod Texts
 pub mod LineEnds
 pub mod LineFeeds

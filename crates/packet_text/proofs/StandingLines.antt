@@ -1,18 +1,17 @@
 -- Where the lines of a place stand, from one answer to the next.
-use Rattle.std.proofs.Common.{◌≡◌, ◌≢◌, ◌<◌, ◌≤◌, ◌+◌, ◌-◌, ◌%◌, ◌⊎◌, inl, inr, ℕ, Bool, true, false, if◌then◌else◌, List, [], ◌∷◌, ◌++◌, length, length-append, take, zero, suc, arith, refl, sym, ap, subst, ◌∙◌, append_assoc, append-nil}
-use Rattle.otn_ports.specs.Views.{InView}
-use Rattle.otn_ports.specs.Given.{DiedUnended}
-use Rattle.otn_ports.proofs.GivenLaws.{dead_not_live, gave_none, gave_twice}
+use Rattle.std.proofs.Common.{◌≡◌, ◌≢◌, ◌<◌, ◌≤◌, ◌+◌, ◌-◌, ◌%◌, inl, ℕ, Bool, true, false, if◌then◌else◌, List, [], ◌∷◌, ◌++◌, length, length-append, take, zero, suc, arith, refl, sym, ap, subst, ◌∙◌, append_assoc, append-nil}
+use Rattle.otn_ports.specs.Views.{InView, Live, Dead}
+use Rattle.otn_ports.specs.Given.{Gave, DiedUnended}
+use Rattle.otn_ports.proofs.GivenLaws.{dead_not_live, gave_none}
 use Rattle.packet_text.specs.TextLines.{lines_of, full_lines, text_of_dead}
-use Rattle.packet_text.specs.PacketText.{packets_of, packets_behind, empty_lines}
-use Rattle.packet_text.specs.LinesStand.{LinesView, Begins, GoesOnWith, may_be, GoesOn, came_short, asked_for, ReadAsNeeded, LinesStand, TakeStands, fresh_lines, given_by, is_packet}
-use Rattle.packet_text.specs.Steps.Finding.{Rests, Finds, answer_of, with_answer}
+use Rattle.packet_text.specs.PacketText.{Ended, packets_of, packets_behind, empty_lines, shows_bad}
+use Rattle.packet_text.specs.LinesStand.{LinesView, Begins, GoesOnWith, HasBad, may_be, GoesOn, came_short, asked_for, ReadAsNeeded, LinesStand, TakeStands, fresh_lines, given_by, is_packet}
+use Rattle.packet_text.specs.Steps.Finding.{Reaches, Seeks, Finds, answer_of, with_answer}
 use Rattle.packet_text.specs.declared.line.Line.{Line}
 use Rattle.packet_text.specs.declared.line.Line.TheVariants as line
 use Rattle.packet_text.specs.declared.found.Found.{Found}
 use Rattle.packet_text.specs.declared.found.Found.TheVariants as found
-use Rattle.packet_text.proofs.AsNeeded.{alive_short, rests_on}
-use Rattle.packet_text.proofs.GoingOn.{flag}
+use Rattle.packet_text.proofs.AsNeeded.{more_asked}
 use Rattle.packet_text.proofs.Texts.{full_lines-front, full_lines-more, whole_blocks-more}
 
 -- nothing was read yet
@@ -121,119 +120,113 @@ take_few (suc n) (x ∷ xs) = let h = take_few n xs in omega arith
 pub near_hand : (at end : ℕ) (bytes : List ℕ) → end < at + 4096 → length (take (end - at) bytes) < 4096
 near_hand at end bytes less = let few = take_few (end - at) bytes in omega arith
 
--- what was found makes the answer
-pub found_stands : (r : Found) (first : InView) (taken : List ℕ) (packets : List (List ℕ)) (old mid : LinesView) (was is : InView) → r ≢ found.Empty → old.answer ≡ line.Packet
-    → ((taken : List ℕ) (packets : List (List ℕ)) → GoesOn taken packets old → Finds r taken packets old was mid is)
-    → length mid.hand < 4096 → LinesStand first was taken packets old → TakeStands first taken packets old (with_answer r mid) is
-found_stands r first taken packets old mid was is counts going finds near h = record {
-  came = came;
-  stands = (let P : Line → Type 0 = λ a. LinesStand first is (taken ++ came) (packets ++ (if is_packet a then given_by (answer_of r mid.number) mid.packet else [])) (with_answer r mid) in subst P (sym going) (by_found r counts f));
-  earlier = λ text may. (let Q : Line → Type 0 = λ a. may_be old.ended a taken text in subst Q (sym going) (before_open old.ended taken text
-      (λ e. let q = f.quiet e in same_text mid.ended (answer_of r mid.number) taken came text q.1 q.0 may)
-      (λ e. earlier_open taken came text mid.ended (answer_of r mid.number) (λ end. (f.end (ends r mid.number end)).0) (goes.blocks e) may)));
+-- a packet, a bad line, the end and the place's death make the answer
+pub packet_stands : (first is : InView) (all : List ℕ) (packets : List (List ℕ)) (new : LinesView) → Reaches first all (length packets + 1) new.ended is → GoesOn all (packets ++ new.packet ∷ []) new
+    → length new.hand < 4096 → LinesStand first is all (packets ++ new.packet ∷ []) (with_answer found.Packet new)
+packet_stands first is all packets new r g near = record {
+  gave = r.gave;
+  over = r.over;
+  unended = r.unended;
+  alive = λ _. r.alive;
+  ended = λ e. absurd (cc);
+  lost = λ e. absurd (cc);
+  goes = λ _. same_goes all (packets ++ new.packet ∷ []) new found.Packet g;
+  told = λ text may. goes_told all (packets ++ new.packet ∷ []) new g text may;
+  shown = λ n e still. absurd (cc);
+  read = rw (length-append packets (new.packet ∷ [])) r.read;
+  near = λ _. near;
 }
+
+pub bad_stands : (first is : InView) (all : List ℕ) (packets : List (List ℕ)) (new : LinesView) → Reaches first all (length packets + 1) new.ended is
+    → ((text : List ℕ) → (new.ended ≡ true → text ≡ all) → Begins all text → HasBad packets new.number (packets_of text)) → (new.ended ≡ false → shows_bad all ≡ true)
+    → LinesStand first is all (packets ++ []) (with_answer found.Bad new)
+bad_stands first is all packets new r bad shows = rw (append-nil packets) (record {
+  gave = r.gave;
+  over = r.over;
+  unended = r.unended;
+  alive = λ _. r.alive;
+  ended = λ e. absurd (cc);
+  lost = λ e. absurd (cc);
+  goes = λ e. absurd (cc);
+  told = λ text may. bad text (whole new.ended text may) (begins new.ended text may);
+  shown = λ n e still. shows still;
+  read = r.read;
+  near = λ e. absurd (cc);
+})
   where
-    goes : GoesOn taken packets old
-    goes = h.goes going
+    whole : (b : Bool) (text : List ℕ) → may_be b (line.Bad new.number) all text → b ≡ true → text ≡ all
+    whole true text may e = may
+    whole false text may e = absurd (cc)
 
-    f : Finds r taken packets old was mid is
-    f = finds taken packets goes
+    begins : (b : Bool) (text : List ℕ) → may_be b (line.Bad new.number) all text → Begins all text
+    begins true text may = record { rest = []; parts = may ∙ sym (append-nil all) }
+    begins false text may = may
 
-    came : List ℕ
-    came = f.came
+pub end_stands : (first is : InView) (all : List ℕ) (packets : List (List ℕ)) (new : LinesView) → Reaches first all (length packets + 1) new.ended is → new.ended ≡ true
+    → packets_of all ≡ record { packets = packets; ending = Ended } → LinesStand first is all (packets ++ []) (with_answer found.End new)
+end_stands first is all packets new r over whole = rw (append-nil packets) (record {
+  gave = r.gave;
+  over = r.over;
+  unended = r.unended;
+  alive = λ _. r.alive;
+  ended = λ _. over;
+  lost = λ e. absurd (cc);
+  goes = λ e. absurd (cc);
+  told = λ text may. ap packets_of (all_ended new.ended text may) ∙ whole;
+  shown = λ n e still. absurd (cc);
+  read = r.read;
+  near = λ e. absurd (cc);
+})
+  where
+    all_ended : (b : Bool) (text : List ℕ) → may_be b line.End all text → text ≡ all
+    all_ended true text may = may
+    all_ended false text may = may
 
-    alive : was.state ≡ first.state
-    alive = h.alive (λ e. let p = going in cc)
+pub lost_stands : (first is : InView) (all : List ℕ) (packets : List (List ℕ)) (new : LinesView) → Gave first all is → is.ended ≡ first.ended → first.state ≡ Live → is.state ≡ Dead → new.ended ≡ false
+    → packets_of (text_of_dead all) ≡ record { packets = packets; ending = Ended } → ReadAsNeeded true (length packets + 1) all → LinesStand first is all (packets ++ []) (with_answer found.Lost new)
+lost_stands first is all packets new gave same live dead still whole read = rw (append-nil packets) (record {
+  gave = gave;
+  over = λ e. absurd (cc);
+  unended = λ _. same;
+  alive = λ f. absurd (f refl);
+  ended = λ e. absurd (cc);
+  lost = λ _. (still, dead, live);
+  goes = λ e. absurd (cc);
+  told = λ text may. ap packets_of (all_lost new.ended still text may) ∙ whole;
+  shown = λ n e open_yet. absurd (cc);
+  read = read;
+  near = λ e. absurd (cc);
+})
+  where
+    all_lost : (b : Bool) → b ≡ false → (text : List ℕ) → may_be b line.Lost all text → text ≡ text_of_dead all
+    all_lost true e text may = absurd (cc)
+    all_lost false e text may = may
 
-    unended : (q : Found) → Finds q taken packets old was mid is → mid.ended ≡ false → is.ended ≡ first.ended
-    unended q g still = g.unended still ∙ h.unended (flag old.ended (λ e. let v = (g.quiet e).1 in cc))
-
-    ends : (q : Found) (n : ℕ) → answer_of q n ≡ line.End → q ≡ found.End
-    ends found.Empty n e = absurd (cc)
-    ends found.Packet n e = absurd (cc)
-    ends found.Bad n e = absurd (cc)
-    ends found.End n e = refl
-    ends found.Lost n e = absurd (cc)
-
-    whole : (b : Bool) (n : ℕ) (t text : List ℕ) → may_be b (line.Bad n) t text → (b ≡ true → text ≡ t)
-    whole true n t text may e = may
-    whole false n t text may e = absurd (cc)
-
-    begins : (b : Bool) (n : ℕ) (t text : List ℕ) → may_be b (line.Bad n) t text → Begins t text
-    begins true n t text may = record { rest = []; parts = may ∙ sym (append-nil t) }
-    begins false n t text may = may
-
-    all_ended : (b : Bool) (t text : List ℕ) → b ≡ true → may_be b line.End t text → text ≡ t
-    all_ended true t text e may = may
-    all_ended false t text e may = may
-
-    all_lost : (b : Bool) (t text : List ℕ) → b ≡ false → may_be b line.Lost t text → text ≡ text_of_dead t
-    all_lost true t text e may = absurd (cc)
-    all_lost false t text e may = may
-
-    given : asked_for old.answer (length packets) ≡ length packets
-    given = ap (λ a. asked_for a (length packets)) going
-
-    as_needed : (q : Found) (next : ℕ) → next ≡ length packets + 1 → (g : Finds q taken packets old was mid is) → Rests q g.came old mid ⊎ ReadAsNeeded (came_short mid.ended (answer_of q mid.number)) (length packets + 1) (taken ++ g.came)
-        → ReadAsNeeded (came_short mid.ended (answer_of q mid.number)) next (taken ++ g.came)
-    as_needed q next one g (inl rests) = rests_on (came_short old.ended old.answer) (came_short mid.ended (answer_of q mid.number)) (asked_for old.answer (length packets)) next taken g.came
-        (alive_short q mid.ended mid.number rests.alive ∙ rests.ended ∙ sym (ap (came_short old.ended) going)) (omega (arith, given, one)) rests.none h.read
-    as_needed q next one g (inr l) = subst (λ n. ReadAsNeeded (came_short mid.ended (answer_of q mid.number)) n (taken ++ g.came)) (sym one) l
-
-    by_found : (q : Found) → q ≢ found.Empty → (g : Finds q taken packets old was mid is) → LinesStand first is (taken ++ g.came) (packets ++ given_by (answer_of q mid.number) mid.packet) (with_answer q mid)
-    by_found found.Empty no_empty g = absurd (no_empty refl)
-    by_found found.Packet no_empty g = record {
-      gave = gave_twice first was is taken g.came h.gave g.gave;
-      over = g.over h.over;
-      unended = unended found.Packet g;
-      alive = λ f. g.alive (λ e. cc) ∙ alive;
-      ended = λ f. absurd (cc);
-      lost = λ f. absurd (cc);
-      goes = λ _. same_goes (taken ++ g.came) (packets ++ mid.packet ∷ []) mid found.Packet (g.packet refl);
-      told = λ text may. goes_told (taken ++ g.came) (packets ++ mid.packet ∷ []) mid (g.packet refl) text may;
-      shown = λ n e still. absurd (cc);
-      read = as_needed found.Packet (length (packets ++ mid.packet ∷ [])) (length-append packets (mid.packet ∷ [])) g g.reads;
-      near = λ _. near;
+-- behind an answer Packet one packet more is sought
+seeks_on : {first was : InView} {taken : List ℕ} {packets : List (List ℕ)} {old : LinesView} → old.answer ≡ line.Packet → LinesStand first was taken packets old → Seeks first taken packets old was
+seeks_on {taken = taken} {packets = packets} {old = old} going h =
+    let P : Line → Type 0 = λ a. ReadAsNeeded (came_short old.ended a) (asked_for a (length packets)) taken in
+    let read : ReadAsNeeded old.ended (length packets) taken = subst P going h.read in
+    record {
+      reaches = record { gave = h.gave; over = h.over; unended = h.unended; alive = h.alive (λ e. let p = going in cc); read = more_asked old.ended (length packets) (length packets + 1) taken (omega arith) read };
+      goes = h.goes going;
     }
-    by_found found.Bad no_empty g = rw (append-nil packets) (record {
-      gave = gave_twice first was is taken g.came h.gave g.gave;
-      over = g.over h.over;
-      unended = unended found.Bad g;
-      alive = λ f. g.alive (λ e. cc) ∙ alive;
-      ended = λ f. absurd (cc);
-      lost = λ f. absurd (cc);
-      goes = λ e. absurd (cc);
-      told = λ text may. g.bad refl text (whole mid.ended mid.number (taken ++ g.came) text may) (begins mid.ended mid.number (taken ++ g.came) text may);
-      shown = λ n e still. g.shown refl still;
-      read = as_needed found.Bad (length packets + 1) refl g g.reads;
-      near = λ e. absurd (cc);
-    })
-    by_found found.End no_empty g = let end = g.end refl in rw (append-nil packets) (record {
-      gave = gave_twice first was is taken g.came h.gave g.gave;
-      over = g.over h.over;
-      unended = unended found.End g;
-      alive = λ f. g.alive (λ e. cc) ∙ alive;
-      ended = λ f. end.0;
-      lost = λ f. absurd (cc);
-      goes = λ e. absurd (cc);
-      told = λ text may. ap packets_of (all_ended mid.ended (taken ++ g.came) text end.0 may) ∙ end.1;
-      shown = λ n e still. absurd (cc);
-      read = as_needed found.End (length packets + 1) refl g g.reads;
-      near = λ e. absurd (cc);
-    })
-    by_found found.Lost no_empty g = let lost = g.lost refl in rw (append-nil packets) (record {
-      gave = gave_twice first was is taken g.came h.gave g.gave;
-      over = g.over h.over;
-      unended = unended found.Lost g;
-      alive = λ f. absurd (f refl);
-      ended = λ f. absurd (cc);
-      lost = λ f. (lost.2, lost.1, sym alive ∙ lost.0);
-      goes = λ e. absurd (cc);
-      told = λ text may. ap packets_of (all_lost mid.ended (taken ++ g.came) text lost.2 may) ∙ lost.3;
-      shown = λ n e still. absurd (cc);
-      read = as_needed found.Lost (length packets + 1) refl g g.reads;
-      near = λ e. absurd (cc);
-    })
+
+-- what was found makes the answer
+pub take_stands : (r : Found) (first : InView) (taken : List ℕ) (packets : List (List ℕ)) (old mid : LinesView) (was is : InView) → old.answer ≡ line.Packet → r ≢ found.Empty
+    → (Seeks first taken packets old was → Finds r first taken packets old mid is) → LinesStand first was taken packets old → TakeStands first taken packets old (with_answer r mid) is
+take_stands r first taken packets old mid was is going counts finds h =
+    let f = finds (seeks_on going h) in
+    let came = f.came in
+    let stands = f.stands counts in
+    let P : Line → Type 0 = λ a. LinesStand first is (taken ++ came) (packets ++ (if is_packet a then given_by (answer_of r mid.number) mid.packet else [])) (with_answer r mid) in
+    record {
+      came = came;
+      stands = subst P (sym going) stands;
+      earlier = λ text may. (let Q : Line → Type 0 = λ a. may_be old.ended a taken text in subst Q (sym going) (before_open old.ended taken text
+          (λ e. let q = f.quiet e in same_text mid.ended (answer_of r mid.number) taken came text q.1 q.0 may)
+          (λ e. earlier_open taken came text mid.ended (answer_of r mid.number) stands.ended ((h.goes going).blocks e) may)));
+    }
 
 -- a place that is dead has answered no end
 pub died_unended : (first now : InView) (taken : List ℕ) (packets : List (List ℕ)) (view : LinesView) → LinesStand first now taken packets view → DiedUnended first now

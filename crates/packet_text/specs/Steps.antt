@@ -1,6 +1,5 @@
 -- What private contracts alone cite: the steps of functions. No promise stands on them.
 pub mod DigitMarks
 pub mod Carrying
-pub mod Blocks
 pub mod Cutting
 pub mod Finding

@@ -1,8 +1,7 @@
 // A text is read by blocks and cut into lines.
-ghost use Rattle.std.specs.Prelude.{◌≡◌, ◌≢◌, ◌<◌, ◌≤◌, ◌+◌, ◌*◌, ℕ, List, [], ◌∷◌, ◌++◌, true, false, length, take, drop, vec_len, IfOk, MatchOption};
+ghost use Rattle.std.specs.Prelude.{◌≡◌, ◌≢◌, ◌<◌, ◌≤◌, ◌+◌, [], true, false, length, vec_len, IfOk, MatchOption};
 ghost use Rattle.std.specs.Vec.{vec_capacity};
 ghost use Rattle.otn_ports.specs.InPlace.{in_view};
-ghost use Rattle.packet_text.specs.Steps.Blocks.{BlockRead};
 ghost use Rattle.packet_text.specs.Steps.Carrying.{NoneCarried, Carried};
 
 use crate::line_feed::first_lf;
@@ -16,11 +15,10 @@ const BLOCK: usize = 4096;
 // Bytes of a line at most, without its LF: the most digits, and CR.
 const MOST_LINE: usize = 131_055;
 
-// What was met behind a line's beginning: a block that goes on with it, its LF, the end of the text behind a last line
-// without LF, too many bytes without LF, the end of the text where a line would begin, or the place's death.
+// What was met behind a line's beginning: its LF, the end of the text behind a last line without LF, too many bytes
+// without LF, the end of the text where a line would begin, or the place's death.
 #[derive(Clone, Copy, Debug, PartialEq, Eq)]
 pub(crate) enum Cut {
-    More,
     Line,
     Last,
     Long,
@@ -62,17 +60,9 @@ fn carry(line: &mut Vec<u8>, bytes: &[u8]) -> Option<usize>
     }
 }
 
-// Reads a block.
-fn read_block<P: Source>(place: &mut InPlaceOf<P>, block: &mut [u8]) -> Reading
-    requires { length block.old ≡ 4096 }
-    ensures { BlockRead result (in_view P.Source place.old) block.new (in_view P.Source place.new) }
-{
-    place.read_full(block)
-}
-
 impl Cutter {
     ghost use Rattle.packet_text.specs.Cutting.{cut_view};
-    ghost use Rattle.packet_text.specs.Steps.Cutting.{fresh_cut, at_line, GoesOnBy, CutsSome, blocks_left};
+    ghost use Rattle.packet_text.specs.Steps.Cutting.{fresh_cut, GoesOnBy, BlockCame, BlockLost, Cuts, Loses};
 
     /// A cutter that has read nothing.
     pub(crate) fn new(alloc: Global) -> Result<Cutter, Memory>
@@ -106,40 +96,28 @@ impl Cutter {
 
     /// Goes to the end of the next line. A block is read only where all bytes in hand are used.
     pub(crate) fn next<P: Source>(&mut self, place: &mut InPlaceOf<P>) -> Cut
-        ensures cuts { CutsSome result (at_line (cut_view self.old)) (in_view P.Source place.old) (cut_view self.new)
-            (in_view P.Source place.new) }
-        ensures whole { result ≢ Cut.More }
+        ensures cuts { result ≢ Cut.Lost → Cuts result (cut_view self.old).hand self.old.ended
+            (in_view P.Source place.old) (cut_view self.new) (in_view P.Source place.new) }
+        ensures lost { result ≡ Cut.Lost → Loses (cut_view self.old).hand self.old.ended
+            (in_view P.Source place.old) (cut_view self.new) (in_view P.Source place.new) }
         ensures near { self.new.end < self.new.at + 4096 }
         ensures quiet { self.old.ended ≡ true → place.new ≡ place.old }
     {
         self.line.clear();
         loop {
-            let cut = self.step(place);
-            if cut != Cut::More {
-                return cut;
+            if self.go_on() {
+                return Cut::Line;
+            }
+            if self.line.len() > MOST_LINE {
+                return Cut::Long;
+            }
+            if self.ended {
+                return self.close();
+            }
+            if !self.read_block(place) {
+                return Cut::Lost;
             }
         }
-    }
-
-    fn step<P: Source>(&mut self, place: &mut InPlaceOf<P>) -> Cut
-        requires { length self.old.line.items ≤ 131055 }
-        ensures cuts { CutsSome result (cut_view self.old) (in_view P.Source place.old) (cut_view self.new)
-            (in_view P.Source place.new) }
-        ensures short { result ≡ Cut.More → length self.new.line.items ≤ 131055 }
-        ensures nearer { result ≡ Cut.More → blocks_left (cut_view self.new) < blocks_left (cut_view self.old) }
-        ensures near { result ≢ Cut.More → self.new.end < self.new.at + 4096 }
-        ensures quiet { self.old.ended ≡ true → place.new ≡ place.old }
-    {
-        if self.go_on() {
-            return Cut::Line;
-        }
-        if self.line.len() > MOST_LINE {
-            return Cut::Long;
-        }
-        if self.ended {
-            return self.close();
-        }
-        self.read(place)
     }
 
     // Goes on with the line by the bytes in hand, and says whether its LF was met.
@@ -171,31 +149,29 @@ impl Cutter {
         Cut::Last
     }
 
-    // Reads the next block.
-    fn read<P: Source>(&mut self, place: &mut InPlaceOf<P>) -> Cut
-        requires short { length self.old.line.items ≤ 131055 }
-        requires hand { (cut_view self.old).hand ≡ [] }
-        requires open { self.old.ended ≡ false }
-        ensures cuts { CutsSome result (cut_view self.old) (in_view P.Source place.old) (cut_view self.new)
+    // Reads the next block, and says whether the place lives on or was not live.
+    fn read_block<P: Source>(&mut self, place: &mut InPlaceOf<P>) -> bool
+        requires { self.old.ended ≡ false }
+        ensures came { result ≡ true → BlockCame (cut_view self.old) (in_view P.Source place.old) (cut_view self.new)
             (in_view P.Source place.new) }
-        ensures line { self.new.line.items ≡ self.old.line.items }
-        ensures near { result ≢ Cut.More → self.new.end < self.new.at + 4096 }
-        ensures nearer { result ≡ Cut.More → blocks_left (cut_view self.new) < blocks_left (cut_view self.old) }
+        ensures lost { result ≡ false → BlockLost (in_view P.Source place.old) (in_view P.Source place.new) }
+        ensures rests { result ≡ false → cut_view self.new ≡ record (cut_view self.old) { hand = [] } }
+        ensures near { result ≡ false → self.new.end < self.new.at + 4096 }
     {
         self.at = 0;
-        match read_block(place, &mut self.block) {
+        match place.read_full(&mut self.block) {
             Reading::Full => {
                 self.end = self.block.len();
-                Cut::More
+                true
             }
             Reading::End(n) => {
                 self.end = n;
                 self.ended = true;
-                Cut::More
+                true
             }
             Reading::Lost => {
                 self.end = 0;
-                Cut::Lost
+                false
             }
         }
     }

@@ -1,8 +1,7 @@
 // The packets of a text, line by line.
-ghost use Rattle.std.specs.Prelude.{◌≡◌, ◌≢◌, ◌<◌, ◌≤◌, ◌+◌, ℕ, List, [], ◌∷◌, ◌++◌, true, false, length, take, vec_len, IfOk};
+ghost use Rattle.std.specs.Prelude.{◌≡◌, ◌≢◌, ◌<◌, ◌≤◌, ◌+◌, ℕ, List, [], true, length, take, vec_len, IfOk};
 ghost use Rattle.otn_ports.specs.InPlace.{in_view};
 ghost use Rattle.otn_ports.specs.Views.{InView, Live, Dead};
-ghost use Rattle.otn_ports.specs.Given.{Gave};
 ghost use Rattle.otn_base.specs.declared.limits.TheConstants.{MOST_EMPTY_LINES};
 
 use crate::Line;
@@ -38,11 +37,10 @@ pub struct PacketLines {
 }
 
 impl PacketLines {
-    ghost use Rattle.packet_text.specs.LinesStand.{LinesView, lines_view, fresh_lines, LinesStand, MayBe, Told, TakeStands, GoesOn};
+    ghost use Rattle.packet_text.specs.LinesStand.{lines_view, fresh_lines, LinesStand, TakeStands};
     ghost use Rattle.otn_base.specs.Counts.{saturated};
     ghost use Rattle.packet_text.specs.Cutting.{cut_view};
-    ghost use Rattle.packet_text.specs.Steps.Finding.{Finds, Judges, Counts};
-    ghost use Rattle.packet_text.specs.PacketText.{packets_of};
+    ghost use Rattle.packet_text.specs.Steps.Finding.{Seeks, Finds, Judges, Counts};
 
     /// Lines of which nothing was read. All memory is taken here.
     pub fn new(alloc: Global) -> Result<PacketLines, Memory>
@@ -100,9 +98,15 @@ impl PacketLines {
         ensures over { (lines_view self.old).answer ≢ Line.Packet → (self.new ≡ self.old) × (place.new ≡ place.old) }
         ensures quiet { (lines_view self.old).ended ≡ true → place.new ≡ place.old }
     {
-        match self.answer {
-            Line::Packet => self.go_on(place),
-            answer => answer,
+        if self.answer != Line::Packet {
+            return self.answer;
+        }
+        loop {
+            let found = self.find(place);
+            if found != Found::Empty {
+                self.answer = answer_for(found, self.number);
+                return self.answer;
+            }
         }
     }
 
@@ -114,50 +118,11 @@ impl PacketLines {
         &self.packet[..self.len]
     }
 
-    fn go_on<P: Source>(&mut self, place: &mut InPlaceOf<P>) -> Line
-        requires { (lines_view self.old).answer ≡ Line.Packet }
-        ensures answer { (lines_view self.new).answer ≡ result }
-        ensures stands { (first : InView) (taken : List ℕ) (packets : List (List ℕ))
-            → LinesStand first (in_view P.Source place.old) taken packets (lines_view self.old)
-            → TakeStands first taken packets (lines_view self.old) (lines_view self.new) (in_view P.Source place.new) }
-        ensures lost { result ≡ Line.Lost
-            → ((in_view P.Source place.old).state ≡ Live) × ((in_view P.Source place.new).state ≡ Dead) }
-        ensures some { result ≡ Line.Packet → 1 ≤ self.new.len }
-        ensures kept { result ≢ Line.Packet → (lines_view self.new).packet ≡ (lines_view self.old).packet }
-        ensures near { self.new.cutter.end < self.new.cutter.at + 4096 }
-        ensures quiet { (lines_view self.old).ended ≡ true → place.new ≡ place.old }
-    {
-        let found = self.search(place);
-        self.answer = answer_for(found, self.number);
-        self.answer
-    }
-
-    // Passes over empty lines.
-    fn search<P: Source>(&mut self, place: &mut InPlaceOf<P>) -> Found
-        ensures finds { (taken : List ℕ) (packets : List (List ℕ)) → GoesOn taken packets (lines_view self.old)
-            → Finds result taken packets (lines_view self.old) (in_view P.Source place.old) (lines_view self.new)
-            (in_view P.Source place.new) }
-        ensures counts { result ≢ Found.Empty }
-        ensures some { result ≡ Found.Packet → 1 ≤ self.new.len }
-        ensures kept { result ≢ Found.Packet → (lines_view self.new).packet ≡ (lines_view self.old).packet }
-        ensures alive { result ≢ Found.Lost → (in_view P.Source place.new).state ≡ (in_view P.Source place.old).state }
-        ensures lost { result ≡ Found.Lost
-            → ((in_view P.Source place.old).state ≡ Live) × ((in_view P.Source place.new).state ≡ Dead) }
-        ensures near { self.new.cutter.end < self.new.cutter.at + 4096 }
-        ensures quiet { (lines_view self.old).ended ≡ true → place.new ≡ place.old }
-    {
-        loop {
-            let found = self.find(place);
-            if found != Found::Empty {
-                return found;
-            }
-        }
-    }
-
     // The next line.
     fn find<P: Source>(&mut self, place: &mut InPlaceOf<P>) -> Found
-        ensures finds { (taken : List ℕ) (packets : List (List ℕ)) → GoesOn taken packets (lines_view self.old)
-            → Finds result taken packets (lines_view self.old) (in_view P.Source place.old) (lines_view self.new)
+        ensures finds { (first : InView) (taken : List ℕ) (packets : List (List ℕ))
+            → Seeks first taken packets (lines_view self.old) (in_view P.Source place.old)
+            → Finds result first taken packets (lines_view self.old) (lines_view self.new)
             (in_view P.Source place.new) }
         ensures rises { result ≡ Found.Empty → self.new.empty ≡ self.old.empty + 1 }
         ensures some { result ≡ Found.Packet → 1 ≤ self.new.len }
@@ -175,7 +140,6 @@ impl PacketLines {
             Cut::Long => self.too_long(),
             Cut::End => Found::End,
             Cut::Lost => Found::Lost,
-            Cut::More => unreachable!(),
         }
     }
 

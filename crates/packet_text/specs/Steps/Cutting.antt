@@ -1,35 +1,16 @@
--- Steps of `next`, `step` and others: what private contracts alone cite, beside the definitions of `Cutting`.
-use Rattle.std.specs.Prelude.{◌≡◌, ◌≢◌, ◌<◌, ◌≤◌, ◌⊎◌, ◌%◌, ◌+◌, ◌-◌, if◌then◌else◌, ℕ, Bool, true, false, List, [], ◌∷◌, ◌++◌, length}
+-- Steps of `next`, `go_on` and `read_block`: what private contracts alone cite, beside the definitions of `Cutting`.
+use Rattle.std.specs.Prelude.{◌≡◌, ◌≢◌, ◌<◌, ◌≤◌, ◌⊎◌, ◌%◌, ℕ, Bool, true, false, List, [], ◌∷◌, ◌++◌, length}
 use Rattle.otn_ports.specs.Views.{InView, Live, Dead}
 use Rattle.otn_ports.specs.Given.{Gave}
 use Rattle.otn_ports.specs.Reads.{HasEnded}
 use Rattle.packet_text.specs.TextLines.{has_lf}
 use Rattle.packet_text.specs.declared.cutter.Cut.{Cut}
-use Rattle.packet_text.specs.declared.cutter.Cut.TheVariants.{More, Line, Last, Long, End, Lost}
+use Rattle.packet_text.specs.declared.cutter.Cut.TheVariants.{Line, Last, Long, End, Lost}
 use Rattle.packet_text.specs.Cutting.{CutView}
-
--- the line that was begun, with all that was read behind it and comes
-abbrev pub all_of : CutView → List ℕ → List ℕ
-all_of c came = c.line ++ (c.hand ++ came)
-
--- the place died in a block that never became whole
-pub record LostIn (old : CutView) (was : InView) (came : List ℕ) (new : CutView) (is : InView) : Type 0 where
-  pub whole : List ℕ
-  pub part : List ℕ
-  pub parts : came ≡ whole ++ part
-  pub blocks : length whole % 4096 ≡ 0
-  pub short : length part < 4096
-  pub line : all_of old whole ≡ new.line
-  pub live : was.state ≡ Live
-  pub dead : is.state ≡ Dead
 
 -- what a cutter is before it has read anything
 abbrev pub fresh_cut : CutView
 fresh_cut = record { line = []; hand = []; ended = false }
-
--- with no line begun
-abbrev pub at_line : CutView → CutView
-at_line c = record c { line = [] }
 
 -- the bytes in hand went on with the line: up to an LF, or all where there is none
 pub record GoesOnBy (found : Bool) (old new : CutView) : Type 0 where
@@ -38,49 +19,79 @@ pub record GoesOnBy (found : Bool) (old new : CutView) : Type 0 where
   pub lf : found ≡ true → old.line ++ old.hand ≡ new.line ++ 10 ∷ new.hand
   pub all : found ≡ false → (new.line ≡ old.line ++ old.hand) × (new.hand ≡ [])
 
--- more blocks than this many do not go on with one line
-abbrev pub blocks_left : CutView → ℕ
-blocks_left c = (if c.ended then 0 else 1) + (400000 - (length c.line + length c.hand))
+-- a block is in hand, or the bytes that came before the place's end
+pub record BlockCame (old : CutView) (was : InView) (new : CutView) (is : InView) : Type 0 where
+  pub gave : Gave was new.hand is
+  pub line : new.line ≡ old.line
+  pub most : length new.hand ≤ 4096
+  pub whole : new.ended ≡ false → length new.hand ≡ 4096
+  pub part : new.ended ≡ true → length new.hand < 4096
+  pub over : new.ended ≡ true → is.state ≡ Live → HasEnded is.left is.ended
+  pub unended : new.ended ≡ false → is.ended ≡ was.ended
+  pub alive : is.state ≡ was.state
 
--- nothing was read
-pub record NoneRead (result : Cut) (old : CutView) (came : List ℕ) (new : CutView) : Type 0 where
-  pub none : came ≡ []
-  pub ended : new.ended ≡ old.ended
-  pub alive : result ≢ Lost
+-- the place died in a block that never became whole
+pub record BlockLost (was is : InView) : Type 0 where
+  pub part : List ℕ
+  pub gave : Gave was part is
+  pub short : length part < 4096
+  pub unended : is.ended ≡ was.ended
+  pub live : was.state ≡ Live
+  pub dead : is.state ≡ Dead
 
 -- the last read: before it there was no LF, and no more bytes of a line than it may have
-pub record LastRead (result : Cut) (old : CutView) (came : List ℕ) (new : CutView) : Type 0 where
+pub record LastRead (hand : List ℕ) (ended : Bool) (came : List ℕ) (seen : Bool) : Type 0 where
   pub before : List ℕ
   pub last : List ℕ
   pub parts : came ≡ before ++ last
   pub blocks : length before % 4096 ≡ 0
   pub most : length last ≤ 4096
-  pub whole : result ≢ Lost → new.ended ≡ false → length last % 4096 ≡ 0
-  pub part : (new.ended ≡ true) ⊎ (result ≡ Lost) → length last < 4096
-  pub still_open : old.ended ≡ false
-  pub clean : has_lf old.line ≡ false → has_lf (all_of old before) ≡ false
-  pub short : length (all_of old before) ≤ 131055
+  pub whole : seen ≡ false → length last % 4096 ≡ 0
+  pub part : seen ≡ true → length last < 4096
+  pub still_open : ended ≡ false
+  pub clean : has_lf (hand ++ before) ≡ false
+  pub short : length (hand ++ before) ≤ 131055
 
--- what a step from a line's beginning on met, in which these bytes came
-pub record Cuts (result : Cut) (old : CutView) (was : InView) (came : List ℕ) (new : CutView)
+-- These bytes came in blocks behind the bytes in hand, with which a line began. The place lives on.
+pub record Came (hand : List ℕ) (ended : Bool) (was : InView) (came : List ℕ) (seen : Bool)
     (is : InView) : Type 0 where
   pub gave : Gave was came is
-  pub quiet : old.ended ≡ true → (came ≡ []) × (new.ended ≡ true) × (is ≡ was)
-  pub over : (old.ended ≡ true → was.state ≡ Live → HasEnded was.left was.ended) → new.ended ≡ true → is.state ≡ Live
+  pub quiet : ended ≡ true → (came ≡ []) × (seen ≡ true)
+  pub over : (ended ≡ true → was.state ≡ Live → HasEnded was.left was.ended) → seen ≡ true → is.state ≡ Live
       → HasEnded is.left is.ended
-  pub unended : new.ended ≡ false → is.ended ≡ was.ended
-  pub alive : result ≢ Lost → is.state ≡ was.state
-  pub blocks : result ≢ Lost → new.ended ≡ false → length came % 4096 ≡ 0
-  pub clean : has_lf old.line ≡ false → has_lf new.line ≡ false
-  pub more : result ≡ More → all_of old came ≡ new.line ++ new.hand
-  pub ends_line : result ≡ Line → all_of old came ≡ new.line ++ 10 ∷ new.hand
-  pub last : result ≡ Last → (all_of old came ≡ new.line) × (new.hand ≡ []) × (new.ended ≡ true) × (new.line ≢ [])
-  pub long : result ≡ Long → (all_of old came ≡ new.line ++ new.hand) × (131055 < length new.line) × (new.hand ≡ [])
-  pub end : result ≡ End → (all_of old came ≡ []) × (new.ended ≡ true)
-  pub lost : result ≡ Lost → LostIn old was came new is × (new.ended ≡ false)
-  pub reads : NoneRead result old came new ⊎ LastRead result old came new
+  pub unended : seen ≡ false → is.ended ≡ was.ended
+  pub alive : is.state ≡ was.state
+  pub blocks : seen ≡ false → length came % 4096 ≡ 0
+  pub reads : ((came ≡ []) × (seen ≡ ended)) ⊎ LastRead hand ended came seen
 
--- a step in which some bytes came
-pub record CutsSome (result : Cut) (old : CutView) (was : InView) (new : CutView) (is : InView) : Type 0 where
+-- a line that began so goes on
+pub record Goes (hand : List ℕ) (ended : Bool) (was : InView) (new : CutView) (is : InView) : Type 0 where
   pub came : List ℕ
-  pub cuts : Cuts result old was came new is
+  pub reads : Came hand ended was came new.ended is
+  pub clean : has_lf new.line ≡ false
+  pub all : hand ++ came ≡ new.line ++ new.hand
+
+-- what was met behind a line's beginning, where these are all the bytes
+abbrev pub Met : Cut → List ℕ → CutView → Type 0
+Met Line all new = all ≡ new.line ++ 10 ∷ new.hand
+Met Last all new = (all ≡ new.line) × (new.hand ≡ []) × (new.ended ≡ true) × (new.line ≢ [])
+Met Long all new = (all ≡ new.line) × (new.hand ≡ []) × (131055 < length new.line)
+Met End all new = (all ≡ []) × (new.ended ≡ true)
+Met Lost all new = ⊥
+
+-- a line that began so is cut
+pub record Cuts (result : Cut) (hand : List ℕ) (ended : Bool) (was : InView) (new : CutView)
+    (is : InView) : Type 0 where
+  pub came : List ℕ
+  pub reads : Came hand ended was came new.ended is
+  pub clean : has_lf new.line ≡ false
+  pub met : Met result (hand ++ came) new
+
+-- the place died while such a line went on
+pub record Loses (hand : List ℕ) (ended : Bool) (was : InView) (new : CutView) (is : InView) : Type 0 where
+  pub mid : InView
+  pub goes : Goes hand ended was new mid
+  pub none : new.hand ≡ []
+  pub still : new.ended ≡ false
+  pub few : length new.line ≤ 131055
+  pub lost : BlockLost mid is

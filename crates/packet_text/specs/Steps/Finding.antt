@@ -1,11 +1,10 @@
--- Steps of `judge`, `search` and others: what a search for the next line that counts finds.
-use Rattle.std.specs.Prelude.{◌≡◌, ◌≢◌, ◌⊎◌, ◌+◌, ℕ, true, false, List, [], ◌∷◌, ◌++◌, length, Some, None}
-use Rattle.otn_ports.specs.Views.{InView, Live, Dead}
+-- Steps of `judge`, `find` and others: what a search for the next line that counts finds.
+use Rattle.std.specs.Prelude.{◌≡◌, ◌≢◌, ◌+◌, ℕ, Bool, true, false, List, [], ◌∷◌, ◌++◌, length, Some, None}
+use Rattle.otn_ports.specs.Views.{InView, Live}
 use Rattle.otn_ports.specs.Given.{Gave}
 use Rattle.otn_ports.specs.Reads.{HasEnded}
-use Rattle.packet_text.specs.TextLines.{text_of_dead}
-use Rattle.packet_text.specs.PacketText.{Ended, line_gives, packets_of, shows_bad, empty_lines}
-use Rattle.packet_text.specs.LinesStand.{LinesView, Begins, HasBad, GoesOn, came_short, ReadAsNeeded}
+use Rattle.packet_text.specs.PacketText.{line_gives, empty_lines}
+use Rattle.packet_text.specs.LinesStand.{LinesView, GoesOn, ReadAsNeeded, LinesStand, given_by}
 use Rattle.otn_base.specs.Counts.{saturated}
 use Rattle.packet_text.specs.declared.line.Line.{Line}
 use Rattle.packet_text.specs.declared.line.Line.TheVariants as line
@@ -33,34 +32,29 @@ pub record Judges (result : Found) (lines : List (List ℕ)) (line : List ℕ) (
   pub bad : result ≡ Bad → (line_gives lines line ≡ None) × (new.number ≡ saturated (length lines + 1))
   pub open_place : (result ≢ End) × (result ≢ Lost)
 
--- nothing was read
-pub record Rests (result : Found) (came : List ℕ) (old new : LinesView) : Type 0 where
-  pub none : came ≡ []
-  pub ended : new.ended ≡ old.ended
-  pub alive : result ≢ Lost
-
--- what was found behind the lines so far, in which these bytes came
-pub record Finds (result : Found) (taken : List ℕ) (packets : List (List ℕ)) (old : LinesView) (was : InView)
-    (new : LinesView) (is : InView) : Type 0 where
-  pub came : List ℕ
-  pub gave : Gave was came is
-  pub quiet : old.ended ≡ true → (came ≡ []) × (new.ended ≡ true) × (is ≡ was)
-  pub over : (old.ended ≡ true → was.state ≡ Live → HasEnded was.left was.ended) → new.ended ≡ true → is.state ≡ Live
-      → HasEnded is.left is.ended
-  pub unended : new.ended ≡ false → is.ended ≡ was.ended
-  pub alive : result ≢ Lost → is.state ≡ was.state
-  pub empty : result ≡ Empty → GoesOn (taken ++ came) packets new
-  pub packet : result ≡ Packet → GoesOn (taken ++ came) (packets ++ new.packet ∷ []) new
-  pub bad : result ≡ Bad → (text : List ℕ) → (new.ended ≡ true → text ≡ taken ++ came) → Begins (taken ++ came) text
-      → HasBad packets new.number (packets_of text)
-  pub end : result ≡ End → (new.ended ≡ true)
-      × (packets_of (taken ++ came) ≡ record { packets = packets; ending = Ended })
-  pub lost : result ≡ Lost → (was.state ≡ Live) × (is.state ≡ Dead) × (new.ended ≡ false)
-      × (packets_of (text_of_dead (taken ++ came)) ≡ record { packets = packets; ending = Ended })
-  pub shown : result ≡ Bad → new.ended ≡ false → shows_bad (taken ++ came) ≡ true
-  pub reads : Rests result came old new ⊎ ReadAsNeeded (came_short new.ended (answer_of result new.number))
-      (length packets + 1) (taken ++ came)
-
 -- what is seen of the lines once what was found is their answer
 abbrev pub with_answer : Found → LinesView → LinesView
 with_answer result view = record view { answer = answer_of result view.number }
+
+-- a place that lives on, or was not live, of which these bytes were taken when so many packets were asked for
+pub record Reaches (first : InView) (taken : List ℕ) (asked : ℕ) (seen : Bool) (now : InView) : Type 0 where
+  pub gave : Gave first taken now
+  pub over : seen ≡ true → now.state ≡ Live → HasEnded now.left now.ended
+  pub unended : seen ≡ false → now.ended ≡ first.ended
+  pub alive : now.state ≡ first.state
+  pub read : ReadAsNeeded seen asked taken
+
+-- behind the lines so far, which gave these packets, one more is sought
+pub record Seeks (first : InView) (taken : List ℕ) (packets : List (List ℕ)) (view : LinesView)
+    (now : InView) : Type 0 where
+  pub reaches : Reaches first taken (length packets + 1) view.ended now
+  pub goes : GoesOn taken packets view
+
+-- what was found: an empty line, behind which one is sought yet, or the next answer
+pub record Finds (result : Found) (first : InView) (taken : List ℕ) (packets : List (List ℕ)) (old new : LinesView)
+    (now : InView) : Type 0 where
+  pub came : List ℕ
+  pub quiet : old.ended ≡ true → (came ≡ []) × (new.ended ≡ true)
+  pub empty : result ≡ Empty → Seeks first (taken ++ came) packets new now
+  pub stands : result ≢ Empty → LinesStand first now (taken ++ came)
+      (packets ++ given_by (answer_of result new.number) new.packet) (with_answer result new)
