@@ -12,7 +12,8 @@ use Rattle.connection_laws.specs.TwoWorlds.{SameInput}
 -- Any frames that are so many of a line's file are the front of any that are as many or more.
 abbrev pub HasOneFile : Type 0
 HasOneFile = (plan : Plan) (inputs : Inputs) (b count more : ℕ) (frames others : List (List ℕ))
-    → IsLineFile plan inputs b count frames → IsLineFile plan inputs b more others → count ≤ more → frames ≡ take count others
+    → IsLineFile plan inputs b count frames → IsLineFile plan inputs b more others → count ≤ more
+    → frames ≡ take count others
 
 -- Each connection of the plan that goes to line b has the same input of its own in both.
 abbrev pub SameInputsTo : (plan : Plan) (one other : Inputs) (b : ℕ) → Type 0

@@ -1,5 +1,5 @@
 -- API: what holds of `slot` and `pull`, by all bytes that line input 0 had to give, where it tells them.
-use Rattle.std.specs.Prelude.{◌≢◌, List, ℕ}
+use Rattle.std.specs.Prelude.{◌≢◌, ◌<◌, ◌-◌, ◌^◌, List, ℕ}
 use Rattle.otn_ports.specs.Given.{HadToGive}
 use Rattle.command_base.specs.Device.{Device, line_zero}
 use Rattle.command_base.specs.declared.status.Status.{Status}
@@ -16,3 +16,10 @@ abbrev pub OfAllAvailable : (Ran : (old new : Device) → Status → Type 0)
     → ((old new : Device) → Status → (available : List ℕ) → Type 0) → Type 0
 OfAllAvailable Ran Holds = (old new : Device) (status : Status) (available : List ℕ) → Ran old new status
     → status ≢ ReportFault → HadToGive (line_zero old) (line_zero new) available → Holds old new status available
+
+-- the same where the report failed, by how many bytes of the line were taken
+abbrev pub OfTaken : (Ran : (old new : Device) → Status → Type 0)
+    → ((old new : Device) → (available : List ℕ) → (taken : ℕ) → Type 0) → Type 0
+OfTaken Ran Holds = (old new : Device) (available : List ℕ) → Ran old new ReportFault
+    → HadToGive (line_zero old) (line_zero new) available → (line_zero new).number < 2 ^ 64 - 1
+    → Holds old new available ((line_zero new).number - (line_zero old).number)

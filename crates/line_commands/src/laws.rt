@@ -2,7 +2,6 @@
 ghost use Rattle.std.specs.Prelude.{◌≡◌, ◌≢◌, ◌<◌, ◌-◌, ◌%◌, ◌^◌, ◌↔◌, ℕ, List, length, min};
 ghost use Rattle.otn_base.specs.SlotList.{IsSlotList};
 ghost use Rattle.otn_base.specs.declared.limits.TheConstants.{LINE_FRAME_BYTES, OTU2_SLOTS};
-ghost use Rattle.otn_ports.specs.Given.{HadToGive};
 ghost use Rattle.otn_ports.specs.Views.{Dead};
 ghost use Rattle.tributary_model.specs.Places.{Tributary};
 ghost use Rattle.device_model.specs.Agreements.{AgreeOnTributary};
@@ -11,7 +10,7 @@ ghost use Rattle.command_base.specs.Device.{Device, line_zero};
 ghost use Rattle.command_base.specs.declared.status.Status.{Status};
 ghost use Rattle.line_commands.specs.Agreements.{AgreeOnSlot};
 ghost use Rattle.line_commands.specs.LineAnswers.{PullRan, SlotRan};
-ghost use Rattle.line_commands.specs.OfAvailable.{OfAllAvailable, OfAvailable};
+ghost use Rattle.line_commands.specs.OfAvailable.{OfAllAvailable, OfAvailable, OfTaken};
 ghost use Rattle.line_commands.specs.PullCarried.{BeginsWithWhatIsCarried, IsTheWholeGroups, HasWhatIsCarriedAfterDamage};
 ghost use Rattle.line_commands.specs.PullDamaged.{WritesAsIfRepeated};
 ghost use Rattle.line_commands.specs.PullReport.{LeavesBytes, StoppedInTurn, bytes_taken, pull_report, tributary};
@@ -35,10 +34,8 @@ pub fn slot_of_given()
     ensures took { (slot : ℕ) → OfAllAvailable (SlotRan slot) (λ old new answer available.
         (line_zero new).number < 2 ^ 64 - 1
         → (line_zero new).number - (line_zero old).number ≡ min (length available) most_taken) }
-    ensures stopped { (slot : ℕ) (old new : Device) (available : List ℕ) → SlotRan slot old new Status.ReportFault
-        → HadToGive (line_zero old) (line_zero new) available → (line_zero new).number < 2 ^ 64 - 1
-        → StoppedInFrame slot available
-        ((line_zero new).number - (line_zero old).number) old.report.got new.report.got }
+    ensures stopped { (slot : ℕ) → OfTaken (SlotRan slot) (λ old new available taken.
+        StoppedInFrame slot available taken old.report.got new.report.got) }
 {}
 
 /// `pull`, likewise: Unfinished is the answer exactly where bytes stand behind the frames that its turns wanted
@@ -57,10 +54,8 @@ pub fn pull_of_given()
     ensures took { (own : Tributary) → OfAllAvailable (PullRan own) (λ old new answer available.
         (line_zero new).number < 2 ^ 64 - 1
         → (line_zero new).number - (line_zero old).number ≡ bytes_taken available) }
-    ensures stopped { (own : Tributary) (old new : Device) (available : List ℕ) → PullRan own old new Status.ReportFault
-        → HadToGive (line_zero old) (line_zero new) available → (line_zero new).number < 2 ^ 64 - 1
-        → (t : ℕ) × StoppedInTurn own available
-        ((line_zero new).number - (line_zero old).number) t old.report.got new.report.got }
+    ensures stopped { (own : Tributary) → OfTaken (PullRan own) (λ old new available taken.
+        (t : ℕ) × StoppedInTurn own available taken t old.report.got new.report.got) }
 {}
 
 /// Two worlds: lines that have as many whole frames, and the same bytes in a slot's payload columns, give

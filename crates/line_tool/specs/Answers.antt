@@ -22,7 +22,8 @@ use Rattle.trial_command.specs.TrialAnswers.{TrialAnswers}
 pub use Rattle.line_commands.specs.LineAnswers.{LineAnswers, SlotRan, PullRan}
 pub use Rattle.check_command.specs.PlanCheck.{CheckAnswers}
 
--- ---- a command over some of the places, turn by turn: which of them it may change, and what it is to have done once there was memory
+-- ---- a command over some of the places, turn by turn: which of them it may change, and what it is to have done once
+-- there was memory
 
 pub record PlacesAnswers (Only : (old new : BaysView) → Type 0) (Ran : (old new : Device) → Ended → Type 0)
     (old new : Device) (status : Status) : Type 0 where

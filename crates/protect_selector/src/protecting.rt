@@ -32,7 +32,7 @@ ghost use Rattle.otn_ports.specs.Racks.{bays_view};
 ghost use Rattle.tributary_model.specs.Laws.{IsTributary};
 ghost use Rattle.protect_selector.specs.OfLines.{bytes_of};
 ghost use Rattle.protect_selector.specs.Protecting.{Ends, OnlyProtected, ends_of};
-ghost use Rattle.protect_selector.specs.Steps.Protecting.{AreReady, Stands, TurnGone};
+ghost use Rattle.protect_selector.specs.Steps.Protecting.{AreReady, OfTheirLines, TurnGone};
 ghost use Rattle.protect_selector.specs.Steps.Protecting.{TurnsGone};
 
 impl Protecting {
@@ -79,11 +79,9 @@ impl Protecting {
         requires working_room { vec_len working_room.old ≡ length self.old.feed.source.slots.list * (GROUPS + 1) }
         requires protection_room { vec_len protection_room.old ≡ length self.old.feed.source.slots.list * (GROUPS + 1) }
         requires turn { t < MOST_TURNS }
-        ensures gone { (own : Tributary) (n : ℕ) (first : Ends) (working protection : List ℕ) → IsTributary own
-            → Stands own n first (ends_of (bays_view I.Source O.Sink bays.old) (sink_view K.Sink report.old)) working
-            protection t self.old
-            → TurnGone result own n first (ends_of (bays_view I.Source O.Sink bays.new) (sink_view K.Sink report.new))
-            working protection t self.new }
+        ensures gone { OfTheirLines (ends_of (bays_view I.Source O.Sink bays.old) (sink_view K.Sink report.old)) t
+            self.old (λ own n first working protection. TurnGone result own n first
+            (ends_of (bays_view I.Source O.Sink bays.new) (sink_view K.Sink report.new)) working protection t self.new) }
         ensures ready { AreReady self.new }
         ensures slots { self.new.feed.source.slots ≡ self.old.feed.source.slots }
         ensures working_stays { vec_len working_room.new ≡ vec_len working_room.old }

@@ -1,7 +1,8 @@
 // The kinds of ports, each of which has lines of a form of its own in the report.
 ghost use Rattle.std.specs.Prelude.{◌≡◌};
-ghost use Rattle.run_report.specs.Steps.RunReport.{count_of};
+ghost use Rattle.run_report.specs.Steps.RunReport.{count_of, port_of};
 
+use otn_base::PortName;
 use otn_base::limits::{CLIENTS, LINES};
 
 /// A kind of ports.
@@ -23,6 +24,18 @@ impl PortKind {
             PortKind::LinesOut => LINES as u8,
             PortKind::ClientsIn => CLIENTS as u8,
             PortKind::ClientsOut => CLIENTS as u8,
+        }
+    }
+
+    /// Port n of the kind.
+    pub(crate) fn port(self, n: u8) -> PortName
+        ensures { result ≡ port_of self n }
+    {
+        match self {
+            PortKind::LinesIn => PortName::LineIn(n),
+            PortKind::LinesOut => PortName::LineOut(n),
+            PortKind::ClientsIn => PortName::ClientIn(n),
+            PortKind::ClientsOut => PortName::ClientOut(n),
         }
     }
 }

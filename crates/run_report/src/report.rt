@@ -1,23 +1,19 @@
 // The report of a run, as text in room that was taken before.
 ghost use Rattle.std.specs.Prelude.{◌≡◌, ◌≤◌, ◌<◌, ◌+◌, ◌*◌, ◌++◌, [], if◌then◌else◌, None};
 ghost use Rattle.arrayvec.specs.ArrayString.{array_string_len};
-ghost use Rattle.otn_base.specs.declared.limits.TheConstants.{CLIENTS, LINES, MOST_CONNECTIONS};
+ghost use Rattle.otn_base.specs.declared.limits.TheConstants.{MOST_CONNECTIONS};
 ghost use Rattle.otn_ports.specs.Racks.{bays_view};
 ghost use Rattle.plan_file.specs.Answer.{fault_in};
 ghost use Rattle.device_model.specs.Moments.{uses};
 ghost use Rattle.device_model.specs.Report.{connection_lines, report_text, used_lines};
 ghost use Rattle.device_model.specs.RunNumbers.{numbers_of_run};
 ghost use Rattle.run_report.specs.Steps.RunReport.{count_of, port_line, port_of, width_of};
-ghost use Rattle.run_report.specs.declared.report_lines.TheConstants.{CLIENT_IN_BYTES, CLIENT_OUT_BYTES, CONNECTION_BYTES, LINE_IN_BYTES, LINE_OUT_BYTES};
+ghost use Rattle.run_report.specs.declared.report_lines.TheConstants.{CONNECTION_BYTES};
 
 use crate::port_kind::PortKind;
-use crate::report_lines::{
-    REPORT_BYTES, put_client_in, put_client_out, put_connection, put_line_in, put_line_out,
-    put_status, put_turns,
-};
+use crate::report_lines::{REPORT_BYTES, put_connection, put_port, put_status, put_turns};
 use arrayvec::ArrayString;
 use device_model::{RunNumbers, accepted_plans};
-use otn_base::PortName;
 use otn_ports::{Rack, Sink, Source};
 use plan_file::Plan;
 use turn_pieces::uses;
@@ -56,7 +52,8 @@ fn put_ports<I: Source, O: Sink>(
 )
     requires room { array_string_len text.old + width_of kind * count_of kind ≤ REPORT_BYTES }
     ensures text { text.new.bytes ≡ text.old.bytes
-        ++ used_lines (count_of kind) (λ n. uses plan.now (port_of kind n)) (port_line (numbers_of_run numbers.now) (bays_view I.Source O.Sink bays.now) kind) }
+        ++ used_lines (count_of kind) (λ n. uses plan.now (port_of kind n))
+        (port_line (numbers_of_run numbers.now) (bays_view I.Source O.Sink bays.now) kind) }
     ensures most { array_string_len text.new ≤ array_string_len text.old + width_of kind * count_of kind }
 {
     for n in 0..kind.count() {
@@ -76,94 +73,12 @@ fn put_used<I: Source, O: Sink>(
     requires port { n < count_of kind }
     requires room { array_string_len text.old + width_of kind ≤ REPORT_BYTES }
     ensures text { text.new.bytes ≡ text.old.bytes
-        ++ (if uses plan.now (port_of kind n) then port_line (numbers_of_run numbers.now) (bays_view I.Source O.Sink bays.now) kind n else []) }
+        ++ (if uses plan.now (port_of kind n)
+        then port_line (numbers_of_run numbers.now) (bays_view I.Source O.Sink bays.now) kind n else []) }
     ensures most { array_string_len text.new ≤ array_string_len text.old + width_of kind }
 {
-    match kind {
-        PortKind::LinesIn => put_used_line_in(text, plan, numbers, bays, n),
-        PortKind::LinesOut => put_used_line_out(text, plan, numbers, bays, n),
-        PortKind::ClientsIn => put_used_client_in(text, plan, numbers, bays, n),
-        PortKind::ClientsOut => put_used_client_out(text, plan, numbers, bays, n),
-    }
-}
-
-// The line of line input a where the plan uses it.
-fn put_used_line_in<I: Source, O: Sink>(
-    text: &mut ArrayString<REPORT_BYTES>,
-    plan: &Plan,
-    numbers: &RunNumbers,
-    bays: &Rack<I, O>,
-    a: u8,
-)
-    requires port { a < LINES }
-    requires room { array_string_len text.old + LINE_IN_BYTES ≤ REPORT_BYTES }
-    ensures text { text.new.bytes ≡ text.old.bytes
-        ++ (if uses plan.now (PortName.LineIn a) then port_line (numbers_of_run numbers.now) (bays_view I.Source O.Sink bays.now) PortKind.LinesIn a else []) }
-    ensures most { array_string_len text.new ≤ array_string_len text.old + LINE_IN_BYTES }
-{
-    if uses(plan, PortName::LineIn(a)) {
-        let counts = &numbers.lines_in[a as usize];
-        put_line_in(text, a, counts, bays.line_in(a));
-    }
-}
-
-// The line of line output b where the plan uses it.
-fn put_used_line_out<I: Source, O: Sink>(
-    text: &mut ArrayString<REPORT_BYTES>,
-    plan: &Plan,
-    numbers: &RunNumbers,
-    bays: &Rack<I, O>,
-    b: u8,
-)
-    requires port { b < LINES }
-    requires room { array_string_len text.old + LINE_OUT_BYTES ≤ REPORT_BYTES }
-    ensures text { text.new.bytes ≡ text.old.bytes
-        ++ (if uses plan.now (PortName.LineOut b) then port_line (numbers_of_run numbers.now) (bays_view I.Source O.Sink bays.now) PortKind.LinesOut b else []) }
-    ensures most { array_string_len text.new ≤ array_string_len text.old + LINE_OUT_BYTES }
-{
-    if uses(plan, PortName::LineOut(b)) {
-        let frames = numbers.lines_out[b as usize];
-        put_line_out(text, b, frames, bays.line_out(b));
-    }
-}
-
-// The line of client input n where the plan uses it.
-fn put_used_client_in<I: Source, O: Sink>(
-    text: &mut ArrayString<REPORT_BYTES>,
-    plan: &Plan,
-    numbers: &RunNumbers,
-    bays: &Rack<I, O>,
-    n: u8,
-)
-    requires port { n < CLIENTS }
-    requires room { array_string_len text.old + CLIENT_IN_BYTES ≤ REPORT_BYTES }
-    ensures text { text.new.bytes ≡ text.old.bytes
-        ++ (if uses plan.now (PortName.ClientIn n) then port_line (numbers_of_run numbers.now) (bays_view I.Source O.Sink bays.now) PortKind.ClientsIn n else []) }
-    ensures most { array_string_len text.new ≤ array_string_len text.old + CLIENT_IN_BYTES }
-{
-    if uses(plan, PortName::ClientIn(n)) {
-        let counts = &numbers.clients_in[n as usize];
-        put_client_in(text, n, counts, bays.client_in(n));
-    }
-}
-
-// The line of client output n where the plan uses it.
-fn put_used_client_out<I: Source, O: Sink>(
-    text: &mut ArrayString<REPORT_BYTES>,
-    plan: &Plan,
-    numbers: &RunNumbers,
-    bays: &Rack<I, O>,
-    n: u8,
-)
-    requires port { n < CLIENTS }
-    requires room { array_string_len text.old + CLIENT_OUT_BYTES ≤ REPORT_BYTES }
-    ensures text { text.new.bytes ≡ text.old.bytes
-        ++ (if uses plan.now (PortName.ClientOut n) then port_line (numbers_of_run numbers.now) (bays_view I.Source O.Sink bays.now) PortKind.ClientsOut n else []) }
-    ensures most { array_string_len text.new ≤ array_string_len text.old + CLIENT_OUT_BYTES }
-{
-    if uses(plan, PortName::ClientOut(n)) {
-        let counts = &numbers.clients_out[n as usize];
-        put_client_out(text, n, counts, bays.client_out(n));
+    if uses(plan, kind.port(n)) {
+        put_port(text, numbers, bays, kind, n);
     }
 }
 

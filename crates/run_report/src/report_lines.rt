@@ -1,21 +1,23 @@
 // The lines of the report of a run.
-ghost use Rattle.std.specs.Prelude.{◌≡◌, ◌≤◌, ◌+◌, ◌++◌, ◌∷◌, [], length, codes};
+ghost use Rattle.std.specs.Prelude.{◌≡◌, ◌≤◌, ◌<◌, ◌+◌, ◌++◌, ◌∷◌, [], length, codes};
 ghost use Rattle.std.specs.Fmt.{decimal};
 ghost use Rattle.arrayvec.specs.ArrayString.{array_string_len};
-ghost use Rattle.otn_ports.specs.InPlace.{in_view};
-ghost use Rattle.otn_ports.specs.OutPlace.{out_view};
-ghost use Rattle.device_model.specs.Report.{client_word, line_in_line, line_out_line, client_in_line, client_out_line, connection_line, line_of, outcome_word};
-ghost use Rattle.device_model.specs.RunNumbers.{client_in_numbers, client_out_numbers};
+ghost use Rattle.otn_ports.specs.Racks.{bays_view};
+ghost use Rattle.otn_ports.specs.Views.{State};
+ghost use Rattle.device_model.specs.Report.{client_word, connection_line, line_of, outcome_word, state_word};
+ghost use Rattle.device_model.specs.RunNumbers.{numbers_of_run};
+ghost use Rattle.run_report.specs.Steps.RunReport.{count_of, line_by, port_line, width_of};
+ghost use Rattle.run_report.specs.declared.report_words.TheConstants.{PLACE_WORD};
 
+use crate::port_kind::PortKind;
 use crate::report_words::{
-    FROM_WORD, OUTCOME_WORD, PLACE_WORD, from_word, in_word, out_word, outcome_word,
+    FROM_WORD, OUTCOME_WORD, PLACE_WORD, from_word, outcome_word, place_word,
 };
 use arrayvec::ArrayString;
-use device_model::{ClientInCounts, ClientOutCounts, FromState, Outcome};
+use device_model::{FromState, Outcome, RunNumbers};
 use itoa::Buffer;
-use line_side::LineCounts;
 use otn_base::limits::{CLIENTS, LINES, MOST_CONNECTIONS};
-use otn_ports::{InPlaceOf, OutPlaceOf, Sink, Source};
+use otn_ports::{Rack, Sink, Source};
 
 // The numbers of each line of a port, in order, each after its label: a further one is one more row here. `put` puts
 // them into a text, `width` says how many bytes they take at most.
@@ -108,52 +110,49 @@ pub const REPORT_BYTES: usize = TURNS_BYTES
     + MOST_CONNECTIONS * CONNECTION_BYTES
     + STATUS_BYTES;
 
-/// The line of line input a.
-pub(crate) fn put_line_in<I: Source>(
+/// The line of port n of a kind.
+pub(crate) fn put_port<I: Source, O: Sink>(
     text: &mut ArrayString<REPORT_BYTES>,
-    a: u8,
-    counts: &LineCounts,
-    place: &InPlaceOf<I>,
-)
-    requires room { array_string_len text.old + LINE_IN_BYTES ≤ REPORT_BYTES }
-    ensures text { text.new.bytes ≡ text.old.bytes ++ line_in_line a counts.now (in_view I.Source place.now).state }
-    ensures most { array_string_len text.new ≤ array_string_len text.old + LINE_IN_BYTES }
-{
-    line_in!(put, text, a, counts);
-    put_last(text, in_word(place));
-}
-
-/// The line of line output b, which has sent so many frames.
-pub(crate) fn put_line_out<O: Sink>(
-    text: &mut ArrayString<REPORT_BYTES>,
-    b: u8,
-    frames: u64,
-    place: &OutPlaceOf<O>,
-)
-    requires room { array_string_len text.old + LINE_OUT_BYTES ≤ REPORT_BYTES }
-    ensures text { text.new.bytes ≡ text.old.bytes ++ line_out_line b frames (out_view O.Sink place.now).state }
-    ensures most { array_string_len text.new ≤ array_string_len text.old + LINE_OUT_BYTES }
-{
-    line_out!(put, text, b, frames);
-    put_last(text, out_word(place));
-}
-
-/// The line of client input n.
-pub(crate) fn put_client_in<I: Source>(
-    text: &mut ArrayString<REPORT_BYTES>,
+    numbers: &RunNumbers,
+    bays: &Rack<I, O>,
+    kind: PortKind,
     n: u8,
-    counts: &ClientInCounts,
-    place: &InPlaceOf<I>,
 )
-    requires room { array_string_len text.old + CLIENT_IN_BYTES ≤ REPORT_BYTES }
+    requires port { n < count_of kind }
+    requires room { array_string_len text.old + width_of kind ≤ REPORT_BYTES }
     ensures text { text.new.bytes ≡ text.old.bytes
-        ++ client_in_line n (client_in_numbers counts.now) (in_view I.Source place.now).state }
-    ensures most { array_string_len text.new ≤ array_string_len text.old + CLIENT_IN_BYTES }
+        ++ port_line (numbers_of_run numbers.now) (bays_view I.Source O.Sink bays.now) kind n }
+    ensures most { array_string_len text.new ≤ array_string_len text.old + width_of kind }
 {
-    client_in!(put, text, n, counts);
-    text.push_str(" ");
-    put_client_word(text, counts.spent, counts.bad);
-    put_last(text, in_word(place));
+    put_numbers(text, numbers, kind, n);
+    put_last(text, place_word(bays, kind, n));
+}
+
+// Its numbers, each after its label: the line but for how the place stands.
+fn put_numbers(text: &mut ArrayString<REPORT_BYTES>, numbers: &RunNumbers, kind: PortKind, n: u8)
+    requires port { n < count_of kind }
+    requires room { array_string_len text.old + width_of kind ≤ REPORT_BYTES }
+    ensures text { (state : State) → text.new.bytes ++ (32 ∷ (state_word state ++ 10 ∷ []))
+        ≡ text.old.bytes ++ line_by (numbers_of_run numbers.now) kind n state }
+    ensures most { array_string_len text.new + PLACE_WORD + AROUND ≤ array_string_len text.old + width_of kind }
+{
+    match kind {
+        PortKind::LinesIn => {
+            let counts = &numbers.lines_in[n as usize];
+            line_in!(put, text, n, counts)
+        }
+        PortKind::LinesOut => line_out!(put, text, n, numbers.lines_out[n as usize]),
+        PortKind::ClientsIn => {
+            let counts = &numbers.clients_in[n as usize];
+            client_in!(put, text, n, counts);
+            text.push_str(" ");
+            put_client_word(text, counts.spent, counts.bad);
+        }
+        PortKind::ClientsOut => {
+            let counts = &numbers.clients_out[n as usize];
+            client_out!(put, text, n, counts)
+        }
+    }
 }
 
 // Whether the client's text is spent, or at which line it is bad.
@@ -167,22 +166,6 @@ fn put_client_word(text: &mut ArrayString<REPORT_BYTES>, spent: bool, bad: Optio
         (false, Some(line)) => put_number(text, "bad ", line),
         (false, None) => text.push_str("open"),
     }
-}
-
-/// The line of client output n.
-pub(crate) fn put_client_out<O: Sink>(
-    text: &mut ArrayString<REPORT_BYTES>,
-    n: u8,
-    counts: &ClientOutCounts,
-    place: &OutPlaceOf<O>,
-)
-    requires room { array_string_len text.old + CLIENT_OUT_BYTES ≤ REPORT_BYTES }
-    ensures text { text.new.bytes ≡ text.old.bytes
-        ++ client_out_line n (client_out_numbers counts.now) (out_view O.Sink place.now).state }
-    ensures most { array_string_len text.new ≤ array_string_len text.old + CLIENT_OUT_BYTES }
-{
-    client_out!(put, text, n, counts);
-    put_last(text, out_word(place));
 }
 
 /// The line of a connection.

@@ -1,11 +1,15 @@
 // The words of the report of a run.
-ghost use Rattle.std.specs.Prelude.{◌≡◌, ◌≤◌, length};
+ghost use Rattle.std.specs.Prelude.{◌≡◌, ◌≤◌, ◌<◌, length};
 ghost use Rattle.otn_ports.specs.InPlace.{in_view};
 ghost use Rattle.otn_ports.specs.OutPlace.{out_view};
+ghost use Rattle.otn_ports.specs.Racks.{bays_view};
+ghost use Rattle.device_model.specs.Outcomes.{place_state};
 ghost use Rattle.device_model.specs.Report.{state_word, from_word, outcome_word};
+ghost use Rattle.run_report.specs.Steps.RunReport.{count_of, port_of};
 
+use crate::port_kind::PortKind;
 use device_model::{FromState, Outcome};
-use otn_ports::{InPlaceOf, OutPlaceOf, Sink, Source};
+use otn_ports::{InPlaceOf, OutPlaceOf, Rack, Sink, Source};
 
 /// Bytes of the word for a place at most.
 pub(crate) const PLACE_WORD: usize = "empty".len();
@@ -16,8 +20,26 @@ pub(crate) const FROM_WORD: usize = "waiting".len();
 /// Bytes of the word for how a run ended at most.
 pub(crate) const OUTCOME_WORD: usize = "unfinished".len();
 
-/// How a place for an input stands.
-pub(crate) fn in_word<I: Source>(place: &InPlaceOf<I>) -> &'static str
+/// How the place of port n of a kind stands.
+pub(crate) fn place_word<I: Source, O: Sink>(
+    bays: &Rack<I, O>,
+    kind: PortKind,
+    n: u8,
+) -> &'static str
+    requires port { n < count_of kind }
+    ensures word { result.now ≡ state_word (place_state (bays_view I.Source O.Sink bays.now) (port_of kind n)) }
+    ensures short { length result.now ≤ PLACE_WORD }
+{
+    match kind {
+        PortKind::LinesIn => in_word(bays.line_in(n)),
+        PortKind::LinesOut => out_word(bays.line_out(n)),
+        PortKind::ClientsIn => in_word(bays.client_in(n)),
+        PortKind::ClientsOut => out_word(bays.client_out(n)),
+    }
+}
+
+// How a place for an input stands.
+fn in_word<I: Source>(place: &InPlaceOf<I>) -> &'static str
     ensures word { result.now ≡ state_word (in_view I.Source place.now).state }
     ensures short { length result.now ≤ PLACE_WORD }
 {
@@ -28,8 +50,8 @@ pub(crate) fn in_word<I: Source>(place: &InPlaceOf<I>) -> &'static str
     }
 }
 
-/// How a place for an output stands.
-pub(crate) fn out_word<O: Sink>(place: &OutPlaceOf<O>) -> &'static str
+// How a place for an output stands.
+fn out_word<O: Sink>(place: &OutPlaceOf<O>) -> &'static str
     ensures word { result.now ≡ state_word (out_view O.Sink place.now).state }
     ensures short { length result.now ≤ PLACE_WORD }
 {

@@ -9,6 +9,7 @@ use Rattle.otn_ports.specs.Views.{is_dead}
 use Rattle.device_model.specs.LineAsked.{is_seen}
 use Rattle.otn_ports.specs.declared.ended.Ended.{Ended}
 use Rattle.line_side.specs.MayBe.{MayBe}
+use Rattle.tributary_model.specs.Laws.{IsTributary}
 use Rattle.tributary_model.specs.Places.{Tributary}
 use Rattle.tributary_line.specs.TapTurn.{TapStands, IsBetweenTurns}
 use Rattle.tributary_line.specs.FeedTurn.{FeedStands}
@@ -72,6 +73,13 @@ pub record TurnGone (result : Written) (own : Tributary) (n : ℕ) (first now : 
   pub working_came : List ℕ
   pub protection_came : List ℕ
   pub left : LeftBy result own n first now (working ++ working_came) (protection ++ protection_came) t parts
+
+-- What holds of parts of a tributary that stand after t turns with these ends: of how long they wait, of what the ends
+-- were first, and of the bytes that were taken of both lines.
+abbrev pub OfTheirLines : (now : Ends) → (t : ℕ) → Protecting
+    → ((own : Tributary) → (n : ℕ) → (first : Ends) → (working protection : List ℕ) → Type 0) → Type 0
+OfTheirLines now t parts Holds = (own : Tributary) (n : ℕ) (first : Ends) (working protection : List ℕ)
+    → IsTributary own → Stands own n first now working protection t parts → Holds own n first working protection
 
 -- the first t turns went by, in which these bytes were taken
 pub record TurnsGone (own : Tributary) (n : ℕ) (first now : Ends) (t : ℕ) (parts : Protecting) : Type 0 where

@@ -3,7 +3,7 @@ use Rattle.std.specs.Prelude.{ℕ, List}
 use Rattle.otn_base.specs.declared.kind.PortName.{PortName}
 use Rattle.otn_base.specs.declared.kind.PortName.TheVariants as port
 use Rattle.otn_base.specs.declared.limits.TheConstants.{CLIENTS, LINES}
-use Rattle.otn_ports.specs.Views.{BaysView}
+use Rattle.otn_ports.specs.Views.{BaysView, State}
 use Rattle.device_model.specs.Outcomes.{place_state}
 use Rattle.device_model.specs.Report.{Numbers, line_in_line, line_out_line, client_in_line, client_out_line}
 use Rattle.run_report.specs.declared.port_kind.PortKind.{PortKind}
@@ -24,12 +24,16 @@ port_of LinesOut b = port.LineOut b
 port_of ClientsIn n = port.ClientIn n
 port_of ClientsOut n = port.ClientOut n
 
+-- its line, where its place is so
+abbrev pub line_by : Numbers → PortKind → (n : ℕ) → State → List ℕ
+line_by numbers LinesIn a state = line_in_line a (numbers.line_in a) state
+line_by numbers LinesOut b state = line_out_line b (numbers.line_out b) state
+line_by numbers ClientsIn n state = client_in_line n (numbers.client_in n) state
+line_by numbers ClientsOut n state = client_out_line n (numbers.client_out n) state
+
 -- its line
 abbrev pub port_line : Numbers → (last : BaysView) → PortKind → (n : ℕ) → List ℕ
-port_line numbers last LinesIn a = line_in_line a (numbers.line_in a) (place_state last (port.LineIn a))
-port_line numbers last LinesOut b = line_out_line b (numbers.line_out b) (place_state last (port.LineOut b))
-port_line numbers last ClientsIn n = client_in_line n (numbers.client_in n) (place_state last (port.ClientIn n))
-port_line numbers last ClientsOut n = client_out_line n (numbers.client_out n) (place_state last (port.ClientOut n))
+port_line numbers last kind n = line_by numbers kind n (place_state last (port_of kind n))
 
 -- how many bytes that has at most
 abbrev pub width_of : PortKind → ℕ

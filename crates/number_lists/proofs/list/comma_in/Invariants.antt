@@ -1,5 +1,5 @@
 use Rattle.std.proofs.Common.{◌≡◌, ◌==◌, ◌<◌, ℕ, false, get_or}
-use Rattle.client_list.proofs.list.comma_in.Given as goal
+use Rattle.number_lists.proofs.list.comma_in.Given as goal
 
 -- no comma stands before
 abbrev pub invariant-loop-at : goal.invariant-loop-at

@@ -1,7 +1,7 @@
 use Rattle.std.proofs.Common.{◌==◌, sym, get_or, length, arith}
 use Rattle.std.proofs.lemmas.Bool.{eq-eqb}
 use Rattle.std.proofs.lemmas.List.Sums.{position_or_len_is}
-use Rattle.client_list.proofs.list.comma_in.Goals as goal
+use Rattle.number_lists.proofs.list.comma_in.Goals as goal
 
 pub returns-then-text-at-eq44-clause-comma : goal.returns-then-text-at-eq44-clause-comma
 returns-then-text-at-eq44-clause-comma c =

@@ -1,0 +1,2 @@
+pub mod NumberLists
+mod Reading
