@@ -1,7 +1,6 @@
 // The stream of all channels: which one gives the next frame, and its bytes.
 ghost use Rattle.std.specs.Prelude.{◌≡◌, ◌≢◌, ◌<◌, ◌≤◌, ◌+◌, ◌++◌, ℕ, List, [], true, IfOk, length, take, vec_len};
-ghost use Rattle.frame_geometry.specs.Places.{payload_row_of};
-ghost use Rattle.otn_base.specs.declared.limits.TheConstants.{CLIENT_COLUMNS, CLIENT_PAYLOAD_BYTES, PAYLOAD_COLUMNS};
+ghost use Rattle.otn_base.specs.declared.limits.TheConstants.{CLIENT_PAYLOAD_BYTES};
 ghost use Rattle.otn_ports.specs.Racks.{bays_view};
 ghost use Rattle.otn_ports.specs.Views.{BaysView};
 ghost use Rattle.odu_client.specs.AlignedRuns.{payload_of};
@@ -62,33 +61,10 @@ impl Weaving {
             (given ++ payload_of frame.new) self.new }
         ensures alone { OnlyInputs (bays_view I.Source O.Sink bays.old) (bays_view I.Source O.Sink bays.new) }
     {
-        self.fill_row(bays, frame, 1);
-        self.fill_row(bays, frame, 2);
-        self.fill_row(bays, frame, 3);
-        self.fill_row(bays, frame, 4);
-    }
-
-    // The next bytes of the stream, as the payload of a row (1 to 4) of a frame. The payload of every other row stays.
-    fn fill_row<I: Source, O: Sink>(
-        &mut self,
-        bays: &mut Rack<I, O>,
-        frame: &mut Frame<CLIENT_COLUMNS>,
-        row: u32,
-    )
-        requires ready { IsReady (bays_view I.Source O.Sink bays.old) self.old }
-        requires row_low { 1 ≤ row }
-        requires row_high { row ≤ 4 }
-        ensures size { length (payload_row_of CLIENT_COLUMNS row frame.new) ≡ PAYLOAD_COLUMNS }
-        ensures others { (r : ℕ) → 1 ≤ r → r ≤ 4 → r ≢ row
-            → payload_row_of CLIENT_COLUMNS r frame.new ≡ payload_row_of CLIENT_COLUMNS r frame.old }
-        ensures stands { (clients : List ℕ) (first : BaysView) (given : List ℕ)
-            → WeavingStands clients first (bays_view I.Source O.Sink bays.old) given self.old
-            → WeavingStands clients first (bays_view I.Source O.Sink bays.new)
-            (given ++ payload_row_of CLIENT_COLUMNS row frame.new) self.new }
-        ensures ready { IsReady (bays_view I.Source O.Sink bays.new) self.new }
-        ensures alone { OnlyInputs (bays_view I.Source O.Sink bays.old) (bays_view I.Source O.Sink bays.new) }
-    {
-        self.fill(bays, frame.payload_row_mut(row));
+        self.fill(bays, frame.payload_row_mut(1));
+        self.fill(bays, frame.payload_row_mut(2));
+        self.fill(bays, frame.payload_row_mut(3));
+        self.fill(bays, frame.payload_row_mut(4));
     }
 
     // The next bytes of the stream.

@@ -1,7 +1,6 @@
 -- The steps of a framer.
 use Rattle.std.proofs.Common.{◌≡◌, ◌≢◌, ◌<◌, ◌≤◌, ◌+◌, ◌*◌, ◌%◌, ℕ, Bool, true, false, List, [], ◌∷◌, ◌++◌, length, drop, Option, None, arith, refl, sym, ap, subst, ◌∙◌, append_assoc, append-nil, length-append, length-drop}
 use Rattle.std.specs.List.{concat}
-use Rattle.std.proofs.Math.Seq.{drop-length}
 use Rattle.packet_text.proofs.StandingLines.{fresh_stands as fresh_lines_stand}
 use Rattle.otn_ports.specs.Views.{InView}
 use Rattle.frame_overhead.specs.TwoBefore.{Kept, HasSent, parity_due, or_zero}
@@ -10,8 +9,8 @@ use Rattle.packet_text.specs.LinesStand.{LinesView, LinesStand, fresh_lines}
 use Rattle.packet_text.specs.declared.line.Line.TheVariants as line
 use Rattle.odu_client.specs.ClientFrames.{client_frame, client_frames}
 use Rattle.odu_client.specs.ClientInput.{gfp_length}
-use Rattle.odu_client.specs.Framing.{StreamState, FramerState, StreamMade, TextStands, Framed, ClientStands}
-use Rattle.odu_client.specs.Steps.Framing.{StreamGoes}
+use Rattle.odu_client.specs.Framing.{StreamState, FramerState, StreamMade, Framed, ClientStands}
+use Rattle.odu_client.specs.Steps.Framing.{StreamGoes, StreamsBy}
 use Rattle.odu_client.specs.PacketStream.{fresh_stream}
 use Rattle.odu_client.specs.FramerSteps.{fresh_framer}
 use Rattle.odu_client.specs.Steps.FramerSteps.{FramedSome, Makes, Gives}
@@ -81,12 +80,12 @@ frame_made first now taken gone packets given payload count lines next old new a
 
 -- a framer that made a frame
 pub makes_frame : (first was now : InView) (taken gone : List ℕ) (payload : List ℕ) (lines next : LinesView) (old new : FramerState) → old.left ≡ [] → length payload ≡ 15232
-    → ((tk g : List ℕ) (ps : List (List ℕ)) → TextStands first was tk ps lines old.stream → StreamMade ps g old.stream → StreamGoes first now tk (g ++ payload) ps lines next old.stream.fcs new.stream)
+    → StreamsBy was now payload lines next old.stream new.stream
     → ((fs : List (List ℕ)) → HasSent 3824 fs old.path → (new.left ≡ client_frame old.sapi old.mfas (or_zero (parity_due 3824 fs)) payload) × HasSent 3824 (fs ++ new.left ∷ []) new.path)
     → new.sapi ≡ old.sapi → new.mfas ≡ (old.mfas + 1) % 256 → (new.fresh ≡ true → old.stream.answer ≡ line.Packet) → (new.fresh ≡ false → old.stream.answer ≢ line.Packet)
     → FramedSome first was taken gone lines old → Makes first now taken gone lines next old new
 makes_frame first was now taken gone payload lines next old new none size step frame sapi mfas fresh late h =
-    let g = step taken h.given h.packets h.text h.framed.stream in
+    let g = step first taken h.given h.packets h.text h.framed.stream in
     let f = frame (client_frames old.sapi h.count h.given) h.framed.path in
     record {
       came = g.goes.came;
@@ -193,7 +192,3 @@ pub fresh_from : (first : InView) (sapi : List ℕ) (fcs : Bool) (f : FramerStat
 fresh_from first sapi fcs f e =
     let P : FramerState → Type 0 = λ x. ClientStands first first [] [] fresh_lines x in
     subst P (sym e) (fresh_client first sapi fcs (fresh_lines_stand first fresh_lines refl))
-
--- nothing is left of a frame that is gone
-pub none_left : (frame : List ℕ) → length frame ≡ 15296 → drop 15296 frame ≡ []
-none_left frame e = ap (λ n. drop n frame) (sym e) ∙ drop-length frame

@@ -4,15 +4,15 @@ use Rattle.std.proofs.Math.Seq.{take-append-le, drop-append-le, drop-append_seam
 use Rattle.std.proofs.lemmas.List.{get_or-drop, get_or-take, get_or_append_left, get_or-append_right, length-take-le, take-append-drop, drop-drop, take_at}
 use Rattle.std.proofs.lemmas.Bool.{cases_lt}
 use Rattle.frame_geometry.specs.Places.{place_of, payload_row_of, with_payload_row}
-use Rattle.frame_geometry.specs.Loans.{after_row_loan, after_row_loan-whole}
+use Rattle.frame_geometry.specs.Loans.{after_row_loan, after_row_loan-whole, length-with_payload_row}
 use Rattle.frame_overhead.specs.Runs.{IsPlace, byte_of}
 use Rattle.odu_client.specs.AlignedRuns.{payload_of}
 
-pub row_size : (row : ℕ) (frame : List ℕ) → 1 ≤ row → row ≤ 4 → length frame ≡ 15296 → length (payload_row_of 3824 row frame) ≡ 3808
+row_size : (row : ℕ) (frame : List ℕ) → 1 ≤ row → row ≤ 4 → length frame ≡ 15296 → length (payload_row_of 3824 row frame) ≡ 3808
 row_size row frame low high size = length-take-le 3808 (drop (place_of 3824 row 17) frame) (let d = length-drop (place_of 3824 row 17) frame in omega arith)
 
 -- what was written into a row stands there
-pub row_back : (row : ℕ) (frame payload : List ℕ) → 1 ≤ row → row ≤ 4 → length frame ≡ 15296 → length payload ≡ 3808 → payload_row_of 3824 row (with_payload_row 3824 row frame payload) ≡ payload
+row_back : (row : ℕ) (frame payload : List ℕ) → 1 ≤ row → row ≤ 4 → length frame ≡ 15296 → length payload ≡ 3808 → payload_row_of 3824 row (with_payload_row 3824 row frame payload) ≡ payload
 row_back row frame payload low high size long =
     let start = place_of 3824 row 17 in
     let rest = drop (start + length payload) frame in
@@ -25,11 +25,7 @@ before_same : (n at : ℕ) (xs ys : List ℕ) → at + n ≤ length xs → take 
 before_same n at xs ys within =
     ap (take n) (drop-append-le at xs ys (omega arith)) ∙ take-append-le n (drop at xs) ys (let d = length-drop at xs in omega arith)
 
--- the payload of every other row stays
-abbrev pub RowStands : (row : ℕ) (old new : List ℕ) → Type 0
-RowStands row old new = (r : ℕ) → 1 ≤ r → r ≤ 4 → r ≢ row → payload_row_of 3824 r new ≡ payload_row_of 3824 r old
-
-pub row_stays : (row r : ℕ) (frame payload : List ℕ) → 1 ≤ row → row ≤ 4 → 1 ≤ r → r ≤ 4 → r ≢ row → length frame ≡ 15296 → length payload ≡ 3808
+row_stays : (row r : ℕ) (frame payload : List ℕ) → 1 ≤ row → row ≤ 4 → 1 ≤ r → r ≤ 4 → r ≢ row → length frame ≡ 15296 → length payload ≡ 3808
     → payload_row_of 3824 r (with_payload_row 3824 row frame payload) ≡ payload_row_of 3824 r frame
 row_stays row r frame payload low high least most other size long = elim (cases_lt r row) [
   | inl less ↦
@@ -75,7 +71,7 @@ small_row row low high = elim (cases_lt row 2) [
 ]
 
 -- a byte of the payload stands in its row
-pub row_byte : (frame : List ℕ) (row k : ℕ) → 1 ≤ row → row ≤ 4 → length frame ≡ 15296 → k < 3808 → slice_index (payload_of frame) (3808 * (row - 1) + k) ≡ slice_index (payload_row_of 3824 row frame) k
+row_byte : (frame : List ℕ) (row k : ℕ) → 1 ≤ row → row ≤ 4 → length frame ≡ 15296 → k < 3808 → slice_index (payload_of frame) (3808 * (row - 1) + k) ≡ slice_index (payload_row_of 3824 row frame) k
 row_byte frame row k low high size less = elim (small_row row low high) [
   | inl e ↦ at_row 1 k e (omega arith) (first ((p1 ++ p2) ++ p3) p4 11424 k s123 (omega arith) ∙ first (p1 ++ p2) p3 7616 k s12 (omega arith) ∙ first p1 p2 3808 k s1 less)
   | inr (inl e) ↦ at_row 2 (3808 + k) e (omega arith) (first ((p1 ++ p2) ++ p3) p4 11424 (3808 + k) s123 (omega arith) ∙ first (p1 ++ p2) p3 7616 (3808 + k) s12 (omega arith) ∙ next p1 p2 3808 k s1)
@@ -127,26 +123,42 @@ payload_byte frame row col place size back =
 
 -- ---- the payload columns of a row, once their loan is over
 
-pub loan_back : (row : ℕ) (frame payload : List ℕ) → 1 ≤ row → row ≤ 4 → length frame ≡ 15296 → length payload ≡ 3808 → payload_row_of 3824 row (after_row_loan 3824 row frame payload) ≡ payload
-loan_back row frame payload low high size long =
-    ap (payload_row_of 3824 row) (after_row_loan-whole 3824 row frame payload long size (omega arith) low high) ∙ row_back row frame payload low high size long
+-- these bytes stand in a row, and the payload of every other row stays
+record RowFilled (row : ℕ) (payload old new : List ℕ) : Type 0 where
+  size : length new ≡ 15296
+  here : payload_row_of 3824 row new ≡ payload
+  others : (r : ℕ) → 1 ≤ r → r ≤ 4 → r ≢ row → payload_row_of 3824 r new ≡ payload_row_of 3824 r old
 
-pub loan_stays : (row r : ℕ) (frame payload : List ℕ) → 1 ≤ row → row ≤ 4 → 1 ≤ r → r ≤ 4 → r ≢ row → length frame ≡ 15296 → length payload ≡ 3808
-    → payload_row_of 3824 r (after_row_loan 3824 row frame payload) ≡ payload_row_of 3824 r frame
-loan_stays row r frame payload low high least most other size long =
-    ap (payload_row_of 3824 r) (after_row_loan-whole 3824 row frame payload long size (omega arith) low high) ∙ row_stays row r frame payload low high least most other size long
+row_filled : (row : ℕ) (frame payload : List ℕ) → 1 ≤ row → row ≤ 4 → length frame ≡ 15296 → length payload ≡ 3808 → RowFilled row payload frame (after_row_loan 3824 row frame payload)
+row_filled row frame payload low high size long =
+    let is = after_row_loan-whole 3824 row frame payload long size (omega arith) low high in
+    record {
+      size = ap length is ∙ length-with_payload_row 3824 row frame payload (omega arith) ∙ size;
+      here = ap (payload_row_of 3824 row) is ∙ row_back row frame payload low high size long;
+      others = λ r least most other. ap (payload_row_of 3824 r) is ∙ row_stays row r frame payload low high least most other size long;
+    }
 
 -- ---- all four rows, one after another
 
-pub rows_done : (f1 f2 f3 f4 : List ℕ) → RowStands 2 f1 f2 → RowStands 3 f2 f3 → RowStands 4 f3 f4
-    → ((payload_row_of 3824 1 f1 ++ payload_row_of 3824 2 f2) ++ payload_row_of 3824 3 f3) ++ payload_row_of 3824 4 f4 ≡ payload_of f4
-rows_done f1 f2 f3 f4 two three four =
-    let e1 : payload_row_of 3824 1 f1 ≡ payload_row_of 3824 1 f4 = sym (four 1 (omega arith) (omega arith) (λ e. omega arith) ∙ three 1 (omega arith) (omega arith) (λ e. omega arith) ∙ two 1 (omega arith) (omega arith) (λ e. omega arith)) in
-    let e2 : payload_row_of 3824 2 f2 ≡ payload_row_of 3824 2 f4 = sym (four 2 (omega arith) (omega arith) (λ e. omega arith) ∙ three 2 (omega arith) (omega arith) (λ e. omega arith)) in
-    let e3 : payload_row_of 3824 3 f3 ≡ payload_row_of 3824 3 f4 = sym (four 3 (omega arith) (omega arith) (λ e. omega arith)) in
-    ap (λ p. ((p ++ payload_row_of 3824 2 f2) ++ payload_row_of 3824 3 f3) ++ payload_row_of 3824 4 f4) e1
-    ∙ ap (λ p. ((payload_row_of 3824 1 f4 ++ p) ++ payload_row_of 3824 3 f3) ++ payload_row_of 3824 4 f4) e2
-    ∙ ap (λ p. ((payload_row_of 3824 1 f4 ++ payload_row_of 3824 2 f4) ++ p) ++ payload_row_of 3824 4 f4) e3
+abbrev pub filled : (frame p1 p2 p3 p4 : List ℕ) → List ℕ
+filled frame p1 p2 p3 p4 = after_row_loan 3824 4 (after_row_loan 3824 3 (after_row_loan 3824 2 (after_row_loan 3824 1 frame p1) p2) p3) p4
+
+pub payload_filled : (frame p1 p2 p3 p4 : List ℕ) → length frame ≡ 15296 → length p1 ≡ 3808 → length p2 ≡ 3808 → length p3 ≡ 3808 → length p4 ≡ 3808
+    → payload_of (filled frame p1 p2 p3 p4) ≡ ((p1 ++ p2) ++ p3) ++ p4
+payload_filled frame p1 p2 p3 p4 size s1 s2 s3 s4 =
+    let f1 = after_row_loan 3824 1 frame p1 in
+    let f2 = after_row_loan 3824 2 f1 p2 in
+    let one = row_filled 1 frame p1 (omega arith) (omega arith) size s1 in
+    let two = row_filled 2 f1 p2 (omega arith) (omega arith) one.size s2 in
+    let three = row_filled 3 f2 p3 (omega arith) (omega arith) two.size s3 in
+    let four = row_filled 4 (after_row_loan 3824 3 f2 p3) p4 (omega arith) (omega arith) three.size s4 in
+    let all = filled frame p1 p2 p3 p4 in
+    let row1 : payload_row_of 3824 1 all ≡ p1 = four.others 1 (omega arith) (omega arith) (λ e. omega arith) ∙ three.others 1 (omega arith) (omega arith) (λ e. omega arith) ∙ two.others 1 (omega arith) (omega arith) (λ e. omega arith) ∙ one.here in
+    let row2 : payload_row_of 3824 2 all ≡ p2 = four.others 2 (omega arith) (omega arith) (λ e. omega arith) ∙ three.others 2 (omega arith) (omega arith) (λ e. omega arith) ∙ two.here in
+    let row3 : payload_row_of 3824 3 all ≡ p3 = four.others 3 (omega arith) (omega arith) (λ e. omega arith) ∙ three.here in
+    ap (λ p. ((p ++ payload_row_of 3824 2 all) ++ payload_row_of 3824 3 all) ++ payload_row_of 3824 4 all) row1
+    ∙ ap (λ p. ((p1 ++ p) ++ payload_row_of 3824 3 all) ++ payload_row_of 3824 4 all) row2
+    ∙ ap (λ p. ((p1 ++ p2) ++ p) ++ payload_row_of 3824 4 all) row3 ∙ ap (λ p. ((p1 ++ p2) ++ p3) ++ p) four.here
 
 pub rows_size : (p1 p2 p3 p4 : List ℕ) → length p1 ≡ 3808 → length p2 ≡ 3808 → length p3 ≡ 3808 → length p4 ≡ 3808 → length (((p1 ++ p2) ++ p3) ++ p4) ≡ 15232
 rows_size p1 p2 p3 p4 a b c d = omega (arith, length-append ((p1 ++ p2) ++ p3) p4, length-append (p1 ++ p2) p3, length-append p1 p2)

@@ -15,9 +15,8 @@ use Rattle.packet_text.specs.declared.line.Line.{Line}
 use Rattle.packet_text.specs.declared.line.Line.TheVariants as line
 use Rattle.odu_client.specs.ClientInput.{gfp_length}
 use Rattle.odu_client.specs.Framing.{StreamState, StreamMade, TextStands}
-use Rattle.odu_client.specs.Steps.Framing.{StreamReady, TextGoes, GetsReady, StreamGoes}
+use Rattle.odu_client.specs.Steps.Framing.{StreamReady, TextGoes, GetsReady, StreamsBy}
 use Rattle.odu_client.specs.PacketStream.{fresh_stream}
-use Rattle.odu_client.specs.Steps.PacketStream.{Asked}
 use Rattle.odu_client.proofs.GfpTexts.{clients, clients-append, first_frames, no_idles}
 
 snoc_same : {X : Type 0} (xs ys : List X) (x y : X) → xs ++ x ∷ [] ≡ ys ++ y ∷ [] → xs ≡ ys
@@ -78,55 +77,92 @@ all_given packets given s h going none =
 counted : (n m : ℕ) → m ≡ saturated n → saturated (m + 1) ≡ saturated (n + 1)
 counted n m e = omega arith
 
--- the next packet is in hand, or there is none
-pub asked_ready : (first now : InView) (taken given : List ℕ) (packets : List (List ℕ)) (lines next : LinesView) (old new : StreamState) → old.answer ≡ line.Packet → old.maker.hand ≡ []
-    → (new.answer ≡ line.Packet → new.maker.hand ≢ []) → StreamMade packets given old → Asked first now taken packets lines next old new
-    → GetsReady first now taken given packets lines next old.fcs new
-asked_ready first now taken given packets lines next old new going none some h a = record { goes = a.goes; ready = by_answer new.answer refl }
+made_going : (packets : List (List ℕ)) (given : List ℕ) (s : StreamState) → StreamMade packets given s → s.answer ≡ line.Packet → HasMade (stream_frames packets s.fcs 0) given s.maker
+made_going packets given s h going = let P : ℕ → Type 0 = λ k. HasMade (stream_frames packets s.fcs k) given s.maker in subst P (h.going going) h.made
+
+pub some_framed : (maker : MakerState) (area : List ℕ) (register : ℕ) → maker ≡ made_frame area register → maker.hand ≢ []
+some_framed maker area register is none =
+    let e : core_header (length area) ++ scrambled register area ≡ [] = sym (ap (λ m. m.hand) is) ∙ none in
+    let n = ap length e in
+    let a = length-append (core_header (length area)) (scrambled register area) in
+    let b = header_size (length area) in
+    omega arith
+
+-- an answer, and the packets that it brings
+more_of : LinesView → LinesView → List (List ℕ)
+more_of lines next = if is_packet lines.answer then given_by next.answer next.packet else []
+
+no_more : (a : Line) (packet : List ℕ) → a ≢ line.Packet → given_by a packet ≡ []
+no_more line.Packet packet other = absurd (other refl)
+no_more line.End packet other = refl
+no_more (line.Bad n) packet other = refl
+no_more line.Lost packet other = refl
+
+asked_text : (first was now : InView) (taken : List ℕ) (packets more : List (List ℕ)) (lines next : LinesView) (old new : StreamState) → old.answer ≡ line.Packet
+    → (LinesStand first was taken packets lines → TakeStands first taken packets lines next now) → next.answer ≡ new.answer → new.fcs ≡ old.fcs → given_by next.answer next.packet ≡ more
+    → TextStands first was taken packets lines old → TextGoes first now taken packets lines next old.fcs new
+unfolding more_of
+asked_text first was now taken packets more lines next old new going stands answer fcs is h =
+    let t = stands h.stands in
+    let was_going : lines.answer ≡ line.Packet = sym h.answer ∙ going in
+    let e : more_of lines next ≡ more = ap (λ a. if is_packet a then given_by next.answer next.packet else []) was_going ∙ is in
+    let P : List (List ℕ) → Type 0 = λ ps. LinesStand first now (taken ++ t.came) (packets ++ ps) next in
+    record {
+      came = t.came;
+      more = more;
+      text = record { stands = subst P e t.stands; answer = sym answer };
+      earlier = t.earlier;
+      still = λ other. absurd (other was_going);
+      same = fcs;
+    }
+
+-- the next packet is in hand
+pub packet_asked : (first was now : InView) (taken given : List ℕ) (packets : List (List ℕ)) (lines next : LinesView) (old new : StreamState) → old.answer ≡ line.Packet → old.maker.hand ≡ []
+    → (LinesStand first was taken packets lines → TakeStands first taken packets lines next now) → next.answer ≡ new.answer → new.fcs ≡ old.fcs → new.answer ≡ line.Packet
+    → new.maker ≡ made_frame (client_area next.packet old.fcs) old.maker.register → new.packets ≡ saturated (old.packets + 1)
+    → TextStands first was taken packets lines old → StreamMade packets given old → GetsReady first now taken given packets lines next old.fcs new
+unfolding asked_text
+packet_asked first was now taken given packets lines next old new going none stands answer fcs is maker count t h = record {
+  goes = asked_text first was now taken packets (next.packet ∷ []) lines next old new going stands answer fcs (ap (λ a. given_by a next.packet) (answer ∙ is)) t;
+  ready = record {
+    idles = 0;
+    made = (let P : List Frame → Type 0 = λ fs. HasMade fs given new.maker in subst P frames (frame_made (stream_frames packets old.fcs 0) frame given old.maker new.maker (made_going packets given old h going) none maker));
+    going = λ f. (refl, some_framed _ _ _ maker);
+    begun = λ before last f. (let size : gfp_length before new.fcs ≡ gfp_length packets old.fcs = ap (λ ps. gfp_length ps new.fcs) (sym (snoc_same packets before next.packet last f)) ∙ ap (gfp_length packets) fcs in
+        omega (arith, all_given packets given old h going none));
+    seen = λ f. absurd (f is);
+    count = count ∙ counted (length packets) old.packets h.count ∙ ap saturated (let n = length-append packets (next.packet ∷ []) in let m : length packets + 1 ≡ length (packets ++ next.packet ∷ []) = omega arith in m);
+  };
+}
   where
-    all : gfp_length packets old.fcs ≡ length given
-    all = all_given packets given old h going none
+    frame : Frame
+    frame = Client next.packet old.fcs
 
-    here : HasMade (stream_frames packets old.fcs 0) given old.maker
-    here = (let P : ℕ → Type 0 = λ k. HasMade (stream_frames packets old.fcs k) given old.maker in subst P (h.going going) h.made)
-
-    with_packet : new.answer ≡ line.Packet → StreamReady (packets ++ a.goes.more) given new
-    with_packet e =
-        let p = a.packet e in
-        let frame = Client next.packet old.fcs in
-        let now_made : HasMade (stream_frames packets old.fcs 0 ++ frame ∷ []) given new.maker = frame_made (stream_frames packets old.fcs 0) frame given old.maker new.maker here none p.1 in
-        let frames : stream_frames packets old.fcs 0 ++ frame ∷ [] ≡ stream_frames (packets ++ a.goes.more) new.fcs 0 =
+    frames : stream_frames packets old.fcs 0 ++ frame ∷ [] ≡ stream_frames (packets ++ next.packet ∷ []) new.fcs 0
+    frames =
         ap (λ fs. fs ++ frame ∷ []) (no_idles packets old.fcs) ∙ ap (λ fs. Idle ∷ fs) (sym (clients-append packets (next.packet ∷ []) old.fcs))
-        ∙ ap (λ ps. first_frames ps old.fcs) (ap (λ m. packets ++ m) (sym p.0)) ∙ ap (first_frames (packets ++ a.goes.more)) (sym a.goes.same) ∙ sym (no_idles (packets ++ a.goes.more) new.fcs) in
-        record {
-          idles = 0;
-          made = (let P : List Frame → Type 0 = λ fs. HasMade fs given new.maker in subst P frames now_made);
-          going = λ f. (refl, some f);
-          begun = λ before last f. (let same = snoc_same packets before next.packet last (ap (λ m. packets ++ m) (sym p.0) ∙ f) in
-              let size : gfp_length before new.fcs ≡ gfp_length packets old.fcs = ap (λ ps. gfp_length ps new.fcs) (sym same) ∙ ap (gfp_length packets) a.goes.same in omega (arith, all));
-          seen = λ f. absurd (f e);
-          count = p.2 ∙ counted (length packets) old.packets h.count ∙ ap saturated (let n = length-append packets (next.packet ∷ []) in let m : length packets + 1 ≡ length (packets ++ next.packet ∷ []) = omega arith in m ∙ ap (λ ps. length (packets ++ ps)) (sym p.0));
-        }
+        ∙ ap (first_frames (packets ++ next.packet ∷ [])) (sym fcs) ∙ sym (no_idles (packets ++ next.packet ∷ []) new.fcs)
 
-    without : new.answer ≢ line.Packet → StreamReady (packets ++ a.goes.more) given new
-    without other =
-        let n = a.none other in
-        let same : packets ++ a.goes.more ≡ packets = ap (λ m. packets ++ m) n.0 ∙ append-nil packets in
-        let P : List (List ℕ) → Type 0 = λ ps. StreamReady ps given new in
-        subst P (sym same) (record {
-          idles = 0;
-          made = (let Q : MakerState → Bool → Type 0 = λ m f. HasMade (stream_frames packets f 0) given m in subst (Q new.maker) (sym a.goes.same) (subst (λ m. Q m old.fcs) (sym n.1) here));
-          going = λ e. absurd (other e);
-          begun = λ before last f. (let less = h.begun before last f in let e = ap (gfp_length before) a.goes.same in omega arith);
-          seen = λ f. (let e = ap (gfp_length packets) a.goes.same in omega (arith, all));
-          count = n.2 ∙ h.count;
-        })
-
-    by_answer : (w : Line) → new.answer ≡ w → StreamReady (packets ++ a.goes.more) given new
-    by_answer line.Packet e = with_packet e
-    by_answer line.End e = without (λ f. (let g = sym e ∙ f in cc))
-    by_answer (line.Bad n) e = without (λ f. (let g = sym e ∙ f in cc))
-    by_answer line.Lost e = without (λ f. (let g = sym e ∙ f in cc))
+-- there is none
+pub none_asked : (first was now : InView) (taken given : List ℕ) (packets : List (List ℕ)) (lines next : LinesView) (old new : StreamState) → old.answer ≡ line.Packet → old.maker.hand ≡ []
+    → (LinesStand first was taken packets lines → TakeStands first taken packets lines next now) → next.answer ≡ new.answer → new.fcs ≡ old.fcs → new.answer ≢ line.Packet
+    → new.maker ≡ old.maker → new.packets ≡ old.packets
+    → TextStands first was taken packets lines old → StreamMade packets given old → GetsReady first now taken given packets lines next old.fcs new
+unfolding asked_text
+none_asked first was now taken given packets lines next old new going none stands answer fcs other maker count t h =
+    let P : List (List ℕ) → Type 0 = λ ps. StreamReady ps given new in
+    let Q : MakerState → Bool → Type 0 = λ m f. HasMade (stream_frames packets f 0) given m in
+    record {
+      goes = asked_text first was now taken packets [] lines next old new going stands answer fcs (no_more next.answer next.packet (λ e. other (sym answer ∙ e))) t;
+      ready = subst P (sym (append-nil packets)) (record {
+        idles = 0;
+        made = subst (Q new.maker) (sym fcs) (subst (λ m. Q m old.fcs) (sym maker) (made_going packets given old h going));
+        going = λ e. absurd (other e);
+        begun = λ before last f. (let less = h.begun before last f in let e = ap (gfp_length before) fcs in omega arith);
+        seen = λ f. (let e = ap (gfp_length packets) fcs in omega (arith, all_given packets given old h going none));
+        count = count ∙ h.count;
+      });
+    }
 
 -- at least one byte more was given
 pub given_made : (packets : List (List ℕ)) (given bytes : List ℕ) (k : ℕ) (old new : StreamState) → 1 ≤ length bytes → new.fcs ≡ old.fcs → new.answer ≡ old.answer → new.packets ≡ old.packets
@@ -159,106 +195,13 @@ goes_then first now later taken given packets a b c fcs s t g h = record {
   same = h.same ∙ g.same;
 }
 
-more_of : LinesView → LinesView → List (List ℕ)
-more_of lines next = if is_packet lines.answer then given_by next.answer next.packet else []
-
-more_one : (lines next : LinesView) → lines.answer ≡ line.Packet → next.answer ≡ line.Packet → more_of lines next ≡ next.packet ∷ []
-unfolding more_of
-more_one lines next e f = ap (λ a. if is_packet a then given_by next.answer next.packet else []) e ∙ ap (λ a. given_by a next.packet) f
-
-no_more : (a : Line) (packet : List ℕ) → a ≢ line.Packet → given_by a packet ≡ []
-no_more line.Packet packet other = absurd (other refl)
-no_more line.End packet other = refl
-no_more (line.Bad n) packet other = refl
-no_more line.Lost packet other = refl
-
-more_none : (lines next : LinesView) → lines.answer ≡ line.Packet → next.answer ≢ line.Packet → more_of lines next ≡ []
-unfolding more_of
-more_none lines next e other = ap (λ a. if is_packet a then given_by next.answer next.packet else []) e ∙ no_more next.answer next.packet other
-
-asked_text : (first was now : InView) (taken : List ℕ) (packets : List (List ℕ)) (lines next : LinesView) (old new : StreamState) → TextStands first was taken packets lines old → lines.answer ≡ line.Packet
-    → (LinesStand first was taken packets lines → TakeStands first taken packets lines next now) → next.answer ≡ new.answer → new.fcs ≡ old.fcs
-    → (g : TextGoes first now taken packets lines next old.fcs new) × (g.more ≡ more_of lines next)
-unfolding more_of
-asked_text first was now taken packets lines next old new h going stands answer fcs =
-    let t = stands h.stands in (
-      record {
-        came = t.came;
-        more = more_of lines next;
-        text = record { stands = t.stands; answer = sym answer };
-        earlier = t.earlier;
-        still = λ other. absurd (other going);
-        same = fcs;
-      },
-      refl,
-    )
-
--- what the lines answered
-pub asked_by : (first was now : InView) (taken : List ℕ) (packets : List (List ℕ)) (lines next : LinesView) (old new : StreamState) → old.answer ≡ line.Packet
-    → (LinesStand first was taken packets lines → TakeStands first taken packets lines next now) → next.answer ≡ new.answer → new.fcs ≡ old.fcs
-    → (new.answer ≡ line.Packet → (new.maker ≡ made_frame (client_area next.packet old.fcs) old.maker.register) × (new.packets ≡ saturated (old.packets + 1)))
-    → (new.answer ≢ line.Packet → (new.maker ≡ old.maker) × (new.packets ≡ old.packets))
-    → TextStands first was taken packets lines old → Asked first now taken packets lines next old new
-asked_by first was now taken packets lines next old new going stands answer fcs one none h =
-    let was_going : lines.answer ≡ line.Packet = sym h.answer ∙ going in
-    let g = asked_text first was now taken packets lines next old new h was_going stands answer fcs in
-    record {
-      goes = g.0;
-      packet = λ e. (let p = one e in (g.1 ∙ more_one lines next was_going (answer ∙ e), p.0, p.1));
-      none = λ other. (let n = none other in (g.1 ∙ more_none lines next was_going (λ e. other (sym answer ∙ e)), n.0, n.1));
-    }
-
--- ready, and then some bytes were given
-pub ready_goes : (first now : InView) (taken given bytes : List ℕ) (packets : List (List ℕ)) (lines next : LinesView) (fcs : Bool) (mid new : StreamState) → new.fcs ≡ mid.fcs → new.answer ≡ mid.answer
-    → ((ps : List (List ℕ)) (g : List ℕ) → StreamReady ps g mid → StreamMade ps (g ++ bytes) new) → GetsReady first now taken given packets lines next fcs mid
-    → StreamGoes first now taken (given ++ bytes) packets lines next fcs new
-ready_goes first now taken given bytes packets lines next fcs mid new same answer made r = record {
-  goes = record {
-    came = r.goes.came;
-    more = r.goes.more;
-    text = record { stands = r.goes.text.stands; answer = answer ∙ r.goes.text.answer };
-    earlier = r.goes.earlier;
-    still = r.goes.still;
-    same = same ∙ r.goes.same;
-  };
-  made = made (packets ++ r.goes.more) given r.ready;
-}
-
--- one after another
-pub streams_then : (first now later : InView) (taken given bytes : List ℕ) (packets : List (List ℕ)) (a b c : LinesView) (fcs : Bool) (s t : StreamState) → StreamGoes first now taken given packets a b fcs s
-    → ((tk g : List ℕ) (ps : List (List ℕ)) → TextStands first now tk ps b s → StreamMade ps g s → StreamGoes first later tk (g ++ bytes) ps b c s.fcs t)
-    → StreamGoes first later taken (given ++ bytes) packets a c fcs t
-unfolding goes_then
-streams_then first now later taken given bytes packets a b c fcs s t g step =
-    let n = step (taken ++ g.goes.came) given (packets ++ g.goes.more) g.goes.text g.made in
-    record {
-      goes = goes_then first now later taken given packets a b c fcs s t g.goes n.goes;
-      made = (let P : List (List ℕ) → Type 0 = λ ps. StreamMade ps (given ++ bytes) t in subst P (append_assoc packets g.goes.more n.goes.more) n.made);
-    }
-
-pub some_framed : (maker : MakerState) (area : List ℕ) (register : ℕ) → maker ≡ made_frame area register → maker.hand ≢ []
-some_framed maker area register is none =
-    let e : core_header (length area) ++ scrambled register area ≡ [] = sym (ap (λ m. m.hand) is) ∙ none in
-    let n = ap length e in
-    let a = length-append (core_header (length area)) (scrambled register area) in
-    let b = header_size (length area) in
-    omega arith
-
+-- nothing is to be asked for, or nothing can be
 pub stays_ready : (first now : InView) (taken given : List ℕ) (packets : List (List ℕ)) (lines : LinesView) (s : StreamState) → (s.answer ≡ line.Packet → s.maker.hand ≢ []) → TextStands first now taken packets lines s
     → StreamMade packets given s → GetsReady first now taken given packets lines lines s.fcs s
 unfolding stays
 stays_ready first now taken given packets lines s some t h = record {
   goes = stays first now taken packets lines s t;
   ready = (let P : List (List ℕ) → Type 0 = λ ps. StreamReady ps given s in subst P (sym (append-nil packets)) (ready_from packets given s some h));
-}
-
--- nothing was given yet
-pub none_goes : (first now : InView) (taken given : List ℕ) (packets : List (List ℕ)) (lines : LinesView) (s : StreamState) → TextStands first now taken packets lines s → StreamMade packets given s
-    → StreamGoes first now taken (given ++ []) packets lines lines s.fcs s
-unfolding stays
-none_goes first now taken given packets lines s t h = record {
-  goes = stays first now taken packets lines s t;
-  made = (let P : List (List ℕ) → List ℕ → Type 0 = λ ps g. StreamMade ps g s in subst (P (packets ++ [])) (sym (append-nil given)) (subst (λ ps. P ps given) (sym (append-nil packets)) h));
 }
 
 -- all of a slice was given
@@ -268,22 +211,44 @@ pub given_all : (packets : List (List ℕ)) (given bytes : List ℕ) (k : ℕ) (
 given_all packets given bytes k old new some fcs answer same none h made =
     let P : List ℕ → Type 0 = λ b. StreamMade packets (given ++ b) new in subst P (sym (take-length bytes)) (given_made packets given bytes k old new some fcs answer same none h made)
 
--- more of a slice was given
-pub more_goes : (first now : InView) (taken given done more all : List ℕ) (packets : List (List ℕ)) (lines next : LinesView) (fcs : Bool) (s : StreamState) → all ≡ done ++ more
-    → StreamGoes first now taken ((given ++ done) ++ more) packets lines next fcs s → StreamGoes first now taken (given ++ all) packets lines next fcs s
-more_goes first now taken given done more all packets lines next fcs s e h =
-    let P : List ℕ → Type 0 = λ g. StreamGoes first now taken g packets lines next fcs s in subst P (append_assoc given done more ∙ ap (λ y. given ++ y) (sym e)) h
+-- ready, and then some bytes were emitted
+pub ready_streams : (was now : InView) (bytes : List ℕ) (lines next : LinesView) (old mid new : StreamState) → new.fcs ≡ mid.fcs → new.answer ≡ mid.answer
+    → ((ps : List (List ℕ)) (g : List ℕ) → StreamReady ps g mid → StreamMade ps (g ++ bytes) new)
+    → ((first : InView) (taken given : List ℕ) (packets : List (List ℕ)) → TextStands first was taken packets lines old → StreamMade packets given old → GetsReady first now taken given packets lines next old.fcs mid)
+    → StreamsBy was now bytes lines next old new
+ready_streams was now bytes lines next old mid new same answer made ready = λ first taken given packets t h.
+    let r = ready first taken given packets t h in
+    record {
+      goes = record {
+        came = r.goes.came;
+        more = r.goes.more;
+        text = record { stands = r.goes.text.stands; answer = answer ∙ r.goes.text.answer };
+        earlier = r.goes.earlier;
+        still = r.goes.still;
+        same = same ∙ r.goes.same;
+      };
+      made = made (packets ++ r.goes.more) given r.ready;
+    }
 
--- what a call that gives these bytes does, whatever came before it
-abbrev pub StreamsBy : (was now : InView) (bytes : List ℕ) (a b : LinesView) (s t : StreamState) → Type 0
-StreamsBy was now bytes a b s t =
-    (first : InView) (taken given : List ℕ) (packets : List (List ℕ)) → TextStands first was taken packets a s → StreamMade packets given s → StreamGoes first now taken (given ++ bytes) packets a b s.fcs t
+-- nothing was emitted yet
+pub streams_none : (place : InView) (lines : LinesView) (s : StreamState) → StreamsBy place place [] lines lines s s
+unfolding stays
+streams_none place lines s = λ first taken given packets t h. record {
+  goes = stays first place taken packets lines s t;
+  made = (let P : List (List ℕ) → List ℕ → Type 0 = λ ps g. StreamMade ps g s in subst (P (packets ++ [])) (sym (append-nil given)) (subst (λ ps. P ps given) (sym (append-nil packets)) h));
+}
 
 -- two calls, one after another
 pub streams_both : (was mid now : InView) (x y : List ℕ) (a b c : LinesView) (s t u : StreamState) → StreamsBy was mid x a b s t → StreamsBy mid now y b c t u → StreamsBy was now (x ++ y) a c s u
+unfolding goes_then
 streams_both was mid now x y a b c s t u one two = λ first taken given packets text made.
-    more_goes first now taken given x y (x ++ y) packets a c s.fcs u refl
-    (streams_then first mid now taken (given ++ x) y packets a b c s.fcs t u (one first taken given packets text made) (λ tk g ps v w. two first tk g ps v w))
+    let g = one first taken given packets text made in
+    let n = two first (taken ++ g.goes.came) (given ++ x) (packets ++ g.goes.more) g.goes.text g.made in
+    record {
+      goes = goes_then first mid now taken given packets a b c s.fcs t u g.goes n.goes;
+      made = (let P : List (List ℕ) → List ℕ → Type 0 = λ ps bytes. StreamMade ps bytes u in
+          subst (λ ps. P ps (given ++ (x ++ y))) (append_assoc packets g.goes.more n.goes.more) (subst (P ((packets ++ g.goes.more) ++ n.goes.more)) (append_assoc given x y) n.made));
+    }
 
 -- the same bytes, by another name
 pub streams_same : (was now : InView) (x y : List ℕ) (a b : LinesView) (s t : StreamState) → x ≡ y → StreamsBy was now x a b s t → StreamsBy was now y a b s t

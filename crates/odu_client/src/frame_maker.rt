@@ -78,20 +78,16 @@ fn put_payload(frame: &mut Frame<CLIENT_COLUMNS>, payload: &[u8])
     requires { length payload.now ≡ CLIENT_PAYLOAD_BYTES }
     ensures { payload_of frame.new ≡ payload.now }
 {
-    put_row(frame, 1, &payload[..PAYLOAD_COLUMNS]);
-    put_row(frame, 2, &payload[PAYLOAD_COLUMNS..2 * PAYLOAD_COLUMNS]);
-    put_row(frame, 3, &payload[2 * PAYLOAD_COLUMNS..3 * PAYLOAD_COLUMNS]);
-    put_row(frame, 4, &payload[3 * PAYLOAD_COLUMNS..]);
-}
-
-// Puts the payload of a row (1 to 4). That of every other row stays.
-fn put_row(frame: &mut Frame<CLIENT_COLUMNS>, row: u32, bytes: &[u8])
-    requires row_low { 1 ≤ row }
-    requires row_high { row ≤ 4 }
-    requires bytes { length bytes.now ≡ PAYLOAD_COLUMNS }
-    ensures row { payload_row_of CLIENT_COLUMNS row frame.new ≡ bytes.now }
-    ensures others { (r : ℕ) → 1 ≤ r → r ≤ 4 → r ≢ row
-        → payload_row_of CLIENT_COLUMNS r frame.new ≡ payload_row_of CLIENT_COLUMNS r frame.old }
-{
-    frame.payload_row_mut(row).copy_from_slice(bytes);
+    frame
+        .payload_row_mut(1)
+        .copy_from_slice(&payload[..PAYLOAD_COLUMNS]);
+    frame
+        .payload_row_mut(2)
+        .copy_from_slice(&payload[PAYLOAD_COLUMNS..2 * PAYLOAD_COLUMNS]);
+    frame
+        .payload_row_mut(3)
+        .copy_from_slice(&payload[2 * PAYLOAD_COLUMNS..3 * PAYLOAD_COLUMNS]);
+    frame
+        .payload_row_mut(4)
+        .copy_from_slice(&payload[3 * PAYLOAD_COLUMNS..]);
 }

@@ -144,7 +144,7 @@ impl ClientFramer {
         self.at >= CLIENT_FRAME_BYTES
     }
 
-    // Makes the next frame where the one in hand is gone.
+    // Makes the next frame where all of the one in hand was emitted.
     fn have_frame<P: Source>(&mut self, lines: &mut PacketLines, place: &mut InPlaceOf<P>)
         ensures some { self.new.left ≢ [] }
         ensures makes { (first : InView) (read emitted : List ℕ)
@@ -158,20 +158,6 @@ impl ClientFramer {
         if self.at < CLIENT_FRAME_BYTES {
             return;
         }
-        self.make_frame(lines, place);
-    }
-
-    // Makes the next frame.
-    fn make_frame<P: Source>(&mut self, lines: &mut PacketLines, place: &mut InPlaceOf<P>)
-        requires { self.old.left ≡ [] }
-        ensures some { self.new.left ≢ [] }
-        ensures makes { (first : InView) (read emitted : List ℕ)
-            → FramedSome first (in_view P.Source place.old) read emitted (lines_view lines.old) self.old
-            → Makes first (in_view P.Source place.new) read emitted (lines_view lines.old)
-            (lines_view lines.new) self.old self.new }
-        ensures over { self.old.stream.answer ≢ Line.Packet → (place.new ≡ place.old) × (lines.new ≡ lines.old)
-            × (self.new.stream.answer ≡ self.old.stream.answer) }
-    {
         self.fresh = self.stream.goes_on();
         self.stream.fill_payload(lines, place, &mut self.frame);
         self.overhead.write(&mut self.frame, &self.trace);

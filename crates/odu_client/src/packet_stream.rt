@@ -1,15 +1,13 @@
 // The payload of a client's frames: the packets of a text as a stream of GFP frames.
 ghost use Rattle.std.specs.Prelude.{◌≡◌, ◌≢◌, ◌≤◌, ℕ, List, [], ◌∷◌, ◌++◌, true, false, length, take, IfOk};
-ghost use Rattle.frame_geometry.specs.Places.{payload_row_of};
-ghost use Rattle.otn_base.specs.declared.limits.TheConstants.{CLIENT_COLUMNS, CLIENT_PAYLOAD_BYTES, PAYLOAD_COLUMNS};
+ghost use Rattle.otn_base.specs.declared.limits.TheConstants.{CLIENT_PAYLOAD_BYTES};
 ghost use Rattle.otn_ports.specs.InPlace.{in_view};
 ghost use Rattle.otn_ports.specs.Views.{InView};
 ghost use Rattle.packet_text.specs.LinesStand.{LinesView, lines_view};
 ghost use Rattle.odu_client.specs.AlignedRuns.{payload_of};
 ghost use Rattle.odu_client.specs.Framing.{StreamState, StreamMade, TextStands};
-ghost use Rattle.odu_client.specs.Steps.Framing.{StreamReady, GetsReady, StreamGoes};
+ghost use Rattle.odu_client.specs.Steps.Framing.{StreamReady, GetsReady, StreamsBy};
 ghost use Rattle.odu_client.specs.PacketStream.{fresh_stream};
-ghost use Rattle.odu_client.specs.Steps.PacketStream.{Asked};
 
 use frame_geometry::Frame;
 use gfp_frames::GfpMaker;
@@ -92,43 +90,15 @@ impl PacketStream {
         frame: &mut Frame<CLIENT_COLUMNS>,
     )
         ensures size { length (payload_of frame.new) ≡ CLIENT_PAYLOAD_BYTES }
-        ensures goes { (first : InView) (read emitted : List ℕ) (packets : List (List ℕ))
-            → TextStands first (in_view P.Source place.old) read packets (lines_view lines.old) self.old
-            → StreamMade packets emitted self.old
-            → StreamGoes first (in_view P.Source place.new) read (emitted ++ payload_of frame.new) packets
-            (lines_view lines.old) (lines_view lines.new) self.old.fcs self.new }
+        ensures goes { StreamsBy (in_view P.Source place.old) (in_view P.Source place.new) (payload_of frame.new)
+            (lines_view lines.old) (lines_view lines.new) self.old self.new }
         ensures over { self.old.answer ≢ Line.Packet → (place.new ≡ place.old) × (lines.new ≡ lines.old)
             × (self.new.answer ≡ self.old.answer) }
     {
-        self.fill_row(lines, place, frame, 1);
-        self.fill_row(lines, place, frame, 2);
-        self.fill_row(lines, place, frame, 3);
-        self.fill_row(lines, place, frame, 4);
-    }
-
-    // The next bytes of the stream, as the payload of a row (1 to 4) of a frame. The payload of every other row stays.
-    fn fill_row<P: Source>(
-        &mut self,
-        lines: &mut PacketLines,
-        place: &mut InPlaceOf<P>,
-        frame: &mut Frame<CLIENT_COLUMNS>,
-        row: u32,
-    )
-        requires row_low { 1 ≤ row }
-        requires row_high { row ≤ 4 }
-        ensures size { length (payload_row_of CLIENT_COLUMNS row frame.new) ≡ PAYLOAD_COLUMNS }
-        ensures others { (r : ℕ) → 1 ≤ r → r ≤ 4 → r ≢ row
-            → payload_row_of CLIENT_COLUMNS r frame.new ≡ payload_row_of CLIENT_COLUMNS r frame.old }
-        ensures goes { (first : InView) (read emitted : List ℕ) (packets : List (List ℕ))
-            → TextStands first (in_view P.Source place.old) read packets (lines_view lines.old) self.old
-            → StreamMade packets emitted self.old
-            → StreamGoes first (in_view P.Source place.new) read
-            (emitted ++ payload_row_of CLIENT_COLUMNS row frame.new) packets (lines_view lines.old)
-            (lines_view lines.new) self.old.fcs self.new }
-        ensures over { self.old.answer ≢ Line.Packet → (place.new ≡ place.old) × (lines.new ≡ lines.old)
-            × (self.new.answer ≡ self.old.answer) }
-    {
-        self.fill(lines, place, frame.payload_row_mut(row));
+        self.fill(lines, place, frame.payload_row_mut(1));
+        self.fill(lines, place, frame.payload_row_mut(2));
+        self.fill(lines, place, frame.payload_row_mut(3));
+        self.fill(lines, place, frame.payload_row_mut(4));
     }
 
     // The next bytes of the stream.
@@ -139,45 +109,20 @@ impl PacketStream {
         into: &mut [u8],
     )
         ensures size { length into.new ≡ length into.old }
-        ensures goes { (first : InView) (read emitted : List ℕ) (packets : List (List ℕ))
-            → TextStands first (in_view P.Source place.old) read packets (lines_view lines.old) self.old
-            → StreamMade packets emitted self.old
-            → StreamGoes first (in_view P.Source place.new) read (emitted ++ into.new) packets (lines_view lines.old)
-            (lines_view lines.new) self.old.fcs self.new }
+        ensures goes { StreamsBy (in_view P.Source place.old) (in_view P.Source place.new) into.new
+            (lines_view lines.old) (lines_view lines.new) self.old self.new }
         ensures over { self.old.answer ≢ Line.Packet → (place.new ≡ place.old) × (lines.new ≡ lines.old)
             × (self.new.answer ≡ self.old.answer) }
     {
         let mut done = 0;
         while done < into.len() {
-            done += self.step(lines, place, &mut into[done..]);
+            self.ask(lines, place);
+            done += self.give(&mut into[done..]);
         }
     }
 
-    // The next bytes of one frame, or of all idle frames behind the packets: how many.
-    fn step<P: Source>(
-        &mut self,
-        lines: &mut PacketLines,
-        place: &mut InPlaceOf<P>,
-        into: &mut [u8],
-    ) -> usize
-        requires { 1 ≤ length into.old }
-        ensures some { 1 ≤ result }
-        ensures within { result ≤ length into.old }
-        ensures size { length into.new ≡ length into.old }
-        ensures goes { (first : InView) (read emitted : List ℕ) (packets : List (List ℕ))
-            → TextStands first (in_view P.Source place.old) read packets (lines_view lines.old) self.old
-            → StreamMade packets emitted self.old
-            → StreamGoes first (in_view P.Source place.new) read (emitted ++ take result into.new) packets
-            (lines_view lines.old) (lines_view lines.new) self.old.fcs self.new }
-        ensures over { self.old.answer ≢ Line.Packet → (place.new ≡ place.old) × (lines.new ≡ lines.old)
-            × (self.new.answer ≡ self.old.answer) }
-    {
-        self.get_ready(lines, place);
-        self.give(into)
-    }
-
     // Takes the next packet in hand where no frame is, as long as there is one.
-    fn get_ready<P: Source>(&mut self, lines: &mut PacketLines, place: &mut InPlaceOf<P>)
+    fn ask<P: Source>(&mut self, lines: &mut PacketLines, place: &mut InPlaceOf<P>)
         ensures some { self.new.answer ≡ Line.Packet → self.new.maker.hand ≢ [] }
         ensures ready { (first : InView) (read emitted : List ℕ) (packets : List (List ℕ))
             → TextStands first (in_view P.Source place.old) read packets (lines_view lines.old) self.old
@@ -193,19 +138,6 @@ impl PacketStream {
         if self.answer != Line::Packet {
             return;
         }
-        self.ask(lines, place);
-    }
-
-    // Takes the next packet in hand, if there is one.
-    fn ask<P: Source>(&mut self, lines: &mut PacketLines, place: &mut InPlaceOf<P>)
-        requires idle { self.old.maker.hand ≡ [] }
-        requires going { self.old.answer ≡ Line.Packet }
-        ensures some { self.new.answer ≡ Line.Packet → self.new.maker.hand ≢ [] }
-        ensures asked { (first : InView) (read : List ℕ) (packets : List (List ℕ))
-            → TextStands first (in_view P.Source place.old) read packets (lines_view lines.old) self.old
-            → Asked first (in_view P.Source place.new) read packets (lines_view lines.old)
-            (lines_view lines.new) self.old self.new }
-    {
         self.answer = lines.take(place);
         if self.answer == Line::Packet {
             self.maker.offer(lines.packet(), self.fcs);

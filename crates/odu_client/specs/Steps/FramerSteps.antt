@@ -1,5 +1,4 @@
--- Steps of `have_frame`, `make_frame` and others: what private contracts alone cite, beside the definitions of
--- `FramerSteps`.
+-- Steps of `have_frame` and `give`: what private contracts alone cite, beside the definitions of `FramerSteps`.
 use Rattle.std.specs.Prelude.{◌≡◌, ℕ, List, ◌++◌}
 use Rattle.otn_ports.specs.Views.{InView}
 use Rattle.packet_text.specs.LinesStand.{LinesView, MayBe}

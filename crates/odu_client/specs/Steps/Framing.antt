@@ -1,6 +1,5 @@
--- Steps of `get_ready`, `fill_payload` and others: what private contracts alone cite, beside the definitions of
--- `Framing`.
-use Rattle.std.specs.Prelude.{◌≡◌, ◌≢◌, ◌≤◌, ℕ, ◌+◌, Bool, List, [], ◌∷◌, ◌++◌, length}
+-- Steps of `ask`, `fill_payload` and others: what private contracts alone cite, beside the definitions of `Framing`.
+use Rattle.std.specs.Prelude.{◌≡◌, ◌≢◌, ◌≤◌, ℕ, Bool, List, [], ◌∷◌, ◌++◌, length}
 use Rattle.otn_ports.specs.Views.{InView}
 use Rattle.gfp_frames.specs.GfpText.{stream_frames}
 use Rattle.gfp_frames.specs.Maker.{HasMade}
@@ -42,3 +41,9 @@ pub record StreamGoes (first now : InView) (read emitted : List ℕ) (packets : 
     (fcs : Bool) (stream : StreamState) : Type 0 where
   pub goes : TextGoes first now read packets old new fcs stream
   pub made : StreamMade (packets ++ goes.more) emitted stream
+
+-- what a call that emits these bytes does, wherever the stream stands in its text
+abbrev pub StreamsBy : (was now : InView) (bytes : List ℕ) (old new : LinesView) (stream next : StreamState) → Type 0
+StreamsBy was now bytes old new stream next = (first : InView) (read emitted : List ℕ) (packets : List (List ℕ))
+    → TextStands first was read packets old stream → StreamMade packets emitted stream
+    → StreamGoes first now read (emitted ++ bytes) packets old new stream.fcs next

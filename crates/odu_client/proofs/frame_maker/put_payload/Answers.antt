@@ -1,22 +1,17 @@
-use Rattle.std.proofs.Common.{◌∙◌, sym, arith, length-take}
-use Rattle.frame_geometry.specs.Places.{payload_row_of}
-use Rattle.odu_client.proofs.PayloadRows.{rows_done}
+use Rattle.std.proofs.Common.{◌∙◌, arith, length-take}
+use Rattle.odu_client.proofs.PayloadRows.{payload_filled}
 use Rattle.odu_client.proofs.Making.{rows_are}
 use Rattle.odu_client.proofs.frame_maker.put_payload.Goals as goal
 
-pub slice_bounds-put_row-end : goal.slice_bounds-put_row-end
-slice_bounds-put_row-end c = (let l = length-take 3808 c.args.payload.now in let r = c.requires in omega arith)
-
-pub put_row-requires-clause-bytes : goal.put_row-requires-clause-bytes
-put_row-requires-clause-bytes c = (let l = length-take 3808 c.args.payload.now in let r = c.requires in omega arith)
+pub slice_bounds-copy_from_slice-end : goal.slice_bounds-copy_from_slice-end
+slice_bounds-copy_from_slice-end c = (let l = length-take 3808 c.args.payload.now in let r = c.requires in omega arith)
 
 pub returns : goal.returns
 returns c =
     let payload = c.args.payload.now in
-    let f1 = c.put_row.new.frame in
-    let f2 = c.put_row-2.new.frame in
-    let f3 = c.put_row-3.new.frame in
-    let f4 = c.put_row-4.new.frame in
-    sym (rows_done f1 f2 f3 f4 c.put_row-2.ensures.others c.put_row-3.ensures.others c.put_row-4.ensures.others)
-    ∙ rows_are payload (payload_row_of 3824 1 f1) (payload_row_of 3824 2 f2) (payload_row_of 3824 3 f3) (payload_row_of 3824 4 f4) c.requires
-    c.put_row.ensures.row c.put_row-2.ensures.row c.put_row-3.ensures.row c.put_row-4.ensures.row
+    let p1 = c.copy_from_slice.new.self in
+    let p2 = c.copy_from_slice-2.new.self in
+    let p3 = c.copy_from_slice-3.new.self in
+    let p4 = c.copy_from_slice-4.new.self in
+    payload_filled c.args.frame.now p1 p2 p3 p4 c.payload_row_mut.ensures.frame (omega arith) (omega arith) (omega arith) (omega arith)
+    ∙ rows_are payload p1 p2 p3 p4 c.requires c.copy_from_slice.ensures.after c.copy_from_slice-2.ensures.after c.copy_from_slice-3.ensures.after c.copy_from_slice-4.ensures.after

@@ -1,5 +1,11 @@
-use Rattle.std.proofs.Common.{sym, ap, arith}
-use Rattle.odu_client.proofs.Framing.{makes_none, some_drop}
+use Rattle.std.proofs.Common.{◌≡◌, refl, sym, ap, subst, ◌∙◌, arith, drop}
+use Rattle.std.proofs.lemmas.List.{drop_all}
+use Rattle.otn_ports.specs.InPlace.{in_view}
+use Rattle.packet_text.specs.LinesStand.{lines_view}
+use Rattle.odu_client.specs.AlignedRuns.{payload_of}
+use Rattle.odu_client.specs.Framing.{FramerState}
+use Rattle.odu_client.specs.Steps.FramerSteps.{FramedSome, Makes}
+use Rattle.odu_client.proofs.Framing.{makes_none, makes_frame, some_left, some_drop}
 use Rattle.odu_client.proofs.framer.ClientFramer.have_frame.Goals as goal
 
 pub returns-then-self-lt-CLIENT_FRAME_BYTES-clause-some :
@@ -11,3 +17,28 @@ returns-then-self-lt-CLIENT_FRAME_BYTES-clause-some g c =
 pub returns-then-self-lt-CLIENT_FRAME_BYTES-clause-makes :
     goal.returns-then-self-lt-CLIENT_FRAME_BYTES-clause-makes
 returns-then-self-lt-CLIENT_FRAME_BYTES-clause-makes g c = λ first taken gone h. makes_none first _ taken gone _ _ h
+
+pub returns-clause-some : goal.returns-clause-some
+returns-clause-some g c = some_left _ (let size = c.write.ensures.size in omega arith)
+
+pub returns-clause-makes : goal.returns-clause-makes
+returns-clause-makes g c = λ first taken gone h.
+    let old : FramerState = record { sapi = c.self.inside.trace; stream = c.self.inside.stream; path = c.self.inside.overhead.path; mfas = c.self.inside.overhead.mfas; left = drop c.self.inside.at c.self.inside.frame; fresh = c.self.inside.fresh } in
+    let new : FramerState = record { sapi = c.self.inside.trace; stream = c.fill_payload.new.self; path = c.write.new.self.path; mfas = c.write.new.self.mfas; left = c.write.new.frame; fresh = c.goes_on-self-inside.result } in
+    let P : FramerState → Type 0 = λ f. FramedSome first (in_view g.P.Source c.args.place.now) taken gone (lines_view c.args.lines.now) f
+    → Makes first (in_view g.P.Source c.fill_payload.new.place) taken gone (lines_view c.args.lines.now) (lines_view c.fill_payload.new.lines) f new in
+    subst P c.self.view_is
+    (makes_frame first (in_view g.P.Source c.args.place.now) (in_view g.P.Source c.fill_payload.new.place) taken gone (payload_of c.fill_payload.new.frame) (lines_view c.args.lines.now) (lines_view c.fill_payload.new.lines) old new
+    (drop_all c.self.inside.at c.self.inside.frame (let size = c.self.invariant.1 in omega arith)) c.fill_payload.ensures.size c.fill_payload.ensures.goes
+    (λ fs sent. (c.write.ensures.frame fs sent, c.write.ensures.sent fs sent))
+    refl c.write.ensures.mfas c.goes_on-self-inside.ensures.yes c.goes_on-self-inside.ensures.no) h
+
+pub returns-clause-over : goal.returns-clause-over
+returns-clause-over g c = λ other.
+    let same : c.self.inside.stream.answer ≡ c.args.self.now.stream.answer = ap (λ f. f.stream.answer) c.self.view_is in
+    let over = c.fill_payload.ensures.over (λ e. other (sym same ∙ e)) in
+    (over.0, over.1, over.2 ∙ same)
+
+pub returns-clause-hand : goal.returns-clause-hand
+returns-clause-hand g c = λ some.
+    absurd (some (sym (ap (λ f. f.left) c.self.view_is) ∙ drop_all c.self.inside.at c.self.inside.frame (let size = c.self.invariant.1 in omega arith)))
