@@ -120,7 +120,7 @@ line_dead first now packets packet count dead h =
 -- no line is held
 pub none_held : (first now : OutView) (packets : List (List ℕ)) (held : HeldView) → NoneHeld held → LinesSent first now packets held.packets → LinesHeld first now packets held
 unfolding hex_text
-none_held first now packets held none h = record { gone = packets; waiting = []; parts = append-nil packets; sent = h; text = none.text; count = none.count; dead = λ _. refl }
+none_held first now packets held none h = record { due = packets; waiting = []; parts = append-nil packets; sent = h; text = none.text; count = none.count; dead = λ _. refl }
 
 -- for a dead place none is
 pub held_dead : (first now : OutView) (packets : List (List ℕ)) (packet : List ℕ) (held : HeldView) → now.state ≡ Dead → LinesHeld first now packets held → LinesHeld first now (packets ++ packet ∷ []) held
@@ -128,16 +128,16 @@ unfolding hex_text
 held_dead first now packets packet held dead h =
     let none = h.dead dead in
     let P : List (List ℕ) → Type 0 = λ ps. LinesSent first now ps held.packets in
-    let sent : LinesSent first now packets held.packets = subst P (sym (append-nil h.gone) ∙ ap (λ ps. h.gone ++ ps) (sym none) ∙ h.parts) h.sent in
+    let sent : LinesSent first now packets held.packets = subst P (sym (append-nil h.due) ∙ ap (λ ps. h.due ++ ps) (sym none) ∙ h.parts) h.sent in
     none_held first now (packets ++ packet ∷ []) held (record { text = h.text ∙ ap hex_text none; count = h.count ∙ ap length none }) (line_dead first now packets packet held.packets dead sent)
 
 -- and for any other each
 pub held_more : (first now : OutView) (packets : List (List ℕ)) (packet : List ℕ) (old new : HeldView) → is_dead now.state ≡ false → new.text ≡ old.text ++ packet_line packet → new.count ≡ old.count + 1 → new.packets ≡ old.packets
     → LinesHeld first now packets old → LinesHeld first now (packets ++ packet ∷ []) new
 held_more first now packets packet old new alive text count same h = record {
-  gone = h.gone;
+  due = h.due;
   waiting = h.waiting ++ packet ∷ [];
-  parts = sym (append_assoc h.gone h.waiting (packet ∷ [])) ∙ ap (λ ps. ps ++ packet ∷ []) h.parts;
+  parts = sym (append_assoc h.due h.waiting (packet ∷ [])) ∙ ap (λ ps. ps ++ packet ∷ []) h.parts;
   sent = rw same h.sent;
   text = text ∙ ap (λ t. t ++ packet_line packet) h.text ∙ sym (text-more h.waiting packet);
   count = count ∙ ap (λ n. n + 1) h.count ∙ sym (length-append h.waiting (packet ∷ []));
@@ -184,12 +184,12 @@ live_flushed first old new packets held r n more live state gained writing whole
         rest = drop n held.text;
         parts =
             append_assoc was.went part (drop n held.text) ∙ ap (λ text. was.went ++ text) (take-append-drop n held.text ∙ h.text)
-            ∙ ap (λ w. w ++ hex_text h.waiting) (all_gone first old (hex_text h.gone) was live) ∙ sym (text-append h.gone h.waiting) ∙ ap hex_text h.parts;
+            ∙ ap (λ w. w ++ hex_text h.waiting) (all_gone first old (hex_text h.due) was live) ∙ sym (text-append h.due h.waiting) ∙ ap hex_text h.parts;
         gained = gained_twice first old new was.went part was.gained gained;
         whole = rest_none r new.state held.text n writing state;
       };
       counted =
-          ap (λ m. min (m + more) (2 ^ 64 - 1)) (h.sent.counted ∙ ap saturated (counts_went first.state h.gone was.went some)) ∙ more_counted (whole_lines was.went) more
+          ap (λ m. min (m + more) (2 ^ 64 - 1)) (h.sent.counted ∙ ap saturated (counts_went first.state h.due was.went some)) ∙ more_counted (whole_lines was.went) more
           ∙ ap saturated (
           ap (λ m. whole_lines was.went + m) (lines_gone r held.text h.waiting n held.count more writing whole lost h.text h.count)
           ∙ sym (lines-append was.went part) ∙ sym (counts_went first.state packets (was.went ++ part) some)
@@ -205,22 +205,22 @@ empty_flushed first now packets held more empty e h =
       sent = record {
         went = was.went;
         rest = was.rest ++ hex_text h.waiting;
-        parts = sym (append_assoc was.went was.rest (hex_text h.waiting)) ∙ ap (λ x. x ++ hex_text h.waiting) was.parts ∙ sym (text-append h.gone h.waiting) ∙ ap hex_text h.parts;
+        parts = sym (append_assoc was.went was.rest (hex_text h.waiting)) ∙ ap (λ x. x ++ hex_text h.waiting) was.parts ∙ sym (text-append h.due h.waiting) ∙ ap hex_text h.parts;
         gained = was.gained;
         whole = λ alive. absurd (empty_not_live (sym empty ∙ alive));
       };
       counted =
-          ap (λ m. min (m + more) (2 ^ 64 - 1)) (h.sent.counted ∙ ap saturated (counts_all first.state h.gone was.went none)) ∙ more_counted (length h.gone) more
-          ∙ ap saturated (ap (λ m. length h.gone + m) (e ∙ h.count) ∙ sym (length-append h.gone h.waiting) ∙ ap length h.parts ∙ sym (counts_all first.state packets was.went none));
+          ap (λ m. min (m + more) (2 ^ 64 - 1)) (h.sent.counted ∙ ap saturated (counts_all first.state h.due was.went none)) ∙ more_counted (length h.due) more
+          ∙ ap saturated (ap (λ m. length h.due + m) (e ∙ h.count) ∙ sym (length-append h.due h.waiting) ∙ ap length h.parts ∙ sym (counts_all first.state packets was.went none));
     }
 
 -- for a dead one nothing was held
 dead_flushed : (first now : OutView) (packets : List (List ℕ)) (held : HeldView) (more : ℕ) → now.state ≡ Dead → more ≡ held.count → LinesHeld first now packets held → LinesSent first now packets (min (held.packets + more) (2 ^ 64 - 1))
 dead_flushed first now packets held more dead e h =
     let none = h.dead dead in
-    let same : h.gone ≡ packets = sym (append-nil h.gone) ∙ ap (λ ps. h.gone ++ ps) (sym none) ∙ h.parts in
+    let same : h.due ≡ packets = sym (append-nil h.due) ∙ ap (λ ps. h.due ++ ps) (sym none) ∙ h.parts in
     let P : List (List ℕ) → Type 0 = λ ps. LinesSent first now ps (min (held.packets + more) (2 ^ 64 - 1)) in
-    let count = counted_packets first.state h.gone h.sent.sent.went in
+    let count = counted_packets first.state h.due h.sent.sent.went in
     subst P same (record {
       sent = h.sent.sent;
       counted = ap (λ m. min (held.packets + m) (2 ^ 64 - 1)) (e ∙ h.count ∙ ap length none) ∙ ap (λ m. min (m + 0) (2 ^ 64 - 1)) h.sent.counted ∙ more_counted count 0 ∙ ap saturated (n_plus_0 count);

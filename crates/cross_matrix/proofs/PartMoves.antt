@@ -1,5 +1,5 @@
 -- The moves of the parts of a pipe.
-use Rattle.std.proofs.Common.{◌≡◌, ◌≢◌, ◌+◌, ◌∙◌, ℕ, suc, Bool, false, List, [], ◌∷◌, ◌++◌, length, Option, refl, sym, ap, subst, length-append}
+use Rattle.std.proofs.Common.{◌≡◌, ◌≢◌, ◌+◌, ◌-◌, ◌∙◌, ℕ, suc, Bool, false, List, [], ◌∷◌, ◌++◌, length, take, drop, slice_range, Option, arith, refl, sym, ap, subst, length-append}
 use Rattle.std.specs.Prelude.{option_map}
 use Rattle.maintenance_signals.specs.Given.{StreamPlace, HasGiven}
 use Rattle.maintenance_signals.specs.declared.signal.Signal.{Signal}
@@ -8,6 +8,7 @@ use Rattle.odu_client.specs.ClientInput.{ClientInput, input_of, input_emits, emi
 use Rattle.odu_client.specs.Framing.{FramerState, ClientStands, Fills, MayDie}
 use Rattle.odu_client.specs.FramerSteps.{fresh_framer}
 use Rattle.otn_ports.specs.Views.{InView}
+use Rattle.otn_ports.proofs.Lists.{take_all}
 use Rattle.packet_text.specs.LinesStand.{LinesView, lines_view, fresh_lines, MayBe}
 use Rattle.otn_base.specs.Counts.{saturated}
 use Rattle.packet_text.specs.PacketText.{packets_of}
@@ -19,6 +20,7 @@ use Rattle.plan_file.specs.declared.connection.FromEnd.{FromEnd}
 use Rattle.plan_file.specs.declared.connection.FromEnd.TheVariants as from_end
 use Rattle.plan_file.specs.declared.connection.ToEnd.{ToEnd}
 use Rattle.plan_file.specs.declared.connection.ToEnd.TheVariants as to_end
+use Rattle.otn_base.specs.Bursts.{BurstView}
 use Rattle.otn_base.specs.LineSlots.{LineSlots}
 use Rattle.trib_sink.specs.Sink.{Sink, StandsAfter as SinkStands, ended_view}
 use Rattle.trib_source.specs.Source.{Source, StandsAfter as SourceStands}
@@ -32,6 +34,16 @@ use Rattle.cross_matrix.specs.declared.taking.ClientText.{ClientText}
 use Rattle.cross_matrix.specs.declared.taking.TakingPart.{TakingPart}
 use Rattle.cross_matrix.specs.declared.taking.TakingPart.TheVariants as taking
 use Rattle.cross_matrix.specs.declared.giving.GivingPart.TheVariants as giving
+
+-- ---- from a buffer
+
+-- the front of a buffer, which the burst then has
+pub front_of : (count len : ℕ) (all items : List ℕ) (burst : BurstView) (r : ℕ) → burst ≡ record { bytes = slice_range (take len (all ++ drop (length all) items)) 0 count; room = r }
+    → length all ≡ len → burst.bytes ≡ take count all
+front_of count len all items burst r is whole =
+    let from_0 : count - 0 ≡ count = omega arith in
+    let front : take (count - 0) all ≡ take count all = rw from_0 refl in
+    ap (λ (b : BurstView). b.bytes) is ∙ ap (λ (bytes : List ℕ). slice_range bytes 0 count) (take_all len all (drop (length all) items) whole) ∙ front
 
 -- ---- from a line
 
@@ -62,28 +74,26 @@ line_ended a port slots x shows j whole frames old new step h e =
 
 -- ---- from a signal
 
-pub signal_went_on : (from : FromEnd) (x : Connection) (input : OwnInput) (j count : ℕ) (ended : Bool) (old new : StreamPlace) → count ≡ pace_of x.pace j
-    → ((signal : Signal) (given : ℕ) → HasGiven signal given old → HasGiven signal (given + count) new)
-    → TakingStands from x input j [] ended (taking.Signal old) → TakingStands from x input (suc j) [] false (taking.Signal new)
-unfolding emitted_before
-signal_went_on (from_end.Line a port slots) x (of_line shows) j count ended old new e step h = absurd h
-signal_went_on (from_end.Line a port slots) x (of_client input) j count ended old new e step h = absurd h
-signal_went_on (from_end.Line a port slots) x of_signal j count ended old new e step h = absurd h
-signal_went_on (from_end.Client n) x (of_line shows) j count ended old new e step h = absurd h
-signal_went_on (from_end.Client n) x (of_client input) j count ended old new e step h = absurd h
-signal_went_on (from_end.Client n) x of_signal j count ended old new e step h = absurd h
-signal_went_on (from_end.Signal signal) x (of_line shows) j count ended old new e step h = absurd h
-signal_went_on (from_end.Signal signal) x (of_client input) j count ended old new e step h = absurd h
-signal_went_on (from_end.Signal signal) x of_signal j count ended old new e step h =
-    subst (λ k. HasGiven signal (emitted_before x.pace j + k) new) e (step signal (emitted_before x.pace j) h)
+-- what holds of the end and the input of a signal whose stream stands so, holds wherever its part stands
+pub on_signal : (P : FromEnd → OwnInput → Type 0) (from : FromEnd) (x : Connection) (input : OwnInput) (j : ℕ) (frames : List Taken) (ended : Bool) (old : StreamPlace)
+    → ((signal : Signal) → HasGiven signal (emitted_before x.pace j) old → P (from_end.Signal signal) of_signal) → TakingStands from x input j frames ended (taking.Signal old) → P from input
+on_signal P (from_end.Line a port slots) x (of_line shows) j frames ended old holds h = absurd h
+on_signal P (from_end.Line a port slots) x (of_client input) j frames ended old holds h = absurd h
+on_signal P (from_end.Line a port slots) x of_signal j frames ended old holds h = absurd h
+on_signal P (from_end.Client n) x (of_line shows) j frames ended old holds h = absurd h
+on_signal P (from_end.Client n) x (of_client input) j frames ended old holds h = absurd h
+on_signal P (from_end.Client n) x of_signal j frames ended old holds h = absurd h
+on_signal P (from_end.Signal signal) x (of_line shows) j frames ended old holds h = absurd h
+on_signal P (from_end.Signal signal) x (of_client input) j frames ended old holds h = absurd h
+on_signal P (from_end.Signal signal) x of_signal j frames ended old holds h = holds signal h
 
-pub signal_from : (from : FromEnd) (x : Connection) (count : ℕ) (old new : StreamPlace) → ((signal : Signal) (given : ℕ) → HasGiven signal given old → HasGiven signal (given + count) new)
+pub signal_from : (from : FromEnd) (x : Connection) (count : ℕ) (old new : StreamPlace) → ((signal : Signal) (emitted : ℕ) → HasGiven signal emitted old → HasGiven signal (emitted + count) new)
     → TakesFrom from x (taking.Signal old) → TakesFrom from x (taking.Signal new)
 signal_from (from_end.Line a port slots) x count old new step h = absurd h
 signal_from (from_end.Client n) x count old new step h = absurd h
 signal_from (from_end.Signal signal) x count old new step h = (h.0 + count, step signal h.0 h.1)
 
-pub signal_restarted : (from : FromEnd) (x : Connection) (input : OwnInput) (old new : StreamPlace) → ((signal : Signal) (given : ℕ) → HasGiven signal given old → HasGiven signal 0 new)
+pub signal_restarted : (from : FromEnd) (x : Connection) (input : OwnInput) (old new : StreamPlace) → ((signal : Signal) (emitted : ℕ) → HasGiven signal emitted old → HasGiven signal 0 new)
     → TakesFrom from x (taking.Signal old) → IsInputOf from input → TakingStands from x input 0 [] false (taking.Signal new)
 unfolding emitted_before
 signal_restarted (from_end.Line a port slots) x input old new step h of = absurd h
@@ -99,14 +109,14 @@ pub text_restarted : (x : Connection) (first : InView) (trace : List ℕ) (fcs :
     → TextStands x first first [] 0 (record { framer = framer; lines = lines; trace = trace; fcs = fcs })
 unfolding emitted_before
 text_restarted x first trace fcs lines framer trace_is fcs_is fresh framed stands = record {
-  gone = [];
+  emitted = [];
   count = refl;
   stands = subst (λ view. ClientStands first first [] [] view framer) (sym fresh) stands;
   sapi = ap (λ (f : FramerState). f.sapi) framed ∙ trace_is;
   fcs = ap (λ (f : FramerState). f.stream.fcs) framed ∙ fcs_is;
 }
 
--- what a place may turn out to be once more was taken, it might be before
+-- what a place may turn out to be once more was read, it might be before
 may_die : (old new : LinesView) (answer : Line) (died : Bool) → answer ≡ old.answer → (answer ≢ line.Packet → new ≡ old) → MayDie new.answer died → MayDie old.answer died
 may_die old new answer died same over h = record {
   ended = λ e. h.ended (ap (λ (l : LinesView). l.answer) (over (λ p. cc)) ∙ e);
@@ -121,7 +131,7 @@ pub emits_part : (x : Connection) (input : ClientInput) (n : ℕ) → stream_par
 unfolding input_emits
 emits_part x input n = refl
 
-emitted_next : (paces : List ℕ) (n : ℕ) → emitted_before paces (suc n) ≡ emitted_before paces n + pace_of paces n
+pub emitted_next : (paces : List ℕ) (n : ℕ) → emitted_before paces (suc n) ≡ emitted_before paces n + pace_of paces n
 unfolding emitted_before
 emitted_next paces n = refl
 
@@ -129,57 +139,57 @@ emitted_next paces n = refl
 abbrev text_part : (framer : FramerState) (lines : PacketLines) (old : ClientText) → TakingPart
 text_part framer lines old = taking.Client (record { framer = framer; lines = lines; trace = old.trace; fcs = old.fcs })
 
-pub text_took : (x : Connection) (first was now : InView) (taken : List ℕ) (n count : ℕ) (old : ClientText) (lines : PacketLines) (framer : FramerState) (bytes : List ℕ)
+pub text_took : (x : Connection) (first was now : InView) (read : List ℕ) (n count : ℕ) (old : ClientText) (lines : PacketLines) (framer : FramerState) (bytes : List ℕ)
     → count ≡ pace_of x.pace n → length bytes ≡ count → (old.framer.stream.answer ≢ line.Packet → lines ≡ old.lines)
-    → ((taken gone : List ℕ) → ClientStands first was taken gone (lines_view old.lines) old.framer → Fills first now taken gone bytes (lines_view old.lines) (lines_view lines) old.framer framer)
-    → TextStands x first was taken n old
-    → TextTook x first now taken n (taking.Client old) (text_part framer lines old) bytes
-text_took x first was now taken n count old lines framer bytes pace size over fills h =
-    let f = fills taken h.gone h.stands in
+    → ((read emitted : List ℕ) → ClientStands first was read emitted (lines_view old.lines) old.framer → Fills first now read emitted bytes (lines_view old.lines) (lines_view lines) old.framer framer)
+    → TextStands x first was read n old
+    → TextTook x first now read n (taking.Client old) (text_part framer lines old) bytes
+text_took x first was now read n count old lines framer bytes pace size over fills h =
+    let f = fills read h.emitted h.stands in
     record {
       more = f.came;
       stands = record {
-        gone = h.gone ++ bytes;
-        count = length-append h.gone bytes ∙ ap (λ k. k + length bytes) h.count ∙ ap (λ k. emitted_before x.pace n + k) (size ∙ pace) ∙ sym (emitted_next x.pace n);
+        emitted = h.emitted ++ bytes;
+        count = length-append h.emitted bytes ∙ ap (λ k. k + length bytes) h.count ∙ ap (λ k. emitted_before x.pace n + k) (size ∙ pace) ∙ sym (emitted_next x.pace n);
         stands = f.stands;
         sapi = f.sapi ∙ h.sapi;
         fcs = f.fcs ∙ h.fcs;
       };
       earlier = earlier f.came f.earlier;
       emitted = λ input m. f.emitted m.text m.may
-          ∙ same_part old.framer.sapi x.trace (packets_of m.text).packets input.packets old.framer.stream.fcs x.fcs (length h.gone) (emitted_before x.pace n) (length bytes) (pace_of x.pace n)
+          ∙ same_part old.framer.sapi x.trace (packets_of m.text).packets input.packets old.framer.stream.fcs x.fcs (length h.emitted) (emitted_before x.pace n) (length bytes) (pace_of x.pace n)
           h.sapi (ap (λ (i : ClientInput). i.packets) (sym m.is)) h.fcs h.count (size ∙ pace)
           ∙ emits_part x input n;
     }
   where
-    earlier : (came : List ℕ) → ((text : List ℕ) → MayBe (lines_view lines) (taken ++ came) text → MayBe (lines_view old.lines) taken text) → (input : OwnInput)
-        → MayShow (text_part framer lines old) (taken ++ came) input → MayShow (taking.Client old) taken input
-    earlier came before (of_line shows) m = absurd m
-    earlier came before (of_client input) m = record {
+    earlier : (more : List ℕ) → ((text : List ℕ) → MayBe (lines_view lines) (read ++ more) text → MayBe (lines_view old.lines) read text) → (input : OwnInput)
+        → MayShow (text_part framer lines old) (read ++ more) input → MayShow (taking.Client old) read input
+    earlier more before (of_line shows) m = absurd m
+    earlier more before (of_client input) m = record {
       died = m.died;
       text = m.text;
       may = before m.text m.may;
       die = may_die (lines_view old.lines) (lines_view lines) old.framer.stream.answer m.died h.stands.text.answer (λ other. ap lines_view (over other)) m.die;
       is = m.is;
     }
-    earlier came before of_signal m = absurd m
+    earlier more before of_signal m = absurd m
 
-pub text_counted : (x : Connection) (first now : InView) (taken : List ℕ) (n : ℕ) (input : ClientInput) (client : ClientText) (packets : ℕ) (spent : Bool) (bad : Option ℕ)
-    → ((gone text : List ℕ) → ClientStands first now taken gone (lines_view client.lines) client.framer → MayBe (lines_view client.lines) taken text
-    → packets ≡ saturated (packets_begun (packets_of text).packets client.framer.stream.fcs (length gone)))
-    → ((gone : List ℕ) (died : Bool) (text : List ℕ) → ClientStands first now taken gone (lines_view client.lines) client.framer → MayBe (lines_view client.lines) taken text
-    → MayDie (lines_view client.lines).answer died → spent ≡ is_spent (input_of died text) client.framer.stream.fcs (length gone))
-    → ((gone : List ℕ) (died : Bool) (text : List ℕ) → ClientStands first now taken gone (lines_view client.lines) client.framer → MayBe (lines_view client.lines) taken text
-    → MayDie (lines_view client.lines).answer died → bad ≡ option_map saturated (bad_line (input_of died text) client.framer.stream.fcs (length gone)))
-    → TextStands x first now taken n client → MayTell (lines_view client.lines) taken input
+pub text_counted : (x : Connection) (first now : InView) (read : List ℕ) (n : ℕ) (input : ClientInput) (client : ClientText) (packets : ℕ) (spent : Bool) (bad : Option ℕ)
+    → ((emitted text : List ℕ) → ClientStands first now read emitted (lines_view client.lines) client.framer → MayBe (lines_view client.lines) read text
+    → packets ≡ saturated (packets_begun (packets_of text).packets client.framer.stream.fcs (length emitted)))
+    → ((emitted : List ℕ) (died : Bool) (text : List ℕ) → ClientStands first now read emitted (lines_view client.lines) client.framer → MayBe (lines_view client.lines) read text
+    → MayDie (lines_view client.lines).answer died → spent ≡ is_spent (input_of died text) client.framer.stream.fcs (length emitted))
+    → ((emitted : List ℕ) (died : Bool) (text : List ℕ) → ClientStands first now read emitted (lines_view client.lines) client.framer → MayBe (lines_view client.lines) read text
+    → MayDie (lines_view client.lines).answer died → bad ≡ option_map saturated (bad_line (input_of died text) client.framer.stream.fcs (length emitted)))
+    → TextStands x first now read n client → MayTell (lines_view client.lines) read input
     → ◌≡◌ {A = ℕ × Bool × Option ℕ} (packets, spent, bad)
     (saturated (packets_begun input.packets x.fcs (emitted_before x.pace n)), is_spent input x.fcs (emitted_before x.pace n), option_map saturated (bad_line input x.fcs (emitted_before x.pace n)))
-text_counted x first now taken n input client packets spent bad p s b h m =
+text_counted x first now read n input client packets spent bad p s b h m =
     let fcs = client.framer.stream.fcs in
-    let gone = length h.gone in
+    let emitted = length h.emitted in
     let i = input_of m.died m.text in
-    pair (p h.gone m.text h.stands m.may) (s h.gone m.died m.text h.stands m.may m.die) (b h.gone m.died m.text h.stands m.may m.die)
-    ∙ ap (λ f. all i f gone) h.fcs ∙ ap (all i x.fcs) h.count ∙ ap (λ j. all j x.fcs (emitted_before x.pace n)) (sym m.is)
+    pair (p h.emitted m.text h.stands m.may) (s h.emitted m.died m.text h.stands m.may m.die) (b h.emitted m.died m.text h.stands m.may m.die)
+    ∙ ap (λ f. all i f emitted) h.fcs ∙ ap (all i x.fcs) h.count ∙ ap (λ j. all j x.fcs (emitted_before x.pace n)) (sym m.is)
   where
     all : ClientInput → Bool → ℕ → ℕ × Bool × Option ℕ
     all j f k = (saturated (packets_begun j.packets f k), is_spent j f k, option_map saturated (bad_line j f k))

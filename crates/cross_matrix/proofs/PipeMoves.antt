@@ -52,10 +52,10 @@ own_pace x pipe turn j count h at e =
 
 -- ---- a client was taken
 
-pub client_took : (x : Connection) (first now : InView) (taken : List ℕ) (j : ℕ) (old : PipeView) (part : TakingPart) (bytes : List ℕ) → IsOfClient old.taking → IsPipeOf x old
-    → (TakesFrom x.from x old.taking → TakesFrom x.from x part) → TextTook x first now taken j old.taking part bytes
-    → ClientTook x first now taken j old (record { taking = part; giving = old.giving; paces = old.paces; start = old.start; slots = old.slots; came = bytes; gives = old.gives })
-client_took x first now taken j old part bytes client entry from took = record {
+pub client_took : (x : Connection) (first now : InView) (read : List ℕ) (j : ℕ) (old : PipeView) (part : TakingPart) (bytes : List ℕ) → IsOfClient old.taking → IsPipeOf x old
+    → (TakesFrom x.from x old.taking → TakesFrom x.from x part) → TextTook x first now read j old.taking part bytes
+    → ClientTook x first now read j old (record { taking = part; giving = old.giving; paces = old.paces; start = old.start; slots = old.slots; came = bytes; gives = old.gives })
+client_took x first now read j old part bytes client entry from took = record {
   more = took.more;
   stands = took.stands;
   earlier = took.earlier;
@@ -69,7 +69,7 @@ client_took x first now taken j old part bytes client entry from took = record {
 }
   where
     given : (from : FromEnd) (was is : TakingPart) (input : OwnInput) (frames : List Taken) → x.from ≡ from → IsOfClient was → TakesFrom from x is → TakingStands from x input j frames false was
-        → ((i : ClientInput) → MayShow is (taken ++ took.more) (of_client i) → bytes ≡ input_emits x.trace x.fcs x.pace i j) → MayShow is (taken ++ took.more) input
+        → ((i : ClientInput) → MayShow is (read ++ took.more) (of_client i) → bytes ≡ input_emits x.trace x.fcs x.pace i j) → MayShow is (read ++ took.more) input
         → TakingStands from x input j frames true is × (bytes ≡ emits_by from x input j)
     given from (taking.Line sink) is input frames e client takes h emitted may = absurd client
     given from (taking.Signal stream) is input frames e client takes h emitted may = absurd client

@@ -94,38 +94,38 @@ same_read : (xs ys : List ℕ) (reader : ReaderState) → xs ≡ ys → HasRead 
 same_read xs ys reader e h = let P : List ℕ → Type 0 = λ x. HasRead x reader in subst P e h
 
 -- the run that is open is read on
-pub goes_on : (first now : OutView) (came : List Arrival) (reader : ReaderState) (held : HeldView) → AllRead first now came reader held → RunRead first now (flat_map delivered (before came)) (open_run came) reader held
-goes_on first now came reader held h = record { read = h.read; lines = same_lines first now (flat_map delivered (runs_of came)) (flat_map delivered (before came) ++ delivered (open_run came)) held (delivered-same came) h.lines }
+pub goes_on : (first now : OutView) (arrived : List Arrival) (reader : ReaderState) (held : HeldView) → AllRead first now arrived reader held → RunRead first now (flat_map delivered (before arrived)) (open_run arrived) reader held
+goes_on first now arrived reader held h = record { has_read = h.read; lines = same_lines first now (flat_map delivered (runs_of arrived)) (flat_map delivered (before arrived) ++ delivered (open_run arrived)) held (delivered-same arrived) h.lines }
 
-pub whole_read : (first now : OutView) (came : List Arrival) (frame : List ℕ) (reader : ReaderState) (held : HeldView)
-    → RunRead first now (flat_map delivered (before came)) (open_run came ++ payload_of frame) reader held → AllRead first now (came ++ Handed frame ∷ []) reader held
-whole_read first now came frame reader held h = record {
-  read = same_read (open_run came ++ payload_of frame) (last_run (runs_of (came ++ Handed frame ∷ []))) reader (sym (ap last_run (runs-handed came frame) ∙ last-append (before came) (open_run came ++ payload_of frame))) h.read;
-  lines = same_lines first now (flat_map delivered (before came) ++ delivered (open_run came ++ payload_of frame)) (flat_map delivered (runs_of (came ++ Handed frame ∷ []))) held (sym (delivered-handed came frame)) h.lines;
+pub whole_read : (first now : OutView) (arrived : List Arrival) (frame : List ℕ) (reader : ReaderState) (held : HeldView)
+    → RunRead first now (flat_map delivered (before arrived)) (open_run arrived ++ payload_of frame) reader held → AllRead first now (arrived ++ Handed frame ∷ []) reader held
+whole_read first now arrived frame reader held h = record {
+  read = same_read (open_run arrived ++ payload_of frame) (last_run (runs_of (arrived ++ Handed frame ∷ []))) reader (sym (ap last_run (runs-handed arrived frame) ∙ last-append (before arrived) (open_run arrived ++ payload_of frame))) h.has_read;
+  lines = same_lines first now (flat_map delivered (before arrived) ++ delivered (open_run arrived ++ payload_of frame)) (flat_map delivered (runs_of (arrived ++ Handed frame ∷ []))) held (sym (delivered-handed arrived frame)) h.lines;
 }
 
 -- a break begins a run
-pub break_read : (first now : OutView) (came : List Arrival) (old new : ReaderState) (held : HeldView) → HasRead [] new → AllRead first now came old held → AllRead first now (came ++ Broken ∷ []) new held
-break_read first now came old new held fresh h = record {
+pub break_read : (first now : OutView) (arrived : List Arrival) (old new : ReaderState) (held : HeldView) → HasRead [] new → AllRead first now arrived old held → AllRead first now (arrived ++ Broken ∷ []) new held
+break_read first now arrived old new held fresh h = record {
   read =
-      same_read [] (last_run (runs_of (came ++ Broken ∷ []))) new
-      (sym (ap last_run (runs-broken came) ∙ last-append (before came ++ open_run came ∷ []) [])) fresh;
-  lines = same_lines first now (flat_map delivered (runs_of came)) (flat_map delivered (runs_of (came ++ Broken ∷ []))) held (sym (delivered-broken came)) h.lines;
+      same_read [] (last_run (runs_of (arrived ++ Broken ∷ []))) new
+      (sym (ap last_run (runs-broken arrived) ∙ last-append (before arrived ++ open_run arrived ∷ []) [])) fresh;
+  lines = same_lines first now (flat_map delivered (runs_of arrived)) (flat_map delivered (runs_of (arrived ++ Broken ∷ []))) held (sym (delivered-broken arrived)) h.lines;
 }
 
 pub none_more : (first now : OutView) (packets : List (List ℕ)) (held : HeldView) → LinesHeld first now packets held → LinesHeld first now (packets ++ []) held
 none_more first now packets held = same_lines first now packets (packets ++ []) held (sym (append-nil packets))
 
 -- some bytes more of a run, which deliver these packets
-pub run_more : (first old new : OutView) (earlier : List (List ℕ)) (taken came : List ℕ) (packets : List (List ℕ)) (was is : ReaderState) (held kept : HeldView) → delivered (taken ++ came) ≡ delivered taken ++ packets → HasRead (taken ++ came) is
-    → (LinesHeld first old (earlier ++ delivered taken) held → LinesHeld first new ((earlier ++ delivered taken) ++ packets) kept) → RunRead first old earlier taken was held → RunRead first new earlier (taken ++ came) is kept
-run_more first old new earlier taken came packets was is held kept e read goes h = record {
-  read = read;
-  lines = same_lines first new ((earlier ++ delivered taken) ++ packets) (earlier ++ delivered (taken ++ came)) kept (append_assoc earlier (delivered taken) packets ∙ ap (λ ps. earlier ++ ps) (sym e)) (goes h.lines);
+pub run_more : (first old new : OutView) (earlier : List (List ℕ)) (read more : List ℕ) (packets : List (List ℕ)) (was is : ReaderState) (held kept : HeldView) → delivered (read ++ more) ≡ delivered read ++ packets → HasRead (read ++ more) is
+    → (LinesHeld first old (earlier ++ delivered read) held → LinesHeld first new ((earlier ++ delivered read) ++ packets) kept) → RunRead first old earlier read was held → RunRead first new earlier (read ++ more) is kept
+run_more first old new earlier read more packets was is held kept e has goes h = record {
+  has_read = has;
+  lines = same_lines first new ((earlier ++ delivered read) ++ packets) (earlier ++ delivered (read ++ more)) kept (append_assoc earlier (delivered read) packets ∙ ap (λ ps. earlier ++ ps) (sym e)) (goes h.lines);
 }
 
-pub run_same : (first now : OutView) (earlier : List (List ℕ)) (taken others : List ℕ) (reader : ReaderState) (held : HeldView) → taken ≡ others → RunRead first now earlier taken reader held → RunRead first now earlier others reader held
-run_same first now earlier taken others reader held e h = let P : List ℕ → Type 0 = λ x. RunRead first now earlier x reader held in subst P e h
+pub run_same : (first now : OutView) (earlier : List (List ℕ)) (read others : List ℕ) (reader : ReaderState) (held : HeldView) → read ≡ others → RunRead first now earlier read reader held → RunRead first now earlier others reader held
+run_same first now earlier read others reader held e h = let P : List ℕ → Type 0 = λ x. RunRead first now earlier x reader held in subst P e h
 
 -- ---- pieces of bytes, and rows of a frame
 
@@ -137,17 +137,17 @@ more_taken front bytes done k =
 pub all_taken : (front bytes : List ℕ) (done : ℕ) → done ≤ length bytes → ¬ (done < length bytes) → front ++ take done bytes ≡ front ++ bytes
 all_taken front bytes done within over = let e : done ≡ length bytes = omega arith in ap (λ bs. front ++ bs) (ap (λ n. take n bytes) e ∙ take-length bytes)
 
--- a piece of what is left was taken, and not more
+-- a piece of what is left was read, and not more
 pub piece_within : (bytes : List ℕ) (done k : ℕ) → done ≤ length bytes → k ≤ length (take (length bytes - done) (drop done bytes)) → done + k ≤ length bytes
 piece_within bytes done k within h = let e = ap length (take_rest bytes done) in let f = length-drop done bytes in omega arith
 
-four_rows : (taken a b c d : List ℕ) → taken ++ a ++ b ++ c ++ d ≡ taken ++ (a ++ b ++ c ++ d)
-four_rows taken a b c d = ap (λ x. x ++ d) (ap (λ x. x ++ c) (append_assoc taken a b) ∙ append_assoc taken (a ++ b) c) ∙ append_assoc taken (a ++ b ++ c) d
+four_rows : (read a b c d : List ℕ) → read ++ a ++ b ++ c ++ d ≡ read ++ (a ++ b ++ c ++ d)
+four_rows read a b c d = ap (λ x. x ++ d) (ap (λ x. x ++ c) (append_assoc read a b) ∙ append_assoc read (a ++ b) c) ∙ append_assoc read (a ++ b ++ c) d
 
-pub frame_read : (first now : OutView) (earlier : List (List ℕ)) (taken frame a b c d : List ℕ) (reader : ReaderState) (held : HeldView) → a ≡ payload_row_of 3824 1 frame → b ≡ payload_row_of 3824 2 frame
-    → c ≡ payload_row_of 3824 3 frame → d ≡ payload_row_of 3824 4 frame → RunRead first now earlier (taken ++ a ++ b ++ c ++ d) reader held → RunRead first now earlier (taken ++ payload_of frame) reader held
-frame_read first now earlier taken frame a b c d reader held ea eb ec ed h =
-    run_same first now earlier (taken ++ a ++ b ++ c ++ d) (taken ++ payload_of frame) reader held (four_rows taken a b c d ∙ rw (ea, eb, ec, ed) refl) h
+pub frame_read : (first now : OutView) (earlier : List (List ℕ)) (read frame a b c d : List ℕ) (reader : ReaderState) (held : HeldView) → a ≡ payload_row_of 3824 1 frame → b ≡ payload_row_of 3824 2 frame
+    → c ≡ payload_row_of 3824 3 frame → d ≡ payload_row_of 3824 4 frame → RunRead first now earlier (read ++ a ++ b ++ c ++ d) reader held → RunRead first now earlier (read ++ payload_of frame) reader held
+frame_read first now earlier read frame a b c d reader held ea eb ec ed h =
+    run_same first now earlier (read ++ a ++ b ++ c ++ d) (read ++ payload_of frame) reader held (four_rows read a b c d ∙ rw (ea, eb, ec, ed) refl) h
 
 -- ---- the receiver
 
@@ -214,16 +214,16 @@ pub all_read : (first now : OutView) (arrived : List ℕ) (aligner : AlignerStat
 unfolding arriving_packets
 all_read first now arrived aligner frames reader held h = record { read = h.read; lines = h.lines }
 
--- bytes came, and what arrived with them was read
-pub holds_more : (first old now : OutView) (arrived came frame : List ℕ) (r : Aligned) (was is : AlignerState) (before after : ℕ) (reader next : ReaderState) (held kept : HeldView) → AlignsBy arrived came r frame is → after ≡ frames_after before r
-    → AllRead first now (arrivals arrived ++ news r frame) next kept → HoldsAfter first old arrived was before reader held → HoldsAfter first now (arrived ++ came) is after next kept
+-- more bytes, and what arrived with them was read
+pub holds_more : (first old now : OutView) (arrived more frame : List ℕ) (r : Aligned) (was is : AlignerState) (before after : ℕ) (reader next : ReaderState) (held kept : HeldView) → AlignsBy arrived more r frame is → after ≡ frames_after before r
+    → AllRead first now (arrivals arrived ++ news r frame) next kept → HoldsAfter first old arrived was before reader held → HoldsAfter first now (arrived ++ more) is after next kept
 unfolding arriving_packets
-holds_more first old now arrived came frame r was is before after reader next held kept aligns frames all h =
+holds_more first old now arrived more frame r was is before after reader next held kept aligns frames all h =
     let P : List Arrival → Type 0 = λ xs. AllRead first now xs next kept in
     let read = subst P (sym aligns.arrived) all in
     record {
       aligned = aligns.aligned;
-      whole = frames ∙ frames_go_on arrived came frame r is before aligns h.whole;
+      whole = frames ∙ frames_go_on arrived more frame r is before aligns h.whole;
       read = read.read;
       lines = read.lines;
     }

@@ -1,5 +1,5 @@
 -- API: the parts of a connection: the one that takes from its input, and the one that gives to its output.
-use Rattle.std.specs.Prelude.{◌≡◌, ◌≢◌, ⊤, ℕ, suc, Bool, true, false, if◌then◌else◌, List, length, IsSome}
+use Rattle.std.specs.Prelude.{◌≡◌, ◌≢◌, ⊤, ℕ, suc, Bool, true, false, if◌then◌else◌, List, [], ◌∷◌, ◌++◌, length, IsSome}
 use Rattle.maintenance_signals.specs.Given.{HasGiven}
 use Rattle.odu_client.specs.ClientInput.{ClientInput, input_of, emitted_before}
 use Rattle.odu_client.specs.Framing.{ClientStands, MayDie}
@@ -30,7 +30,7 @@ use Rattle.cross_matrix.specs.declared.giving.GivingPart.TheVariants as giving
 abbrev pub TakesFrom : FromEnd → Connection → TakingPart → Type 0
 TakesFrom (from_end.Line a port slots) x (taking.Line sink) = (sink.slots ≡ slots) × (sink.port ≡ port)
 TakesFrom (from_end.Client n) x (taking.Client client) = (client.trace ≡ x.trace) × (client.fcs ≡ x.fcs)
-TakesFrom (from_end.Signal signal) x (taking.Signal stream) = (given : ℕ) × HasGiven signal given stream
+TakesFrom (from_end.Signal signal) x (taking.Signal stream) = (emitted : ℕ) × HasGiven signal emitted stream
 TakesFrom from x other = ⊥
 
 -- the part gives what goes to this end
@@ -91,6 +91,25 @@ IsTextOver (taking.Signal stream) = ⊥
 abbrev pub turns_taken : (j : ℕ) → (ended : Bool) → ℕ
 turns_taken j ended = if ended then suc j else j
 
+-- How far the taking part of a pipe is: the entry of its connection, what its own input shows, which own turn it is in,
+-- from 0, the frames of a line that were taken in it, and whether its own part of the turn has ended.
+pub record Progress : Type 0 where
+  pub entry : Connection
+  pub input : OwnInput
+  pub turn : ℕ
+  pub frames : List Taken
+  pub ended : Bool
+
+-- one frame more of the line; its turn has ended; or the next own turn
+abbrev pub and_frame : Taken → Progress → Progress
+and_frame frame at = record at { frames = at.frames ++ frame ∷ [] }
+
+abbrev pub line_over : Progress → Progress
+line_over at = record at { frames = []; ended = true }
+
+abbrev pub next_turn : Progress → Progress
+next_turn at = record at { turn = suc at.turn; frames = []; ended = false }
+
 -- The taking part in own turn j, of which these frames of a line were taken: what it has of a client's text is told
 -- with its place.
 abbrev pub TakingStands : FromEnd → Connection → OwnInput → (j : ℕ) → (frames : List Taken) → (ended : Bool)
@@ -112,36 +131,42 @@ GivingStands to x input j filled other = ⊥
 
 -- ---- with the place of a client
 
--- A client's text, of which these bytes were taken between two views of its place, has emitted what the first n own
+-- A client's text, of which these bytes were read between two views of its place, has emitted what the first n own
 -- turns ask.
-pub record TextStands (x : Connection) (first now : InView) (taken : List ℕ) (n : ℕ)
+pub record TextStands (x : Connection) (first now : InView) (read : List ℕ) (n : ℕ)
     (client : ClientText) : Type 0 where
-  pub gone : List ℕ
-  pub count : length gone ≡ emitted_before x.pace n
-  pub stands : ClientStands first now taken gone (lines_view client.lines) client.framer
+  pub emitted : List ℕ
+  pub count : length emitted ≡ emitted_before x.pace n
+  pub stands : ClientStands first now read emitted (lines_view client.lines) client.framer
   pub sapi : client.framer.sapi ≡ x.trace
   pub fcs : client.framer.stream.fcs ≡ x.fcs
 
 -- the same of the part that takes from a client
-abbrev pub ClientInStands : Connection → (first now : InView) → (taken : List ℕ) → (n : ℕ) → TakingPart → Type 0
-ClientInStands x first now taken n (taking.Client client) = TextStands x first now taken n client
-ClientInStands x first now taken n (taking.Line sink) = ⊥
-ClientInStands x first now taken n (taking.Signal stream) = ⊥
+abbrev pub ClientInStands : Connection → (first now : InView) → (read : List ℕ) → (n : ℕ) → TakingPart → Type 0
+ClientInStands x first now read n (taking.Client client) = TextStands x first now read n client
+ClientInStands x first now read n (taking.Line sink) = ⊥
+ClientInStands x first now read n (taking.Signal stream) = ⊥
 
--- the packets of a client, and how they end, that lines of which these bytes were taken may turn out to tell
-pub record MayTell (lines : LinesView) (taken : List ℕ) (input : ClientInput) : Type 0 where
+-- the packets of a client, and how they end, that lines of which these bytes were read may turn out to tell
+pub record MayTell (lines : LinesView) (read : List ℕ) (input : ClientInput) : Type 0 where
   pub died : Bool
   pub text : List ℕ
-  pub may : MayBe lines taken text
+  pub may : MayBe lines read text
   pub die : MayDie lines.answer died
   pub is : input ≡ input_of died text
 
--- what a connection's own input may turn out to show, where these bytes were taken of a client
-abbrev pub MayShow : TakingPart → (taken : List ℕ) → OwnInput → Type 0
-MayShow (taking.Line sink) taken (of_line shows) = ⊤
-MayShow (taking.Client client) taken (of_client input) = MayTell (lines_view client.lines) taken input
-MayShow (taking.Signal stream) taken of_signal = ⊤
-MayShow other taken input = ⊥
+-- what a connection's own input may turn out to show, where these bytes were read of a client
+abbrev pub MayShow : TakingPart → (read : List ℕ) → OwnInput → Type 0
+MayShow (taking.Line sink) read (of_line shows) = ⊤
+MayShow (taking.Client client) read (of_client input) = MayTell (lines_view client.lines) read input
+MayShow (taking.Signal stream) read of_signal = ⊤
+MayShow other read input = ⊥
+
+-- What holds of a part that takes from a client, wherever it stands: of the entry, of each input that the client may
+-- turn out to be, and of how many own turns were taken.
+abbrev pub OfItsClient : TakingPart → ((x : Connection) → (input : ClientInput) → (n : ℕ) → Type 0) → Type 0
+OfItsClient part Holds = (x : Connection) (first now : InView) (read : List ℕ) (n : ℕ) (input : ClientInput)
+    → ClientInStands x first now read n part → MayShow part read (of_client input) → Holds x input n
 
 -- what the first n own turns gave has arrived at a client, and its text was due to the place
 abbrev pub ClientOutStands : Connection → OwnInput → (first now : OutView) → (n : ℕ) → GivingPart → Type 0

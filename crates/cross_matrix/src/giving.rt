@@ -15,7 +15,6 @@ ghost use Rattle.cross_matrix.specs.InTurn.{some_if, next_filled};
 ghost use Rattle.cross_matrix.specs.Receiving.{ReceiverStands};
 ghost use Rattle.cross_matrix.specs.Parts.{OnSource, OnReceiver, IsToClient, GivesTo, GivesSlots, GivingStands, frames_filled, IsBegun, IsReceived};
 
-use crate::burst::give_turn;
 use crate::receiver::Receiver;
 use odtu_columns::FillFrame;
 use otn_base::Burst;
@@ -100,7 +99,12 @@ impl GivingPart {
         ensures room_stays { gives.new.room ≡ gives.old.room }
     {
         match self {
-            GivingPart::Line(source) => give_turn(gives, source),
+            GivingPart::Line(source) => {
+                let (mut buffer, bytes) = gives.hand_out();
+                let count = (bytes.end - bytes.start).min(source.room());
+                source.take_over(&mut buffer, bytes.start..bytes.start + count);
+                gives.exchange(&mut buffer, 0..0);
+            }
             GivingPart::Client(_) => {}
         }
     }

@@ -3,7 +3,7 @@ ghost use Rattle.std.specs.Prelude.{◌≡◌, ◌+◌, ◌*◌, ◌≤◌, ◌�
 ghost use Rattle.otn_base.specs.declared.limits.TheConstants.{MOST_DELIVERED};
 ghost use Rattle.otn_ports.specs.OutPlace.{out_view};
 ghost use Rattle.otn_ports.specs.Views.{OutView};
-ghost use Rattle.otn_ports.specs.declared.drain.Written.TheVariants as written;
+ghost use Rattle.otn_ports.specs.declared.drain.Written.TheVariants.{Whole, Lost};
 ghost use Rattle.device_model.specs.Numbers.{whole_lines};
 ghost use Rattle.packet_text.specs.PacketText.{packet_line};
 ghost use Rattle.cross_matrix.specs.declared.held_lines.TheConstants.{ROOM};
@@ -97,8 +97,8 @@ impl HeldLines {
             → LinesHeld first (out_view K.Sink place.old) packets self.old
             → LinesSent first (out_view K.Sink place.new) packets self.new.packets }
     {
-        let (answer, went) = place.write_lines(&self.text[..self.len]);
-        let more = count_gone(answer, &self.text[..went], self.count);
+        let (answer, written) = place.write_lines(&self.text[..self.len]);
+        let more = count_written(answer, &self.text[..written], self.count);
         self.packets = self.packets.saturating_add(more);
         self.len = 0;
         self.count = 0;
@@ -144,14 +144,14 @@ impl HeldLines {
     }
 }
 
-// How many packets count after a write of these many lines, of which these bytes went.
-fn count_gone(answer: Written, went: &[u8], count: u64) -> u64
-    ensures whole { answer ≡ written.Whole → result ≡ count }
-    ensures lost { answer ≡ written.Lost → result ≡ whole_lines went.now }
+// How many packets count after a write of these many lines, of which these bytes were written.
+fn count_written(answer: Written, written: &[u8], count: u64) -> u64
+    ensures whole { answer ≡ Whole → result ≡ count }
+    ensures lost { answer ≡ Lost → result ≡ whole_lines written.now }
 {
     match answer {
         Written::Whole => count,
-        Written::Lost => count_lines(went),
+        Written::Lost => count_lines(written),
     }
 }
 

@@ -5,11 +5,9 @@
 //! - `build`: the pipe of an entry of a plan.
 //! - `taking`, `giving`: its two parts.
 //! - `receiver`: a client's output, from arriving bytes to lines of text; `held_lines`: the lines until they leave.
-//! - `burst`: how the bytes of one turn come into their buffer, and leave it.
 #![tactic(auto)]
 
 mod build;
-mod burst;
 mod giving;
 mod held_lines;
 mod pipe;

@@ -18,8 +18,8 @@ ghost use Rattle.tributary_model.specs.Puts.{WasPut, IsSourcePlace};
 ghost use Rattle.device_model.specs.Entries.{first_turn};
 ghost use Rattle.device_model.specs.Through.{OwnInput, of_line, of_client, got_by, state_in};
 ghost use Rattle.cross_matrix.specs.InTurn.{next_taken, may_end, takes_one_slot, next_filled};
-ghost use Rattle.cross_matrix.specs.Parts.{OnSink, OnSource, IsOfClient, IsTextOver, IsToClient, frames_taken, frames_filled, turns_taken, ClientInStands, ClientOutStands, MayShow, IsInputOf, IsBegun, IsReceived, IsOver};
-ghost use Rattle.cross_matrix.specs.Pipes.{PipeView, IsPipeOf, PipeStands, ClientTook};
+ghost use Rattle.cross_matrix.specs.Parts.{OnSink, OnSource, IsOfClient, IsTextOver, IsToClient, frames_taken, frames_filled, turns_taken, and_frame, line_over, next_turn, ClientInStands, ClientOutStands, OfItsClient, IsInputOf, IsBegun, IsReceived};
+ghost use Rattle.cross_matrix.specs.Pipes.{PipeView, IsPipeOf, PipeStands, StandsAt, OfItsTurn, OfOpenTurn, OfLineTurn, OfDoneTurn, OfFrame, OfOwnFrame, ClientTook};
 
 use crate::FromState;
 use crate::giving::GivingPart;
@@ -78,10 +78,8 @@ impl Pipe {
     /// it.
     pub fn take_frame<F: TakeFrame>(&mut self, n: u8, frame: &F, expected: u8)
         requires line { OnSink self.old.taking (λ sink. (n < slots_of sink.slots.kind) × (n ≡ sink.taken)) }
-        ensures stands { (x : Connection) (input : OwnInput) (j filled : ℕ) (frames : List Taken)
-            → PipeStands x input j frames false filled self.old
-            → PipeStands x input j (frames ++ record { frame = F.bytes frame.now; expected = expected } ∷ []) false
-            filled self.new }
+        ensures stands { OfOpenTurn self.old (λ at filled.
+            StandsAt (and_frame (record { frame = F.bytes frame.now; expected = expected }) at) filled self.new) }
         ensures entry { (x : Connection) → IsPipeOf x self.old → IsPipeOf x self.new }
         ensures taken { frames_taken self.new.taking ≡ frames_taken self.old.taking + 1 }
         ensures giving { self.new.giving ≡ self.old.giving }
@@ -92,11 +90,7 @@ impl Pipe {
     /// Ends the turn of the connection's line: `whole` says that it has a multiframe, all of whose frames were taken.
     pub fn end_frames(&mut self, whole: bool)
         requires line { OnSink self.old.taking (λ sink. IsTrue whole → sink.taken ≡ slots_of sink.slots.kind) }
-        ensures stands { (x : Connection) (a port : ℕ) (slots : LineSlots) (shows : ℕ → Option View) (j filled : ℕ)
-            (frames : List Taken) → x.from ≡ from_end.Line a port slots
-            → PipeStands x (of_line shows) j frames false filled self.old
-            → ended_view (tributary_of slots port) whole frames ≡ shows (first_turn x + j)
-            → PipeStands x (of_line shows) j [] true filled self.new }
+        ensures stands { OfLineTurn whole self.old (λ at filled. StandsAt (line_over at) filled self.new) }
         ensures entry { (x : Connection) → IsPipeOf x self.old → IsPipeOf x self.new }
         ensures taken { frames_taken self.new.taking ≡ 0 }
         ensures giving { self.new.giving ≡ self.old.giving }
@@ -108,10 +102,10 @@ impl Pipe {
     pub fn take_client<P: Source>(&mut self, turn: u32, place: &mut InPlaceOf<P>)
         requires client { IsOfClient self.old.taking }
         requires turn { self.old.start ≤ turn }
-        ensures took { (x : Connection) (first : InView) (taken : List ℕ) (j : ℕ) → IsPipeOf x self.old
+        ensures took { (x : Connection) (first : InView) (read : List ℕ) (j : ℕ) → IsPipeOf x self.old
             → turn ≡ x.start + j
-            → ClientInStands x first (in_view P.Source place.old) taken j self.old.taking
-            → ClientTook x first (in_view P.Source place.new) taken j self.old self.new }
+            → ClientInStands x first (in_view P.Source place.old) read j self.old.taking
+            → ClientTook x first (in_view P.Source place.new) read j self.old self.new }
 
         // once no packet is left of the text, its place is asked nothing more
         ensures quiet { IsTextOver self.old.taking → place.new ≡ place.old }
@@ -126,13 +120,9 @@ impl Pipe {
     pub fn fill_frame<F: FillFrame>(&mut self, n: u8, frame: &mut F)
         requires line { OnSource self.old.giving
             (λ source. (n < slots_of source.slots.kind) × (n ≡ source.filled) × IsSome source.said) }
-        ensures put { (x : Connection) (b port : ℕ) (slots : LineSlots) (input : OwnInput) (j : ℕ) (frames : List Taken)
-            (ended : Bool) → x.to ≡ to_end.Line b port slots
-            → PipeStands x input j frames ended n self.old
-            → WasPut (tributary_of slots port) (got_by x input (suc j)) j n (F.bytes frame.old) (F.bytes frame.new) }
-        ensures stands { (x : Connection) (input : OwnInput) (j : ℕ) (frames : List Taken) (ended : Bool)
-            → PipeStands x input j frames ended n self.old
-            → PipeStands x input j frames ended (n + 1) self.new }
+        ensures put { OfOwnFrame n self.old (λ own at.
+            WasPut own (got_by at.entry at.input (suc at.turn)) at.turn n (F.bytes frame.old) (F.bytes frame.new)) }
+        ensures stands { OfFrame n self.old (λ at. StandsAt at (n + 1) self.new) }
         ensures kept { (port row column : ℕ) → 1 ≤ row → row ≤ ROWS → 1 ≤ column → column ≤ COLUMNS
             → OnSource self.old.giving (λ source. IsSourcePlace (tributary_of source.slots port) n row column → ⊥)
             → byte_at (F.bytes frame.new) row column ≡ byte_at (F.bytes frame.old) row column }
@@ -147,13 +137,10 @@ impl Pipe {
     /// Gives the connection's client what this turn brings it: each packet that is delivered, as a line of text.
     pub fn give_client<K: Sink>(&mut self, place: &mut OutPlaceOf<K>)
         requires client { IsToClient self.old.giving }
-        ensures gave { (x : Connection) (input : OwnInput) (first : OutView) (j filled : ℕ) (frames : List Taken)
-            (ended : Bool) → PipeStands x input j frames ended filled self.old
-            → ClientOutStands x input first (out_view K.Sink place.old) j self.old.giving
-            → ClientOutStands x input first (out_view K.Sink place.new) (suc j) self.new.giving }
-        ensures stands { (x : Connection) (input : OwnInput) (j filled : ℕ) (frames : List Taken) (ended : Bool)
-            → PipeStands x input j frames ended filled self.old
-            → PipeStands x input j frames ended filled self.new }
+        ensures gave { (first : OutView) → OfItsTurn self.old (λ at filled.
+            ClientOutStands at.entry at.input first (out_view K.Sink place.old) at.turn self.old.giving
+            → ClientOutStands at.entry at.input first (out_view K.Sink place.new) (suc at.turn) self.new.giving) }
+        ensures stands { OfItsTurn self.old (λ at filled. StandsAt at filled self.new) }
         ensures entry { (x : Connection) → IsPipeOf x self.old → IsPipeOf x self.new }
         ensures taking { self.new.taking ≡ self.old.taking }
     {
@@ -163,9 +150,7 @@ impl Pipe {
     /// Ends turn `turn` of the plan: a signal emits what the turn brings, and what came is handed on to the next turn.
     pub fn fence(&mut self, turn: u32)
         requires turn { self.old.start ≤ turn }
-        ensures stands { (x : Connection) (input : OwnInput) (j filled : ℕ) (ended : Bool) → turn ≡ x.start + j
-            → IsOver x.from ended
-            → PipeStands x input j [] ended filled self.old → PipeStands x input (suc j) [] false 0 self.new }
+        ensures stands { OfDoneTurn turn self.old (λ at. StandsAt (next_turn at) 0 self.new) }
         ensures client { IsOfClient self.old.taking → self.new.taking ≡ self.old.taking }
         ensures receiver { IsToClient self.old.giving → self.new.giving ≡ self.old.giving }
         ensures entry { (x : Connection) → IsPipeOf x self.old → IsPipeOf x self.new }
@@ -182,9 +167,7 @@ impl Pipe {
 
     /// What the connection comes from is, after the turns that it took.
     pub fn from_state(&self) -> FromState
-        ensures { (x : Connection) (input : OwnInput) (j filled : ℕ) (frames : List Taken) (ended : Bool)
-            → PipeStands x input j frames ended filled self.now
-            → result ≡ state_in x input (turns_taken j ended) }
+        ensures { OfItsTurn self.now (λ at filled. result ≡ state_in at.entry at.input (turns_taken at.turn at.ended)) }
     {
         self.taking.from_state()
     }
@@ -193,15 +176,11 @@ impl Pipe {
     /// line, once that is seen.
     pub fn client_in(&self) -> (u64, bool, Option<u64>)
         requires client { IsOfClient self.now.taking }
-        ensures { (x : Connection) (first now : InView) (taken : List ℕ) (n : ℕ) (input : ClientInput)
-            → ClientInStands x first now taken n self.now.taking
-            → MayShow self.now.taking taken (of_client input)
-            → result ≡ (
-              saturated (packets_begun input.packets x.fcs (emitted_before x.pace n)),
-              is_spent input x.fcs
-                  (emitted_before x.pace n),
-              option_map saturated (bad_line input x.fcs (emitted_before x.pace n)),
-            ) }
+        ensures { OfItsClient self.now.taking (λ x input n. result ≡ (
+          saturated (packets_begun input.packets x.fcs (emitted_before x.pace n)),
+          is_spent input x.fcs (emitted_before x.pace n),
+          option_map saturated (bad_line input x.fcs (emitted_before x.pace n)),
+        )) }
     {
         self.taking.client_in()
     }

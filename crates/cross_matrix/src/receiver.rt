@@ -140,9 +140,9 @@ fn hand_on<K: Sink>(
     lines: &mut HeldLines,
     place: &mut OutPlaceOf<K>,
 )
-    ensures { (first : OutView) (came : List Arrival)
-        → AllRead first (out_view K.Sink place.old) came reader.old lines.old
-        → AllRead first (out_view K.Sink place.new) (came ++ news aligned frame.now) reader.new lines.new }
+    ensures { (first : OutView) (arrived : List Arrival)
+        → AllRead first (out_view K.Sink place.old) arrived reader.old lines.old
+        → AllRead first (out_view K.Sink place.new) (arrived ++ news aligned frame.now) reader.new lines.new }
 {
     match aligned {
         Aligned::Nothing => {}
@@ -158,9 +158,9 @@ fn read_frame<K: Sink>(
     lines: &mut HeldLines,
     place: &mut OutPlaceOf<K>,
 )
-    ensures { (first : OutView) (earlier : List (List ℕ)) (taken : List ℕ)
-        → RunRead first (out_view K.Sink place.old) earlier taken reader.old lines.old
-        → RunRead first (out_view K.Sink place.new) earlier (taken ++ payload_of frame.now) reader.new lines.new }
+    ensures { (first : OutView) (earlier : List (List ℕ)) (read : List ℕ)
+        → RunRead first (out_view K.Sink place.old) earlier read reader.old lines.old
+        → RunRead first (out_view K.Sink place.new) earlier (read ++ payload_of frame.now) reader.new lines.new }
 {
     read_bytes(frame.payload_row(1), reader, lines, place);
     read_bytes(frame.payload_row(2), reader, lines, place);
@@ -175,9 +175,9 @@ fn read_bytes<K: Sink>(
     lines: &mut HeldLines,
     place: &mut OutPlaceOf<K>,
 )
-    ensures { (first : OutView) (earlier : List (List ℕ)) (taken : List ℕ)
-        → RunRead first (out_view K.Sink place.old) earlier taken reader.old lines.old
-        → RunRead first (out_view K.Sink place.new) earlier (taken ++ bytes.now) reader.new lines.new }
+    ensures { (first : OutView) (earlier : List (List ℕ)) (read : List ℕ)
+        → RunRead first (out_view K.Sink place.old) earlier read reader.old lines.old
+        → RunRead first (out_view K.Sink place.new) earlier (read ++ bytes.now) reader.new lines.new }
 {
     let mut done = 0;
     while done < bytes.len() {
@@ -194,9 +194,9 @@ fn read_some<K: Sink>(
 ) -> usize
     ensures within { result ≤ length bytes.now }
     ensures some { 1 ≤ length bytes.now → 1 ≤ result }
-    ensures stands { (first : OutView) (earlier : List (List ℕ)) (taken : List ℕ)
-        → RunRead first (out_view K.Sink place.old) earlier taken reader.old lines.old
-        → RunRead first (out_view K.Sink place.new) earlier (taken ++ take result bytes.now) reader.new lines.new }
+    ensures stands { (first : OutView) (earlier : List (List ℕ)) (read : List ℕ)
+        → RunRead first (out_view K.Sink place.old) earlier read reader.old lines.old
+        → RunRead first (out_view K.Sink place.new) earlier (read ++ take result bytes.now) reader.new lines.new }
 {
     match reader.take_some(bytes) {
         (more, Some(packet)) => {

@@ -1,5 +1,10 @@
 // The part of a pipe that takes from the connection's input.
-ghost use Rattle.std.specs.Prelude.{◌≡◌, ◌<◌, ◌≤◌, ◌+◌, ◌*◌, ◌&&◌, ◌==◌, if◌then◌else◌, ℕ, suc, Bool, true, false, List, [], ◌∷◌, ◌++◌, Option, IsTrue, length, nat_lt, option_map};
+ghost use Rattle.std.specs.Prelude.{◌≡◌, ◌<◌, ◌≤◌, ◌+◌, ◌*◌, ◌&&◌, ◌==◌, if◌then◌else◌, ℕ, suc, Bool, true, false, List, [], ◌∷◌, ◌++◌, Option, IsTrue, length, take, ◌≢◌, nat_lt, option_map};
+ghost use Rattle.maintenance_signals.specs.Given.{HasGiven};
+ghost use Rattle.maintenance_signals.specs.Stream.{signal_bytes};
+ghost use Rattle.maintenance_signals.specs.declared.signal.Signal.{Signal};
+ghost use Rattle.odu_client.specs.Framing.{ClientStands, Fills};
+ghost use Rattle.packet_text.specs.LinesStand.{lines_view};
 ghost use Rattle.odu_client.specs.ClientInput.{ClientInput, packets_begun, is_spent, bad_line, emitted_before, pace_of};
 ghost use Rattle.otn_base.specs.LineSlots.{LineSlots, slots_of};
 ghost use Rattle.otn_base.specs.declared.limits.TheConstants.{GROUPS, OTU2_SLOTS};
@@ -14,17 +19,16 @@ ghost use Rattle.tributary_model.specs.Places.{Taken, View, tributary_of};
 ghost use Rattle.device_model.specs.Entries.{first_turn};
 ghost use Rattle.device_model.specs.Through.{OwnInput, of_line, of_client, emits_by, state_by, sink_state};
 ghost use Rattle.cross_matrix.specs.InTurn.{some_if, next_taken, may_end, takes_one_slot};
-ghost use Rattle.cross_matrix.specs.Parts.{OnSink, IsOfClient, IsTextOver, TakesFrom, HasSlots, IsInputOf, IsOver, frames_taken, turns_taken, TakingStands, TextStands, ClientInStands, MayShow};
-ghost use Rattle.cross_matrix.specs.Steps.Parts.{TextTook};
+ghost use Rattle.cross_matrix.specs.Parts.{OnSink, IsOfClient, IsTextOver, TakesFrom, HasSlots, IsInputOf, frames_taken, turns_taken, and_frame, line_over, next_turn, TakingStands, TextStands, ClientInStands, OfItsClient};
+ghost use Rattle.cross_matrix.specs.Steps.Parts.{TakesAt, OfItsPart, OfOpenPart, OfLinePart, OfDonePart, TextTook};
 
 use crate::FromState;
-use crate::burst::{take_client, take_signal, take_turn};
 use maintenance_signals::SignalBytes;
 use odtu_columns::TakeFrame;
 use odu_client::ClientFramer;
 use otn_base::{Burst, Trace};
 use otn_ports::{InPlaceOf, Source};
-use packet_text::PacketLines;
+use packet_text::{Line, PacketLines};
 use trib_sink::TribSink;
 use tributary_model::SinkState;
 
@@ -66,10 +70,8 @@ impl TakingPart {
     /// Takes frame `n` of the turn of the connection's line.
     pub(crate) fn take_frame<F: TakeFrame>(&mut self, n: u8, frame: &F, expected: u8)
         requires line { OnSink self.old (λ sink. (n < slots_of sink.slots.kind) × (n ≡ sink.taken)) }
-        ensures stands { (from : FromEnd) (x : Connection) (input : OwnInput) (j : ℕ) (frames : List Taken)
-            → TakingStands from x input j frames false self.old
-            → TakingStands from x input j (frames ++ record { frame = F.bytes frame.now; expected = expected } ∷ [])
-            false self.new }
+        ensures stands { OfOpenPart self.old (λ from at.
+            TakesAt from (and_frame (record { frame = F.bytes frame.now; expected = expected }) at) self.new) }
         ensures entry { (from : FromEnd) (x : Connection) → TakesFrom from x self.old → TakesFrom from x self.new }
         ensures taken { frames_taken self.new ≡ frames_taken self.old + 1 }
         ensures slots { (m : ℕ) → HasSlots m self.old → HasSlots m self.new }
@@ -85,23 +87,20 @@ impl TakingPart {
     pub(crate) fn end_frames(&mut self, whole: bool, came: &mut Burst)
         requires line { OnSink self.old (λ sink. IsTrue whole → sink.taken ≡ slots_of sink.slots.kind) }
         requires room { OnSink self.old (λ sink. came.old.room ≡ length sink.slots.list * (GROUPS + 1)) }
-        ensures stands { (x : Connection) (a port : ℕ) (slots : LineSlots) (shows : ℕ → Option View) (j : ℕ)
-            (frames : List Taken)
-            → TakingStands (from_end.Line a port slots) x (of_line shows) j frames false self.old
-            → ended_view (tributary_of slots port) whole frames ≡ shows (first_turn x + j)
-            → TakingStands (from_end.Line a port slots) x (of_line shows) j [] true self.new }
-        ensures bytes { (x : Connection) (a port : ℕ) (slots : LineSlots) (shows : ℕ → Option View) (j : ℕ)
-            (frames : List Taken)
-            → TakingStands (from_end.Line a port slots) x (of_line shows) j frames false self.old
-            → ended_view (tributary_of slots port) whole frames ≡ shows (first_turn x + j)
-            → came.new.bytes ≡ emits_by (from_end.Line a port slots) x (of_line shows) j }
+        ensures stands { OfLinePart whole self.old (λ from at. TakesAt from (line_over at) self.new) }
+        ensures bytes { OfLinePart whole self.old
+            (λ from at. came.new.bytes ≡ emits_by from at.entry at.input at.turn) }
         ensures entry { (from : FromEnd) (x : Connection) → TakesFrom from x self.old → TakesFrom from x self.new }
         ensures taken { frames_taken self.new ≡ 0 }
         ensures slots { (m : ℕ) → HasSlots m self.old → HasSlots m self.new }
         ensures room_stays { came.new.room ≡ came.old.room }
     {
         match self {
-            TakingPart::Line(sink) => take_turn(came, sink, whole),
+            TakingPart::Line(sink) => {
+                let (mut buffer, _) = came.hand_out();
+                let emitted = sink.hand_over(whole, &mut buffer);
+                came.exchange(&mut buffer, emitted);
+            }
             TakingPart::Client(_) => {}
             TakingPart::Signal(_) => {}
         }
@@ -115,22 +114,26 @@ impl TakingPart {
         came: &mut Burst,
     )
         requires room { count ≤ came.old.room }
-        ensures took { (x : Connection) (first : InView) (taken : List ℕ) (n : ℕ) → count ≡ pace_of x.pace n
-            → ClientInStands x first (in_view P.Source place.old) taken n self.old
-            → TextTook x first (in_view P.Source place.new) taken n self.old self.new came.new.bytes }
+        ensures took { (x : Connection) (first : InView) (read : List ℕ) (n : ℕ) → count ≡ pace_of x.pace n
+            → ClientInStands x first (in_view P.Source place.old) read n self.old
+            → TextTook x first (in_view P.Source place.new) read n self.old self.new came.new.bytes }
         ensures quiet { IsTextOver self.old → place.new ≡ place.old }
         ensures entry { (from : FromEnd) (x : Connection) → TakesFrom from x self.old → TakesFrom from x self.new }
         ensures slots { (m : ℕ) → HasSlots m self.old → HasSlots m self.new }
         ensures room_stays { came.new.room ≡ came.old.room }
     {
         match self {
-            TakingPart::Client(client) => take_client(
-                came,
-                &mut client.framer,
-                &mut client.lines,
-                place,
-                count,
-            ),
+            TakingPart::Client(client) => {
+                let (mut buffer, _) = came.hand_out();
+                fill_front(
+                    &mut client.framer,
+                    &mut client.lines,
+                    place,
+                    &mut buffer,
+                    count,
+                );
+                came.exchange(&mut buffer, 0..count);
+            }
             TakingPart::Line(_) => {}
             TakingPart::Signal(_) => {}
         }
@@ -139,13 +142,10 @@ impl TakingPart {
     /// Ends a turn: a signal emits so many bytes; a line and a client have had their part of it.
     pub(crate) fn fence(&mut self, count: usize, came: &mut Burst)
         requires room { count ≤ came.old.room }
-        ensures stands { (from : FromEnd) (x : Connection) (input : OwnInput) (j : ℕ) (ended : Bool)
-            → count ≡ pace_of x.pace j → IsOver from ended
-            → TakingStands from x input j [] ended self.old → TakingStands from x input (suc j) [] false self.new }
-        ensures bytes { (from : FromEnd) (x : Connection) (input : OwnInput) (j : ℕ) (ended : Bool)
-            → count ≡ pace_of x.pace j → IsOver from ended
-            → TakingStands from x input j [] ended self.old → (ended ≡ true → came.old.bytes ≡ emits_by from x input j)
-            → came.new.bytes ≡ emits_by from x input j }
+        ensures stands { OfDonePart count self.old (λ from at. TakesAt from (next_turn at) self.new) }
+        ensures bytes { OfDonePart count self.old (λ from at.
+            (at.ended ≡ true → came.old.bytes ≡ emits_by from at.entry at.input at.turn)
+            → came.new.bytes ≡ emits_by from at.entry at.input at.turn) }
         ensures client { IsOfClient self.old → self.new ≡ self.old }
         ensures entry { (from : FromEnd) (x : Connection) → TakesFrom from x self.old → TakesFrom from x self.new }
         ensures taken { frames_taken self.new ≡ frames_taken self.old }
@@ -153,7 +153,11 @@ impl TakingPart {
         ensures room_stays { came.new.room ≡ came.old.room }
     {
         match self {
-            TakingPart::Signal(stream) => take_signal(came, stream, count),
+            TakingPart::Signal(stream) => {
+                let (mut buffer, _) = came.hand_out();
+                next_front(stream, &mut buffer, count);
+                came.exchange(&mut buffer, 0..count);
+            }
             TakingPart::Line(_) => {}
             TakingPart::Client(_) => {}
         }
@@ -161,9 +165,8 @@ impl TakingPart {
 
     /// What the part takes from is.
     pub(crate) fn from_state(&self) -> FromState
-        ensures { (from : FromEnd) (x : Connection) (input : OwnInput) (j : ℕ) (frames : List Taken) (ended : Bool)
-            → TakingStands from x input j frames ended self.now
-            → result ≡ state_by from x input (turns_taken j ended) }
+        ensures { OfItsPart self.now
+            (λ from at. result ≡ state_by from at.entry at.input (turns_taken at.turn at.ended)) }
     {
         match self {
             TakingPart::Line(sink) => of_sink(sink.state()),
@@ -174,14 +177,11 @@ impl TakingPart {
 
     /// A client's packets begun, whether it is spent, and its bad line: none where the part takes from no client.
     pub(crate) fn client_in(&self) -> (u64, bool, Option<u64>)
-        ensures { (x : Connection) (first now : InView) (taken : List ℕ) (n : ℕ) (input : ClientInput)
-            → ClientInStands x first now taken n self.now → MayShow self.now taken (of_client input)
-            → result ≡ (
-              saturated (packets_begun input.packets x.fcs (emitted_before x.pace n)),
-              is_spent input x.fcs
-                  (emitted_before x.pace n),
-              option_map saturated (bad_line input x.fcs (emitted_before x.pace n)),
-            ) }
+        ensures { OfItsClient self.now (λ x input n. result ≡ (
+          saturated (packets_begun input.packets x.fcs (emitted_before x.pace n)),
+          is_spent input x.fcs (emitted_before x.pace n),
+          option_map saturated (bad_line input x.fcs (emitted_before x.pace n)),
+        )) }
     {
         match self {
             TakingPart::Client(client) => (
@@ -239,6 +239,38 @@ impl ClientText {
         self.framer.restart(&self.trace, self.fcs);
         self.lines.restart();
     }
+}
+
+// The next bytes of a client's stream, so many, to the front of a slice.
+fn fill_front<P: Source>(
+    framer: &mut ClientFramer,
+    lines: &mut PacketLines,
+    place: &mut InPlaceOf<P>,
+    into: &mut [u8],
+    count: usize,
+)
+    requires { count ≤ length into.old }
+    ensures size { length into.new ≡ length into.old }
+    ensures fills { (first : InView) (read emitted : List ℕ)
+        → ClientStands first (in_view P.Source place.old) read emitted (lines_view lines.old) framer.old
+        → Fills first (in_view P.Source place.new) read emitted (take count into.new) (lines_view lines.old)
+        (lines_view lines.new) framer.old framer.new }
+    ensures over { framer.old.stream.answer ≢ Line.Packet → lines.new ≡ lines.old }
+    ensures quiet { framer.old.stream.answer ≢ Line.Packet → place.new ≡ place.old }
+{
+    framer.fill(lines, place, &mut into[..count]);
+}
+
+// The next bytes of a signal's stream, so many, to the front of a slice.
+fn next_front(stream: &mut SignalBytes, into: &mut [u8], count: usize)
+    requires { count ≤ length into.old }
+    ensures size { length into.new ≡ length into.old }
+    ensures bytes { (signal : Signal) (emitted : ℕ) → HasGiven signal emitted stream.old
+        → take count into.new ≡ signal_bytes signal emitted count }
+    ensures emitted { (signal : Signal) (emitted : ℕ) → HasGiven signal emitted stream.old
+        → HasGiven signal (emitted + count) stream.new }
+{
+    stream.next(&mut into[..count]);
 }
 
 fn next_of_sink(sink: &TribSink) -> Option<u8>

@@ -198,9 +198,9 @@ text_read x first was taken k (taking.Client client) input h m =
     let view = lines_view client.lines in
     let all = (packets_of m.text).packets in
     let short = came_short view.ended view.answer in
-    let asked : packets_asked all client.framer.stream.fcs (length h.gone) ≡ packets_asked input.packets x.fcs (emitted_before x.pace k) =
-    ap (λ f. packets_asked all f (length h.gone)) h.fcs ∙ ap (packets_asked all x.fcs) h.count ∙ ap (λ (i : ClientInput). packets_asked i.packets x.fcs (emitted_before x.pace k)) (sym m.is) in
-    (short, subst (λ n. ReadAsNeeded short n taken) asked (read_as_asked first was taken h.gone view client.framer m.text h.stands m.may))
+    let asked : packets_asked all client.framer.stream.fcs (length h.emitted) ≡ packets_asked input.packets x.fcs (emitted_before x.pace k) =
+    ap (λ f. packets_asked all f (length h.emitted)) h.fcs ∙ ap (packets_asked all x.fcs) h.count ∙ ap (λ (i : ClientInput). packets_asked i.packets x.fcs (emitted_before x.pace k)) (sym m.is) in
+    (short, subst (λ n. ReadAsNeeded short n taken) asked (read_as_asked first was taken h.emitted view client.framer m.text h.stands m.may))
 text_read x first was taken k (taking.Line sink) input h m = absurd h
 text_read x first was taken k (taking.Signal stream) input h m = absurd h
 

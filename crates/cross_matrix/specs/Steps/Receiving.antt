@@ -25,24 +25,25 @@ pub record IsNew (held : HeldView) : Type 0 where
 -- Of these packets, the text of the first was due to a place, and so many of them count; that of the others is held.
 -- For a dead place none is held.
 pub record LinesHeld (first now : OutView) (packets : List (List ℕ)) (held : HeldView) : Type 0 where
-  pub gone : List (List ℕ)
+  pub due : List (List ℕ)
   pub waiting : List (List ℕ)
-  pub parts : gone ++ waiting ≡ packets
-  pub sent : LinesSent first now gone held.packets
+  pub parts : due ++ waiting ≡ packets
+  pub sent : LinesSent first now due held.packets
   pub text : held.text ≡ hex_text waiting
   pub count : held.count ≡ length waiting
   pub dead : now.state ≡ Dead → waiting ≡ []
 
 -- the reader has read these bytes of a run: behind earlier packets, those that they deliver are due to the place
-pub record RunRead (first now : OutView) (earlier : List (List ℕ)) (taken : List ℕ) (reader : ReaderState)
+pub record RunRead (first now : OutView) (earlier : List (List ℕ)) (read : List ℕ) (reader : ReaderState)
     (held : HeldView) : Type 0 where
-  pub read : HasRead taken reader
-  pub lines : LinesHeld first now (earlier ++ delivered taken) held
+  pub has_read : HasRead read reader
+  pub lines : LinesHeld first now (earlier ++ delivered read) held
 
 -- all that arrived was read
-pub record AllRead (first now : OutView) (came : List Arrival) (reader : ReaderState) (held : HeldView) : Type 0 where
-  pub read : HasRead (last_run (runs_of came)) reader
-  pub lines : LinesHeld first now (flat_map delivered (runs_of came)) held
+pub record AllRead (first now : OutView) (arrived : List Arrival) (reader : ReaderState)
+    (held : HeldView) : Type 0 where
+  pub read : HasRead (last_run (runs_of arrived)) reader
+  pub lines : LinesHeld first now (flat_map delivered (runs_of arrived)) held
 
 -- These bytes have arrived at a receiver with this aligner and this reader, where so many whole frames were handed on:
 -- the packets that they deliver are due to the place.

@@ -5,10 +5,10 @@ use Rattle.cross_matrix.proofs.Runs.{before, open_run, goes_on, whole_read, brea
 use Rattle.cross_matrix.proofs.receiver.hand_on.Goals as goal
 
 pub returns-in-Whole : goal.returns-in-Whole
-returns-in-Whole g c = λ first came h. rw c.in-Whole.is (
-    whole_read first (out_view g.K.Sink c.read_frame.new.place) came c.args.frame.now c.read_frame.new.reader c.read_frame.new.lines
-    (c.read_frame.ensures first (flat_map delivered (before came)) (open_run came) (goes_on first (out_view g.K.Sink c.args.place.now) came c.args.reader.now c.args.lines.now h))
+returns-in-Whole g c = λ first arrived h. rw c.in-Whole.is (
+    whole_read first (out_view g.K.Sink c.read_frame.new.place) arrived c.args.frame.now c.read_frame.new.reader c.read_frame.new.lines
+    (c.read_frame.ensures first (flat_map delivered (before arrived)) (open_run arrived) (goes_on first (out_view g.K.Sink c.args.place.now) arrived c.args.reader.now c.args.lines.now h))
     )
 
 pub returns-in-Break : goal.returns-in-Break
-returns-in-Break g c = λ first came h. rw c.in-Break.is (break_read first (out_view g.K.Sink c.args.place.now) came c.args.reader.now c.restart.new.self c.args.lines.now c.restart.ensures.read h)
+returns-in-Break g c = λ first arrived h. rw c.in-Break.is (break_read first (out_view g.K.Sink c.args.place.now) arrived c.args.reader.now c.restart.new.self c.args.lines.now c.restart.ensures.read h)

@@ -11,14 +11,14 @@ loop-done-preserved g c =
     let new = c.read_some-done.new in
     record {
       within = piece_within bytes done more c.loop-done.invariant.within c.read_some-done.ensures.within;
-      stands = λ first earlier taken h.
-          run_same first (out_view g.K.Sink new.place) earlier (taken ++ take done bytes ++ take more (take (length bytes - done) (drop done bytes))) (taken ++ take (done + more) bytes) new.reader new.lines
-          (more_taken taken bytes done more) (c.read_some-done.ensures.stands first earlier (taken ++ take done bytes) (c.loop-done.invariant.stands first earlier taken h));
+      stands = λ first earlier read h.
+          run_same first (out_view g.K.Sink new.place) earlier (read ++ take done bytes ++ take more (take (length bytes - done) (drop done bytes))) (read ++ take (done + more) bytes) new.reader new.lines
+          (more_taken read bytes done more) (c.read_some-done.ensures.stands first earlier (read ++ take done bytes) (c.loop-done.invariant.stands first earlier read h));
     }
 
 pub returns : goal.returns
-returns g c = λ first earlier taken h.
+returns g c = λ first earlier read h.
     let bytes = c.args.bytes.now in
     let done = c.loop-done.done in
-    run_same first (out_view g.K.Sink c.loop-done.place) earlier (taken ++ take done bytes) (taken ++ bytes) c.loop-done.reader c.loop-done.lines (all_taken taken bytes done c.loop-done.invariant.within (search rules))
-    (c.loop-done.invariant.stands first earlier taken h)
+    run_same first (out_view g.K.Sink c.loop-done.place) earlier (read ++ take done bytes) (read ++ bytes) c.loop-done.reader c.loop-done.lines (all_taken read bytes done c.loop-done.invariant.within (search rules))
+    (c.loop-done.invariant.stands first earlier read h)

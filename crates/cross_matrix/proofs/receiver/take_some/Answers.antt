@@ -13,9 +13,9 @@ returns-clause-holds g c = λ first arrived h.
     let is = c.take_some-aligned.new.self in
     let made = c.hand_on in
     let r = c.take_some-aligned.result.0 in
-    let came = take c.take_some-aligned.result.1 c.args.bytes.now in
+    let more = take c.take_some-aligned.result.1 c.args.bytes.now in
     let frame = c.frame.result.now in
-    let By : List ℕ → Type 0 = λ f. AlignsBy arrived came r f (aligner_state is) in
-    let aligns : AlignsBy arrived came r frame (aligner_state is) = subst By (sym c.frame.ensures) (c.take_some-aligned.ensures.aligned arrived h.aligned) in
-    holds_more first place (out_view g.K.Sink made.new.place) arrived came frame r (aligner_state was) (aligner_state is) was.frames is.frames c.args.reader.now made.new.reader c.args.lines.now made.new.lines aligns c.take_some-aligned.ensures.frames
+    let By : List ℕ → Type 0 = λ f. AlignsBy arrived more r f (aligner_state is) in
+    let aligns : AlignsBy arrived more r frame (aligner_state is) = subst By (sym c.frame.ensures) (c.take_some-aligned.ensures.aligned arrived h.aligned) in
+    holds_more first place (out_view g.K.Sink made.new.place) arrived more frame r (aligner_state was) (aligner_state is) was.frames is.frames c.args.reader.now made.new.reader c.args.lines.now made.new.lines aligns c.take_some-aligned.ensures.frames
     (made.ensures first (arrivals arrived) (all_read first place arrived (aligner_state was) was.frames c.args.reader.now c.args.lines.now h)) h

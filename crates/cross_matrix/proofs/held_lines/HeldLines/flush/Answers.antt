@@ -21,7 +21,7 @@ returns-clause-sent g c = λ first packets h.
     let held : LinesHeld first old packets was = subst Old (sym c.self.view_is) h in
     let r = c.write_lines-answer.result.0 in
     let n = c.write_lines-answer.result.1 in
-    let more = c.count_gone-more.result in
+    let more = c.count_written-more.result in
     let e = c.write_lines-answer.ensures in
     let items = inside.text.items in
     let value : c.deref.result.now ≡ items = search rules in
@@ -33,7 +33,7 @@ returns-clause-sent g c = λ first packets h.
     let writing : old.state ≡ Live → IsWriting r n (length was.text) = λ live. subst Wrote value (e.writing live) in
     let size = length-take-le inside.len items fits in
     let within = went_within old.state r n (length was.text) writing (λ no. ap (λ p. p.1) (e.idle no).1) in
-    let lost : r ≡ written.Lost → more ≡ whole_lines (take n was.text) = λ l. c.count_gone-more.ensures.lost l ∙ ap (λ bytes. whole_lines (take n bytes)) again ∙ ap whole_lines (sym (front_of_front n inside.len items (omega arith) fits)) in
+    let lost : r ≡ written.Lost → more ≡ whole_lines (take n was.text) = λ l. c.count_written-more.ensures.lost l ∙ ap (λ bytes. whole_lines (take n bytes)) again ∙ ap whole_lines (sym (front_of_front n inside.len items (omega arith) fits)) in
     rw c.saturating_add-self-inside.ensures (
-    flushed first old new packets was r n more e.state (λ no. let f = e.idle no in (ap (out_view g.K.Sink) f.0, ap (λ p. p.0) f.1)) gained writing c.count_gone-more.ensures.whole lost held
+    flushed first old new packets was r n more e.state (λ no. let f = e.idle no in (ap (out_view g.K.Sink) f.0, ap (λ p. p.0) f.1)) gained writing c.count_written-more.ensures.whole lost held
     )

@@ -6,7 +6,7 @@ use Rattle.cross_matrix.proofs.PipeMoves.{client_gave}
 use Rattle.cross_matrix.proofs.pipe.Pipe.give_client.Goals as goal
 
 pub returns-clause-gave : goal.returns-clause-gave
-returns-clause-gave g c = λ x input first j filled frames ended h out.
+returns-clause-gave g c = λ first x input j filled frames ended h out.
     let i = c.self.inside in
     let now = subst (PipeStands x input j frames ended filled) (sym c.self.view_is) h in
     let client : IsToClient i.giving = subst (λ (p : PipeView). IsToClient p.giving) (sym c.self.view_is) c.requires.client in

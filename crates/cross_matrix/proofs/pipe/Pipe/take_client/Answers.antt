@@ -16,13 +16,13 @@ invariant_of-self g c = record {
 }
 
 pub returns-clause-took : goal.returns-clause-took
-returns-clause-took g c = λ x first taken j entry at h.
+returns-clause-took g c = λ x first read j entry at h.
     let i = c.self.inside in
     let old : PipeView = record { taking = i.taking; giving = i.giving; paces = i.paces.items; start = i.start; slots = i.slots; came = i.came.bytes; gives = i.gives.bytes } in
     let of : IsPipeOf x old = subst (IsPipeOf x) (sym c.self.view_is) entry in
     let client : IsOfClient i.taking = subst (λ (p : PipeView). IsOfClient p.taking) (sym c.self.view_is) c.requires.client in
-    let stands : ClientInStands x first (in_view g.P.Source c.args.place.now) taken j i.taking = subst (λ (p : PipeView). ClientInStands x first (in_view g.P.Source c.args.place.now) taken j p.taking) (sym c.self.view_is) h in
+    let stands : ClientInStands x first (in_view g.P.Source c.args.place.now) read j i.taking = subst (λ (p : PipeView). ClientInStands x first (in_view g.P.Source c.args.place.now) read j p.taking) (sym c.self.view_is) h in
     let pace : c.pace_at-count.result ≡ pace_of x.pace j = own_pace x old c.args.turn j c.pace_at-count.result of at (c.pace_at-count.ensures ∙ ap (λ paces. pace_of paces (c.args.turn - i.start)) c.deref.ensures.value) in
-    subst (λ (p : PipeView). ClientTook x first (in_view g.P.Source c.take_client.new.place) taken j p (record { taking = c.take_client.new.self; giving = i.giving; paces = i.paces.items; start = i.start; slots = i.slots; came = c.take_client.new.came.bytes; gives = i.gives.bytes }))
+    subst (λ (p : PipeView). ClientTook x first (in_view g.P.Source c.take_client.new.place) read j p (record { taking = c.take_client.new.self; giving = i.giving; paces = i.paces.items; start = i.start; slots = i.slots; came = c.take_client.new.came.bytes; gives = i.gives.bytes }))
     c.self.view_is
-    (client_took x first (in_view g.P.Source c.take_client.new.place) taken j old c.take_client.new.self c.take_client.new.came.bytes client of (c.take_client.ensures.entry x.from x) (c.take_client.ensures.took x first taken j pace stands))
+    (client_took x first (in_view g.P.Source c.take_client.new.place) read j old c.take_client.new.self c.take_client.new.came.bytes client of (c.take_client.ensures.entry x.from x) (c.take_client.ensures.took x first read j pace stands))
