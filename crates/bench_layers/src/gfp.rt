@@ -7,18 +7,41 @@ use std::alloc::Global;
 // Bytes of a frame beside its packet: core header, type, tHEC and FCS.
 const AROUND: usize = 12;
 
+// A maker that has made this idle frame, a packet for it, and room for the packet's frame with FCS.
+#[derive(Drop)]
+struct Making {
+    maker: GfpMaker,
+    idle: [u8; 4],
+    packet: Vec<u8>,
+    frame: Vec<u8>,
+}
+
+impl Making {
+    // Of a packet of this size.
+    fn new(alloc: Global, size: u32) -> Result<Making, Memory> {
+        let mut maker = GfpMaker::new(alloc)?;
+        let mut idle = [0u8; 4];
+        give(&mut maker, &mut idle);
+        let packet = packet(alloc, size)?;
+        let mut frame = Vec::new(alloc);
+        frame.resize(packet.len().min(MOST_PACKET) + AROUND, 0u8)?;
+        Ok(Making {
+            maker,
+            idle,
+            packet,
+            frame,
+        })
+    }
+}
+
 /// Makes as many frames with FCS, of a packet of this size.
 pub fn make(alloc: Global, size: u32, times: u32) -> Result<u32, Memory> {
-    let packet = packet(alloc, size)?;
-    let mut frame = Vec::new(alloc);
-    frame.resize(packet.len().min(MOST_PACKET) + AROUND, 0u8)?;
-    let mut maker = GfpMaker::new(alloc)?;
+    let mut making = Making::new(alloc, size)?;
     let mut checksum = 0u32;
-    give(&mut maker, &mut frame[..4]);
     for _ in 0..times {
-        offer(&mut maker, &packet);
-        give(&mut maker, &mut frame);
-        checksum = mixed(checksum, &frame);
+        offer(&mut making.maker, &making.packet);
+        give(&mut making.maker, &mut making.frame);
+        checksum = mixed(checksum, &making.frame);
     }
     Ok(checksum)
 }
@@ -40,41 +63,25 @@ pub fn read_idle(alloc: Global, size: u32, times: u32) -> Result<u32, Memory> {
     let mut stream = packet(alloc, size)?;
     let mut maker = GfpMaker::new(alloc)?;
     give(&mut maker, &mut stream);
-    let mut reader = GfpReader::new(alloc)?;
-    let mut checksum = 0u32;
-    for _ in 0..times {
-        reader.restart();
-        checksum = take(&mut reader, &stream, checksum);
-    }
-    Ok(checksum)
+    read_often(alloc, &stream, times)
 }
 
 /// Reads as many bytes in which no frame is found, as often.
 pub fn hunt(alloc: Global, size: u32, times: u32) -> Result<u32, Memory> {
     let stream = packet(alloc, size)?;
-    let mut reader = GfpReader::new(alloc)?;
-    let mut checksum = 0u32;
-    for _ in 0..times {
-        reader.restart();
-        checksum = take(&mut reader, &stream, checksum);
-    }
-    Ok(checksum)
+    read_often(alloc, &stream, times)
 }
 
 /// Makes frames as [`make`] does, byte by byte.
 pub fn make_bytes(alloc: Global, size: u32, times: u32) -> Result<u32, Memory> {
-    let packet = packet(alloc, size)?;
-    let mut frame = Vec::new(alloc);
-    frame.resize(packet.len().min(MOST_PACKET) + AROUND, 0u8)?;
-    let mut maker = GfpMaker::new(alloc)?;
+    let mut making = Making::new(alloc, size)?;
     let mut checksum = 0u32;
-    give(&mut maker, &mut frame[..4]);
     for _ in 0..times {
-        offer(&mut maker, &packet);
-        for byte in frame.iter_mut() {
-            *byte = maker.next_byte();
+        offer(&mut making.maker, &making.packet);
+        for byte in making.frame.iter_mut() {
+            *byte = making.maker.next_byte();
         }
-        checksum = mixed(checksum, &frame);
+        checksum = mixed(checksum, &making.frame);
     }
     Ok(checksum)
 }
@@ -82,13 +89,7 @@ pub fn make_bytes(alloc: Global, size: u32, times: u32) -> Result<u32, Memory> {
 /// Reads the frames of 16 packets of this size with FCS, as often.
 pub fn read(alloc: Global, size: u32, times: u32) -> Result<u32, Memory> {
     let stream = sixteen(alloc, size)?;
-    let mut reader = GfpReader::new(alloc)?;
-    let mut checksum = 0u32;
-    for _ in 0..times {
-        reader.restart();
-        checksum = take(&mut reader, &stream, checksum);
-    }
-    Ok(checksum)
+    read_often(alloc, &stream, times)
 }
 
 /// Reads frames as [`read`] does, byte by byte.
@@ -107,19 +108,26 @@ pub fn read_bytes(alloc: Global, size: u32, times: u32) -> Result<u32, Memory> {
     Ok(checksum)
 }
 
+// Reads a stream so often, each time from its beginning.
+fn read_often(alloc: Global, stream: &[u8], times: u32) -> Result<u32, Memory> {
+    let mut reader = GfpReader::new(alloc)?;
+    let mut checksum = 0u32;
+    for _ in 0..times {
+        reader.restart();
+        checksum = take(&mut reader, stream, checksum);
+    }
+    Ok(checksum)
+}
+
 // An idle frame, and the frames of 16 packets of this size with FCS.
 fn sixteen(alloc: Global, size: u32) -> Result<Vec<u8>, Memory> {
-    let packet = packet(alloc, size)?;
-    let mut frame = Vec::new(alloc);
-    frame.resize(packet.len().min(MOST_PACKET) + AROUND, 0u8)?;
-    let mut maker = GfpMaker::new(alloc)?;
+    let mut making = Making::new(alloc, size)?;
     let mut stream = Vec::new(alloc);
-    give(&mut maker, &mut frame[..4]);
-    stream.extend_from_slice(&frame[..4])?;
+    stream.extend_from_slice(&making.idle)?;
     for _ in 0..16u32 {
-        offer(&mut maker, &packet);
-        give(&mut maker, &mut frame);
-        stream.extend_from_slice(&frame)?;
+        offer(&mut making.maker, &making.packet);
+        give(&mut making.maker, &mut making.frame);
+        stream.extend_from_slice(&making.frame)?;
     }
     Ok(stream)
 }
