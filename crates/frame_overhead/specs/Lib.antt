@@ -1,3 +1,4 @@
 pub mod Parity
+pub mod ParityChecks
 pub mod Runs
 pub mod TwoBefore

@@ -25,6 +25,7 @@ impl Model for ParityCheck {
 impl ParityCheck {
     ghost use Rattle.frame_geometry.specs.Places.{place_of};
     ghost use Rattle.frame_overhead.specs.Parity.{parity_of};
+    ghost use Rattle.frame_overhead.specs.ParityChecks.{BeforeAFrame};
     ghost use Rattle.frame_overhead.specs.TwoBefore.{HasChecked, wrong_parities};
     ghost use Rattle.otn_base.specs.Counts.{saturated};
 
@@ -40,9 +41,9 @@ impl ParityCheck {
 
     /// Checks the next frame, which carries this byte where its parity stands, and has this parity itself.
     pub fn take(&mut self, carried: u8, parity: u8)
-        ensures { (cols row col : ℕ) (frames : List (List ℕ)) (frame : List ℕ) → HasChecked cols row col frames self.old
-            → carried ≡ slice_index frame (place_of cols row col) → parity ≡ parity_of cols frame
-            → HasChecked cols row col (frames ++ frame ∷ []) self.new }
+        ensures { BeforeAFrame self.old (λ cols row col frames frame.
+            carried ≡ slice_index frame (place_of cols row col) → parity ≡ parity_of cols frame
+            → HasChecked cols row col (frames ++ frame ∷ []) self.new) }
     {
         let wrong = is_wrong(self.parities.due(), carried);
         self.wrong = self.wrong.saturating_add(wrong);
