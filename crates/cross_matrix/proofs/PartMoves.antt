@@ -137,7 +137,7 @@ pub text_took : (x : Connection) (first was now : InView) (taken : List ℕ) (n 
 text_took x first was now taken n count old lines framer bytes pace size over fills h =
     let f = fills taken h.gone h.stands in
     record {
-      more = f.came;
+      more = f.more_read;
       stands = record {
         gone = h.gone ++ bytes;
         count = length-append h.gone bytes ∙ ap (λ k. k + length bytes) h.count ∙ ap (λ k. emitted_before x.pace n + k) (size ∙ pace) ∙ sym (emitted_next x.pace n);
@@ -145,7 +145,7 @@ text_took x first was now taken n count old lines framer bytes pace size over fi
         sapi = f.sapi ∙ h.sapi;
         fcs = f.fcs ∙ h.fcs;
       };
-      earlier = earlier f.came f.earlier;
+      earlier = earlier f.more_read f.earlier;
       emitted = λ input m. f.emitted m.text m.may
           ∙ same_part old.framer.sapi x.trace (packets_of m.text).packets input.packets old.framer.stream.fcs x.fcs (length h.gone) (emitted_before x.pace n) (length bytes) (pace_of x.pace n)
           h.sapi (ap (λ (i : ClientInput). i.packets) (sym m.is)) h.fcs h.count (size ∙ pace)
