@@ -3,8 +3,8 @@ use Rattle.std.proofs.Common.{◌≡◌, ◌≤◌, ◌+◌, ◌-◌, ◌*◌, �
 use Rattle.std.specs.List.{concat}
 use Rattle.std.proofs.lemmas.List.{length-take-le, take-take, take_all, take-append-drop, take-append-le}
 use Rattle.gfp_frames.specs.GfpText.{Idle, text_of, stream_frames, gfp_text}
-use Rattle.odu_client.specs.ClientFrames.{next_frame, client_frames, frames_begun, client_stream}
-use Rattle.odu_client.proofs.FrameLists.{frames_keep, joined_next, joined_size}
+use Rattle.odu_client.specs.ClientFrames.{client_frames, frames_begun, client_stream}
+use Rattle.odu_client.proofs.FrameLists.{next_frame, frames_keep, joined_next, joined_size}
 use Rattle.odu_client.proofs.GfpTexts.{total, first_frames, text-more, length-more}
 
 -- ---- the GFP frames

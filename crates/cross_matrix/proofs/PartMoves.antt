@@ -147,7 +147,7 @@ pub text_took : (x : Connection) (first was now : InView) (read : List ℕ) (n c
 text_took x first was now read n count old lines framer bytes pace size over fills h =
     let f = fills read h.emitted h.stands in
     record {
-      more = f.came;
+      more = f.more_read;
       stands = record {
         emitted = h.emitted ++ bytes;
         count = length-append h.emitted bytes ∙ ap (λ k. k + length bytes) h.count ∙ ap (λ k. emitted_before x.pace n + k) (size ∙ pace) ∙ sym (emitted_next x.pace n);
@@ -155,7 +155,7 @@ text_took x first was now read n count old lines framer bytes pace size over fil
         sapi = f.sapi ∙ h.sapi;
         fcs = f.fcs ∙ h.fcs;
       };
-      earlier = earlier f.came f.earlier;
+      earlier = earlier f.more_read f.earlier;
       emitted = λ input m. f.emitted m.text m.may
           ∙ same_part old.framer.sapi x.trace (packets_of m.text).packets input.packets old.framer.stream.fcs x.fcs (length h.emitted) (emitted_before x.pace n) (length bytes) (pace_of x.pace n)
           h.sapi (ap (λ (i : ClientInput). i.packets) (sym m.is)) h.fcs h.count (size ∙ pace)

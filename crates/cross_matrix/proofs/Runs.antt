@@ -12,6 +12,7 @@ use Rattle.odu_client.proofs.PuttingOut.{handed_behind, broken_behind, frames_go
 use Rattle.odu_client.specs.AlignedRuns.{Arrival, Handed, Broken, searching, arrivals, payload_of, with_payload, runs_of}
 use Rattle.odu_client.specs.Aligner.{AlignerState, HasAligned, news, AlignsBy}
 use Rattle.odu_client.specs.ClientOutput.{arriving_packets, arriving_text, arriving_frames, handed_count}
+use Rattle.odu_client.specs.OutputSteps.{OutputState, OutputStep}
 use Rattle.odu_client.specs.View.{frames_after}
 use Rattle.odu_client.specs.declared.aligned.Aligned.{Aligned}
 use Rattle.otn_ports.specs.Views.{State, Empty, Live, Dead, OutView}
@@ -221,9 +222,11 @@ unfolding arriving_packets
 holds_more first old now arrived more frame r was is before after reader next held kept aligns frames all h =
     let P : List Arrival → Type 0 = λ xs. AllRead first now xs next kept in
     let read = subst P (sym aligns.arrived) all in
+    let output : OutputState = record { arrived = arrived; packets = []; aligner = was; reader = reader } in
+    let step : OutputStep = record { bytes = more; answer = r; frame = frame; packets = []; aligner = is; reader = next } in
     record {
       aligned = aligns.aligned;
-      whole = frames ∙ frames_go_on arrived more frame r is before aligns h.whole;
+      whole = frames ∙ frames_go_on output step before aligns h.whole;
       read = read.read;
       lines = read.lines;
     }

@@ -3,8 +3,8 @@ use Rattle.std.proofs.Common.{◌≡◌, ◌<◌, ◌≤◌, ◌+◌, ◌-◌, �
 use Rattle.std.proofs.lemmas.List.{take_at, drop_at, drop-append-le, take_more}
 use Rattle.std.proofs.Math.Seq.{take-add, take-length}
 use Rattle.std.proofs.lemmas.Bool.{cases_lt}
-use Rattle.odu_client.specs.AlignedRuns.{has_fas, misses_after, is_signal, Arrival, Broken, arrival_of, whole_frame, from_search, from_frame, searching, arrivals}
-use Rattle.odu_client.specs.Aligner.{AlignerState, to_come, HasAligned, news, Aligns, AlignsBy, searches_anew}
+use Rattle.odu_client.specs.AlignedRuns.{has_fas, misses_after, is_signal, Arrival, Broken, arrival_of, whole_frame, searching, arrivals}
+use Rattle.odu_client.specs.Aligner.{AlignerState, to_come, HasAligned, news, Aligns, AlignsBy, searches_anew, from_search, from_frame}
 use Rattle.odu_client.specs.Steps.Aligner.{Goes, GoesBy}
 use Rattle.odu_client.specs.declared.aligned.Aligned.{Aligned}
 use Rattle.odu_client.specs.declared.aligned.Aligned.TheVariants as aligned
@@ -108,14 +108,14 @@ pub news_break : (frame now : List ℕ) → is_signal now ≡ true → news alig
 news_break frame now f = rw f refl
 
 -- a step after those before it
-pub aligns : (taken : List ℕ) (old new : AlignerState) (byte : ℕ) (r : Aligned) (frame : List ℕ) → Goes old byte r frame new → HasAligned taken old → Aligns taken byte r frame new
-aligns taken old new byte r frame g h = record {
+pub aligns : (read : List ℕ) (old new : AlignerState) (byte : ℕ) (r : Aligned) (frame : List ℕ) → Goes old byte r frame new → HasAligned read old → Aligns read byte r frame new
+aligns read old new byte r frame g h = record {
   arrived = arrived;
-  aligned = record { whole = λ more. ap arrivals (append_assoc taken (byte ∷ []) more) ∙ h.whole (byte ∷ more) ∙ ap (λ events. arrivals taken ++ events) (g.each more) ∙ sym (append_assoc (arrivals taken) (news r frame) (to_come new more)) ∙ ap (λ events. events ++ to_come new more) (sym arrived) };
+  aligned = record { whole = λ more. ap arrivals (append_assoc read (byte ∷ []) more) ∙ h.whole (byte ∷ more) ∙ ap (λ events. arrivals read ++ events) (g.each more) ∙ sym (append_assoc (arrivals read) (news r frame) (to_come new more)) ∙ ap (λ events. events ++ to_come new more) (sym arrived) };
 }
   where
-    arrived : arrivals (taken ++ byte ∷ []) ≡ arrivals taken ++ news r frame
-    arrived = h.whole (byte ∷ []) ∙ ap (λ events. arrivals taken ++ events) (g.each [] ∙ ap (λ events. news r frame ++ events) g.none ∙ append-nil (news r frame))
+    arrived : arrivals (read ++ byte ∷ []) ≡ arrivals read ++ news r frame
+    arrived = h.whole (byte ∷ []) ∙ ap (λ events. arrivals read ++ events) (g.each [] ∙ ap (λ events. news r frame ++ events) g.none ∙ append-nil (news r frame))
 
 pub anew : HasAligned [] searches_anew
 unfolding arrivals searching
@@ -168,51 +168,51 @@ many_here misses text now e h = rw (← e) h
 
 -- ---- many bytes at once
 
-pub passes : (s : Bool) (misses : ℕ) (held came now frame : List ℕ) → s ≡ false → now ≡ held ++ came → length now < 15296 → 6 ≤ length held → misses_after misses held < 5
-    → GoesBy (record { searches = s; misses = misses; held = held }) came aligned.Nothing frame (record { searches = s; misses = misses; held = now })
-passes s misses held came now frame e f short six few = rw (e, f) (record {
-  each = λ more. ap (from_frame misses) (sym (append_assoc held came more));
-  none = ap (from_frame misses) (append-nil (held ++ came)) ∙ frame_none misses (held ++ came) (let g = ap length f in omega arith) (λ _. let h = misses-front misses held came six in omega arith);
+pub passes : (s : Bool) (misses : ℕ) (held bytes now frame : List ℕ) → s ≡ false → now ≡ held ++ bytes → length now < 15296 → 6 ≤ length held → misses_after misses held < 5
+    → GoesBy (record { searches = s; misses = misses; held = held }) bytes aligned.Nothing frame (record { searches = s; misses = misses; held = now })
+passes s misses held bytes now frame e f short six few = rw (e, f) (record {
+  each = λ more. ap (from_frame misses) (sym (append_assoc held bytes more));
+  none = ap (from_frame misses) (append-nil (held ++ bytes)) ∙ frame_none misses (held ++ bytes) (let g = ap length f in omega arith) (λ _. let h = misses-front misses held bytes six in omega arith);
 })
 
-pub aligns_by : (taken came : List ℕ) (old new : AlignerState) (r : Aligned) (frame : List ℕ) → GoesBy old came r frame new → HasAligned taken old → AlignsBy taken came r frame new
-aligns_by taken came old new r frame g h = record {
+pub aligns_by : (read bytes : List ℕ) (old new : AlignerState) (r : Aligned) (frame : List ℕ) → GoesBy old bytes r frame new → HasAligned read old → AlignsBy read bytes r frame new
+aligns_by read bytes old new r frame g h = record {
   arrived = arrived;
-  aligned = record { whole = λ more. ap arrivals (append_assoc taken came more) ∙ h.whole (came ++ more) ∙ ap (λ events. arrivals taken ++ events) (g.each more) ∙ sym (append_assoc (arrivals taken) (news r frame) (to_come new more)) ∙ ap (λ events. events ++ to_come new more) (sym arrived) };
+  aligned = record { whole = λ more. ap arrivals (append_assoc read bytes more) ∙ h.whole (bytes ++ more) ∙ ap (λ events. arrivals read ++ events) (g.each more) ∙ sym (append_assoc (arrivals read) (news r frame) (to_come new more)) ∙ ap (λ events. events ++ to_come new more) (sym arrived) };
 }
   where
-    arrived : arrivals (taken ++ came) ≡ arrivals taken ++ news r frame
-    arrived = ap (λ b. arrivals (taken ++ b)) (sym (append-nil came)) ∙ h.whole (came ++ []) ∙ ap (λ events. arrivals taken ++ events) (g.each [] ∙ ap (λ events. news r frame ++ events) g.none ∙ append-nil (news r frame))
+    arrived : arrivals (read ++ bytes) ≡ arrivals read ++ news r frame
+    arrived = ap (λ b. arrivals (read ++ b)) (sym (append-nil bytes)) ∙ h.whole (bytes ++ []) ∙ ap (λ events. arrivals read ++ events) (g.each [] ∙ ap (λ events. news r frame ++ events) g.none ∙ append-nil (news r frame))
 
-pub aligns_none : (taken frame : List ℕ) (state : AlignerState) → HasAligned taken state → AlignsBy taken [] aligned.Nothing frame state
-aligns_none taken frame state h = record {
-  arrived = ap arrivals (append-nil taken) ∙ sym (append-nil (arrivals taken));
-  aligned = (let P : List ℕ → Type 0 = λ bytes. HasAligned bytes state in subst P (sym (append-nil taken)) h);
+pub aligns_none : (read frame : List ℕ) (state : AlignerState) → HasAligned read state → AlignsBy read [] aligned.Nothing frame state
+aligns_none read frame state h = record {
+  arrived = ap arrivals (append-nil read) ∙ sym (append-nil (arrivals read));
+  aligned = (let P : List ℕ → Type 0 = λ bytes. HasAligned bytes state in subst P (sym (append-nil read)) h);
 }
 
-pub passes_few : (misses : ℕ) (held came now : List ℕ) → now ≡ held ++ came → 6 ≤ length held → misses_after misses held < 5 → misses_after misses now < 5
-passes_few misses held came now f six few = let g = ap (misses_after misses) f in let h = misses-front misses held came six in omega arith
+pub passes_few : (misses : ℕ) (held bytes now : List ℕ) → now ≡ held ++ bytes → 6 ≤ length held → misses_after misses held < 5 → misses_after misses now < 5
+passes_few misses held bytes now f six few = let g = ap (misses_after misses) f in let h = misses-front misses held bytes six in omega arith
 
 -- bytes without news, and what comes behind them
-pub by_then : (taken x y all : List ℕ) (r : Aligned) (f g : List ℕ) (a b : AlignerState) → all ≡ x ++ y → AlignsBy taken x aligned.Nothing f a → AlignsBy (taken ++ x) y r g b → AlignsBy taken all r g b
-by_then taken x y all r f g a b e h k = rw e (record {
-  arrived = ap arrivals (sym (append_assoc taken x y)) ∙ k.arrived ∙ ap (λ events. events ++ news r g) (h.arrived ∙ append-nil (arrivals taken));
-  aligned = rw (← append_assoc taken x y) k.aligned;
+pub by_then : (read x y all : List ℕ) (r : Aligned) (f g : List ℕ) (a b : AlignerState) → all ≡ x ++ y → AlignsBy read x aligned.Nothing f a → AlignsBy (read ++ x) y r g b → AlignsBy read all r g b
+by_then read x y all r f g a b e h k = rw e (record {
+  arrived = ap arrivals (sym (append_assoc read x y)) ∙ k.arrived ∙ ap (λ events. events ++ news r g) (h.arrived ∙ append-nil (arrivals read));
+  aligned = rw (← append_assoc read x y) k.aligned;
 })
 
-pub by_byte : (taken : List ℕ) (byte : ℕ) (r : Aligned) (f : List ℕ) (a : AlignerState) → Aligns taken byte r f a → AlignsBy taken (byte ∷ []) r f a
-by_byte taken byte r f a h = record { arrived = h.arrived; aligned = h.aligned }
+pub by_byte : (read : List ℕ) (byte : ℕ) (r : Aligned) (f : List ℕ) (a : AlignerState) → Aligns read byte r f a → AlignsBy read (byte ∷ []) r f a
+by_byte read byte r f a h = record { arrived = h.arrived; aligned = h.aligned }
 
 -- so many bytes of a list without news, and more of it behind them
-pub passed_on : (taken bytes : List ℕ) (done k : ℕ) (f g : List ℕ) (a b : AlignerState) → AlignsBy taken (take done bytes) aligned.Nothing f a
-    → AlignsBy (taken ++ take done bytes) (take k (take (length bytes - done) (drop done bytes))) aligned.Nothing g b → AlignsBy taken (take (done + k) bytes) aligned.Nothing g b
-passed_on taken bytes done k f g a b h j =
+pub passed_on : (read bytes : List ℕ) (done k : ℕ) (f g : List ℕ) (a b : AlignerState) → AlignsBy read (take done bytes) aligned.Nothing f a
+    → AlignsBy (read ++ take done bytes) (take k (take (length bytes - done) (drop done bytes))) aligned.Nothing g b → AlignsBy read (take (done + k) bytes) aligned.Nothing g b
+passed_on read bytes done k f g a b h j =
     let rest : take (length bytes - done) (drop done bytes) ≡ drop done bytes = rw (← length-drop done bytes) (take-length (drop done bytes)) in
-    by_then taken (take done bytes) (take k (take (length bytes - done) (drop done bytes))) (take (done + k) bytes) aligned.Nothing f g a b (take-add done k bytes ∙ ap (λ r. take done bytes ++ take k r) (sym rest)) h j
+    by_then read (take done bytes) (take k (take (length bytes - done) (drop done bytes))) (take (done + k) bytes) aligned.Nothing f g a b (take-add done k bytes ∙ ap (λ r. take done bytes ++ take k r) (sym rest)) h j
 
-pub stepped_on : (taken bytes : List ℕ) (done : ℕ) (r : Aligned) (f g : List ℕ) (a b : AlignerState) → done < length bytes → AlignsBy taken (take done bytes) aligned.Nothing f a → Aligns (taken ++ take done bytes) (get_or bytes done 0) r g b
-    → AlignsBy taken (take (done + 1) bytes) r g b
-stepped_on taken bytes done r f g a b less h j = by_then taken (take done bytes) (get_or bytes done 0 ∷ []) (take (done + 1) bytes) r f g a b (take_more bytes done 0 less) h (by_byte (taken ++ take done bytes) (get_or bytes done 0) r g b j)
+pub stepped_on : (read bytes : List ℕ) (done : ℕ) (r : Aligned) (f g : List ℕ) (a b : AlignerState) → done < length bytes → AlignsBy read (take done bytes) aligned.Nothing f a → Aligns (read ++ take done bytes) (get_or bytes done 0) r g b
+    → AlignsBy read (take (done + 1) bytes) r g b
+stepped_on read bytes done r f g a b less h j = by_then read (take done bytes) (get_or bytes done 0 ∷ []) (take (done + 1) bytes) r f g a b (take_more bytes done 0 less) h (by_byte (read ++ take done bytes) (get_or bytes done 0) r g b j)
 
-pub none_on : (taken came : List ℕ) (r : Aligned) (f : List ℕ) (a : AlignerState) (q : Aligned) → r ≡ q → AlignsBy taken came r f a → AlignsBy taken came q f a
-none_on taken came r f a q e h = rw (← e) h
+pub none_on : (read bytes : List ℕ) (r : Aligned) (f : List ℕ) (a : AlignerState) (q : Aligned) → r ≡ q → AlignsBy read bytes r f a → AlignsBy read bytes q f a
+none_on read bytes r f a q e h = rw (← e) h

@@ -1,6 +1,7 @@
 -- What arrives, without a count of places.
 use Rattle.std.proofs.Common.{◌≡◌, ◌<◌, ◌≤◌, ℕ, zero, suc, false, if◌then◌else◌, List, [], ◌∷◌, length, drop, arith, refl, sym, ap, ◌∙◌, length-drop}
-use Rattle.odu_client.specs.AlignedRuns.{has_fas, misses_after, whole_frame, next_frame, searching, framing, from_search, from_frame}
+use Rattle.odu_client.specs.AlignedRuns.{has_fas, misses_after, whole_frame, next_frame, searching, framing}
+use Rattle.odu_client.specs.Aligner.{from_search, from_frame}
 
 nothing_found : has_fas [] ≡ false
 unfolding has_fas

@@ -33,34 +33,34 @@ fresh_framed sapi fcs = record {
 }
 
 pub fresh_client : (first : InView) (sapi : List ℕ) (fcs : Bool) → LinesStand first first [] [] fresh_lines → ClientStands first first [] [] fresh_lines (fresh_framer sapi fcs)
-fresh_client first sapi fcs lines = record { packets = []; given = []; text = record { stands = lines; answer = refl }; framed = fresh_framed sapi fcs }
+fresh_client first sapi fcs lines = record { packets = []; payload = []; text = record { stands = lines; answer = refl }; framed = fresh_framed sapi fcs }
 
 -- ---- a frame more
 
--- what was given is no longer than the packets' frames, while there may be packets
-pub within_packets : (packets : List (List ℕ)) (given : List ℕ) (s : StreamState) → StreamMade packets given s → s.answer ≡ line.Packet → length given ≤ gfp_length packets s.fcs
+-- what was payload is no longer than the packets' frames, while there may be packets
+pub within_packets : (packets : List (List ℕ)) (payload : List ℕ) (s : StreamState) → StreamMade packets payload s → s.answer ≡ line.Packet → length payload ≤ gfp_length packets s.fcs
 unfolding gfp_length
-within_packets packets given s h going =
-    let t : given ++ s.maker.hand ≡ text_of (stream_frames packets s.fcs 0) = h.made.text ∙ ap (λ k. text_of (stream_frames packets s.fcs k)) (h.going going) in
+within_packets packets payload s h going =
+    let t : payload ++ s.maker.hand ≡ text_of (stream_frames packets s.fcs 0) = h.made.text ∙ ap (λ k. text_of (stream_frames packets s.fcs k)) (h.going going) in
     let n = ap length t in
-    let a = length-append given s.maker.hand in
+    let a = length-append payload s.maker.hand in
     omega arith
 
-pub frame_made : (first now : InView) (taken gone : List ℕ) (packets : List (List ℕ)) (given payload : List ℕ) (count : ℕ) (lines next : LinesView) (old new : FramerState)
-    → old.stream.answer ≡ lines.answer → Framed packets given count gone old → old.left ≡ [] → length payload ≡ 15232
-    → (g : StreamGoes first now taken (given ++ payload) packets lines next old.stream.fcs new.stream)
-    → new.left ≡ client_frame old.sapi old.mfas (or_zero (parity_due 3824 (client_frames old.sapi count given))) payload
-    → HasSent 3824 (client_frames old.sapi count given ++ new.left ∷ []) new.path
+pub frame_made : (first now : InView) (read emitted : List ℕ) (packets : List (List ℕ)) (payload added : List ℕ) (count : ℕ) (lines next : LinesView) (old new : FramerState)
+    → old.stream.answer ≡ lines.answer → Framed packets payload count emitted old → old.left ≡ [] → length added ≡ 15232
+    → (g : StreamGoes first now read (payload ++ added) packets lines next old.stream.fcs new.stream)
+    → new.left ≡ client_frame old.sapi old.mfas (or_zero (parity_due 3824 (client_frames old.sapi count payload))) added
+    → HasSent 3824 (client_frames old.sapi count payload ++ new.left ∷ []) new.path
     → new.sapi ≡ old.sapi → new.mfas ≡ (old.mfas + 1) % 256 → (new.fresh ≡ true → old.stream.answer ≡ line.Packet) → (new.fresh ≡ false → old.stream.answer ≢ line.Packet)
-    → Framed (packets ++ g.goes.more) (given ++ payload) (count + 1) gone new
-frame_made first now taken gone packets given payload count lines next old new answers h none size g left sent sapi mfas fresh late = record {
+    → Framed (packets ++ g.goes.more) (payload ++ added) (count + 1) emitted new
+frame_made first now read emitted packets payload added count lines next old new answers h none size g left sent sapi mfas fresh late = record {
   stream = g.made;
   size = all;
   path = (let P : List (List ℕ) → Type 0 = λ fs. HasSent 3824 fs new.path in subst P (sym frames) sent);
   mfas = mfas ∙ (let e = h.mfas in omega arith);
-  frames = ap (λ y. y ++ new.left) (sym (append-nil gone) ∙ ap (λ y. gone ++ y) (sym none) ∙ h.frames) ∙ sym (joined_next (client_frames old.sapi count given) new.left) ∙ ap concat (sym frames);
+  frames = ap (λ y. y ++ new.left) (sym (append-nil emitted) ∙ ap (λ y. emitted ++ y) (sym none) ∙ h.frames) ∙ sym (joined_next (client_frames old.sapi count payload) new.left) ∙ ap concat (sym frames);
   fresh = λ over e. (let going = fresh e in
-      let a = within_packets packets given old.stream h.stream going in
+      let a = within_packets packets payload old.stream h.stream going in
       let b = longer packets g.goes.more old.stream.fcs in
       let c : gfp_length (packets ++ g.goes.more) new.stream.fcs ≡ gfp_length (packets ++ g.goes.more) old.stream.fcs = ap (gfp_length (packets ++ g.goes.more)) g.goes.same in
       let d = h.size in omega arith);
@@ -71,30 +71,30 @@ frame_made first now taken gone packets given payload count lines next old new a
       let d = h.size in omega arith);
 }
   where
-    all : length (given ++ payload) ≡ 15232 * (count + 1)
-    all = (let a = length-append given payload in let b = h.size in omega arith)
+    all : length (payload ++ added) ≡ 15232 * (count + 1)
+    all = (let a = length-append payload added in let b = h.size in omega arith)
 
-    frames : client_frames new.sapi (count + 1) (given ++ payload) ≡ client_frames old.sapi count given ++ new.left ∷ []
-    frames = ap (λ i. client_frames i (count + 1) (given ++ payload)) sapi ∙ frames_next old.sapi count given payload h.size size
-        ∙ ap (λ f. client_frames old.sapi count given ++ f ∷ []) (ap (λ m. client_frame old.sapi m (or_zero (parity_due 3824 (client_frames old.sapi count given))) payload) (sym h.mfas) ∙ sym left)
+    frames : client_frames new.sapi (count + 1) (payload ++ added) ≡ client_frames old.sapi count payload ++ new.left ∷ []
+    frames = ap (λ i. client_frames i (count + 1) (payload ++ added)) sapi ∙ frames_next old.sapi count payload added h.size size
+        ∙ ap (λ f. client_frames old.sapi count payload ++ f ∷ []) (ap (λ m. client_frame old.sapi m (or_zero (parity_due 3824 (client_frames old.sapi count payload))) added) (sym h.mfas) ∙ sym left)
 
 -- a framer that made a frame
-pub makes_frame : (first was now : InView) (taken gone : List ℕ) (payload : List ℕ) (lines next : LinesView) (old new : FramerState) → old.left ≡ [] → length payload ≡ 15232
-    → StreamsBy was now payload lines next old.stream new.stream
-    → ((fs : List (List ℕ)) → HasSent 3824 fs old.path → (new.left ≡ client_frame old.sapi old.mfas (or_zero (parity_due 3824 fs)) payload) × HasSent 3824 (fs ++ new.left ∷ []) new.path)
+pub makes_frame : (first was now : InView) (read emitted : List ℕ) (added : List ℕ) (lines next : LinesView) (old new : FramerState) → old.left ≡ [] → length added ≡ 15232
+    → StreamsBy was now added lines next old.stream new.stream
+    → ((fs : List (List ℕ)) → HasSent 3824 fs old.path → (new.left ≡ client_frame old.sapi old.mfas (or_zero (parity_due 3824 fs)) added) × HasSent 3824 (fs ++ new.left ∷ []) new.path)
     → new.sapi ≡ old.sapi → new.mfas ≡ (old.mfas + 1) % 256 → (new.fresh ≡ true → old.stream.answer ≡ line.Packet) → (new.fresh ≡ false → old.stream.answer ≢ line.Packet)
-    → FramedSome first was taken gone lines old → Makes first now taken gone lines next old new
-makes_frame first was now taken gone payload lines next old new none size step frame sapi mfas fresh late h =
-    let g = step first taken h.given h.packets h.text h.framed.stream in
-    let f = frame (client_frames old.sapi h.count h.given) h.framed.path in
+    → FramedSome first was read emitted lines old → Makes first now read emitted lines next old new
+makes_frame first was now read emitted added lines next old new none size step frame sapi mfas fresh late h =
+    let g = step first read h.payload h.packets h.text h.framed.stream in
+    let f = frame (client_frames old.sapi h.count h.payload) h.framed.path in
     record {
-      came = g.goes.came;
+      more_read = g.goes.more_read;
       stands = record {
         packets = h.packets ++ g.goes.more;
-        given = h.given ++ payload;
+        payload = h.payload ++ added;
         count = h.count + 1;
         text = g.goes.text;
-        framed = frame_made first now taken gone h.packets h.given payload h.count lines next old new h.text.answer h.framed none size g f.0 f.1 sapi mfas fresh late;
+        framed = frame_made first now read emitted h.packets h.payload added h.count lines next old new h.text.answer h.framed none size g f.0 f.1 sapi mfas fresh late;
       };
       earlier = g.goes.earlier;
       sapi = sapi;
@@ -102,61 +102,61 @@ makes_frame first was now taken gone payload lines next old new none size step f
     }
 
 -- no frame is to be made
-pub makes_none : (first now : InView) (taken gone : List ℕ) (lines : LinesView) (f : FramerState) → FramedSome first now taken gone lines f → Makes first now taken gone lines lines f f
-makes_none first now taken gone lines f h = record {
-  came = [];
-  stands = rw (append-nil taken) h;
-  earlier = λ text may. rw (append-nil taken) at may;
+pub makes_none : (first now : InView) (read emitted : List ℕ) (lines : LinesView) (f : FramerState) → FramedSome first now read emitted lines f → Makes first now read emitted lines lines f f
+makes_none first now read emitted lines f h = record {
+  more_read = [];
+  stands = rw (append-nil read) h;
+  earlier = λ text may. rw (append-nil read) at may;
   sapi = refl;
   fcs = refl;
 }
 
--- bytes of the frame in hand are gone
+-- bytes of the frame in hand are emitted
 with_left : FramerState → List ℕ → FramerState
 with_left f left = record f { left = left }
 
-left_gives : (packets : List (List ℕ)) (given : List ℕ) (count : ℕ) (gone bytes rest : List ℕ) (f : FramerState) → f.left ≡ bytes ++ rest → Framed packets given count gone f → Framed packets given count (gone ++ bytes) (with_left f rest)
+left_gives : (packets : List (List ℕ)) (payload : List ℕ) (count : ℕ) (emitted bytes rest : List ℕ) (f : FramerState) → f.left ≡ bytes ++ rest → Framed packets payload count emitted f → Framed packets payload count (emitted ++ bytes) (with_left f rest)
 unfolding with_left
-left_gives packets given count gone bytes rest f e h = record {
+left_gives packets payload count emitted bytes rest f e h = record {
   stream = h.stream;
   size = h.size;
   path = h.path;
   mfas = h.mfas;
-  frames = append_assoc gone bytes rest ∙ ap (λ y. gone ++ y) (sym e) ∙ h.frames;
+  frames = append_assoc emitted bytes rest ∙ ap (λ y. emitted ++ y) (sym e) ∙ h.frames;
   fresh = h.fresh;
   late = h.late;
 }
 
-pub gives_framed : (first now : InView) (taken gone bytes : List ℕ) (lines : LinesView) (old new : FramerState) → Gives bytes old new → FramedSome first now taken gone lines old → FramedSome first now taken (gone ++ bytes) lines new
+pub gives_framed : (first now : InView) (read emitted bytes : List ℕ) (lines : LinesView) (old new : FramerState) → Gives bytes old new → FramedSome first now read emitted lines old → FramedSome first now read (emitted ++ bytes) lines new
 unfolding with_left
-gives_framed first now taken gone bytes lines old new g h =
-    let P : FramerState → Type 0 = λ f. FramedSome first now taken (gone ++ bytes) lines f in
+gives_framed first now read emitted bytes lines old new g h =
+    let P : FramerState → Type 0 = λ f. FramedSome first now read (emitted ++ bytes) lines f in
     subst P (sym g.same) (record {
       packets = h.packets;
-      given = h.given;
+      payload = h.payload;
       count = h.count;
       text = h.text;
-      framed = left_gives h.packets h.given h.count gone bytes new.left old g.bytes_of h.framed;
+      framed = left_gives h.packets h.payload h.count emitted bytes new.left old g.bytes_of h.framed;
     })
 
 -- a frame more where there is none, and then some of its bytes
-pub makes_then : (first now later : InView) (taken gone done bytes : List ℕ) (a b c : LinesView) (was mid ready is : FramerState) → Makes first now taken (gone ++ done) a b was mid
-    → ((tk gn : List ℕ) → FramedSome first now tk gn b mid → Makes first later tk gn b c mid ready) → Gives bytes ready is → Makes first later taken (gone ++ (done ++ bytes)) a c was is
-makes_then first now later taken gone done bytes a b c was mid ready is m step g =
-    let n = step (taken ++ m.came) (gone ++ done) m.stands in
-    let gone_is : (gone ++ done) ++ bytes ≡ gone ++ (done ++ bytes) = append_assoc gone done bytes in
-    let taken_is : (taken ++ m.came) ++ n.came ≡ taken ++ (m.came ++ n.came) = append_assoc taken m.came n.came in
+pub makes_then : (first now later : InView) (read emitted done bytes : List ℕ) (a b c : LinesView) (was mid ready is : FramerState) → Makes first now read (emitted ++ done) a b was mid
+    → ((tk gn : List ℕ) → FramedSome first now tk gn b mid → Makes first later tk gn b c mid ready) → Gives bytes ready is → Makes first later read (emitted ++ (done ++ bytes)) a c was is
+makes_then first now later read emitted done bytes a b c was mid ready is m step g =
+    let n = step (read ++ m.more_read) (emitted ++ done) m.stands in
+    let emitted_is : (emitted ++ done) ++ bytes ≡ emitted ++ (done ++ bytes) = append_assoc emitted done bytes in
+    let read_is : (read ++ m.more_read) ++ n.more_read ≡ read ++ (m.more_read ++ n.more_read) = append_assoc read m.more_read n.more_read in
     record {
-      came = m.came ++ n.came;
+      more_read = m.more_read ++ n.more_read;
       stands = (let P : List ℕ → List ℕ → Type 0 = λ t g. FramedSome first later t g c is in
-          subst (P (taken ++ (m.came ++ n.came))) gone_is (subst (λ t. P t ((gone ++ done) ++ bytes)) taken_is (gives_framed first later ((taken ++ m.came) ++ n.came) (gone ++ done) bytes c ready is g n.stands)));
-      earlier = λ text may. m.earlier text (n.earlier text (rw (sym taken_is) at may));
+          subst (P (read ++ (m.more_read ++ n.more_read))) emitted_is (subst (λ t. P t ((emitted ++ done) ++ bytes)) read_is (gives_framed first later ((read ++ m.more_read) ++ n.more_read) (emitted ++ done) bytes c ready is g n.stands)));
+      earlier = λ text may. m.earlier text (n.earlier text (rw (sym read_is) at may));
       sapi = ap (λ f. f.sapi) g.same ∙ n.sapi ∙ m.sapi;
       fcs = ap (λ f. f.stream.fcs) g.same ∙ n.fcs ∙ m.fcs;
     }
 
-pub same_makes : (first now : InView) (taken gone all bytes : List ℕ) (a c : LinesView) (was is : FramerState) → all ≡ bytes → Makes first now taken (gone ++ bytes) a c was is → Makes first now taken (gone ++ all) a c was is
-same_makes first now taken gone all bytes a c was is e m = let P : List ℕ → Type 0 = λ b. Makes first now taken (gone ++ b) a c was is in subst P (sym e) m
+pub same_makes : (first now : InView) (read emitted all bytes : List ℕ) (a c : LinesView) (was is : FramerState) → all ≡ bytes → Makes first now read (emitted ++ bytes) a c was is → Makes first now read (emitted ++ all) a c was is
+same_makes first now read emitted all bytes a c was is e m = let P : List ℕ → Type 0 = λ b. Makes first now read (emitted ++ b) a c was is in subst P (sym e) m
 
 pub some_left : (left : List ℕ) → 1 ≤ length left → left ≢ []
 some_left left some e = let n = ap length e in omega arith
@@ -169,7 +169,7 @@ left_more old mid new bytes done count whole e g size all =
     let c = ap (λ f. length f.left) e in
     omega arith
 
--- something is left of a frame that is not gone
+-- something is left of a frame that is not emitted
 pub some_drop : (left frame : List ℕ) (at : ℕ) → left ≡ drop at frame → at < length frame → left ≢ []
 some_drop left frame at e less none = let n = ap length (sym e ∙ none) in let d = length-drop at frame in omega arith
 

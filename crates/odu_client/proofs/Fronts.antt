@@ -1,7 +1,8 @@
 -- The FAS at the front of a list, and what a frame there brings.
 use Rattle.std.proofs.Common.{◌≡◌, ◌<◌, ◌≤◌, ◌+◌, ℕ, Bool, true, false, ◌&&◌, nat_lt, if◌then◌else◌, List, [], ◌∷◌, ◌++◌, length, take, drop, arith, refl, ap, ◌∙◌}
 use Rattle.std.proofs.lemmas.Bool.Decides.{nat_tests}
-use Rattle.odu_client.specs.AlignedRuns.{has_fas, misses_after, Arrival, Broken, arrival_of, whole_frame, next_frame, from_search, from_frame, searching}
+use Rattle.odu_client.specs.AlignedRuns.{has_fas, misses_after, Arrival, Broken, arrival_of, whole_frame, next_frame, searching}
+use Rattle.odu_client.specs.Aligner.{from_search, from_frame}
 use Rattle.odu_client.proofs.Arriving.{search_step, frame_step}
 
 pub short_test : (n m : ℕ) → n < m → nat_lt n m ≡ true

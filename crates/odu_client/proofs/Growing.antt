@@ -3,7 +3,8 @@ use Rattle.std.proofs.Common.{◌≡◌, ◌<◌, ◌≤◌, ◌+◌, ◌-◌, �
 use Rattle.std.proofs.lemmas.List.{take-append-le, drop-append-le}
 use Rattle.std.proofs.lemmas.Bool.{cases_lt}
 use Rattle.std.proofs.Math.Seq.{take-add}
-use Rattle.odu_client.specs.AlignedRuns.{has_fas, misses_after, Arrival, Broken, arrival_of, whole_frame, next_frame, searching, framing, from_search, arrivals}
+use Rattle.odu_client.specs.AlignedRuns.{has_fas, misses_after, Arrival, Broken, arrival_of, whole_frame, next_frame, searching, framing, arrivals}
+use Rattle.odu_client.specs.Aligner.{from_search}
 use Rattle.odu_client.proofs.Arriving.{search_enough}
 use Rattle.odu_client.proofs.Fronts.{short_has, short_test, long_test, has_fas-front, misses-front, long_frame, short_frame}
 
@@ -117,12 +118,12 @@ no_rest a b c e = nothing b (let n = ap length e in let f = length-append (a ++ 
     nothing (x ∷ b) h = absurd (omega arith)
 
 -- where nothing arrives with all of these bytes, nothing does with fewer
-pub none_until : (taken bytes : List ℕ) (done k : ℕ) → k ≤ done → arrivals (taken ++ take done bytes) ≡ arrivals taken → arrivals (taken ++ take k bytes) ≡ arrivals taken
-none_until taken bytes done k less e =
-    let g = arrived_stays taken (take k bytes) in
+pub none_until : (read bytes : List ℕ) (done k : ℕ) → k ≤ done → arrivals (read ++ take done bytes) ≡ arrivals read → arrivals (read ++ take k bytes) ≡ arrivals read
+none_until read bytes done k less e =
+    let g = arrived_stays read (take k bytes) in
     let rest = take (done - k) (drop k bytes) in
     let all : take done bytes ≡ take k bytes ++ rest = ap (λ n. take n bytes) (let f : done ≡ k + (done - k) = omega arith in f) ∙ take-add k (done - k) bytes in
-    let h = arrived_stays (taken ++ take k bytes) rest in
-    let whole : arrivals (taken ++ take done bytes) ≡ arrivals ((taken ++ take k bytes) ++ rest) = ap (λ b. arrivals (taken ++ b)) all ∙ ap arrivals (sym (append_assoc taken (take k bytes) rest)) in
-    let both : arrivals taken ≡ (arrivals taken ++ g.rest) ++ h.rest = sym e ∙ whole ∙ h.parts ∙ ap (λ a. a ++ h.rest) g.parts in
-    g.parts ∙ ap (λ r. arrivals taken ++ r) (no_rest (arrivals taken) g.rest h.rest both) ∙ append-nil (arrivals taken)
+    let h = arrived_stays (read ++ take k bytes) rest in
+    let whole : arrivals (read ++ take done bytes) ≡ arrivals ((read ++ take k bytes) ++ rest) = ap (λ b. arrivals (read ++ b)) all ∙ ap arrivals (sym (append_assoc read (take k bytes) rest)) in
+    let both : arrivals read ≡ (arrivals read ++ g.rest) ++ h.rest = sym e ∙ whole ∙ h.parts ∙ ap (λ a. a ++ h.rest) g.parts in
+    g.parts ∙ ap (λ r. arrivals read ++ r) (no_rest (arrivals read) g.rest h.rest both) ∙ append-nil (arrivals read)

@@ -10,14 +10,14 @@ pub none_made : (sapi : List ℕ) (kept : OverheadState) → HasSent 3824 [] kep
 unfolding client_frames
 none_made sapi kept sent mfas = record { sent = sent; mfas = mfas; size = refl }
 
-pub one_made : (sapi : List ℕ) (count : ℕ) (given payload frame : List ℕ) (old new : OverheadState) → HasMadeFrames sapi count given old → length payload ≡ 15232
+pub one_made : (sapi : List ℕ) (count : ℕ) (emitted payload frame : List ℕ) (old new : OverheadState) → HasMadeFrames sapi count emitted old → length payload ≡ 15232
     → ((fs : List (List ℕ)) → HasSent 3824 fs old.path → frame ≡ client_frame sapi old.mfas (or_zero (parity_due 3824 fs)) payload)
     → ((fs : List (List ℕ)) → HasSent 3824 fs old.path → HasSent 3824 (fs ++ frame ∷ []) new.path)
-    → new.mfas ≡ (old.mfas + 1) % 256 → MakesFrame sapi count given payload frame new
-one_made sapi count given payload frame old new made size is sent mfas =
-    let before = client_frames sapi count given in
-    let all : client_frames sapi (count + 1) (given ++ payload) ≡ before ++ frame ∷ [] =
-    frames_next sapi count given payload made.size size
+    → new.mfas ≡ (old.mfas + 1) % 256 → MakesFrame sapi count emitted payload frame new
+one_made sapi count emitted payload frame old new made size is sent mfas =
+    let before = client_frames sapi count emitted in
+    let all : client_frames sapi (count + 1) (emitted ++ payload) ≡ before ++ frame ∷ [] =
+    frames_next sapi count emitted payload made.size size
     ∙ ap (λ f. before ++ f ∷ []) (ap (λ m. client_frame sapi m (or_zero (parity_due 3824 before)) payload) (sym made.mfas) ∙ sym (is before made.sent)) in
     let P : List (List ℕ) → Type 0 = λ fs. HasSent 3824 fs new.path in
     record {
@@ -25,7 +25,7 @@ one_made sapi count given payload frame old new made size is sent mfas =
       made = record {
         sent = subst P (sym all) (sent before made.sent);
         mfas = mfas ∙ (let e = made.mfas in omega arith);
-        size = (let a = length-append given payload in let b = made.size in omega arith);
+        size = (let a = length-append emitted payload in let b = made.size in omega arith);
       };
     }
 

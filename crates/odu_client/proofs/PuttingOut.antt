@@ -1,15 +1,16 @@
 -- A client's output, step by step.
-use Rattle.std.proofs.Common.{◌≡◌, ◌+◌, ℕ, List, [], ◌∷◌, ◌++◌, length, arith, refl, sym, ap, ◌∙◌, append_assoc, append-nil, length-append}
+use Rattle.std.proofs.Common.{◌≡◌, ◌+◌, ℕ, List, [], ◌∷◌, ◌++◌, length, arith, refl, sym, ap, subst, ◌∙◌, append_assoc, append-nil, length-append}
 use Rattle.std.specs.Prelude.{flat_map}
 use Rattle.std.proofs.lemmas.Grind.{flat_map-append}
 use Rattle.gfp_frames.specs.Delivered.{delivered}
+use Rattle.gfp_frames.specs.Reader.{ReaderState, HasRead}
 use Rattle.gfp_frames.proofs.Reading.{nothing_delivered}
 use Rattle.otn_base.specs.Counts.{saturated}
 use Rattle.packet_text.specs.PacketText.{packet_line, hex_text}
 use Rattle.odu_client.specs.AlignedRuns.{Arrival, Handed, Broken, arrivals, searching, payload_of, with_payload, runs_of}
-use Rattle.odu_client.specs.Aligner.{news}
+use Rattle.odu_client.specs.Aligner.{AlignsBy, news}
 use Rattle.odu_client.specs.ClientOutput.{arriving_packets, arriving_text, handed_count, arriving_frames}
-use Rattle.odu_client.specs.OutputSteps.{OutputStarts, OutputGoesOn, OutputGoesOnByByte, OutputTextGoesOn, FramesGoOn}
+use Rattle.odu_client.specs.OutputSteps.{HasPutOut, ReaderDoes, output_after, OutputStarts, OutputGoesOn, OutputGoesOnByByte, OutputTextGoesOn, FramesGoOn}
 use Rattle.odu_client.specs.View.{frames_after}
 use Rattle.odu_client.specs.declared.aligned.Aligned.{Aligned}
 use Rattle.odu_client.specs.declared.aligned.Aligned.TheVariants as aligned
@@ -105,44 +106,61 @@ output_starts aligner reader aligned read = record {
 
 pub output_goes_on : OutputGoesOn
 unfolding arriving_packets
-output_goes_on arrived came frame packets more aligned.Nothing aligner next reader after h a r =
-    let same : arrivals (arrived ++ came) ≡ arrivals arrived = a.arrived ∙ append-nil (arrivals arrived) in
-    record {
-      ended = h.ended;
-      run = h.run;
-      runs = ap runs_of same ∙ h.runs;
-      aligned = a.aligned;
-      read = rw r.1 h.read;
-      all = ap (λ ps. packets ++ ps) r.0 ∙ append-nil packets ∙ h.all ∙ ap (λ xs. flat_map delivered (runs_of xs)) (sym same);
-    }
-output_goes_on arrived came frame packets more aligned.Whole aligner next reader after h a r =
-    let took = r h.run h.read in
-    let runs : runs_of (arrivals (arrived ++ came)) ≡ h.ended ++ (h.run ++ payload_of frame) ∷ [] = ap runs_of a.arrived ∙ handed_behind (arrivals arrived) frame h.ended h.run h.runs in
-    record {
-      ended = h.ended;
-      run = h.run ++ payload_of frame;
-      runs = runs;
-      aligned = a.aligned;
-      read = took.0;
-      all = ap (λ ps. ps ++ more) (h.all ∙ ap (flat_map delivered) h.runs ∙ packets_of_runs h.ended h.run)
-          ∙ append_assoc (flat_map delivered h.ended) (delivered h.run) more
-          ∙ ap (λ ps. flat_map delivered h.ended ++ ps) (sym took.1)
-          ∙ sym (packets_of_runs h.ended (h.run ++ payload_of frame)) ∙ sym (ap (flat_map delivered) runs);
-    }
-output_goes_on arrived came frame packets more aligned.Break aligner next reader after h a r =
-    let runs : runs_of (arrivals (arrived ++ came)) ≡ (h.ended ++ h.run ∷ []) ++ [] ∷ [] = ap runs_of a.arrived ∙ broken_behind (arrivals arrived) h.ended h.run h.runs in
-    record {
-      ended = h.ended ++ h.run ∷ [];
-      run = [];
-      runs = runs;
-      aligned = a.aligned;
-      read = r.1;
-      all = ap (λ ps. packets ++ ps) r.0 ∙ append-nil packets ∙ h.all ∙ ap (flat_map delivered) h.runs ∙ sym (packets_of_runs (h.ended ++ h.run ∷ []) [] ∙ ap (λ ps. flat_map delivered (h.ended ++ h.run ∷ []) ++ ps) nothing_delivered ∙ append-nil (flat_map delivered (h.ended ++ h.run ∷ []))) ∙ sym (ap (flat_map delivered) runs);
-    }
+output_goes_on output step h a r = by_answer step.answer a r
+  where
+    before : List Arrival
+    before = arrivals output.arrived
+
+    now : List ℕ
+    now = output.arrived ++ step.bytes
+
+    all_of : (ended : List (List ℕ)) (run : List ℕ) → runs_of (arrivals now) ≡ ended ++ run ∷ [] → output.packets ++ step.packets ≡ flat_map delivered ended ++ delivered run
+        → output.packets ++ step.packets ≡ arriving_packets now
+    all_of ended run runs e = e ∙ sym (packets_of_runs ended run) ∙ sym (ap (flat_map delivered) runs)
+
+    so_far : output.packets ≡ flat_map delivered h.ended ++ delivered h.run
+    so_far = h.all ∙ ap (flat_map delivered) h.runs ∙ packets_of_runs h.ended h.run
+
+    by_answer : (answer : Aligned) → AlignsBy output.arrived step.bytes answer step.frame step.aligner → ReaderDoes answer step.frame step.packets output.reader step.reader → HasPutOut (output_after output step)
+    by_answer aligned.Nothing b does =
+        let runs : runs_of (arrivals now) ≡ h.ended ++ h.run ∷ [] = ap runs_of (b.arrived ∙ append-nil before) ∙ h.runs in
+        record {
+          ended = h.ended;
+          run = h.run;
+          runs = runs;
+          aligned = b.aligned;
+          read = (let P : ReaderState → Type 0 = λ reader. HasRead h.run reader in subst P (sym does.1) h.read);
+          all = all_of h.ended h.run runs (ap (λ ps. output.packets ++ ps) does.0 ∙ append-nil output.packets ∙ so_far);
+        }
+    by_answer aligned.Whole b does =
+        let took = does h.run h.read in
+        let runs : runs_of (arrivals now) ≡ h.ended ++ (h.run ++ payload_of step.frame) ∷ [] = ap runs_of b.arrived ∙ handed_behind before step.frame h.ended h.run h.runs in
+        record {
+          ended = h.ended;
+          run = h.run ++ payload_of step.frame;
+          runs = runs;
+          aligned = b.aligned;
+          read = took.0;
+          all = all_of h.ended (h.run ++ payload_of step.frame) runs
+              (ap (λ ps. ps ++ step.packets) so_far ∙ append_assoc (flat_map delivered h.ended) (delivered h.run) step.packets ∙ ap (λ ps. flat_map delivered h.ended ++ ps) (sym took.1));
+        }
+    by_answer aligned.Break b does =
+        let runs : runs_of (arrivals now) ≡ (h.ended ++ h.run ∷ []) ++ [] ∷ [] = ap runs_of b.arrived ∙ broken_behind before h.ended h.run h.runs in
+        record {
+          ended = h.ended ++ h.run ∷ [];
+          run = [];
+          runs = runs;
+          aligned = b.aligned;
+          read = does.1;
+          all = all_of (h.ended ++ h.run ∷ []) [] runs
+              (ap (λ ps. output.packets ++ ps) does.0 ∙ append-nil output.packets ∙ so_far ∙ sym (packets_of_runs h.ended h.run)
+              ∙ sym (ap (λ ps. flat_map delivered (h.ended ++ h.run ∷ []) ++ ps) nothing_delivered ∙ append-nil (flat_map delivered (h.ended ++ h.run ∷ []))));
+        }
 
 pub output_goes_on_by_byte : OutputGoesOnByByte
-output_goes_on_by_byte arrived frame byte packets more answer aligner next reader after h a r =
-    output_goes_on arrived (byte ∷ []) frame packets more answer aligner next reader after h (by_byte arrived byte answer frame next a) r
+output_goes_on_by_byte output step byte one h a r =
+    let P : List ℕ → Type 0 = λ bytes. AlignsBy output.arrived bytes step.answer step.frame step.aligner in
+    output_goes_on output step h (subst P (sym one) (by_byte output.arrived byte step.answer step.frame step.aligner a)) r
 
 -- ---- the text
 
@@ -153,8 +171,8 @@ text_behind (x ∷ xs) ys = ap (λ text. packet_line x ++ text) (text_behind xs 
 
 pub output_text_goes_on : OutputTextGoesOn
 unfolding arriving_text
-output_text_goes_on arrived came packets more aligner next reader after h k =
-    sym (ap hex_text k.all) ∙ text_behind packets more ∙ ap (λ ps. hex_text ps ++ hex_text more) h.all
+output_text_goes_on output step h k =
+    sym (ap hex_text k.all) ∙ text_behind output.packets step.packets ∙ ap (λ ps. hex_text ps ++ hex_text step.packets) h.all
 
 -- ---- how many whole frames
 
@@ -171,5 +189,5 @@ count_news n frames aligned.Whole frame e = omega (arith, e)
 count_news n frames aligned.Break frame e = omega (arith, e)
 
 pub frames_go_on : FramesGoOn
-frames_go_on arrived came frame answer next frames a e =
-    count_news (arriving_frames arrived) frames answer frame e ∙ ap saturated (sym (ap handed_count a.arrived ∙ count_behind (arrivals arrived) (news answer frame)))
+frames_go_on output step frames a e =
+    count_news (arriving_frames output.arrived) frames step.answer step.frame e ∙ ap saturated (sym (ap handed_count a.arrived ∙ count_behind (arrivals output.arrived) (news step.answer step.frame)))

@@ -46,8 +46,8 @@ fresh_stands fcs = record {
 }
 
 -- nothing is to be asked for
-pub ready_from : (packets : List (List ℕ)) (given : List ℕ) (s : StreamState) → (s.answer ≡ line.Packet → s.maker.hand ≢ []) → StreamMade packets given s → StreamReady packets given s
-ready_from packets given s some h = record {
+pub ready_from : (packets : List (List ℕ)) (emitted : List ℕ) (s : StreamState) → (s.answer ≡ line.Packet → s.maker.hand ≢ []) → StreamMade packets emitted s → StreamReady packets emitted s
+ready_from packets emitted s some h = record {
   idles = h.idles;
   made = h.made;
   going = λ e. (h.going e, some e);
@@ -57,28 +57,28 @@ ready_from packets given s some h = record {
 }
 
 -- the text did not go on
-pub stays : (first now : InView) (taken : List ℕ) (packets : List (List ℕ)) (lines : LinesView) (s : StreamState) → TextStands first now taken packets lines s → TextGoes first now taken packets lines lines s.fcs s
-stays first now taken packets lines s h = record {
-  came = [];
+pub stays : (first now : InView) (read : List ℕ) (packets : List (List ℕ)) (lines : LinesView) (s : StreamState) → TextStands first now read packets lines s → TextGoes first now read packets lines lines s.fcs s
+stays first now read packets lines s h = record {
+  more_read = [];
   more = [];
-  text = rw (append-nil taken, append-nil packets) h;
-  earlier = λ text may. rw (append-nil taken) at may;
+  text = rw (append-nil read, append-nil packets) h;
+  earlier = λ text may. rw (append-nil read) at may;
   still = λ other. (refl, refl);
   same = refl;
 }
 
--- the frames made so far are all that was given
-all_given : (packets : List (List ℕ)) (given : List ℕ) (s : StreamState) → StreamMade packets given s → s.answer ≡ line.Packet → s.maker.hand ≡ [] → gfp_length packets s.fcs ≡ length given
+-- the frames made so far are all that was emitted
+all_emitted : (packets : List (List ℕ)) (emitted : List ℕ) (s : StreamState) → StreamMade packets emitted s → s.answer ≡ line.Packet → s.maker.hand ≡ [] → gfp_length packets s.fcs ≡ length emitted
 unfolding gfp_length
-all_given packets given s h going none =
-    let t : given ++ s.maker.hand ≡ text_of (stream_frames packets s.fcs 0) = h.made.text ∙ ap (λ k. text_of (stream_frames packets s.fcs k)) (h.going going) in
-    ap length (sym t ∙ ap (λ y. given ++ y) none ∙ append-nil given)
+all_emitted packets emitted s h going none =
+    let t : emitted ++ s.maker.hand ≡ text_of (stream_frames packets s.fcs 0) = h.made.text ∙ ap (λ k. text_of (stream_frames packets s.fcs k)) (h.going going) in
+    ap length (sym t ∙ ap (λ y. emitted ++ y) none ∙ append-nil emitted)
 
 counted : (n m : ℕ) → m ≡ saturated n → saturated (m + 1) ≡ saturated (n + 1)
 counted n m e = omega arith
 
-made_going : (packets : List (List ℕ)) (given : List ℕ) (s : StreamState) → StreamMade packets given s → s.answer ≡ line.Packet → HasMade (stream_frames packets s.fcs 0) given s.maker
-made_going packets given s h going = let P : ℕ → Type 0 = λ k. HasMade (stream_frames packets s.fcs k) given s.maker in subst P (h.going going) h.made
+made_going : (packets : List (List ℕ)) (emitted : List ℕ) (s : StreamState) → StreamMade packets emitted s → s.answer ≡ line.Packet → HasMade (stream_frames packets s.fcs 0) emitted s.maker
+made_going packets emitted s h going = let P : ℕ → Type 0 = λ k. HasMade (stream_frames packets s.fcs k) emitted s.maker in subst P (h.going going) h.made
 
 pub some_framed : (maker : MakerState) (area : List ℕ) (register : ℕ) → maker ≡ made_frame area register → maker.hand ≢ []
 some_framed maker area register is none =
@@ -98,17 +98,17 @@ no_more line.End packet other = refl
 no_more (line.Bad n) packet other = refl
 no_more line.Lost packet other = refl
 
-asked_text : (first was now : InView) (taken : List ℕ) (packets more : List (List ℕ)) (lines next : LinesView) (old new : StreamState) → old.answer ≡ line.Packet
-    → (LinesStand first was taken packets lines → TakeStands first taken packets lines next now) → next.answer ≡ new.answer → new.fcs ≡ old.fcs → given_by next.answer next.packet ≡ more
-    → TextStands first was taken packets lines old → TextGoes first now taken packets lines next old.fcs new
+asked_text : (first was now : InView) (read : List ℕ) (packets more : List (List ℕ)) (lines next : LinesView) (old new : StreamState) → old.answer ≡ line.Packet
+    → (LinesStand first was read packets lines → TakeStands first read packets lines next now) → next.answer ≡ new.answer → new.fcs ≡ old.fcs → given_by next.answer next.packet ≡ more
+    → TextStands first was read packets lines old → TextGoes first now read packets lines next old.fcs new
 unfolding more_of
-asked_text first was now taken packets more lines next old new going stands answer fcs is h =
+asked_text first was now read packets more lines next old new going stands answer fcs is h =
     let t = stands h.stands in
     let was_going : lines.answer ≡ line.Packet = sym h.answer ∙ going in
     let e : more_of lines next ≡ more = ap (λ a. if is_packet a then given_by next.answer next.packet else []) was_going ∙ is in
-    let P : List (List ℕ) → Type 0 = λ ps. LinesStand first now (taken ++ t.came) (packets ++ ps) next in
+    let P : List (List ℕ) → Type 0 = λ ps. LinesStand first now (read ++ t.came) (packets ++ ps) next in
     record {
-      came = t.came;
+      more_read = t.came;
       more = more;
       text = record { stands = subst P e t.stands; answer = sym answer };
       earlier = t.earlier;
@@ -117,19 +117,19 @@ asked_text first was now taken packets more lines next old new going stands answ
     }
 
 -- the next packet is in hand
-pub packet_asked : (first was now : InView) (taken given : List ℕ) (packets : List (List ℕ)) (lines next : LinesView) (old new : StreamState) → old.answer ≡ line.Packet → old.maker.hand ≡ []
-    → (LinesStand first was taken packets lines → TakeStands first taken packets lines next now) → next.answer ≡ new.answer → new.fcs ≡ old.fcs → new.answer ≡ line.Packet
+pub packet_asked : (first was now : InView) (read emitted : List ℕ) (packets : List (List ℕ)) (lines next : LinesView) (old new : StreamState) → old.answer ≡ line.Packet → old.maker.hand ≡ []
+    → (LinesStand first was read packets lines → TakeStands first read packets lines next now) → next.answer ≡ new.answer → new.fcs ≡ old.fcs → new.answer ≡ line.Packet
     → new.maker ≡ made_frame (client_area next.packet old.fcs) old.maker.register → new.packets ≡ saturated (old.packets + 1)
-    → TextStands first was taken packets lines old → StreamMade packets given old → GetsReady first now taken given packets lines next old.fcs new
+    → TextStands first was read packets lines old → StreamMade packets emitted old → GetsReady first now read emitted packets lines next old.fcs new
 unfolding asked_text
-packet_asked first was now taken given packets lines next old new going none stands answer fcs is maker count t h = record {
-  goes = asked_text first was now taken packets (next.packet ∷ []) lines next old new going stands answer fcs (ap (λ a. given_by a next.packet) (answer ∙ is)) t;
+packet_asked first was now read emitted packets lines next old new going none stands answer fcs is maker count t h = record {
+  goes = asked_text first was now read packets (next.packet ∷ []) lines next old new going stands answer fcs (ap (λ a. given_by a next.packet) (answer ∙ is)) t;
   ready = record {
     idles = 0;
-    made = (let P : List Frame → Type 0 = λ fs. HasMade fs given new.maker in subst P frames (frame_made (stream_frames packets old.fcs 0) frame given old.maker new.maker (made_going packets given old h going) none maker));
+    made = (let P : List Frame → Type 0 = λ fs. HasMade fs emitted new.maker in subst P frames (frame_made (stream_frames packets old.fcs 0) frame emitted old.maker new.maker (made_going packets emitted old h going) none maker));
     going = λ f. (refl, some_framed _ _ _ maker);
     begun = λ before last f. (let size : gfp_length before new.fcs ≡ gfp_length packets old.fcs = ap (λ ps. gfp_length ps new.fcs) (sym (snoc_same packets before next.packet last f)) ∙ ap (gfp_length packets) fcs in
-        omega (arith, all_given packets given old h going none));
+        omega (arith, all_emitted packets emitted old h going none));
     seen = λ f. absurd (f is);
     count = count ∙ counted (length packets) old.packets h.count ∙ ap saturated (let n = length-append packets (next.packet ∷ []) in let m : length packets + 1 ≡ length (packets ++ next.packet ∷ []) = omega arith in m);
   };
@@ -144,36 +144,36 @@ packet_asked first was now taken given packets lines next old new going none sta
         ∙ ap (first_frames (packets ++ next.packet ∷ [])) (sym fcs) ∙ sym (no_idles (packets ++ next.packet ∷ []) new.fcs)
 
 -- there is none
-pub none_asked : (first was now : InView) (taken given : List ℕ) (packets : List (List ℕ)) (lines next : LinesView) (old new : StreamState) → old.answer ≡ line.Packet → old.maker.hand ≡ []
-    → (LinesStand first was taken packets lines → TakeStands first taken packets lines next now) → next.answer ≡ new.answer → new.fcs ≡ old.fcs → new.answer ≢ line.Packet
+pub none_asked : (first was now : InView) (read emitted : List ℕ) (packets : List (List ℕ)) (lines next : LinesView) (old new : StreamState) → old.answer ≡ line.Packet → old.maker.hand ≡ []
+    → (LinesStand first was read packets lines → TakeStands first read packets lines next now) → next.answer ≡ new.answer → new.fcs ≡ old.fcs → new.answer ≢ line.Packet
     → new.maker ≡ old.maker → new.packets ≡ old.packets
-    → TextStands first was taken packets lines old → StreamMade packets given old → GetsReady first now taken given packets lines next old.fcs new
+    → TextStands first was read packets lines old → StreamMade packets emitted old → GetsReady first now read emitted packets lines next old.fcs new
 unfolding asked_text
-none_asked first was now taken given packets lines next old new going none stands answer fcs other maker count t h =
-    let P : List (List ℕ) → Type 0 = λ ps. StreamReady ps given new in
-    let Q : MakerState → Bool → Type 0 = λ m f. HasMade (stream_frames packets f 0) given m in
+none_asked first was now read emitted packets lines next old new going none stands answer fcs other maker count t h =
+    let P : List (List ℕ) → Type 0 = λ ps. StreamReady ps emitted new in
+    let Q : MakerState → Bool → Type 0 = λ m f. HasMade (stream_frames packets f 0) emitted m in
     record {
-      goes = asked_text first was now taken packets [] lines next old new going stands answer fcs (no_more next.answer next.packet (λ e. other (sym answer ∙ e))) t;
+      goes = asked_text first was now read packets [] lines next old new going stands answer fcs (no_more next.answer next.packet (λ e. other (sym answer ∙ e))) t;
       ready = subst P (sym (append-nil packets)) (record {
         idles = 0;
-        made = subst (Q new.maker) (sym fcs) (subst (λ m. Q m old.fcs) (sym maker) (made_going packets given old h going));
+        made = subst (Q new.maker) (sym fcs) (subst (λ m. Q m old.fcs) (sym maker) (made_going packets emitted old h going));
         going = λ e. absurd (other e);
         begun = λ before last f. (let less = h.begun before last f in let e = ap (gfp_length before) fcs in omega arith);
-        seen = λ f. (let e = ap (gfp_length packets) fcs in omega (arith, all_given packets given old h going none));
+        seen = λ f. (let e = ap (gfp_length packets) fcs in omega (arith, all_emitted packets emitted old h going none));
         count = count ∙ h.count;
       });
     }
 
--- at least one byte more was given
-pub given_made : (packets : List (List ℕ)) (given bytes : List ℕ) (k : ℕ) (old new : StreamState) → 1 ≤ length bytes → new.fcs ≡ old.fcs → new.answer ≡ old.answer → new.packets ≡ old.packets
-    → (old.answer ≡ line.Packet → k ≡ 0) → (h : StreamReady packets given old) → HasMade (stream_frames packets old.fcs h.idles ++ replicate k Idle) (given ++ bytes) new.maker → StreamMade packets (given ++ bytes) new
-given_made packets given bytes k old new some fcs answer same none h made =
-    let size = length-append given bytes in
+-- at least one byte more was emitted
+pub emitted_made : (packets : List (List ℕ)) (emitted bytes : List ℕ) (k : ℕ) (old new : StreamState) → 1 ≤ length bytes → new.fcs ≡ old.fcs → new.answer ≡ old.answer → new.packets ≡ old.packets
+    → (old.answer ≡ line.Packet → k ≡ 0) → (h : StreamReady packets emitted old) → HasMade (stream_frames packets old.fcs h.idles ++ replicate k Idle) (emitted ++ bytes) new.maker → StreamMade packets (emitted ++ bytes) new
+emitted_made packets emitted bytes k old new some fcs answer same none h made =
+    let size = length-append emitted bytes in
     let frames : stream_frames packets old.fcs h.idles ++ replicate k Idle ≡ stream_frames packets new.fcs (h.idles + k) =
     ap (λ fs. Idle ∷ fs) (more_idles (clients packets old.fcs) h.idles k) ∙ ap (λ f. stream_frames packets f (h.idles + k)) (sym fcs) in
     record {
       idles = h.idles + k;
-      made = (let P : List Frame → Type 0 = λ fs. HasMade fs (given ++ bytes) new.maker in subst P frames made);
+      made = (let P : List Frame → Type 0 = λ fs. HasMade fs (emitted ++ bytes) new.maker in subst P frames made);
       going = λ e. (let f = sym answer ∙ e in let a = (h.going f).0 in let b = none f in omega arith);
       begun = λ before last e. (let less = h.begun before last e in let f = ap (gfp_length before) fcs in omega arith);
       seen = λ other. (let less = h.seen (λ e. other (answer ∙ e)) in let f = ap (gfp_length packets) fcs in omega arith);
@@ -181,13 +181,13 @@ given_made packets given bytes k old new some fcs answer same none h made =
     }
 
 -- a step after others
-pub goes_then : (first now later : InView) (taken given : List ℕ) (packets : List (List ℕ)) (a b c : LinesView) (fcs : Bool) (s t : StreamState) → (g : TextGoes first now taken packets a b fcs s)
-    → TextGoes first later (taken ++ g.came) (packets ++ g.more) b c s.fcs t → TextGoes first later taken packets a c fcs t
-goes_then first now later taken given packets a b c fcs s t g h = record {
-  came = g.came ++ h.came;
+pub goes_then : (first now later : InView) (read emitted : List ℕ) (packets : List (List ℕ)) (a b c : LinesView) (fcs : Bool) (s t : StreamState) → (g : TextGoes first now read packets a b fcs s)
+    → TextGoes first later (read ++ g.more_read) (packets ++ g.more) b c s.fcs t → TextGoes first later read packets a c fcs t
+goes_then first now later read emitted packets a b c fcs s t g h = record {
+  more_read = g.more_read ++ h.more_read;
   more = g.more ++ h.more;
-  text = rw (sym (append_assoc taken g.came h.came), sym (append_assoc packets g.more h.more)) h.text;
-  earlier = λ text may. g.earlier text (h.earlier text (rw (sym (append_assoc taken g.came h.came)) at may));
+  text = rw (sym (append_assoc read g.more_read h.more_read), sym (append_assoc packets g.more h.more)) h.text;
+  earlier = λ text may. g.earlier text (h.earlier text (rw (sym (append_assoc read g.more_read h.more_read)) at may));
   still = λ other.
       let one = g.still other in
       let two = h.still (λ e. other (ap (λ v. v.answer) (sym one.1) ∙ e)) in
@@ -196,58 +196,58 @@ goes_then first now later taken given packets a b c fcs s t g h = record {
 }
 
 -- nothing is to be asked for, or nothing can be
-pub stays_ready : (first now : InView) (taken given : List ℕ) (packets : List (List ℕ)) (lines : LinesView) (s : StreamState) → (s.answer ≡ line.Packet → s.maker.hand ≢ []) → TextStands first now taken packets lines s
-    → StreamMade packets given s → GetsReady first now taken given packets lines lines s.fcs s
+pub stays_ready : (first now : InView) (read emitted : List ℕ) (packets : List (List ℕ)) (lines : LinesView) (s : StreamState) → (s.answer ≡ line.Packet → s.maker.hand ≢ []) → TextStands first now read packets lines s
+    → StreamMade packets emitted s → GetsReady first now read emitted packets lines lines s.fcs s
 unfolding stays
-stays_ready first now taken given packets lines s some t h = record {
-  goes = stays first now taken packets lines s t;
-  ready = (let P : List (List ℕ) → Type 0 = λ ps. StreamReady ps given s in subst P (sym (append-nil packets)) (ready_from packets given s some h));
+stays_ready first now read emitted packets lines s some t h = record {
+  goes = stays first now read packets lines s t;
+  ready = (let P : List (List ℕ) → Type 0 = λ ps. StreamReady ps emitted s in subst P (sym (append-nil packets)) (ready_from packets emitted s some h));
 }
 
--- all of a slice was given
-pub given_all : (packets : List (List ℕ)) (given bytes : List ℕ) (k : ℕ) (old new : StreamState) → 1 ≤ length bytes → new.fcs ≡ old.fcs → new.answer ≡ old.answer → new.packets ≡ old.packets
-    → (old.answer ≡ line.Packet → k ≡ 0) → (h : StreamReady packets given old) → HasMade (stream_frames packets old.fcs h.idles ++ replicate k Idle) (given ++ bytes) new.maker
-    → StreamMade packets (given ++ take (length bytes) bytes) new
-given_all packets given bytes k old new some fcs answer same none h made =
-    let P : List ℕ → Type 0 = λ b. StreamMade packets (given ++ b) new in subst P (sym (take-length bytes)) (given_made packets given bytes k old new some fcs answer same none h made)
+-- all of a slice was emitted
+pub emitted_all : (packets : List (List ℕ)) (emitted bytes : List ℕ) (k : ℕ) (old new : StreamState) → 1 ≤ length bytes → new.fcs ≡ old.fcs → new.answer ≡ old.answer → new.packets ≡ old.packets
+    → (old.answer ≡ line.Packet → k ≡ 0) → (h : StreamReady packets emitted old) → HasMade (stream_frames packets old.fcs h.idles ++ replicate k Idle) (emitted ++ bytes) new.maker
+    → StreamMade packets (emitted ++ take (length bytes) bytes) new
+emitted_all packets emitted bytes k old new some fcs answer same none h made =
+    let P : List ℕ → Type 0 = λ b. StreamMade packets (emitted ++ b) new in subst P (sym (take-length bytes)) (emitted_made packets emitted bytes k old new some fcs answer same none h made)
 
 -- ready, and then some bytes were emitted
 pub ready_streams : (was now : InView) (bytes : List ℕ) (lines next : LinesView) (old mid new : StreamState) → new.fcs ≡ mid.fcs → new.answer ≡ mid.answer
     → ((ps : List (List ℕ)) (g : List ℕ) → StreamReady ps g mid → StreamMade ps (g ++ bytes) new)
-    → ((first : InView) (taken given : List ℕ) (packets : List (List ℕ)) → TextStands first was taken packets lines old → StreamMade packets given old → GetsReady first now taken given packets lines next old.fcs mid)
+    → ((first : InView) (read emitted : List ℕ) (packets : List (List ℕ)) → TextStands first was read packets lines old → StreamMade packets emitted old → GetsReady first now read emitted packets lines next old.fcs mid)
     → StreamsBy was now bytes lines next old new
-ready_streams was now bytes lines next old mid new same answer made ready = λ first taken given packets t h.
-    let r = ready first taken given packets t h in
+ready_streams was now bytes lines next old mid new same answer made ready = λ first read emitted packets t h.
+    let r = ready first read emitted packets t h in
     record {
       goes = record {
-        came = r.goes.came;
+        more_read = r.goes.more_read;
         more = r.goes.more;
         text = record { stands = r.goes.text.stands; answer = answer ∙ r.goes.text.answer };
         earlier = r.goes.earlier;
         still = r.goes.still;
         same = same ∙ r.goes.same;
       };
-      made = made (packets ++ r.goes.more) given r.ready;
+      made = made (packets ++ r.goes.more) emitted r.ready;
     }
 
 -- nothing was emitted yet
 pub streams_none : (place : InView) (lines : LinesView) (s : StreamState) → StreamsBy place place [] lines lines s s
 unfolding stays
-streams_none place lines s = λ first taken given packets t h. record {
-  goes = stays first place taken packets lines s t;
-  made = (let P : List (List ℕ) → List ℕ → Type 0 = λ ps g. StreamMade ps g s in subst (P (packets ++ [])) (sym (append-nil given)) (subst (λ ps. P ps given) (sym (append-nil packets)) h));
+streams_none place lines s = λ first read emitted packets t h. record {
+  goes = stays first place read packets lines s t;
+  made = (let P : List (List ℕ) → List ℕ → Type 0 = λ ps g. StreamMade ps g s in subst (P (packets ++ [])) (sym (append-nil emitted)) (subst (λ ps. P ps emitted) (sym (append-nil packets)) h));
 }
 
 -- two calls, one after another
 pub streams_both : (was mid now : InView) (x y : List ℕ) (a b c : LinesView) (s t u : StreamState) → StreamsBy was mid x a b s t → StreamsBy mid now y b c t u → StreamsBy was now (x ++ y) a c s u
 unfolding goes_then
-streams_both was mid now x y a b c s t u one two = λ first taken given packets text made.
-    let g = one first taken given packets text made in
-    let n = two first (taken ++ g.goes.came) (given ++ x) (packets ++ g.goes.more) g.goes.text g.made in
+streams_both was mid now x y a b c s t u one two = λ first read emitted packets text made.
+    let g = one first read emitted packets text made in
+    let n = two first (read ++ g.goes.more_read) (emitted ++ x) (packets ++ g.goes.more) g.goes.text g.made in
     record {
-      goes = goes_then first mid now taken given packets a b c s.fcs t u g.goes n.goes;
+      goes = goes_then first mid now read emitted packets a b c s.fcs t u g.goes n.goes;
       made = (let P : List (List ℕ) → List ℕ → Type 0 = λ ps bytes. StreamMade ps bytes u in
-          subst (λ ps. P ps (given ++ (x ++ y))) (append_assoc packets g.goes.more n.goes.more) (subst (P ((packets ++ g.goes.more) ++ n.goes.more)) (append_assoc given x y) n.made));
+          subst (λ ps. P ps (emitted ++ (x ++ y))) (append_assoc packets g.goes.more n.goes.more) (subst (P ((packets ++ g.goes.more) ++ n.goes.more)) (append_assoc emitted x y) n.made));
     }
 
 -- the same bytes, by another name

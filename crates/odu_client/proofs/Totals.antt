@@ -32,28 +32,28 @@ told_over line.End packets p h other = ap (λ q. q.packets) h
 told_over (line.Bad n) packets p h other = ap (λ q. q.packets) h.ends
 told_over line.Lost packets p h other = ap (λ q. q.packets) h
 
--- what is known of the whole text's packets, where these packets were taken of it and these bytes made of them
-record OfWhole (packets all : List (List ℕ)) (given : List ℕ) (s : StreamState) : Type 0 where
-  stream : given ≡ gfp_text all s.fcs (length given)
-  begun : begun_within (length given) (stream_frames all s.fcs 0) ≡ length packets
-  going : s.answer ≡ line.Packet → length given ≤ gfp_length all s.fcs
+-- what is known of the whole text's packets, where these packets were read of it and these bytes made of them
+record OfWhole (packets all : List (List ℕ)) (payload : List ℕ) (s : StreamState) : Type 0 where
+  stream : payload ≡ gfp_text all s.fcs (length payload)
+  begun : begun_within (length payload) (stream_frames all s.fcs 0) ≡ length packets
+  going : s.answer ≡ line.Packet → length payload ≤ gfp_length all s.fcs
   over : s.answer ≢ line.Packet → all ≡ packets
 
-whole_going : (packets later : List (List ℕ)) (given : List ℕ) (s : StreamState) → s.answer ≡ line.Packet → StreamMade packets given s → OfWhole packets (packets ++ later) given s
-whole_going packets later given s e h =
-    let fits = within_packets packets given s h e in
-    let text : given ++ s.maker.hand ≡ text_of (first_frames packets s.fcs) = h.made.text ∙ ap (λ k. text_of (stream_frames packets s.fcs k)) (h.going e) ∙ ap text_of (no_idles packets s.fcs) in
+whole_going : (packets later : List (List ℕ)) (payload : List ℕ) (s : StreamState) → s.answer ≡ line.Packet → StreamMade packets payload s → OfWhole packets (packets ++ later) payload s
+whole_going packets later payload s e h =
+    let fits = within_packets packets payload s h e in
+    let text : payload ++ s.maker.hand ≡ text_of (first_frames packets s.fcs) = h.made.text ∙ ap (λ k. text_of (stream_frames packets s.fcs k)) (h.going e) ∙ ap text_of (no_idles packets s.fcs) in
     record {
-      stream = sym (take-append_seam given s.maker.hand) ∙ ap (take (length given)) text ∙ sym (text_of_more packets later s.fcs (length given) fits);
-      begun = all_begun_of packets later s.fcs (length given) fits ∙ all_begun packets s.fcs (length given) h.begun;
+      stream = sym (take-append_seam payload s.maker.hand) ∙ ap (take (length payload)) text ∙ sym (text_of_more packets later s.fcs (length payload) fits);
+      begun = all_begun_of packets later s.fcs (length payload) fits ∙ all_begun packets s.fcs (length payload) h.begun;
       going = λ _. (let more = longer packets later s.fcs in omega arith);
       over = λ other. absurd (other e);
     }
 
-whole_over : (packets : List (List ℕ)) (given : List ℕ) (s : StreamState) → s.answer ≢ line.Packet → StreamMade packets given s → OfWhole packets packets given s
-whole_over packets given s other h = record {
-  stream = given_is_stream packets s.fcs h.idles given s.maker h.made;
-  begun = ap (begun_within (length given)) (no_idles packets s.fcs) ∙ all_begun packets s.fcs (length given) h.begun;
+whole_over : (packets : List (List ℕ)) (payload : List ℕ) (s : StreamState) → s.answer ≢ line.Packet → StreamMade packets payload s → OfWhole packets packets payload s
+whole_over packets payload s other h = record {
+  stream = given_is_stream packets s.fcs h.idles payload s.maker h.made;
+  begun = ap (begun_within (length payload)) (no_idles packets s.fcs) ∙ all_begun packets s.fcs (length payload) h.begun;
   going = λ e. absurd (other e);
   over = λ _. refl;
 }
@@ -64,56 +64,56 @@ is_packet_answer line.End = inr (λ e. cc)
 is_packet_answer (line.Bad n) = inr (λ e. cc)
 is_packet_answer line.Lost = inr (λ e. cc)
 
-of_whole : (first now : InView) (taken : List ℕ) (packets : List (List ℕ)) (given : List ℕ) (lines : LinesView) (s : StreamState) (text : List ℕ) → TextStands first now taken packets lines s → StreamMade packets given s
-    → MayBe lines taken text → OfWhole packets (packets_of text).packets given s
-of_whole first now taken packets given lines s text t h may = elim (is_packet_answer s.answer) [
+of_whole : (first now : InView) (read : List ℕ) (packets : List (List ℕ)) (payload : List ℕ) (lines : LinesView) (s : StreamState) (text : List ℕ) → TextStands first now read packets lines s → StreamMade packets payload s
+    → MayBe lines read text → OfWhole packets (packets_of text).packets payload s
+of_whole first now read packets payload lines s text t h may = elim (is_packet_answer s.answer) [
   | inl e ↦
       let told = told_going lines.answer packets (packets_of text) (t.stands.told text may) (sym t.answer ∙ e) in
       let all : (packets_of text).packets ≡ packets ++ told.later.packets = ap (λ q. q.packets) told.parts in
-      let P : List (List ℕ) → Type 0 = λ ps. OfWhole packets ps given s in subst P (sym all) (whole_going packets told.later.packets given s e h)
+      let P : List (List ℕ) → Type 0 = λ ps. OfWhole packets ps payload s in subst P (sym all) (whole_going packets told.later.packets payload s e h)
   | inr other ↦
       let all : (packets_of text).packets ≡ packets = told_over lines.answer packets (packets_of text) (t.stands.told text may) (λ e. other (t.answer ∙ e)) in
-      let P : List (List ℕ) → Type 0 = λ ps. OfWhole packets ps given s in subst P (sym all) (whole_over packets given s other h)
+      let P : List (List ℕ) → Type 0 = λ ps. OfWhole packets ps payload s in subst P (sym all) (whole_over packets payload s other h)
 ]
 
--- all bytes that are gone are the first of the client's stream
-pub gone_is_stream : (first now : InView) (taken gone : List ℕ) (lines : LinesView) (f : FramerState) (text : List ℕ) → ClientStands first now taken gone lines f → MayBe lines taken text
-    → gone ≡ client_stream f.sapi (packets_of text).packets f.stream.fcs (length gone)
+-- all bytes that are emitted are the first of the client's stream
+pub gone_is_stream : (first now : InView) (read emitted : List ℕ) (lines : LinesView) (f : FramerState) (text : List ℕ) → ClientStands first now read emitted lines f → MayBe lines read text
+    → emitted ≡ client_stream f.sapi (packets_of text).packets f.stream.fcs (length emitted)
 unfolding client_stream
-gone_is_stream first now taken gone lines f text h may =
-    let w = of_whole first now taken h.packets h.given lines f.stream text h.text h.framed.stream may in
-    let given : h.given ≡ gfp_text (packets_of text).packets f.stream.fcs (payload_begun (length gone)) = w.stream ∙ ap (gfp_text (packets_of text).packets f.stream.fcs) h.framed.size in
-    sym (take-append_seam gone f.left) ∙ ap (take (length gone)) (h.framed.frames ∙ ap (λ g. concat (client_frames f.sapi (frames_begun (length gone)) g)) given)
+gone_is_stream first now read emitted lines f text h may =
+    let w = of_whole first now read h.packets h.payload lines f.stream text h.text h.framed.stream may in
+    let payload : h.payload ≡ gfp_text (packets_of text).packets f.stream.fcs (payload_begun (length emitted)) = w.stream ∙ ap (gfp_text (packets_of text).packets f.stream.fcs) h.framed.size in
+    sym (take-append_seam emitted f.left) ∙ ap (take (length emitted)) (h.framed.frames ∙ ap (λ g. concat (client_frames f.sapi (frames_begun (length emitted)) g)) payload)
 
-pub part_is_stream : (first now : InView) (taken gone bytes : List ℕ) (lines : LinesView) (f : FramerState) (text : List ℕ) → ClientStands first now taken (gone ++ bytes) lines f → MayBe lines taken text
-    → bytes ≡ stream_part f.sapi (packets_of text).packets f.stream.fcs (length gone) (length bytes)
-part_is_stream first now taken gone bytes lines f text h may =
-    sym (drop-append_seam gone bytes)
-    ∙ ap (drop (length gone)) (gone_is_stream first now taken (gone ++ bytes) lines f text h may ∙ ap (client_stream f.sapi (packets_of text).packets f.stream.fcs) (length-append gone bytes))
+pub part_is_stream : (first now : InView) (read emitted bytes : List ℕ) (lines : LinesView) (f : FramerState) (text : List ℕ) → ClientStands first now read (emitted ++ bytes) lines f → MayBe lines read text
+    → bytes ≡ stream_part f.sapi (packets_of text).packets f.stream.fcs (length emitted) (length bytes)
+part_is_stream first now read emitted bytes lines f text h may =
+    sym (drop-append_seam emitted bytes)
+    ∙ ap (drop (length emitted)) (gone_is_stream first now read (emitted ++ bytes) lines f text h may ∙ ap (client_stream f.sapi (packets_of text).packets f.stream.fcs) (length-append emitted bytes))
 
 -- a framer whose frame in hand was begun
-pub stands_from : (first now : InView) (taken gone : List ℕ) (lines : LinesView) (f : FramerState) → length f.left < 15296 → FramedSome first now taken gone lines f → ClientStands first now taken gone lines f
-stands_from first now taken gone lines f short h =
-    let size : length gone + length f.left ≡ 15296 * h.count = sym (length-append gone f.left) ∙ ap length h.framed.frames ∙ joined_size f.sapi h.count h.given in
-    let count : h.count ≡ frames_begun (length gone) = omega arith in
+pub stands_from : (first now : InView) (read emitted : List ℕ) (lines : LinesView) (f : FramerState) → length f.left < 15296 → FramedSome first now read emitted lines f → ClientStands first now read emitted lines f
+stands_from first now read emitted lines f short h =
+    let size : length emitted + length f.left ≡ 15296 * h.count = sym (length-append emitted f.left) ∙ ap length h.framed.frames ∙ joined_size f.sapi h.count h.payload in
+    let count : h.count ≡ frames_begun (length emitted) = omega arith in
     record {
       packets = h.packets;
-      given = h.given;
+      payload = h.payload;
       text = h.text;
-      framed = (let P : ℕ → Type 0 = λ n. Framed h.packets h.given n gone f in subst P count h.framed);
+      framed = (let P : ℕ → Type 0 = λ n. Framed h.packets h.payload n emitted f in subst P count h.framed);
     }
 
-pub framed_from : (first now : InView) (taken gone : List ℕ) (lines : LinesView) (f : FramerState) → ClientStands first now taken gone lines f → FramedSome first now taken gone lines f × (length f.left < 15296)
-framed_from first now taken gone lines f h =
-    let size : length gone + length f.left ≡ 15296 * frames_begun (length gone) = sym (length-append gone f.left) ∙ ap length h.framed.frames ∙ joined_size f.sapi (frames_begun (length gone)) h.given in
-    (record { packets = h.packets; given = h.given; count = frames_begun (length gone); text = h.text; framed = h.framed }, omega arith)
+pub framed_from : (first now : InView) (read emitted : List ℕ) (lines : LinesView) (f : FramerState) → ClientStands first now read emitted lines f → FramedSome first now read emitted lines f × (length f.left < 15296)
+framed_from first now read emitted lines f h =
+    let size : length emitted + length f.left ≡ 15296 * frames_begun (length emitted) = sym (length-append emitted f.left) ∙ ap length h.framed.frames ∙ joined_size f.sapi (frames_begun (length emitted)) h.payload in
+    (record { packets = h.packets; payload = h.payload; count = frames_begun (length emitted); text = h.text; framed = h.framed }, omega arith)
 
 -- ---- the counts
 
-pub packets_are : (first now : InView) (taken gone : List ℕ) (lines : LinesView) (f : FramerState) (text : List ℕ) → ClientStands first now taken gone lines f → MayBe lines taken text
-    → f.stream.packets ≡ saturated (packets_begun (packets_of text).packets f.stream.fcs (length gone))
-packets_are first now taken gone lines f text h may =
-    let w = of_whole first now taken h.packets h.given lines f.stream text h.text h.framed.stream may in
+pub packets_are : (first now : InView) (read emitted : List ℕ) (lines : LinesView) (f : FramerState) (text : List ℕ) → ClientStands first now read emitted lines f → MayBe lines read text
+    → f.stream.packets ≡ saturated (packets_begun (packets_of text).packets f.stream.fcs (length emitted))
+packets_are first now read emitted lines f text h may =
+    let w = of_whole first now read h.packets h.payload lines f.stream text h.text h.framed.stream may in
     h.framed.stream.count ∙ ap saturated (sym w.begun ∙ ap (λ n. begun_within n (stream_frames (packets_of text).packets f.stream.fcs 0)) h.framed.size)
 
 yes_lt : (a b : ℕ) → a < b → nat_lt a b ≡ true
@@ -129,19 +129,19 @@ no_le : (a b : ℕ) → b < a → nat_le a b ≡ false
 no_le a b h = grind (arith, nat_tests)
 
 -- how a framer stands to the whole text: how long its packets' frames are, and how many bytes were made
-record Counts (f : FramerState) (gone : List ℕ) (all : List (List ℕ)) : Type 0 where
-  size : length gone + length f.left ≡ 15296 * frames_begun (length gone)
-  going : f.stream.answer ≡ line.Packet → 15232 * frames_begun (length gone) ≤ gfp_length all f.stream.fcs
-  seen : f.stream.answer ≢ line.Packet → gfp_length all f.stream.fcs < 15232 * frames_begun (length gone)
-  fresh : f.stream.answer ≢ line.Packet → f.fresh ≡ true → 15232 * frames_begun (length gone) ≤ gfp_length all f.stream.fcs + 15232
-  late : f.stream.answer ≢ line.Packet → f.fresh ≡ false → gfp_length all f.stream.fcs + 15232 < 15232 * frames_begun (length gone)
+record Counts (f : FramerState) (emitted : List ℕ) (all : List (List ℕ)) : Type 0 where
+  size : length emitted + length f.left ≡ 15296 * frames_begun (length emitted)
+  going : f.stream.answer ≡ line.Packet → 15232 * frames_begun (length emitted) ≤ gfp_length all f.stream.fcs
+  seen : f.stream.answer ≢ line.Packet → gfp_length all f.stream.fcs < 15232 * frames_begun (length emitted)
+  fresh : f.stream.answer ≢ line.Packet → f.fresh ≡ true → 15232 * frames_begun (length emitted) ≤ gfp_length all f.stream.fcs + 15232
+  late : f.stream.answer ≢ line.Packet → f.fresh ≡ false → gfp_length all f.stream.fcs + 15232 < 15232 * frames_begun (length emitted)
 
-counts_of : (first now : InView) (taken gone : List ℕ) (lines : LinesView) (f : FramerState) (text : List ℕ) → ClientStands first now taken gone lines f → MayBe lines taken text → Counts f gone (packets_of text).packets
-counts_of first now taken gone lines f text h may =
-    let w = of_whole first now taken h.packets h.given lines f.stream text h.text h.framed.stream may in
-    let n = frames_begun (length gone) in
+counts_of : (first now : InView) (read emitted : List ℕ) (lines : LinesView) (f : FramerState) (text : List ℕ) → ClientStands first now read emitted lines f → MayBe lines read text → Counts f emitted (packets_of text).packets
+counts_of first now read emitted lines f text h may =
+    let w = of_whole first now read h.packets h.payload lines f.stream text h.text h.framed.stream may in
+    let n = frames_begun (length emitted) in
     record {
-      size = sym (length-append gone f.left) ∙ ap length h.framed.frames ∙ joined_size f.sapi n h.given;
+      size = sym (length-append emitted f.left) ∙ ap length h.framed.frames ∙ joined_size f.sapi n h.payload;
       going = λ e. (let a = w.going e in let b = h.framed.size in omega arith);
       seen = λ other. (let a = h.framed.stream.seen other in let b = h.framed.size in let c = ap (λ ps. gfp_length ps f.stream.fcs) (w.over other) in omega arith);
       fresh = λ other e. (let a = h.framed.fresh other e in let c = ap (λ ps. gfp_length ps f.stream.fcs) (w.over other) in omega arith);
@@ -163,36 +163,36 @@ asked_over (line.Bad k) n other = refl
 asked_over line.Lost n other = refl
 
 -- as many packets were asked of the lines as the whole input says
-asked_are : (first now : InView) (taken gone : List ℕ) (lines : LinesView) (f : FramerState) (text : List ℕ) → (h : ClientStands first now taken gone lines f) → MayBe lines taken text
-    → asked_for lines.answer (length h.packets) ≡ packets_asked (packets_of text).packets f.stream.fcs (length gone)
-asked_are first now taken gone lines f text h may = by_answer (is_packet_answer f.stream.answer)
+asked_are : (first now : InView) (read emitted : List ℕ) (lines : LinesView) (f : FramerState) (text : List ℕ) → (h : ClientStands first now read emitted lines f) → MayBe lines read text
+    → asked_for lines.answer (length h.packets) ≡ packets_asked (packets_of text).packets f.stream.fcs (length emitted)
+asked_are first now read emitted lines f text h may = by_answer (is_packet_answer f.stream.answer)
   where
     all : List (List ℕ)
     all = (packets_of text).packets
 
-    counts : Counts f gone all
-    counts = counts_of first now taken gone lines f text h may
+    counts : Counts f emitted all
+    counts = counts_of first now read emitted lines f text h may
 
-    begun : length h.packets ≡ packets_begun all f.stream.fcs (length gone)
-    begun = (let w = of_whole first now taken h.packets h.given lines f.stream text h.text h.framed.stream may in sym w.begun ∙ ap (λ n. begun_within n (stream_frames all f.stream.fcs 0)) h.framed.size)
+    begun : length h.packets ≡ packets_begun all f.stream.fcs (length emitted)
+    begun = (let w = of_whole first now read h.packets h.payload lines f.stream text h.text h.framed.stream may in sym w.begun ∙ ap (λ n. begun_within n (stream_frames all f.stream.fcs 0)) h.framed.size)
 
     none_more : (n : ℕ) → n ≡ n + 0
     none_more n = omega arith
 
-    by_answer : (f.stream.answer ≡ line.Packet) ⊎ (f.stream.answer ≢ line.Packet) → asked_for lines.answer (length h.packets) ≡ packets_asked all f.stream.fcs (length gone)
+    by_answer : (f.stream.answer ≡ line.Packet) ⊎ (f.stream.answer ≢ line.Packet) → asked_for lines.answer (length h.packets) ≡ packets_asked all f.stream.fcs (length emitted)
     by_answer (inl e) =
-        let unseen : ending_seen all f.stream.fcs (length gone) ≡ false = no_lt (gfp_length all f.stream.fcs) (15232 * frames_begun (length gone)) (counts.going e) in
-        asked_going lines.answer (length h.packets) (sym h.text.answer ∙ e) ∙ begun ∙ none_more (packets_begun all f.stream.fcs (length gone))
-        ∙ ap (λ t. packets_begun all f.stream.fcs (length gone) + (if t then 1 else 0)) (sym unseen)
+        let unseen : ending_seen all f.stream.fcs (length emitted) ≡ false = no_lt (gfp_length all f.stream.fcs) (15232 * frames_begun (length emitted)) (counts.going e) in
+        asked_going lines.answer (length h.packets) (sym h.text.answer ∙ e) ∙ begun ∙ none_more (packets_begun all f.stream.fcs (length emitted))
+        ∙ ap (λ t. packets_begun all f.stream.fcs (length emitted) + (if t then 1 else 0)) (sym unseen)
     by_answer (inr other) =
-        let seen : ending_seen all f.stream.fcs (length gone) ≡ true = yes_lt (gfp_length all f.stream.fcs) (15232 * frames_begun (length gone)) (counts.seen other) in
+        let seen : ending_seen all f.stream.fcs (length emitted) ≡ true = yes_lt (gfp_length all f.stream.fcs) (15232 * frames_begun (length emitted)) (counts.seen other) in
         asked_over lines.answer (length h.packets) (λ e. other (h.text.answer ∙ e)) ∙ ap (λ n. n + 1) begun
-        ∙ ap (λ t. packets_begun all f.stream.fcs (length gone) + (if t then 1 else 0)) (sym seen)
+        ∙ ap (λ t. packets_begun all f.stream.fcs (length emitted) + (if t then 1 else 0)) (sym seen)
 
-pub read_as_asked : (first now : InView) (taken gone : List ℕ) (lines : LinesView) (f : FramerState) (text : List ℕ) → ClientStands first now taken gone lines f → MayBe lines taken text
-    → ReadAsNeeded (came_short lines.ended lines.answer) (packets_asked (packets_of text).packets f.stream.fcs (length gone)) taken
-read_as_asked first now taken gone lines f text h may =
-    subst (λ n. ReadAsNeeded (came_short lines.ended lines.answer) n taken) (asked_are first now taken gone lines f text h may) h.text.stands.read
+pub read_as_asked : (first now : InView) (read emitted : List ℕ) (lines : LinesView) (f : FramerState) (text : List ℕ) → ClientStands first now read emitted lines f → MayBe lines read text
+    → ReadAsNeeded (came_short lines.ended lines.answer) (packets_asked (packets_of text).packets f.stream.fcs (length emitted)) read
+read_as_asked first now read emitted lines f text h may =
+    subst (λ n. ReadAsNeeded (came_short lines.ended lines.answer) n read) (asked_are first now read emitted lines f text h may) h.text.stands.read
 
 -- ---- the frame in which the end is seen
 
@@ -200,16 +200,16 @@ and_false : (b : Bool) → (b && false) ≡ false
 and_false true = refl
 and_false false = refl
 
--- the frame in which the end is seen is not gone while the lines go on
-early : (all : List (List ℕ)) (f : FramerState) (gone : List ℕ) → Counts f gone all → f.stream.answer ≡ line.Packet → length gone < 15296 * (gfp_length all f.stream.fcs / 15232 + 1)
-early all f gone h e = let a = h.going e in let b = h.size in omega arith
+-- the frame in which the end is seen is not emitted while the lines go on
+early : (all : List (List ℕ)) (f : FramerState) (emitted : List ℕ) → Counts f emitted all → f.stream.answer ≡ line.Packet → length emitted < 15296 * (gfp_length all f.stream.fcs / 15232 + 1)
+early all f emitted h e = let a = h.going e in let b = h.size in omega arith
 
-in_time : (all : List (List ℕ)) (f : FramerState) (gone : List ℕ) → Counts f gone all → f.stream.answer ≢ line.Packet → (f.fresh ≡ false) ⊎ (f.left ≡ []) → 15296 * (gfp_length all f.stream.fcs / 15232 + 1) ≤ length gone
-in_time all f gone h other (inl e) = let a = h.late other e in let b = h.size in omega arith
-in_time all f gone h other (inr e) = let a = h.seen other in let b = h.size in let c = ap length e in omega arith
+in_time : (all : List (List ℕ)) (f : FramerState) (emitted : List ℕ) → Counts f emitted all → f.stream.answer ≢ line.Packet → (f.fresh ≡ false) ⊎ (f.left ≡ []) → 15296 * (gfp_length all f.stream.fcs / 15232 + 1) ≤ length emitted
+in_time all f emitted h other (inl e) = let a = h.late other e in let b = h.size in omega arith
+in_time all f emitted h other (inr e) = let a = h.seen other in let b = h.size in let c = ap length e in omega arith
 
-too_early : (all : List (List ℕ)) (f : FramerState) (gone : List ℕ) → Counts f gone all → f.stream.answer ≢ line.Packet → f.fresh ≡ true → 1 ≤ length f.left → length gone < 15296 * (gfp_length all f.stream.fcs / 15232 + 1)
-too_early all f gone h other e some = let a = h.fresh other e in let b = h.size in omega arith
+too_early : (all : List (List ℕ)) (f : FramerState) (emitted : List ℕ) → Counts f emitted all → f.stream.answer ≢ line.Packet → f.fresh ≡ true → 1 ≤ length f.left → length emitted < 15296 * (gfp_length all f.stream.fcs / 15232 + 1)
+too_early all f emitted h other e some = let a = h.fresh other e in let b = h.size in omega arith
 
 told_end : (a : Line) (packets : List (List ℕ)) (p : Packets) → Told a packets p → a ≡ line.End → p.ending ≡ Ended
 told_end line.Packet packets p h e = absurd (cc)
@@ -230,31 +230,31 @@ told_bad (line.Bad k) packets p n h e = let same : k ≡ n = cc in subst (λ m. 
 told_bad line.Lost packets p n h e = absurd (cc)
 
 -- a client is not spent while the lines go on, after a bad line, or where its place died
-pub not_spent : (first now : InView) (taken gone : List ℕ) (lines : LinesView) (f : FramerState) (died : Bool) (text : List ℕ) → f.stream.answer ≢ line.End → ClientStands first now taken gone lines f
-    → MayBe lines taken text → MayDie lines.answer died → false ≡ is_spent (input_of died text) f.stream.fcs (length gone)
-not_spent first now taken gone lines f died text other h may die = sym (by_answer lines.answer refl)
+pub not_spent : (first now : InView) (read emitted : List ℕ) (lines : LinesView) (f : FramerState) (died : Bool) (text : List ℕ) → f.stream.answer ≢ line.End → ClientStands first now read emitted lines f
+    → MayBe lines read text → MayDie lines.answer died → false ≡ is_spent (input_of died text) f.stream.fcs (length emitted)
+not_spent first now read emitted lines f died text other h may die = sym (by_answer lines.answer refl)
   where
     told : Told lines.answer h.packets (packets_of text)
     told = h.text.stands.told text may
 
     late : Bool
-    late = nat_le (15296 * (gfp_length (packets_of text).packets f.stream.fcs / 15232 + 1)) (length gone)
+    late = nat_le (15296 * (gfp_length (packets_of text).packets f.stream.fcs / 15232 + 1)) (length emitted)
 
     by_answer : (a : Line) → lines.answer ≡ a → (is_end (input_ending died (packets_of text).ending) && late) ≡ false
     by_answer line.Packet e =
         ap (λ b. is_end (input_ending died (packets_of text).ending) && b)
-        (no_le _ (length gone) (early (packets_of text).packets f gone (counts_of first now taken gone lines f text h may) (h.text.answer ∙ e)))
+        (no_le _ (length emitted) (early (packets_of text).packets f emitted (counts_of first now read emitted lines f text h may) (h.text.answer ∙ e)))
         ∙ and_false (is_end (input_ending died (packets_of text).ending))
     by_answer line.End e = absurd (other (h.text.answer ∙ e))
     by_answer (line.Bad n) e = ap (λ t. is_end (input_ending died t) && late) (ap (λ q. q.ending) (told_bad lines.answer h.packets (packets_of text) n told e).ends)
     by_answer line.Lost e =
         ap (λ t. is_end (input_ending died t) && late) (told_lost lines.answer h.packets (packets_of text) told e) ∙ ap (λ d. is_end (input_ending d Ended) && late) (die.lost e)
 
--- where the text has ended, it is spent where the frame in which that was seen is gone
-pub spent_end : (first now : InView) (taken gone : List ℕ) (lines : LinesView) (f : FramerState) (died : Bool) (text : List ℕ) (result : Bool) → f.stream.answer ≡ line.End
-    → (result ≡ true → (f.fresh ≡ false) ⊎ (f.left ≡ [])) → (result ≡ false → (f.fresh ≡ true) × (1 ≤ length f.left)) → ClientStands first now taken gone lines f
-    → MayBe lines taken text → MayDie lines.answer died → result ≡ is_spent (input_of died text) f.stream.fcs (length gone)
-spent_end first now taken gone lines f died text result end is_gone is_left h may die = by_result result refl ∙ sym (ended)
+-- where the text has ended, it is spent where the frame in which that was seen is emitted
+pub spent_end : (first now : InView) (read emitted : List ℕ) (lines : LinesView) (f : FramerState) (died : Bool) (text : List ℕ) (result : Bool) → f.stream.answer ≡ line.End
+    → (result ≡ true → (f.fresh ≡ false) ⊎ (f.left ≡ [])) → (result ≡ false → (f.fresh ≡ true) × (1 ≤ length f.left)) → ClientStands first now read emitted lines f
+    → MayBe lines read text → MayDie lines.answer died → result ≡ is_spent (input_of died text) f.stream.fcs (length emitted)
+spent_end first now read emitted lines f died text result end is_emitted is_left h may die = by_result result refl ∙ sym (ended)
   where
     answer : lines.answer ≡ line.End
     answer = sym h.text.answer ∙ end
@@ -262,28 +262,28 @@ spent_end first now taken gone lines f died text result end is_gone is_left h ma
     other : f.stream.answer ≢ line.Packet
     other e = (let g = sym end ∙ e in cc)
 
-    counts : Counts f gone (packets_of text).packets
-    counts = counts_of first now taken gone lines f text h may
+    counts : Counts f emitted (packets_of text).packets
+    counts = counts_of first now read emitted lines f text h may
 
     limit : ℕ
     limit = 15296 * (gfp_length (packets_of text).packets f.stream.fcs / 15232 + 1)
 
-    ended : is_spent (input_of died text) f.stream.fcs (length gone) ≡ nat_le limit (length gone)
+    ended : is_spent (input_of died text) f.stream.fcs (length emitted) ≡ nat_le limit (length emitted)
     ended =
-        ap (λ t. is_end (input_ending died t) && nat_le limit (length gone)) (told_end lines.answer h.packets (packets_of text) (h.text.stands.told text may) answer)
-        ∙ ap (λ d. is_end (input_ending d Ended) && nat_le limit (length gone)) (die.ended answer)
+        ap (λ t. is_end (input_ending died t) && nat_le limit (length emitted)) (told_end lines.answer h.packets (packets_of text) (h.text.stands.told text may) answer)
+        ∙ ap (λ d. is_end (input_ending d Ended) && nat_le limit (length emitted)) (die.ended answer)
 
-    by_result : (r : Bool) → result ≡ r → r ≡ nat_le limit (length gone)
-    by_result true e = sym (yes_le limit (length gone) (in_time (packets_of text).packets f gone counts other (is_gone e)))
-    by_result false e = sym (no_le limit (length gone) (too_early (packets_of text).packets f gone counts other (is_left e).0 (is_left e).1))
+    by_result : (r : Bool) → result ≡ r → r ≡ nat_le limit (length emitted)
+    by_result true e = sym (yes_le limit (length emitted) (in_time (packets_of text).packets f emitted counts other (is_emitted e)))
+    by_result false e = sym (no_le limit (length emitted) (too_early (packets_of text).packets f emitted counts other (is_left e).0 (is_left e).1))
 
 -- the bad line, once it is seen
-pub bad_is : (first now : InView) (taken gone : List ℕ) (lines : LinesView) (f : FramerState) (died : Bool) (text : List ℕ) (number : ℕ) → f.stream.answer ≡ line.Bad number → ClientStands first now taken gone lines f
-    → MayBe lines taken text → Some number ≡ option_map saturated (bad_line (input_of died text) f.stream.fcs (length gone))
-bad_is first now taken gone lines f died text number bad h may =
+pub bad_is : (first now : InView) (read emitted : List ℕ) (lines : LinesView) (f : FramerState) (died : Bool) (text : List ℕ) (number : ℕ) → f.stream.answer ≡ line.Bad number → ClientStands first now read emitted lines f
+    → MayBe lines read text → Some number ≡ option_map saturated (bad_line (input_of died text) f.stream.fcs (length emitted))
+bad_is first now read emitted lines f died text number bad h may =
     let told = told_bad lines.answer h.packets (packets_of text) number (h.text.stands.told text may) (sym h.text.answer ∙ bad) in
-    let counts = counts_of first now taken gone lines f text h may in
-    let seen = yes_lt (gfp_length (packets_of text).packets f.stream.fcs) (payload_begun (length gone)) (counts.seen (λ e. (let g = sym bad ∙ e in cc))) in
+    let counts = counts_of first now read emitted lines f text h may in
+    let seen = yes_lt (gfp_length (packets_of text).packets f.stream.fcs) (payload_begun (length emitted)) (counts.seen (λ e. (let g = sym bad ∙ e in cc))) in
     sym (ap (λ (b : Bool). option_map saturated (if b then bad_at (input_ending died (packets_of text).ending) else None)) seen
     ∙ ap (λ t. option_map saturated (bad_at (input_ending died t))) (ap (λ q. q.ending) told.ends)
     ∙ ap Some (sym told.counted))
@@ -296,41 +296,41 @@ not_bad : (b : Bool) (died : Bool) → option_map saturated (if b then bad_at (i
 not_bad true died = ap (option_map saturated) (none_bad died)
 not_bad false died = refl
 
-pub no_bad : (first now : InView) (taken gone : List ℕ) (lines : LinesView) (f : FramerState) (died : Bool) (text : List ℕ) → ((n : ℕ) → f.stream.answer ≢ line.Bad n) → ClientStands first now taken gone lines f
-    → MayBe lines taken text → None ≡ option_map saturated (bad_line (input_of died text) f.stream.fcs (length gone))
-no_bad first now taken gone lines f died text other h may = sym (by_answer lines.answer refl)
+pub no_bad : (first now : InView) (read emitted : List ℕ) (lines : LinesView) (f : FramerState) (died : Bool) (text : List ℕ) → ((n : ℕ) → f.stream.answer ≢ line.Bad n) → ClientStands first now read emitted lines f
+    → MayBe lines read text → None ≡ option_map saturated (bad_line (input_of died text) f.stream.fcs (length emitted))
+no_bad first now read emitted lines f died text other h may = sym (by_answer lines.answer refl)
   where
     told : Told lines.answer h.packets (packets_of text)
     told = h.text.stands.told text may
 
     seen : Bool
-    seen = nat_lt (gfp_length (packets_of text).packets f.stream.fcs) (payload_begun (length gone))
+    seen = nat_lt (gfp_length (packets_of text).packets f.stream.fcs) (payload_begun (length emitted))
 
     by_answer : (a : Line) → lines.answer ≡ a → option_map saturated (if seen then bad_at (input_ending died (packets_of text).ending) else None) ≡ None
     by_answer line.Packet e =
-        let counts = counts_of first now taken gone lines f text h may in
-        ap (λ (b : Bool). option_map saturated (if b then bad_at (input_ending died (packets_of text).ending) else None)) (no_lt (gfp_length (packets_of text).packets f.stream.fcs) (payload_begun (length gone)) (counts.going (h.text.answer ∙ e)))
+        let counts = counts_of first now read emitted lines f text h may in
+        ap (λ (b : Bool). option_map saturated (if b then bad_at (input_ending died (packets_of text).ending) else None)) (no_lt (gfp_length (packets_of text).packets f.stream.fcs) (payload_begun (length emitted)) (counts.going (h.text.answer ∙ e)))
     by_answer line.End e = ap (λ t. option_map saturated (if seen then bad_at (input_ending died t) else None)) (told_end lines.answer h.packets (packets_of text) told e) ∙ not_bad seen died
     by_answer (line.Bad n) e = absurd (other n (h.text.answer ∙ e))
     by_answer line.Lost e = ap (λ t. option_map saturated (if seen then bad_at (input_ending died t) else None)) (told_lost lines.answer h.packets (packets_of text) told e) ∙ not_bad seen died
 
 -- ---- a whole call
 
-pub makes_start : (first now : InView) (taken gone : List ℕ) (lines : LinesView) (f : FramerState) → ClientStands first now taken gone lines f → Makes first now taken (gone ++ []) lines lines f f
-makes_start first now taken gone lines f h =
-    let P : List ℕ → Type 0 = λ g. Makes first now taken g lines lines f f in
-    subst P (sym (append-nil gone)) (makes_none first now taken gone lines f (framed_from first now taken gone lines f h).0)
+pub makes_start : (first now : InView) (read emitted : List ℕ) (lines : LinesView) (f : FramerState) → ClientStands first now read emitted lines f → Makes first now read (emitted ++ []) lines lines f f
+makes_start first now read emitted lines f h =
+    let P : List ℕ → Type 0 = λ g. Makes first now read g lines lines f f in
+    subst P (sym (append-nil emitted)) (makes_none first now read emitted lines f (framed_from first now read emitted lines f h).0)
 
-pub fills_from : (first now : InView) (taken gone bytes : List ℕ) (a c : LinesView) (was is : FramerState) → length is.left < 15296 → Makes first now taken (gone ++ bytes) a c was is → Fills first now taken gone bytes a c was is
-fills_from first now taken gone bytes a c was is short m =
-    let stands = stands_from first now (taken ++ m.came) (gone ++ bytes) c is short m.stands in
+pub fills_from : (first now : InView) (read emitted bytes : List ℕ) (a c : LinesView) (was is : FramerState) → length is.left < 15296 → Makes first now read (emitted ++ bytes) a c was is → Fills first now read emitted bytes a c was is
+fills_from first now read emitted bytes a c was is short m =
+    let stands = stands_from first now (read ++ m.more_read) (emitted ++ bytes) c is short m.stands in
     record {
-      came = m.came;
+      more_read = m.more_read;
       stands = stands;
       earlier = m.earlier;
-      emitted = λ text may. part_is_stream first now (taken ++ m.came) gone bytes c is text stands may
-          ∙ ap (λ s. stream_part s (packets_of text).packets is.stream.fcs (length gone) (length bytes)) m.sapi
-          ∙ ap (λ b. stream_part was.sapi (packets_of text).packets b (length gone) (length bytes)) m.fcs;
+      emitted = λ text may. part_is_stream first now (read ++ m.more_read) emitted bytes c is text stands may
+          ∙ ap (λ s. stream_part s (packets_of text).packets is.stream.fcs (length emitted) (length bytes)) m.sapi
+          ∙ ap (λ b. stream_part was.sapi (packets_of text).packets b (length emitted) (length bytes)) m.fcs;
       sapi = m.sapi;
       fcs = m.fcs;
     }

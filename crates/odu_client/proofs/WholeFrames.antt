@@ -8,8 +8,9 @@ use Rattle.std.proofs.lemmas.List.FromFn.{get_or-map-range_with_len}
 use Rattle.std.proofs.lemmas.Bool.{cases_lt}
 use Rattle.frame_geometry.specs.Places.{place_of, payload_row_of}
 use Rattle.frame_overhead.specs.TwoBefore.{parity_due, or_zero}
-use Rattle.odu_client.specs.ClientFrames.{client_byte, client_frame, frame_payload, next_frame, client_frames}
-use Rattle.odu_client.specs.AlignedRuns.{has_fas, misses_after, is_signal, Arrival, Handed, Broken, arrival_of, whole_frame, from_search, from_frame, arrivals, payload_of, with_payload, runs_of}
+use Rattle.odu_client.specs.ClientFrames.{client_byte, client_frame, client_frames}
+use Rattle.odu_client.specs.AlignedRuns.{has_fas, misses_after, is_signal, Arrival, Handed, Broken, arrival_of, whole_frame, arrivals, payload_of, with_payload, runs_of}
+use Rattle.odu_client.specs.Aligner.{from_search, from_frame}
 use Rattle.odu_client.proofs.FrameBytes.{client_frame-size, client_payload}
 use Rattle.std.specs.Prelude.{replicate}
 use Rattle.std.proofs.Math.Seq.{take-append-add}
@@ -24,7 +25,7 @@ use Rattle.odu_client.specs.ClientFrames.{frames_begun, client_stream}
 use Rattle.odu_client.specs.ClientOutput.{arriving_packets}
 use Rattle.odu_client.specs.Laws.{PacketsArrive}
 use Rattle.odu_client.proofs.GfpTexts.{total, first_frames, length-more}
-use Rattle.odu_client.proofs.FrameLists.{joined_size}
+use Rattle.odu_client.proofs.FrameLists.{frame_payload, next_frame, joined_size}
 use Rattle.odu_client.proofs.Arriving.{search_step}
 use Rattle.odu_client.proofs.Fronts.{has_fas-front, short_none, frame_meets, frame_none, long_frame, short_frame}
 
@@ -165,24 +166,24 @@ good_more (x ∷ xs) frame good one = (good.0, good_more xs frame good.1 one)
 is_good : (sapi : List ℕ) (mfas bip : ℕ) (payload : List ℕ) → IsGood (client_frame sapi mfas bip payload)
 is_good sapi mfas bip payload = record { size = client_frame-size sapi mfas bip payload; fas = fas_there sapi mfas bip payload; plain = no_signal sapi mfas bip payload }
 
-frames_good : (sapi : List ℕ) (n : ℕ) (given : List ℕ) → AllGood (client_frames sapi n given)
+frames_good : (sapi : List ℕ) (n : ℕ) (emitted : List ℕ) → AllGood (client_frames sapi n emitted)
 unfolding client_frames
-frames_good sapi zero given = tt
-frames_good sapi (suc n) given =
-    let fs = client_frames sapi n given in
-    good_more fs (next_frame sapi n fs given) (frames_good sapi n given) (is_good sapi (n % 256) (or_zero (parity_due 3824 fs)) (frame_payload n given))
+frames_good sapi zero emitted = tt
+frames_good sapi (suc n) emitted =
+    let fs = client_frames sapi n emitted in
+    good_more fs (next_frame sapi n fs emitted) (frames_good sapi n emitted) (is_good sapi (n % 256) (or_zero (parity_due 3824 fs)) (frame_payload n emitted))
 
-frames_payload : (sapi : List ℕ) (n : ℕ) (given : List ℕ) → 15232 * n ≤ length given → payloads (client_frames sapi n given) ≡ take (15232 * n) given
+frames_payload : (sapi : List ℕ) (n : ℕ) (emitted : List ℕ) → 15232 * n ≤ length emitted → payloads (client_frames sapi n emitted) ≡ take (15232 * n) emitted
 unfolding client_frames payloads
-frames_payload sapi zero given fits = refl
-frames_payload sapi (suc n) given fits =
-    let fs = client_frames sapi n given in
-    let size : length (frame_payload n given) ≡ 15232 = length-take-le 15232 (drop (15232 * n) given) (let d = length-drop (15232 * n) given in omega arith) in
+frames_payload sapi zero emitted fits = refl
+frames_payload sapi (suc n) emitted fits =
+    let fs = client_frames sapi n emitted in
+    let size : length (frame_payload n emitted) ≡ 15232 = length-take-le 15232 (drop (15232 * n) emitted) (let d = length-drop (15232 * n) emitted in omega arith) in
     let more : 15232 * (suc n) ≡ 15232 * n + 15232 = omega arith in
-    payloads-append fs (next_frame sapi n fs given)
-    ∙ ap (λ p. p ++ payload_of (next_frame sapi n fs given)) (frames_payload sapi n given (omega arith))
-    ∙ ap (λ p. take (15232 * n) given ++ p) (payload_there sapi (n % 256) (or_zero (parity_due 3824 fs)) (frame_payload n given) size)
-    ∙ sym (take-add (15232 * n) 15232 given) ∙ ap (λ k. take k given) (sym more)
+    payloads-append fs (next_frame sapi n fs emitted)
+    ∙ ap (λ p. p ++ payload_of (next_frame sapi n fs emitted)) (frames_payload sapi n emitted (omega arith))
+    ∙ ap (λ p. take (15232 * n) emitted ++ p) (payload_there sapi (n % 256) (or_zero (parity_due 3824 fs)) (frame_payload n emitted) size)
+    ∙ sym (take-add (15232 * n) 15232 emitted) ∙ ap (λ k. take k emitted) (sym more)
 
 -- ---- the stream
 
@@ -195,16 +196,16 @@ record Front (few all : List (List ℕ)) : Type 0 where
   parts : all ≡ few ++ rest
 
 -- the first frames of more are those of fewer
-fewer_frames : (sapi : List ℕ) (n more : ℕ) (given : List ℕ) → Front (client_frames sapi n given) (client_frames sapi (n + more) given)
+fewer_frames : (sapi : List ℕ) (n more : ℕ) (emitted : List ℕ) → Front (client_frames sapi n emitted) (client_frames sapi (n + more) emitted)
 unfolding client_frames
-fewer_frames sapi n zero given = record { rest = []; parts = ap (λ m. client_frames sapi m given) (let e : n + 0 ≡ n = omega arith in e) ∙ sym (append-nil (client_frames sapi n given)) }
-fewer_frames sapi n (suc more) given =
-    let h = fewer_frames sapi n more given in
+fewer_frames sapi n zero emitted = record { rest = []; parts = ap (λ m. client_frames sapi m emitted) (let e : n + 0 ≡ n = omega arith in e) ∙ sym (append-nil (client_frames sapi n emitted)) }
+fewer_frames sapi n (suc more) emitted =
+    let h = fewer_frames sapi n more emitted in
     let e : n + (suc more) ≡ suc (n + more) = omega arith in
-    let frame = next_frame sapi (n + more) (client_frames sapi (n + more) given) given in
+    let frame = next_frame sapi (n + more) (client_frames sapi (n + more) emitted) emitted in
     record {
       rest = h.rest ++ frame ∷ [];
-      parts = ap (λ m. client_frames sapi m given) e ∙ ap (λ fs. fs ++ frame ∷ []) h.parts ∙ append_assoc (client_frames sapi n given) h.rest (frame ∷ []);
+      parts = ap (λ m. client_frames sapi m emitted) e ∙ ap (λ fs. fs ++ frame ∷ []) h.parts ∙ append_assoc (client_frames sapi n emitted) h.rest (frame ∷ []);
     }
 
 good_front : (xs ys : List (List ℕ)) → AllGood (xs ++ ys) → AllGood ys
@@ -252,24 +253,24 @@ text_front packets fcs a b less =
     ∙ given_is_stream packets fcs b (take a t) maker made ∙ ap (gfp_text packets fcs) size
 
 -- of the first bytes of frames one run arrives: the payload of those that are whole
-pub frames_arrive : (sapi : List ℕ) (m n : ℕ) (given : List ℕ) → n / 15296 ≤ m → 15232 * m ≤ length given
-    → runs_of (arrivals (take n (concat (client_frames sapi m given)))) ≡ take (15232 * (n / 15296)) given ∷ []
-frames_arrive sapi m n given within long =
+pub frames_arrive : (sapi : List ℕ) (m n : ℕ) (emitted : List ℕ) → n / 15296 ≤ m → 15232 * m ≤ length emitted
+    → runs_of (arrivals (take n (concat (client_frames sapi m emitted)))) ≡ take (15232 * (n / 15296)) emitted ∷ []
+frames_arrive sapi m n emitted within long =
     let k = n / 15296 in
     let r = n % 15296 in
     let more : m ≡ k + (m - k) = omega (arith, within) in
-    let front = client_frames sapi k given in
-    let split = fewer_frames sapi k (m - k) given in
-    let all : client_frames sapi m given ≡ front ++ split.rest = ap (λ x. client_frames sapi x given) more ∙ split.parts in
+    let front = client_frames sapi k emitted in
+    let split = fewer_frames sapi k (m - k) emitted in
+    let all : client_frames sapi m emitted ≡ front ++ split.rest = ap (λ x. client_frames sapi x emitted) more ∙ split.parts in
     let n_is : n ≡ 15296 * k + r = omega arith in
-    let front_size : length (concat front) ≡ 15296 * k = joined_size sapi k given in
-    let bytes : take n (concat (client_frames sapi m given)) ≡ concat front ++ take r (concat split.rest) =
+    let front_size : length (concat front) ≡ 15296 * k = joined_size sapi k emitted in
+    let bytes : take n (concat (client_frames sapi m emitted)) ≡ concat front ++ take r (concat split.rest) =
     ap (λ fs. take n (concat fs)) all ∙ ap (take n) (concat-append front split.rest) ∙ ap (λ x. take x (concat front ++ concat split.rest)) (n_is ∙ ap (λ x. x + r) (sym front_size))
     ∙ take-append-add (concat front) (concat split.rest) r in
-    let good_all : AllGood (front ++ split.rest) = (let P : List (List ℕ) → Type 0 = AllGood in subst P all (frames_good sapi m given)) in
+    let good_all : AllGood (front ++ split.rest) = (let P : List (List ℕ) → Type 0 = AllGood in subst P all (frames_good sapi m emitted)) in
     let part = part_of split.rest r (omega arith) (good_front front split.rest good_all) in
-    let arrived = all_arrive front (take r (concat split.rest)) (frames_good sapi k given) part in
-    ap (λ b. runs_of (arrivals b)) bytes ∙ ap runs_of arrived ∙ one_run front ∙ ap (λ p. p ∷ []) (frames_payload sapi k given (omega (arith, long, more)))
+    let arrived = all_arrive front (take r (concat split.rest)) (frames_good sapi k emitted) part in
+    ap (λ b. runs_of (arrivals b)) bytes ∙ ap runs_of arrived ∙ one_run front ∙ ap (λ p. p ∷ []) (frames_payload sapi k emitted (omega (arith, long, more)))
 
 pub whole_frames_arrive : PacketsArrive
 unfolding client_stream arriving_packets

@@ -52,17 +52,9 @@ unfoldable mutual
       (whole_frame bytes (framing places (misses_after misses bytes) (drop CLIENT_FRAME_BYTES bytes)))
       (searching places (drop 6 bytes))
 
--- the same where a search is at the list's front
-abbrev pub from_search : List ℕ → List Arrival
-from_search bytes = searching (length bytes) bytes
-
--- the same where a frame, behind so many in a row without the FAS, is at the list's front
-abbrev pub from_frame : ℕ → List ℕ → List Arrival
-from_frame misses bytes = framing (length bytes) misses bytes
-
 -- what arrives in a list of bytes: the first search begins at its front
 unfoldable pub arrivals : List ℕ → List Arrival
-arrivals bytes = from_search bytes
+arrivals bytes = searching (length bytes) bytes
 
 -- the payload of a frame, row by row (G.709 clause 12.1)
 abbrev pub payload_of : List ℕ → List ℕ

@@ -39,21 +39,13 @@ unfoldable pub client_frame : (sapi : List ℕ) → (mfas bip : ℕ) → (payloa
 client_frame sapi mfas bip payload = map (λ place. client_byte sapi mfas bip payload (place / CLIENT_COLUMNS + 1)
     (place % CLIENT_COLUMNS + 1)) (range_with_len 0 CLIENT_FRAME_BYTES)
 
--- the payload bytes of frame n, from 0
-abbrev pub frame_payload : (n : ℕ) → (payload : List ℕ) → List ℕ
-frame_payload n payload = take CLIENT_PAYLOAD_BYTES (drop (CLIENT_PAYLOAD_BYTES * n) payload)
-
--- frame n, behind those before it: its MFAS is n mod 256, and it carries the parity of frame n - 2, or 0 where there is
--- none
-abbrev pub next_frame : (sapi : List ℕ) → (n : ℕ) → (before : List (List ℕ)) → (payload : List ℕ) → List ℕ
-next_frame sapi n before payload = client_frame sapi (n % 256) (or_zero (parity_due CLIENT_COLUMNS before))
-    (frame_payload n payload)
-
--- the first frames, so many, that carry these payload bytes
+-- the first frames, so many, that carry these payload bytes: the MFAS of frame n, from 0, is n mod 256, and it carries
+-- the parity of frame n - 2, or 0 where there is none
 unfoldable pub client_frames : (sapi : List ℕ) → (count : ℕ) → (payload : List ℕ) → List (List ℕ)
 client_frames sapi zero payload = []
-client_frames sapi (suc n) payload = client_frames sapi n payload
-    ++ next_frame sapi n (client_frames sapi n payload) payload ∷ []
+client_frames sapi (suc n) payload = let before = client_frames sapi n payload in
+    before ++ client_frame sapi (n % 256) (or_zero (parity_due CLIENT_COLUMNS before))
+    (take CLIENT_PAYLOAD_BYTES (drop (CLIENT_PAYLOAD_BYTES * n) payload)) ∷ []
 
 -- how many frames begin in the first n bytes of a stream of frames
 abbrev pub frames_begun : (n : ℕ) → ℕ

@@ -81,7 +81,7 @@ bad_line input fcs emitted = if ending_seen input.packets fcs emitted then bad_a
 
 -- ---- turn by turn, from 0
 
--- the pace of a turn: the list is gone round
+-- the pace of a turn: the list is repeated
 abbrev pub pace_of : (paces : List ℕ) → (turn : ℕ) → ℕ
 pace_of paces turn = get_or paces (turn % length paces) 0
 

@@ -32,8 +32,8 @@ pub record FramerState : Type 0 where
   pub left : List ℕ
   pub fresh : Bool
 
--- These packets were taken, and their frames made, or begun, by these bytes; then idle frames, once no packet is left.
--- The last packet's frame was begun, and once the last answer came the packets' frames were given and more.
+-- These packets were read, and these bytes emitted of their frames; then of idle frames, once no packet is left. The
+-- last packet's frame was begun, and behind the last answer the packets' frames were emitted and more.
 pub record StreamMade (packets : List (List ℕ)) (emitted : List ℕ) (stream : StreamState) : Type 0 where
   pub idles : ℕ
   pub made : HasMade (stream_frames packets stream.fcs idles) emitted stream.maker
@@ -43,7 +43,7 @@ pub record StreamMade (packets : List (List ℕ)) (emitted : List ℕ) (stream :
   pub seen : stream.answer ≢ Packet → gfp_length packets stream.fcs < length emitted
   pub count : stream.packets ≡ saturated (length packets)
 
--- `first` and `now` are views of the text's place, between which these bytes were read, and these packets taken
+-- `first` and `now` are views of the text's place, between which these bytes and packets were read
 pub record TextStands (first now : InView) (read : List ℕ) (packets : List (List ℕ)) (lines : LinesView)
     (stream : StreamState) : Type 0 where
   pub stands : LinesStand first now read packets lines
@@ -67,18 +67,18 @@ pub record Framed (packets : List (List ℕ)) (payload : List ℕ) (count : ℕ)
 pub record ClientStands (first now : InView) (read emitted : List ℕ) (lines : LinesView)
     (framer : FramerState) : Type 0 where
   pub packets : List (List ℕ)
-  pub given : List ℕ
+  pub payload : List ℕ
   pub text : TextStands first now read packets lines framer.stream
-  pub framed : Framed packets given (frames_begun (length emitted)) emitted framer
+  pub framed : Framed packets payload (frames_begun (length emitted)) emitted framer
 
 -- after a call that emitted these bytes: more bytes of the text were read, and a text that the place may have from
 -- then on it might have before. They are the next bytes of the client's stream, whatever text it is.
 pub record Fills (first now : InView) (read before bytes : List ℕ) (old new : LinesView)
     (was is : FramerState) : Type 0 where
-  pub came : List ℕ
-  pub stands : ClientStands first now (read ++ came) (before ++ bytes) new is
-  pub earlier : (text : List ℕ) → MayBe new (read ++ came) text → MayBe old read text
-  pub emitted : (text : List ℕ) → MayBe new (read ++ came) text
+  pub more_read : List ℕ
+  pub stands : ClientStands first now (read ++ more_read) (before ++ bytes) new is
+  pub earlier : (text : List ℕ) → MayBe new (read ++ more_read) text → MayBe old read text
+  pub emitted : (text : List ℕ) → MayBe new (read ++ more_read) text
       → bytes ≡ stream_part was.sapi (packets_of text).packets was.stream.fcs (length before) (length bytes)
   pub sapi : is.sapi ≡ was.sapi
   pub fcs : is.stream.fcs ≡ was.stream.fcs

@@ -12,16 +12,41 @@ use Rattle.odu_client.specs.View.{frames_after}
 use Rattle.odu_client.specs.declared.aligned.Aligned.{Aligned}
 use Rattle.odu_client.specs.declared.aligned.Aligned.TheVariants.{Nothing, Whole, Break}
 
--- These bytes arrived at an output since its start. The aligner took them all; the reader took the payload that was
--- handed on since the last break; and what it delivered in all is what the bytes deliver.
-pub record HasPutOut (arrived : List ℕ) (packets : List (List ℕ)) (aligner : AlignerState)
-    (reader : ReaderState) : Type 0 where
+-- an output: the bytes that arrived since its start, the packets that it delivered, its aligner and its reader
+pub record OutputState : Type 0 where
+  pub arrived : List ℕ
+  pub packets : List (List ℕ)
+  pub aligner : AlignerState
+  pub reader : ReaderState
+
+-- The aligner took all bytes that arrived; the reader took the payload that was handed on since the last break; and what
+-- it delivered in all is what the bytes deliver.
+pub record HasPutOut (output : OutputState) : Type 0 where
   pub ended : List (List ℕ)
   pub run : List ℕ
-  pub runs : runs_of (arrivals arrived) ≡ ended ++ run ∷ []
-  pub aligned : HasAligned arrived aligner
-  pub read : HasRead run reader
-  pub all : packets ≡ arriving_packets arrived
+  pub runs : runs_of (arrivals output.arrived) ≡ ended ++ run ∷ []
+  pub aligned : HasAligned output.arrived output.aligner
+  pub read : HasRead run output.reader
+  pub all : output.packets ≡ arriving_packets output.arrived
+
+-- a step: the bytes that arrive, the aligner's answer and frame, the packets that the reader delivers, and what both are
+-- after it
+pub record OutputStep : Type 0 where
+  pub bytes : List ℕ
+  pub answer : Aligned
+  pub frame : List ℕ
+  pub packets : List (List ℕ)
+  pub aligner : AlignerState
+  pub reader : ReaderState
+
+-- the output after a step
+abbrev pub output_after : OutputState → OutputStep → OutputState
+output_after output step = record {
+  arrived = output.arrived ++ step.bytes;
+  packets = output.packets ++ step.packets;
+  aligner = step.aligner;
+  reader = step.reader;
+}
 
 -- What a reader does where the aligner gives this answer, and the packets that it delivers in it: it rests, takes the
 -- payload of the frame, or begins anew.
@@ -34,34 +59,29 @@ ReaderDoes Break frame packets old new = (packets ≡ []) × HasRead [] new
 -- at the start nothing was put out
 abbrev pub OutputStarts : Type 0
 OutputStarts = (aligner : AlignerState) (reader : ReaderState) → HasAligned [] aligner → HasRead [] reader
-    → HasPutOut [] [] aligner reader
+    → HasPutOut (record { arrived = []; packets = []; aligner = aligner; reader = reader })
 
 -- The aligner took some bytes more, and the reader did what its answer asks for: what was put out is, with the packets
 -- of this step, what all bytes deliver.
 abbrev pub OutputGoesOn : Type 0
-OutputGoesOn = (arrived came frame : List ℕ) (packets more : List (List ℕ)) (answer : Aligned)
-    (aligner next : AlignerState) (reader after : ReaderState)
-    → HasPutOut arrived packets aligner reader → AlignsBy arrived came answer frame next
-    → ReaderDoes answer frame more reader after
-    → HasPutOut (arrived ++ came) (packets ++ more) next after
+OutputGoesOn = (output : OutputState) (step : OutputStep) → HasPutOut output
+    → AlignsBy output.arrived step.bytes step.answer step.frame step.aligner
+    → ReaderDoes step.answer step.frame step.packets output.reader step.reader → HasPutOut (output_after output step)
 
 -- the same for one byte
 abbrev pub OutputGoesOnByByte : Type 0
-OutputGoesOnByByte = (arrived frame : List ℕ) (byte : ℕ) (packets more : List (List ℕ)) (answer : Aligned)
-    (aligner next : AlignerState) (reader after : ReaderState)
-    → HasPutOut arrived packets aligner reader → Aligns arrived byte answer frame next
-    → ReaderDoes answer frame more reader after
-    → HasPutOut (arrived ++ byte ∷ []) (packets ++ more) next after
+OutputGoesOnByByte = (output : OutputState) (step : OutputStep) (byte : ℕ) → step.bytes ≡ byte ∷ []
+    → HasPutOut output → Aligns output.arrived byte step.answer step.frame step.aligner
+    → ReaderDoes step.answer step.frame step.packets output.reader step.reader → HasPutOut (output_after output step)
 
 -- The text that is written of a step's packets goes behind that which was written before.
 abbrev pub OutputTextGoesOn : Type 0
-OutputTextGoesOn = (arrived came : List ℕ) (packets more : List (List ℕ)) (aligner next : AlignerState)
-    (reader after : ReaderState)
-    → HasPutOut arrived packets aligner reader → HasPutOut (arrived ++ came) (packets ++ more) next after
-    → arriving_text (arrived ++ came) ≡ arriving_text arrived ++ hex_text more
+OutputTextGoesOn = (output : OutputState) (step : OutputStep) → HasPutOut output → HasPutOut (output_after output step)
+    → arriving_text (output.arrived ++ step.bytes) ≡ arriving_text output.arrived ++ hex_text step.packets
 
 -- a count of the whole frames that were handed on goes on as the aligner's does
 abbrev pub FramesGoOn : Type 0
-FramesGoOn = (arrived came frame : List ℕ) (answer : Aligned) (next : AlignerState) (frames : ℕ)
-    → AlignsBy arrived came answer frame next → frames ≡ saturated (arriving_frames arrived)
-    → frames_after frames answer ≡ saturated (arriving_frames (arrived ++ came))
+FramesGoOn = (output : OutputState) (step : OutputStep) (frames : ℕ)
+    → AlignsBy output.arrived step.bytes step.answer step.frame step.aligner
+    → frames ≡ saturated (arriving_frames output.arrived)
+    → frames_after frames step.answer ≡ saturated (arriving_frames (output.arrived ++ step.bytes))

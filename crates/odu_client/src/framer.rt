@@ -23,14 +23,14 @@ use std::marker::Model;
 
 /// Makes the frames of a client out of the packets of its text (G.709 clause 17.4). A frame is made when its first byte
 /// is needed, and the payload that it carries then; a packet is read only when the GFP frame before it is used up.
-/// Contracts see what a framer keeps, and which bytes of its stream are gone.
+/// Contracts see what a framer keeps, and which bytes of its stream were emitted.
 #[derive(Drop)]
 pub struct ClientFramer {
     trace: Trace,
     stream: PacketStream,
     overhead: ClientOverhead,
     frame: Frame<CLIENT_COLUMNS>,
-    // How many bytes of the frame in hand are gone: all where there is none.
+    // How many bytes of the frame in hand were emitted: all where there is none.
     at: usize,
     // Whether the packets' end was not seen before the frame in hand.
     fresh: bool,
@@ -43,13 +43,20 @@ impl Model for ClientFramer {
 
     ghost Value = { FramerState };
 
-    ghost view = { λ f. record { sapi = f.trace; stream = f.stream; path = f.overhead.path; mfas = f.overhead.mfas; left = drop f.at f.frame; fresh = f.fresh } };
+    ghost view = { λ f. record {
+      sapi = f.trace;
+      stream = f.stream;
+      path = f.overhead.path;
+      mfas = f.overhead.mfas;
+      left = drop f.at f.frame;
+      fresh = f.fresh;
+    } };
 
     ghost invariant = { λ f. (f.at ≤ CLIENT_FRAME_BYTES) × (length f.frame ≡ CLIENT_FRAME_BYTES) };
 }
 
 impl ClientFramer {
-    /// A framer with an empty trace whose packets have FCS, and of which nothing was taken. All memory is taken here.
+    /// A framer with an empty trace whose packets have FCS, and of which nothing was emitted. All memory is taken here.
     pub fn new(alloc: Global) -> Result<ClientFramer, Memory>
         ensures fresh { IfOk result (λ framer. framer ≡ fresh_framer [] true) }
         ensures stands { IfOk result (λ framer. (first : InView) → ClientStands first first [] [] fresh_lines framer) }
@@ -103,12 +110,12 @@ impl ClientFramer {
         }
     }
 
-    /// Whether the text has ended, and the frame in which that was seen is gone whole.
+    /// Whether the text has ended, and the frame in which that was seen was emitted whole.
     pub fn spent(&self) -> bool
         ensures { OfItsInput self.now (λ input emitted. result ≡ is_spent input self.now.stream.fcs emitted) }
     {
         match self.stream.answer() {
-            Line::End => self.is_gone(),
+            Line::End => self.is_emitted(),
             _ => false,
         }
     }
@@ -133,8 +140,8 @@ impl ClientFramer {
         }
     }
 
-    // Whether the frame in which the packets' end was seen is gone.
-    fn is_gone(&self) -> bool
+    // Whether the frame in which the packets' end was seen was emitted.
+    fn is_emitted(&self) -> bool
         ensures yes { result ≡ true → (self.now.fresh ≡ false) ⊎ (self.now.left ≡ []) }
         ensures not_yet { result ≡ false → (self.now.fresh ≡ true) × (1 ≤ length self.now.left) }
     {

@@ -38,7 +38,7 @@ impl Model for PacketStream {
 }
 
 impl PacketStream {
-    /// A stream of which nothing was given, with FCS. All memory is taken here.
+    /// A stream of which nothing was emitted, with FCS. All memory is taken here.
     pub(crate) fn new(alloc: Global) -> Result<PacketStream, Memory>
         ensures { IfOk result (λ stream. stream ≡ fresh_stream true) }
     {

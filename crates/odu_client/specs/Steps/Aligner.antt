@@ -8,8 +8,8 @@ pub record Goes (old : AlignerState) (byte : ℕ) (result : Aligned) (frame : Li
   pub each : (more : List ℕ) → to_come old (byte ∷ more) ≡ news result frame ++ to_come new more
   pub none : to_come new [] ≡ []
 
--- so many bytes were taken at once
-pub record GoesBy (old : AlignerState) (came : List ℕ) (result : Aligned) (frame : List ℕ)
+-- so many bytes were read at once
+pub record GoesBy (old : AlignerState) (bytes : List ℕ) (result : Aligned) (frame : List ℕ)
     (new : AlignerState) : Type 0 where
-  pub each : (more : List ℕ) → to_come old (came ++ more) ≡ news result frame ++ to_come new more
+  pub each : (more : List ℕ) → to_come old (bytes ++ more) ≡ news result frame ++ to_come new more
   pub none : to_come new [] ≡ []

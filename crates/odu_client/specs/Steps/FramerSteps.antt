@@ -8,21 +8,21 @@ use Rattle.odu_client.specs.Framing.{FramerState, TextStands, Framed}
 pub record FramedSome (first now : InView) (read emitted : List ℕ) (lines : LinesView)
     (framer : FramerState) : Type 0 where
   pub packets : List (List ℕ)
-  pub given : List ℕ
+  pub payload : List ℕ
   pub count : ℕ
   pub text : TextStands first now read packets lines framer.stream
-  pub framed : Framed packets given count emitted framer
+  pub framed : Framed packets payload count emitted framer
 
 -- a call in which the text may have gone on
 pub record Makes (first now : InView) (read emitted : List ℕ) (old new : LinesView)
     (was is : FramerState) : Type 0 where
-  pub came : List ℕ
-  pub stands : FramedSome first now (read ++ came) emitted new is
-  pub earlier : (text : List ℕ) → MayBe new (read ++ came) text → MayBe old read text
+  pub more_read : List ℕ
+  pub stands : FramedSome first now (read ++ more_read) emitted new is
+  pub earlier : (text : List ℕ) → MayBe new (read ++ more_read) text → MayBe old read text
   pub sapi : is.sapi ≡ was.sapi
   pub fcs : is.stream.fcs ≡ was.stream.fcs
 
--- these bytes of the frame in hand were given
+-- these bytes of the frame in hand were emitted
 pub record Gives (bytes : List ℕ) (old new : FramerState) : Type 0 where
   pub bytes_of : old.left ≡ bytes ++ new.left
   pub same : new ≡ record old { left = new.left }

@@ -10,10 +10,10 @@ invariant_of-self-clause-going c =
     λ _. passes_few _ _ _ _ c.append.ensures.items six (s.going (omega arith))
 
 pub returns-clause-goes : goal.returns-clause-goes
-returns-clause-goes c = λ taken h.
+returns-clause-goes c = λ read h.
     let s = c.args.self.now in
     let six : 6 ≤ length s.held.items = omega (arith, c.if-len-lt-FAS_BYTES.false) in
     let n = ap length c.append.ensures.items in
     let m = length-append s.held.items (take c.min-count.result c.args.bytes.now) in
     let k : length (take c.min-count.result c.args.bytes.now) ≡ c.min-count.result = length-take-le c.min-count.result c.args.bytes.now (omega arith) in
-    aligns_by taken _ _ _ _ _ (passes _ _ _ _ c.append.new.buffer.items _ c.if-self.false c.append.ensures.items (omega arith) six (s.going (omega arith))) h
+    aligns_by read _ _ _ _ _ (passes _ _ _ _ c.append.new.buffer.items _ c.if-self.false c.append.ensures.items (omega arith) six (s.going (omega arith))) h

@@ -13,38 +13,38 @@ loop-done-preserved c =
     let nothing : c.take-aligned.result ≡ Nothing = search rules in
     record {
       within = omega arith;
-      aligned = λ taken h.
-          let a = i.aligned taken h in
-          let b = passed_on taken _ _ _ _ _ _ _ a (p.goes _ a.aligned) in
-          none_on taken _ _ _ _ _ nothing (stepped_on taken _ _ _ _ _ _ _ (omega arith) b (t.aligned _ b.aligned));
+      aligned = λ read h.
+          let a = i.aligned read h in
+          let b = passed_on read _ _ _ _ _ _ _ a (p.goes _ a.aligned) in
+          none_on read _ _ _ _ _ nothing (stepped_on read _ _ _ _ _ _ _ (omega arith) b (t.aligned _ b.aligned));
       kept = t.kept (λ whole. cc) ∙ p.kept ∙ i.kept;
       frames = t.frames ∙ ap (frames_after c.pass-done.new.self.frames) nothing ∙ p.frames ∙ i.frames;
     }
 
 pub returns-then-ne-clause-aligned : goal.returns-then-ne-clause-aligned
-returns-then-ne-clause-aligned c = λ taken h.
-    let a = c.loop-done.invariant.aligned taken h in
-    let b = passed_on taken _ _ _ _ _ _ _ a (c.pass-done.ensures.goes _ a.aligned) in
-    stepped_on taken _ _ _ _ _ _ _ (omega arith) b (c.take-aligned.ensures.aligned _ b.aligned)
+returns-then-ne-clause-aligned c = λ read h.
+    let a = c.loop-done.invariant.aligned read h in
+    let b = passed_on read _ _ _ _ _ _ _ a (c.pass-done.ensures.goes _ a.aligned) in
+    stepped_on read _ _ _ _ _ _ _ (omega arith) b (c.take-aligned.ensures.aligned _ b.aligned)
 
 pub returns-then-done-bytes-clause-aligned : goal.returns-then-done-bytes-clause-aligned
-returns-then-done-bytes-clause-aligned c = λ taken h.
-    let a = c.loop-done.invariant.aligned taken h in
-    passed_on taken _ _ _ _ _ _ _ a (c.pass-done.ensures.goes _ a.aligned)
+returns-then-done-bytes-clause-aligned c = λ read h.
+    let a = c.loop-done.invariant.aligned read h in
+    passed_on read _ _ _ _ _ _ _ a (c.pass-done.ensures.goes _ a.aligned)
 
 pub returns-then-ne-clause-none_before : goal.returns-then-ne-clause-none_before
-returns-then-ne-clause-none_before c = λ taken k h less.
-    let a = c.loop-done.invariant.aligned taken h in
-    let b = passed_on taken _ _ _ _ _ _ _ a (c.pass-done.ensures.goes _ a.aligned) in
-    none_until taken c.args.bytes.now _ k (omega arith) (b.arrived ∙ append-nil _)
+returns-then-ne-clause-none_before c = λ read k h less.
+    let a = c.loop-done.invariant.aligned read h in
+    let b = passed_on read _ _ _ _ _ _ _ a (c.pass-done.ensures.goes _ a.aligned) in
+    none_until read c.args.bytes.now _ k (omega arith) (b.arrived ∙ append-nil _)
 
 pub returns-then-done-bytes-clause-none_before : goal.returns-then-done-bytes-clause-none_before
-returns-then-done-bytes-clause-none_before c = λ taken k h less.
-    let a = c.loop-done.invariant.aligned taken h in
-    let b = passed_on taken _ _ _ _ _ _ _ a (c.pass-done.ensures.goes _ a.aligned) in
-    none_until taken c.args.bytes.now _ k (omega arith) (b.arrived ∙ append-nil _)
+returns-then-done-bytes-clause-none_before c = λ read k h less.
+    let a = c.loop-done.invariant.aligned read h in
+    let b = passed_on read _ _ _ _ _ _ _ a (c.pass-done.ensures.goes _ a.aligned) in
+    none_until read c.args.bytes.now _ k (omega arith) (b.arrived ∙ append-nil _)
 
 pub returns-after-loop-done-clause-none_before : goal.returns-after-loop-done-clause-none_before
-returns-after-loop-done-clause-none_before c = λ taken k h less.
-    let a = c.loop-done.invariant.aligned taken h in
-    none_until taken c.args.bytes.now _ k (omega arith) (a.arrived ∙ append-nil _)
+returns-after-loop-done-clause-none_before c = λ read k h less.
+    let a = c.loop-done.invariant.aligned read h in
+    none_until read c.args.bytes.now _ k (omega arith) (a.arrived ∙ append-nil _)

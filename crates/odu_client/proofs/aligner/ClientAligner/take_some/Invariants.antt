@@ -7,7 +7,7 @@ use Rattle.odu_client.proofs.aligner.ClientAligner.take_some.Given as goal
 abbrev pub invariant-loop-done : goal.invariant-loop-done
 invariant-loop-done l = record {
   within : l.done ≤ length l.bytes;
-  aligned : (taken : List ℕ) → HasAligned taken (aligner_state l.fn.self) → AlignsBy taken (take l.done l.bytes) Nothing (handed l.self) (aligner_state l.self);
+  aligned : (read : List ℕ) → HasAligned read (aligner_state l.fn.self) → AlignsBy read (take l.done l.bytes) Nothing (handed l.self) (aligner_state l.self);
   kept : handed l.self ≡ handed l.fn.self;
   frames : l.self.frames ≡ l.fn.self.frames;
 }

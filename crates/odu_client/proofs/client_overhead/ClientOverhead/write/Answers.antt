@@ -22,6 +22,6 @@ pub returns-clause-mfas : goal.returns-clause-mfas
 returns-clause-mfas c = ap (λ (o : OverheadState). (o.mfas + 1) % 256) c.self.view_is
 
 pub returns-clause-made : goal.returns-clause-made
-returns-clause-made c = λ count given made size.
-    one_made c.args.trace.now count given (payload_of c.args.frame.now) c.write.new.frame c.args.self.now (record { path = c.write.new.self; mfas = (c.self.inside.mfas + 1) % 256 }) made size
+returns-clause-made c = λ count emitted made size.
+    one_made c.args.trace.now count emitted (payload_of c.args.frame.now) c.write.new.frame c.args.self.now (record { path = c.write.new.self; mfas = (c.self.inside.mfas + 1) % 256 }) made size
     (returns-clause-frame c) (returns-clause-sent c) (returns-clause-mfas c)

@@ -10,8 +10,8 @@ pub loop-done-init : goal.loop-done-init
 loop-done-init g c = record {
   within = omega arith;
   size = refl;
-  short = λ first taken gone h. (framed_from first _ taken gone _ _ h).1;
-  goes = λ first taken gone h. makes_start first _ taken gone _ _ h;
+  short = λ first read emitted h. (framed_from first _ read emitted _ _ h).1;
+  goes = λ first read emitted h. makes_start first _ read emitted _ _ h;
   over = λ other. (refl, refl, refl);
   hand = λ fits. (refl, refl, omega arith);
 }
@@ -29,9 +29,9 @@ loop-done-preserved g c =
     record {
       within = (let a = rest_length into done i.within in let b = e.within in omega arith);
       size = size ∙ i.size;
-      short = λ first taken gone k. e.short;
-      goes = λ first taken gone k. same_makes first _ taken gone _ _ _ _ _ _ more
-          (makes_then first _ _ taken gone _ _ _ _ _ _ _ _ _ (i.goes first taken gone k) (λ tk gn s. h.makes first tk gn s) e.gives);
+      short = λ first read emitted k. e.short;
+      goes = λ first read emitted k. same_makes first _ read emitted _ _ _ _ _ _ more
+          (makes_then first _ _ read emitted _ _ _ _ _ _ _ _ _ (i.goes first read emitted k) (λ tk gn s. h.makes first tk gn s) e.gives);
       over = λ other. (let a = i.over other in let b = h.over (λ q. other (sym a.2 ∙ q)) in (b.0 ∙ a.0, b.1 ∙ a.1, ap (λ f. f.stream.answer) e.gives.same ∙ b.2 ∙ a.2));
       hand = λ fits. (let a = i.hand fits in
           let b = h.hand (some_left _ (omega arith)) in
@@ -39,7 +39,7 @@ loop-done-preserved g c =
     }
 
 pub returns-clause-fills : goal.returns-clause-fills
-returns-clause-fills g c = λ first taken gone h.
+returns-clause-fills g c = λ first read emitted h.
     let i = c.loop-done.invariant in
     let all : take c.loop-done.done c.loop-done.into ≡ c.loop-done.into = all_taken c.loop-done.into c.loop-done.done (search rules) i.within in
-    fills_from first _ taken gone _ _ _ _ _ (i.short first taken gone h) (rw all at (i.goes first taken gone h))
+    fills_from first _ read emitted _ _ _ _ _ (i.short first read emitted h) (rw all at (i.goes first read emitted h))

@@ -11,9 +11,9 @@ abbrev pub invariant-loop-done : goal.invariant-loop-done
 invariant-loop-done g l = record {
   within : l.done ≤ length l.into;
   size : length l.into ≡ length l.fn.into;
-  short : (first : InView) (taken gone : List ℕ) → ClientStands first (in_view g.P.Source l.fn.place) taken gone (lines_view l.fn.lines) l.fn.self → length l.self.left < 15296;
-  goes : (first : InView) (taken gone : List ℕ) → ClientStands first (in_view g.P.Source l.fn.place) taken gone (lines_view l.fn.lines) l.fn.self
-      → Makes first (in_view g.P.Source l.place) taken (gone ++ take l.done l.into) (lines_view l.fn.lines) (lines_view l.lines) l.fn.self l.self;
+  short : (first : InView) (read emitted : List ℕ) → ClientStands first (in_view g.P.Source l.fn.place) read emitted (lines_view l.fn.lines) l.fn.self → length l.self.left < 15296;
+  goes : (first : InView) (read emitted : List ℕ) → ClientStands first (in_view g.P.Source l.fn.place) read emitted (lines_view l.fn.lines) l.fn.self
+      → Makes first (in_view g.P.Source l.place) read (emitted ++ take l.done l.into) (lines_view l.fn.lines) (lines_view l.lines) l.fn.self l.self;
   over : l.fn.self.stream.answer ≢ Packet → (l.place ≡ l.fn.place) × (l.lines ≡ l.fn.lines) × (l.self.stream.answer ≡ l.fn.self.stream.answer);
   hand : length l.fn.into ≤ length l.fn.self.left → (l.place ≡ l.fn.place) × (l.lines ≡ l.fn.lines) × (length l.self.left + l.done ≡ length l.fn.self.left);
 }

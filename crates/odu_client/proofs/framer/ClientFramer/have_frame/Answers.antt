@@ -16,19 +16,19 @@ returns-then-self-lt-CLIENT_FRAME_BYTES-clause-some g c =
 
 pub returns-then-self-lt-CLIENT_FRAME_BYTES-clause-makes :
     goal.returns-then-self-lt-CLIENT_FRAME_BYTES-clause-makes
-returns-then-self-lt-CLIENT_FRAME_BYTES-clause-makes g c = λ first taken gone h. makes_none first _ taken gone _ _ h
+returns-then-self-lt-CLIENT_FRAME_BYTES-clause-makes g c = λ first read emitted h. makes_none first _ read emitted _ _ h
 
 pub returns-clause-some : goal.returns-clause-some
 returns-clause-some g c = some_left _ (let size = c.write.ensures.size in omega arith)
 
 pub returns-clause-makes : goal.returns-clause-makes
-returns-clause-makes g c = λ first taken gone h.
+returns-clause-makes g c = λ first read emitted h.
     let old : FramerState = record { sapi = c.self.inside.trace; stream = c.self.inside.stream; path = c.self.inside.overhead.path; mfas = c.self.inside.overhead.mfas; left = drop c.self.inside.at c.self.inside.frame; fresh = c.self.inside.fresh } in
     let new : FramerState = record { sapi = c.self.inside.trace; stream = c.fill_payload.new.self; path = c.write.new.self.path; mfas = c.write.new.self.mfas; left = c.write.new.frame; fresh = c.goes_on-self-inside.result } in
-    let P : FramerState → Type 0 = λ f. FramedSome first (in_view g.P.Source c.args.place.now) taken gone (lines_view c.args.lines.now) f
-    → Makes first (in_view g.P.Source c.fill_payload.new.place) taken gone (lines_view c.args.lines.now) (lines_view c.fill_payload.new.lines) f new in
+    let P : FramerState → Type 0 = λ f. FramedSome first (in_view g.P.Source c.args.place.now) read emitted (lines_view c.args.lines.now) f
+    → Makes first (in_view g.P.Source c.fill_payload.new.place) read emitted (lines_view c.args.lines.now) (lines_view c.fill_payload.new.lines) f new in
     subst P c.self.view_is
-    (makes_frame first (in_view g.P.Source c.args.place.now) (in_view g.P.Source c.fill_payload.new.place) taken gone (payload_of c.fill_payload.new.frame) (lines_view c.args.lines.now) (lines_view c.fill_payload.new.lines) old new
+    (makes_frame first (in_view g.P.Source c.args.place.now) (in_view g.P.Source c.fill_payload.new.place) read emitted (payload_of c.fill_payload.new.frame) (lines_view c.args.lines.now) (lines_view c.fill_payload.new.lines) old new
     (drop_all c.self.inside.at c.self.inside.frame (let size = c.self.invariant.1 in omega arith)) c.fill_payload.ensures.size c.fill_payload.ensures.goes
     (λ fs sent. (c.write.ensures.frame fs sent, c.write.ensures.sent fs sent))
     refl c.write.ensures.mfas c.goes_on-self-inside.ensures.yes c.goes_on-self-inside.ensures.no) h

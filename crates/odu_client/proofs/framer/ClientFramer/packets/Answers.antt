@@ -3,5 +3,5 @@ use Rattle.odu_client.proofs.Totals.{packets_are}
 use Rattle.odu_client.proofs.framer.ClientFramer.packets.Goals as goal
 
 pub returns : goal.returns
-returns c = λ first now taken gone lines text h may.
-    c.packets.ensures ∙ ap (λ f. f.stream.packets) c.self.view_is ∙ packets_are first now taken gone lines c.args.self.now text h may
+returns c = λ first now read emitted lines text h may.
+    c.packets.ensures ∙ ap (λ f. f.stream.packets) c.self.view_is ∙ packets_are first now read emitted lines c.args.self.now text h may

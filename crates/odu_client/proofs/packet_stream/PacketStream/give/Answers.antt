@@ -2,13 +2,13 @@ use Rattle.std.proofs.Common.{rules, ◌≡◌, ◌≢◌, subst, arith}
 use Rattle.packet_text.specs.declared.line.Line.TheVariants.{Packet}
 use Rattle.gfp_frames.specs.Maker.{MakerState, HasMade}
 use Rattle.gfp_frames.specs.GfpText.{stream_frames}
-use Rattle.odu_client.proofs.Streaming.{given_all}
+use Rattle.odu_client.proofs.Streaming.{emitted_all}
 use Rattle.odu_client.proofs.packet_stream.PacketStream.give.Goals as goal
 
 pub returns-clause-made : goal.returns-clause-made
-returns-clause-made c = λ packets given h.
+returns-clause-made c = λ packets emitted h.
     let other : c.args.self.now.answer ≢ Packet = search rules in
     let same : c.args.self.now.maker ≡ c.self.inside.maker = search rules in
-    let P : MakerState → Type 0 = λ m. HasMade (stream_frames packets c.args.self.now.fcs h.idles) given m in
-    given_all packets given c.fill.new.into _ c.args.self.now _ (omega arith) (search rules) (search rules) (search rules) (λ e. absurd (other e)) h
-    (c.fill.ensures.made (stream_frames packets c.args.self.now.fcs h.idles) given (subst P same h.made))
+    let P : MakerState → Type 0 = λ m. HasMade (stream_frames packets c.args.self.now.fcs h.idles) emitted m in
+    emitted_all packets emitted c.fill.new.into _ c.args.self.now _ (omega arith) (search rules) (search rules) (search rules) (λ e. absurd (other e)) h
+    (c.fill.ensures.made (stream_frames packets c.args.self.now.fcs h.idles) emitted (subst P same h.made))
