@@ -8,7 +8,7 @@ use Rattle.turn_pieces.specs.Ports.{index_of, port_at}
 use Rattle.multiframe.specs.LineTurns.{one_if}
 use Rattle.turn_pieces.specs.Pieces.{PiecesView, wanted_of, done_of, is_open, open_at, open_count, left_now, in_a_turn, IsCounted, IsFresh}
 use Rattle.turn_pieces.proofs.PortNumbers.{one_port, index_port_at, ports_by_number}
-use Rattle.turn_pieces.proofs.Sums.{sum_same, sum_less, sum_none, none_of, sum_most, sum_split}
+use Rattle.turn_pieces.proofs.Sums.{sum_same, sum_less, sum_none, none_of, sum_split}
 
 -- what is open
 pub record IsOpen (pieces : PiecesView) (name : PortName) : Type 0 where
@@ -75,12 +75,6 @@ shut_at pieces i lt h =
 pub none_left : (pieces : PiecesView) → ((name : PortName) → is_open pieces name ≡ false) → left_now pieces ≡ 0
 none_left pieces none = sum_none (λ i. get_or pieces.wants i 0 - get_or pieces.done i 0) 40 (λ i lt. let most = shut_at pieces i lt (none (port_at i)) in omega arith)
 
-shut_one : (d w : ℕ) → w ≤ d → one_if (nat_lt d w) ≡ 0
-shut_one d w h = let test : nat_lt d w ≡ false = grind (arith, nat_tests) in ap one_if test
-
-pub count_none : (pieces : PiecesView) → ((name : PortName) → is_open pieces name ≡ false) → open_count pieces ≡ 0
-count_none pieces none = sum_none (open_at pieces) 40 (λ i lt. shut_one (get_or pieces.done i 0) (get_or pieces.wants i 0) (shut_at pieces i lt (none (port_at i))))
-
 one_open : (d w : ℕ) → one_if (nat_lt d w) ≡ 0 → w ≤ d
 one_open d w h = go (nat_lt d w) refl
   where
@@ -98,13 +92,6 @@ none_open pieces none name = go (is_open pieces name) refl
         let most : wanted_of pieces name ≤ done_of pieces name = one_open (done_of pieces name) (wanted_of pieces name) (none_of (open_at pieces) 40 (index_of name) none is.within) in
         let wants = is.wants in
         absurd (omega arith)
-
-one_most : (b : Bool) → one_if b ≤ 1
-one_most true = omega arith
-one_most false = omega arith
-
-pub count_most : (pieces : PiecesView) → open_count pieces ≤ 40
-count_most pieces = sum_most (open_at pieces) 40 (λ i. one_most (nat_lt (get_or pieces.done i 0) (get_or pieces.wants i 0)))
 
 -- ---- all ports
 

@@ -1,6 +1,6 @@
 -- The pieces of a plan's ports: which a turn has of each, and how many are left from a moment on.
 use Rattle.std.proofs.Common.{◌≡◌, ◌<◌, ◌≤◌, ◌+◌, ◌-◌, ◌*◌, ℕ, suc, true, false, nat_lt, None, get_or, arith, refl, sym, ap, ◌∙◌, inl, inr}
-use Rattle.std.proofs.lemmas.Bool.Decides.{nat_tests, eqb_tells}
+use Rattle.std.proofs.lemmas.Bool.Decides.{eqb_tells}
 use Rattle.std.proofs.lemmas.List.{get_or-set_other}
 use Rattle.otn_base.specs.declared.kind.PortName.{PortName}
 use Rattle.plan_file.specs.declared.plan.Plan.{Plan}
@@ -30,21 +30,6 @@ pub record Wants (plan : Plan) (pieces : PiecesView) : Type 0 where
 -- a port has pieces exactly where the plan uses it
 pub used_wanted : (plan : Plan) (pieces : PiecesView) (name : PortName) → wanted_of pieces name ≡ pieces_of plan name → nat_lt 0 (wanted_of pieces name) ≡ uses plan name
 used_wanted plan pieces name wants = ap (λ n. nat_lt 0 n) wants ∙ used_pieces plan name
-
--- a port that is open is used, and has done fewer pieces than a turn has
-pub open_used : (plan : Plan) (pieces : PiecesView) (name : PortName) → wanted_of pieces name ≡ pieces_of plan name → is_open pieces name ≡ true → uses plan name ≡ true
-open_used plan pieces name wants h =
-    let is = opened pieces name h in
-    let less = is.wants in
-    let some : nat_lt 0 (wanted_of pieces name) ≡ true = grind (arith, nat_tests) in
-    sym (used_wanted plan pieces name wants) ∙ some
-
-pub open_less : (plan : Plan) (pieces : PiecesView) (name : PortName) → wanted_of pieces name ≡ pieces_of plan name → is_open pieces name ≡ true → done_of pieces name < pieces_by plan name
-open_less plan pieces name wants h =
-    let is = opened pieces name h in
-    let less = is.wants in
-    let all : wanted_of pieces name ≡ pieces_by plan name = wants ∙ pieces_used plan name (open_used plan pieces name wants h) in
-    omega arith
 
 -- a used port that is not open has done all its pieces
 pub shut_all : (plan : Plan) (pieces : PiecesView) (name : PortName) → fault_in plan ≡ None → Wants plan pieces → is_open pieces name ≡ false → uses plan name ≡ true → done_of pieces name ≡ pieces_by plan name

@@ -24,12 +24,6 @@ client_in_index n h = (grind (arith, nat_tests), grind (arith, nat_tests))
 pub client_out_index : (n : ℕ) → index_of (ClientOut n) < 40 → (n < 16) × (index_of (ClientOut n) ≡ 24 + n)
 client_out_index n h = (grind (arith, nat_tests), grind (arith, nat_tests))
 
-pub index_most : (name : PortName) → index_of name ≤ 40
-index_most (LineIn n) = grind (arith, nat_tests)
-index_most (LineOut n) = grind (arith, nat_tests)
-index_most (ClientIn n) = grind (arith, nat_tests)
-index_most (ClientOut n) = grind (arith, nat_tests)
-
 -- a port has a number of its own
 pub one_port : (p r : PortName) → index_of p < 40 → index_of r < 40 → index_of p ≡ index_of r → p ≡ r
 one_port (LineIn a) (LineIn b) h k e = let x = line_in_index a h in let y = line_in_index b k in let n : a ≡ b = omega arith in ap LineIn n

@@ -1,5 +1,5 @@
 -- Sums over the numbers of ports.
-use Rattle.std.proofs.Common.{◌≡◌, ◌≢◌, ◌<◌, ◌≤◌, ◌+◌, ℕ, zero, suc, get_or, replicate, arith, refl, sym, ◌∙◌, inl, inr, add-one}
+use Rattle.std.proofs.Common.{◌≡◌, ◌≢◌, ◌<◌, ◌+◌, ℕ, zero, suc, get_or, replicate, arith, refl, sym, ◌∙◌, inl, inr, add-one}
 use Rattle.std.proofs.lemmas.Bool.Decides.{eqb_tells}
 use Rattle.turn_pieces.specs.Pieces.{sum_below}
 
@@ -43,11 +43,6 @@ none_of f (suc n) i none lt = elim (eqb_tells i n) [
   | inl t ↦ rw t.1 (omega (arith, sum_suc f n))
   | inr t ↦ none_of f n i (omega (arith, sum_suc f n)) (omega arith)
 ]
-
--- where no term is above 1, the sum is not above n
-pub sum_most : (f : ℕ → ℕ) (n : ℕ) → ((i : ℕ) → f i ≤ 1) → sum_below f n ≤ n
-sum_most f zero h = omega (arith, sum_zero f)
-sum_most f (suc n) h = omega (arith, sum_suc f n, h n, sum_most f n h)
 
 -- term by term one sum and another make a third
 pub sum_split : (f g h : ℕ → ℕ) (n : ℕ) → ((i : ℕ) → i < n → f i + g i ≡ h i) → sum_below f n + sum_below g n ≡ sum_below h n

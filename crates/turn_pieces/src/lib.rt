@@ -8,4 +8,4 @@ mod pieces;
 mod ports;
 
 pub use pieces::Pieces;
-pub use ports::{PORTS, has_number, kind_by, port_at, uses};
+pub use ports::{PORTS, has_number, kind_by, port_at, touches, uses};

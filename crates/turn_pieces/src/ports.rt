@@ -123,8 +123,8 @@ fn is_touched(name: PortName, connections: &[Connection]) -> bool
     false
 }
 
-// Whether the connection does.
-fn touches(name: PortName, connection: &Connection) -> bool
+/// Whether the connection comes from the port or goes to it.
+pub fn touches(name: PortName, connection: &Connection) -> bool
     ensures { result ≡ touches name connection.now }
 {
     match name {
