@@ -1,4 +1,4 @@
--- A piece of any port leads to the next moment: what it leaves as it was, and what is then left to show of its own port.
+-- A piece of any port leads to the next moment: what it leaves as it was, and what is then left to show of its port.
 use Rattle.std.proofs.Common.{◌≡◌, ◌≢◌, ◌≤◌, ◌+◌, ℕ, Bool, true, false, ◌&&◌, List, [], Some, length, slice_get, refl, sym, ap, subst, ◌∙◌, inl, inr}
 use Rattle.std.specs.Prelude.{⊤}
 use Rattle.otn_base.specs.declared.kind.PortName.{PortName}

@@ -19,8 +19,8 @@ pub record OutputState : Type 0 where
   pub aligner : AlignerState
   pub reader : ReaderState
 
--- The aligner took all bytes that arrived; the reader took the payload that was handed on since the last break; and what
--- it delivered in all is what the bytes deliver.
+-- The aligner took all bytes that arrived; the reader took the payload that was handed on since the last break; and
+-- what it delivered in all is what the bytes deliver.
 pub record HasPutOut (output : OutputState) : Type 0 where
   pub ended : List (List ℕ)
   pub run : List ℕ
@@ -29,8 +29,8 @@ pub record HasPutOut (output : OutputState) : Type 0 where
   pub read : HasRead run output.reader
   pub all : output.packets ≡ arriving_packets output.arrived
 
--- a step: the bytes that arrive, the aligner's answer and frame, the packets that the reader delivers, and what both are
--- after it
+-- a step: the bytes that arrive, the aligner's answer and frame, the packets that the reader delivers, and what both
+-- are after it
 pub record OutputStep : Type 0 where
   pub bytes : List ℕ
   pub answer : Aligned

@@ -58,9 +58,9 @@ pub(crate) fn put_rows<F: FillFrame>(
     *runner = Runner::at(cm, asked + cycles);
 }
 
-// Puts the next `cycles` groups, those of a frame, behind `asked`, of `m` bytes each, row by row, and moves the bytes of
-// the data groups among them out of the backlog: where they do not stand together there, through `fresh`, which has room
-// for them. What the bytes of `fresh` and `scratch` are is of no account.
+// Puts the next `cycles` groups, those of a frame, behind `asked`, of `m` bytes each, row by row, and moves the bytes
+// of the data groups among them out of the backlog: where they do not stand together there, through `fresh`, which has
+// room for them. What the bytes of `fresh` and `scratch` are is of no account.
 fn put_front<F: FillFrame>(
     backlog: &mut Backlog,
     cm: u32,
