@@ -51,8 +51,8 @@ pub record PipeStands (x : Connection) (input : OwnInput) (j : ℕ) (frames : Li
 -- ---- wherever a pipe stands
 
 -- the pipe's taking part is so far, and its giving part has filled so many frames
-abbrev pub StandsAt : Progress → (filled : ℕ) → PipeView → Type 0
-StandsAt at filled pipe = PipeStands at.entry at.input at.turn at.frames at.ended filled pipe
+abbrev pub PipeAt : Progress → (filled : ℕ) → PipeView → Type 0
+PipeAt at filled pipe = PipeStands at.entry at.input at.turn at.frames at.ended filled pipe
 
 -- what holds of a pipe wherever it stands
 abbrev pub OfItsTurn : PipeView → ((at : Progress) → (filled : ℕ) → Type 0) → Type 0

@@ -1,10 +1,10 @@
 // The pipe of a connection. What its input brings in a turn is kept beside what it brought in the turn before, which
 // goes to the output: so the two parts may be used in any order within a turn, and `fence` turns the sides. There a
 // line's source takes over what it is to give, without a copy; for a client it stays in the pipe.
-ghost use Rattle.std.specs.Prelude.{◌≡◌, ◌<◌, ◌≤◌, ◌+◌, ℕ, suc, Bool, true, false, List, [], ◌∷◌, ◌++◌, Option, IsSome, IsTrue, option_map};
-ghost use Rattle.otn_base.specs.LineSlots.{LineSlots, slots_of};
+ghost use Rattle.std.specs.Prelude.{◌≡◌, ◌<◌, ◌≤◌, ◌+◌, ℕ, suc, false, List, [], Option, IsSome, IsTrue, option_map};
+ghost use Rattle.otn_base.specs.LineSlots.{slots_of};
 ghost use Rattle.otn_base.specs.declared.limits.TheConstants.{LINE_COLUMNS as COLUMNS, ROWS};
-ghost use Rattle.odu_client.specs.ClientInput.{ClientInput, packets_begun, is_spent, bad_line, emitted_before};
+ghost use Rattle.odu_client.specs.ClientInput.{packets_begun, is_spent, bad_line, emitted_before};
 ghost use Rattle.otn_ports.specs.InPlace.{in_view};
 ghost use Rattle.otn_ports.specs.OutPlace.{out_view};
 ghost use Rattle.otn_ports.specs.Views.{InView, OutView};
@@ -12,14 +12,12 @@ ghost use Rattle.otn_base.specs.Counts.{saturated};
 ghost use Rattle.plan_file.specs.declared.connection.Connection.{Connection};
 ghost use Rattle.plan_file.specs.declared.connection.FromEnd.TheVariants as from_end;
 ghost use Rattle.plan_file.specs.declared.connection.ToEnd.TheVariants as to_end;
-ghost use Rattle.trib_sink.specs.Sink.{ended_view};
-ghost use Rattle.tributary_model.specs.Places.{Taken, View, tributary_of, byte_at};
+ghost use Rattle.tributary_model.specs.Places.{tributary_of, byte_at};
 ghost use Rattle.tributary_model.specs.Puts.{WasPut, IsSourcePlace};
-ghost use Rattle.device_model.specs.Entries.{first_turn};
-ghost use Rattle.device_model.specs.Through.{OwnInput, of_line, of_client, got_by, state_in};
+ghost use Rattle.device_model.specs.Through.{OwnInput, got_by, state_in};
 ghost use Rattle.cross_matrix.specs.InTurn.{next_taken, may_end, takes_one_slot, next_filled};
 ghost use Rattle.cross_matrix.specs.Parts.{OnSink, OnSource, IsOfClient, IsTextOver, IsToClient, frames_taken, frames_filled, turns_taken, and_frame, line_over, next_turn, ClientInStands, ClientOutStands, OfItsClient, IsInputOf, IsBegun, IsReceived};
-ghost use Rattle.cross_matrix.specs.Pipes.{PipeView, IsPipeOf, PipeStands, StandsAt, OfItsTurn, OfOpenTurn, OfLineTurn, OfDoneTurn, OfFrame, OfOwnFrame, ClientTook};
+ghost use Rattle.cross_matrix.specs.Pipes.{PipeView, IsPipeOf, PipeStands, PipeAt, OfItsTurn, OfOpenTurn, OfLineTurn, OfDoneTurn, OfFrame, OfOwnFrame, ClientTook};
 
 use crate::FromState;
 use crate::giving::GivingPart;
@@ -79,7 +77,7 @@ impl Pipe {
     pub fn take_frame<F: TakeFrame>(&mut self, n: u8, frame: &F, expected: u8)
         requires line { OnSink self.old.taking (λ sink. (n < slots_of sink.slots.kind) × (n ≡ sink.taken)) }
         ensures stands { OfOpenTurn self.old (λ at filled.
-            StandsAt (and_frame (record { frame = F.bytes frame.now; expected = expected }) at) filled self.new) }
+            PipeAt (and_frame (record { frame = F.bytes frame.now; expected = expected }) at) filled self.new) }
         ensures entry { (x : Connection) → IsPipeOf x self.old → IsPipeOf x self.new }
         ensures taken { frames_taken self.new.taking ≡ frames_taken self.old.taking + 1 }
         ensures giving { self.new.giving ≡ self.old.giving }
@@ -90,7 +88,7 @@ impl Pipe {
     /// Ends the turn of the connection's line: `whole` says that it has a multiframe, all of whose frames were taken.
     pub fn end_frames(&mut self, whole: bool)
         requires line { OnSink self.old.taking (λ sink. IsTrue whole → sink.taken ≡ slots_of sink.slots.kind) }
-        ensures stands { OfLineTurn whole self.old (λ at filled. StandsAt (line_over at) filled self.new) }
+        ensures stands { OfLineTurn whole self.old (λ at filled. PipeAt (line_over at) filled self.new) }
         ensures entry { (x : Connection) → IsPipeOf x self.old → IsPipeOf x self.new }
         ensures taken { frames_taken self.new.taking ≡ 0 }
         ensures giving { self.new.giving ≡ self.old.giving }
@@ -122,7 +120,7 @@ impl Pipe {
             (λ source. (n < slots_of source.slots.kind) × (n ≡ source.filled) × IsSome source.said) }
         ensures put { OfOwnFrame n self.old (λ own at.
             WasPut own (got_by at.entry at.input (suc at.turn)) at.turn n (F.bytes frame.old) (F.bytes frame.new)) }
-        ensures stands { OfFrame n self.old (λ at. StandsAt at (n + 1) self.new) }
+        ensures stands { OfFrame n self.old (λ at. PipeAt at (n + 1) self.new) }
         ensures kept { (port row column : ℕ) → 1 ≤ row → row ≤ ROWS → 1 ≤ column → column ≤ COLUMNS
             → OnSource self.old.giving (λ source. IsSourcePlace (tributary_of source.slots port) n row column → ⊥)
             → byte_at (F.bytes frame.new) row column ≡ byte_at (F.bytes frame.old) row column }
@@ -140,7 +138,7 @@ impl Pipe {
         ensures gave { (first : OutView) → OfItsTurn self.old (λ at filled.
             ClientOutStands at.entry at.input first (out_view K.Sink place.old) at.turn self.old.giving
             → ClientOutStands at.entry at.input first (out_view K.Sink place.new) (suc at.turn) self.new.giving) }
-        ensures stands { OfItsTurn self.old (λ at filled. StandsAt at filled self.new) }
+        ensures stands { OfItsTurn self.old (λ at filled. PipeAt at filled self.new) }
         ensures entry { (x : Connection) → IsPipeOf x self.old → IsPipeOf x self.new }
         ensures taking { self.new.taking ≡ self.old.taking }
     {
@@ -150,7 +148,7 @@ impl Pipe {
     /// Ends turn `turn` of the plan: a signal emits what the turn brings, and what came is handed on to the next turn.
     pub fn fence(&mut self, turn: u32)
         requires turn { self.old.start ≤ turn }
-        ensures stands { OfDoneTurn turn self.old (λ at. StandsAt (next_turn at) 0 self.new) }
+        ensures stands { OfDoneTurn turn self.old (λ at. PipeAt (next_turn at) 0 self.new) }
         ensures client { IsOfClient self.old.taking → self.new.taking ≡ self.old.taking }
         ensures receiver { IsToClient self.old.giving → self.new.giving ≡ self.old.giving }
         ensures entry { (x : Connection) → IsPipeOf x self.old → IsPipeOf x self.new }

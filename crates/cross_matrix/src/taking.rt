@@ -1,12 +1,12 @@
 // The part of a pipe that takes from the connection's input.
-ghost use Rattle.std.specs.Prelude.{◌≡◌, ◌<◌, ◌≤◌, ◌+◌, ◌*◌, ◌&&◌, ◌==◌, if◌then◌else◌, ℕ, suc, Bool, true, false, List, [], ◌∷◌, ◌++◌, Option, IsTrue, length, take, ◌≢◌, nat_lt, option_map};
+ghost use Rattle.std.specs.Prelude.{◌≡◌, ◌<◌, ◌≤◌, ◌+◌, ◌*◌, ◌&&◌, ◌==◌, if◌then◌else◌, ℕ, true, false, List, [], Option, IsTrue, length, take, ◌≢◌, nat_lt, option_map};
 ghost use Rattle.maintenance_signals.specs.Given.{HasGiven};
 ghost use Rattle.maintenance_signals.specs.Stream.{signal_bytes};
 ghost use Rattle.maintenance_signals.specs.declared.signal.Signal.{Signal};
 ghost use Rattle.odu_client.specs.Framing.{ClientStands, Fills};
 ghost use Rattle.packet_text.specs.LinesStand.{lines_view};
-ghost use Rattle.odu_client.specs.ClientInput.{ClientInput, packets_begun, is_spent, bad_line, emitted_before, pace_of};
-ghost use Rattle.otn_base.specs.LineSlots.{LineSlots, slots_of};
+ghost use Rattle.odu_client.specs.ClientInput.{packets_begun, is_spent, bad_line, emitted_before, pace_of};
+ghost use Rattle.otn_base.specs.LineSlots.{slots_of};
 ghost use Rattle.otn_base.specs.declared.limits.TheConstants.{GROUPS, OTU2_SLOTS};
 ghost use Rattle.otn_ports.specs.InPlace.{in_view};
 ghost use Rattle.otn_ports.specs.Views.{InView};
@@ -14,10 +14,7 @@ ghost use Rattle.otn_base.specs.Counts.{saturated};
 ghost use Rattle.plan_file.specs.declared.connection.Connection.{Connection};
 ghost use Rattle.plan_file.specs.declared.connection.FromEnd.{FromEnd};
 ghost use Rattle.plan_file.specs.declared.connection.FromEnd.TheVariants as from_end;
-ghost use Rattle.trib_sink.specs.Sink.{ended_view};
-ghost use Rattle.tributary_model.specs.Places.{Taken, View, tributary_of};
-ghost use Rattle.device_model.specs.Entries.{first_turn};
-ghost use Rattle.device_model.specs.Through.{OwnInput, of_line, of_client, emits_by, state_by, sink_state};
+ghost use Rattle.device_model.specs.Through.{OwnInput, emits_by, state_by, sink_state};
 ghost use Rattle.cross_matrix.specs.InTurn.{some_if, next_taken, may_end, takes_one_slot};
 ghost use Rattle.cross_matrix.specs.Parts.{OnSink, IsOfClient, IsTextOver, TakesFrom, HasSlots, IsInputOf, frames_taken, turns_taken, and_frame, line_over, next_turn, TakingStands, TextStands, ClientInStands, OfItsClient};
 ghost use Rattle.cross_matrix.specs.Steps.Parts.{TakesAt, OfItsPart, OfOpenPart, OfLinePart, OfDonePart, TextTook};
@@ -83,7 +80,7 @@ impl TakingPart {
         }
     }
 
-    /// Ends a turn of the connection's line: what its sink emits came.
+    /// Ends a turn of the connection's line: what its sink emits came, in a buffer that the sink gives in exchange.
     pub(crate) fn end_frames(&mut self, whole: bool, came: &mut Burst)
         requires line { OnSink self.old (λ sink. IsTrue whole → sink.taken ≡ slots_of sink.slots.kind) }
         requires room { OnSink self.old (λ sink. came.old.room ≡ length sink.slots.list * (GROUPS + 1)) }

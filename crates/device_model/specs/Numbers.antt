@@ -39,7 +39,7 @@ line_ending state form available turns = ending_of state (length (mfas_of availa
 
 -- ---- of a client
 
--- how many lines a text has that end in a line feed; how many packets count: on an empty place all, else whole lines
+-- how many lines of a text end in a line feed; how many delivered packets count: on an empty place all, else so many
 abbrev pub whole_lines : (text : List ℕ) → ℕ
 whole_lines text = length (filter (λ byte. byte == 10) text)
 

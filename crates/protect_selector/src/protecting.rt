@@ -81,7 +81,8 @@ impl Protecting {
         requires turn { t < MOST_TURNS }
         ensures gone { OfTheirLines (ends_of (bays_view I.Source O.Sink bays.old) (sink_view K.Sink report.old)) t
             self.old (λ own n first working protection. TurnGone result own n first
-            (ends_of (bays_view I.Source O.Sink bays.new) (sink_view K.Sink report.new)) working protection t self.new) }
+            (ends_of (bays_view I.Source O.Sink bays.new) (sink_view K.Sink report.new))
+            working protection t self.new) }
         ensures ready { AreReady self.new }
         ensures slots { self.new.feed.source.slots ≡ self.old.feed.source.slots }
         ensures working_stays { vec_len working_room.new ≡ vec_len working_room.old }

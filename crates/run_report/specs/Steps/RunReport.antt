@@ -24,14 +24,14 @@ port_of LinesOut b = port.LineOut b
 port_of ClientsIn n = port.ClientIn n
 port_of ClientsOut n = port.ClientOut n
 
--- its line, where its place is so
+-- the line of a port of a kind, where its place is so
 abbrev pub line_by : Numbers → PortKind → (n : ℕ) → State → List ℕ
 line_by numbers LinesIn a state = line_in_line a (numbers.line_in a) state
 line_by numbers LinesOut b state = line_out_line b (numbers.line_out b) state
 line_by numbers ClientsIn n state = client_in_line n (numbers.client_in n) state
 line_by numbers ClientsOut n state = client_out_line n (numbers.client_out n) state
 
--- its line
+-- its line in the report, by how its place was left
 abbrev pub port_line : Numbers → (last : BaysView) → PortKind → (n : ℕ) → List ℕ
 port_line numbers last kind n = line_by numbers kind n (place_state last (port_of kind n))
 
