@@ -20,7 +20,7 @@ use Rattle.node_core.specs.Steps.Asking.{LinesAnswer, is_cut, CutAnswer, OpenAns
 use Rattle.turn_pieces.specs.Pieces.{PiecesView}
 use Rattle.turn_pieces.specs.Ports.{index_of, port_at}
 use Rattle.node_links.specs.declared.link.Link.{Link}
-use Rattle.node_links.specs.declared.link.Origin.TheVariants as origin
+use Rattle.plan_file.specs.declared.connection.FromEnd.TheVariants as from_end
 use Rattle.turn_pieces.proofs.PortNumbers.{port_at_index}
 
 -- ---- lines
@@ -121,7 +121,7 @@ some_cut pieces bays name cut = record { some = λ e. (name, cut); none = λ e. 
 
 -- ---- clients
 
-pub none_open : (links : List Link) (i : ℕ) → length links ≤ i → ((k n : ℕ) (link : Link) → k < i → slice_get links k ≡ Some link → link.from ≡ origin.Client n → SaysSpent link true) → OpensAnswer links false
+pub none_open : (links : List Link) (i : ℕ) → length links ≤ i → ((k n : ℕ) (link : Link) → k < i → slice_get links k ≡ Some link → link.entry.from ≡ from_end.Client n → SaysSpent link true) → OpensAnswer links false
 none_open links i most before = record { some = λ e. absurd (cc); none = λ e k n link at from. before k n link (let within = slice_get_within links k link at in omega (arith, within, most)) at from }
 
 pub some_open : (links : List Link) (i : ℕ) (d : Link) (answer : Bool) → i < length links → d ≡ get_or links i d → answer ≡ true → OpenAnswer d answer → OpensAnswer links true
@@ -131,12 +131,12 @@ some_open links i d answer less at is h = record {
 }
 
 pub next_open : (links : List Link) (i : ℕ) (d : Link) (answer : Bool) → i < length links → d ≡ get_or links i d → answer ≡ false → OpenAnswer d answer
-    → ((k n : ℕ) (link : Link) → k < i → slice_get links k ≡ Some link → link.from ≡ origin.Client n → SaysSpent link true)
-    → (k n : ℕ) (link : Link) → k < i + 1 → slice_get links k ≡ Some link → link.from ≡ origin.Client n → SaysSpent link true
+    → ((k n : ℕ) (link : Link) → k < i → slice_get links k ≡ Some link → link.entry.from ≡ from_end.Client n → SaysSpent link true)
+    → (k n : ℕ) (link : Link) → k < i + 1 → slice_get links k ≡ Some link → link.entry.from ≡ from_end.Client n → SaysSpent link true
 next_open links i d answer less at is h before k n link lower known from = elim (eqb_tells k i) [
   | inl t ↦
       let same : d ≡ link = same_Some d link (ap Some at ∙ sym (slice_get-get_or links i d less) ∙ ap (slice_get links) (sym t.1) ∙ known) in
-      subst (λ l. SaysSpent l true) same (subst (λ b. SaysSpent d (not b)) is (h.client n (ap (λ (l : Link). l.from) same ∙ from)))
+      subst (λ l. SaysSpent l true) same (subst (λ b. SaysSpent d (not b)) is (h.client n (ap (λ (l : Link). l.entry.from) same ∙ from)))
   | inr t ↦ let d = t.1 in before k n link (omega (arith, d, lower)) known from
 ]
 
@@ -144,5 +144,5 @@ double_not : (b : Bool) → not (not b) ≡ b
 double_not true = refl
 double_not false = refl
 
-pub open_answer : (link : Link) (m : ℕ) (says : Bool) → link.from ≡ origin.Client m → SaysSpent link says → OpenAnswer link (not says)
+pub open_answer : (link : Link) (m : ℕ) (says : Bool) → link.entry.from ≡ from_end.Client m → SaysSpent link says → OpenAnswer link (not says)
 open_answer link m says from h = record { client = λ n e. subst (SaysSpent link) (sym (double_not says)) h; from = λ e. (m, from) }

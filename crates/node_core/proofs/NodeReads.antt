@@ -2,12 +2,11 @@
 use Rattle.std.proofs.Common.{◌≡◌, ◌≢◌, ◌<◌, ◌≤◌, ◌+◌, ◌-◌, ◌*◌, ◌/◌, ◌&&◌, ◌==◌, ℕ, min, nat_le, nat_lt, Bool, true, false, List, [], Option, Some, None, length, slice_get, arith, refl, sym, ap, subst, ◌∙◌, inl, inr}
 use Rattle.std.specs.Prelude.{is_some, if◌then◌else◌, option_map}
 use Rattle.std.specs.List.{Contains}
-use Rattle.std.proofs.lemmas.Bool.{eq-eqb}
 use Rattle.std.proofs.lemmas.Bool.Decides.{nat_tests, eqb_tells}
 use Rattle.std.proofs.lemmas.Option.{slice_get_within, slice_get_read}
 use Rattle.otn_base.specs.declared.kind.PortName.{PortName}
 use Rattle.otn_base.specs.declared.kind.PortName.TheVariants as port
-use Rattle.otn_ports.specs.Views.{InView, BaysView, line_in_at, client_in_at}
+use Rattle.otn_ports.specs.Views.{BaysView, line_in_at, client_in_at}
 use Rattle.line_side.specs.LineNumbers.{numbers_of}
 use Rattle.line_side.specs.LineOutput.{LineOutView}
 use Rattle.line_side.specs.LineStands.{LineView, InItsTurn}
@@ -19,29 +18,27 @@ use Rattle.plan_file.specs.declared.connection.FromEnd.{FromEnd}
 use Rattle.plan_file.specs.declared.connection.FromEnd.TheVariants as from_end
 use Rattle.plan_file.specs.declared.connection.ToEnd.TheVariants as to_end
 use Rattle.plan_file.specs.declared.plan.Plan.{Plan}
-use Rattle.tributary_model.specs.Places.{Taken}
 use Rattle.device_model.specs.Entries.{first_turn, form_in, own_turn, IsActive}
 use Rattle.device_model.specs.Moments.{touches, turns_done, emitted_by}
 use Rattle.device_model.specs.Numbers.{client_numbers, client_numbers_by, last_state, state_after_turn}
 use Rattle.device_model.specs.Report.{ClientInNumbers}
-use Rattle.device_model.specs.Through.{Inputs, OwnInput, of_client, own_of, own_input, state_by, state_in}
+use Rattle.device_model.specs.Through.{Inputs, OwnInput, own_of, own_input, state_by, state_in}
 use Rattle.device_model.specs.declared.outcome.FromState.{FromState}
 use Rattle.device_model.proofs.SoundPlans.{sound_plan}
-use Rattle.cross_matrix.specs.Parts.{ClientInStands, MayShow, GivesTo, IsToClient, IsReceived, turns_taken}
-use Rattle.cross_matrix.specs.Pipes.{PipeStands}
+use Rattle.cross_matrix.specs.Parts.{GivesTo, IsToClient, IsReceived, turns_taken}
 use Rattle.cross_matrix.specs.declared.giving.GivingPart.{GivingPart}
 use Rattle.cross_matrix.specs.declared.giving.GivingPart.TheVariants as giving
 use Rattle.node_links.specs.Steps.LinkMoves.{FirstOf}
-use Rattle.node_links.specs.Links.{IsLinkOf, is_later, was_on}
-use Rattle.node_links.specs.Moves.{is_from_client, is_to_client, has_client_in, has_client_out}
+use Rattle.node_links.specs.Links.{IsLinkOf, was_on, is_later, joins, OfItsClient, OfItsTurns}
 use Rattle.node_moments.specs.NodeView.{NodeView, HasLineIn, HasLineOut, HasLink, done_at, taken_pieces, given_pieces}
 use Rattle.node_core.specs.Settling.{IsLineCounts, IsFrameCount, IsClientInCount, IsClientOutCount, IsLastState}
 use Rattle.node_moments.specs.Stands.{InputBytes, MayGive, PlanStands, StandsAt, frames_by, ended_by}
 use Rattle.node_links.specs.declared.link.Link.{Link}
-use Rattle.node_links.proofs.LinkLaws.{both}
-use Rattle.node_moments.proofs.LinkPorts.{is_client_port, joins, joins_as, touched_in, touched_out, sole}
+use Rattle.node_links.proofs.LinkLaws.{both, start_as}
+use Rattle.node_moments.proofs.LinkPorts.{is_client_port, joins_as, touched_in, touched_out, sole}
 use Rattle.node_moments.proofs.Retired.{entry_at}
-use Rattle.node_moments.proofs.Parts.{one_at, known_at, and_none, none_and}
+use Rattle.node_moments.proofs.Parts.{one_at, and_none, none_and}
+use Rattle.node_links.proofs.Senders.{element_at}
 
 -- ---- lines
 
@@ -70,7 +67,7 @@ pub record LinkAt (plan : Plan) (node : NodeView) (i : ℕ) (x : Connection) : T
 pub link_at : (plan : Plan) (node : NodeView) (i : ℕ) (x : Connection) → PlanStands plan node → slice_get plan.connections i ≡ Some x → LinkAt plan node i x
 link_at plan node i x p at =
     let within : i < length plan.connections = slice_get_within plan.connections i x at in
-    let k = known_at node.links i (let count = p.count in omega arith) in
+    let k = element_at node.links i (let count = p.count in omega arith) in
     record { link = k.0; has = k.1; is = p.links i x k.0 at k.1 }
 
 -- the connection of the plan at a client's port is the one that is found
@@ -131,10 +128,10 @@ none_emitted : (paces : List ℕ) → emitted_before paces 0 ≡ 0
 unfolding emitted_before
 none_emitted paces = refl
 
-pub client_in_told : (node : NodeView) (n i : ℕ) (link : Link) (t : ℕ × Bool × Option ℕ) → FirstOf (has_client_in n) node.links (Some i) → HasLink node i link
+pub client_in_told : (node : NodeView) (n i : ℕ) (link : Link) (t : ℕ × Bool × Option ℕ) → FirstOf (joins (port.ClientIn n)) node.links (Some i) → HasLink node i link
     → (is_later node.past link ≡ true → t ≡ (0, false, None))
-    → (is_later node.past link ≡ false → (x : Connection) (first now : InView) (taken : List ℕ) (k : ℕ) (input : ClientInput) → ClientInStands x first now taken k link.pipe.taking → MayShow link.pipe.taking taken (of_client input)
-    → t ≡ (saturated (packets_begun input.packets x.fcs (emitted_before x.pace k)), is_spent input x.fcs (emitted_before x.pace k), option_map saturated (bad_line input x.fcs (emitted_before x.pace k))))
+    → (is_later node.past link ≡ false
+    → OfItsClient link (λ x input emitted. t ≡ (saturated (packets_begun input.packets x.fcs emitted), is_spent input x.fcs emitted, option_map saturated (bad_line input x.fcs emitted))))
     → IsClientInCount node n (record { packets = t.0; spent = t.1; bad = t.2 })
 client_in_told node n i link t found has later told = λ plan first taken now inputs x h may is_of from.
     let p = h.plan_stands in
@@ -149,26 +146,26 @@ client_in_told node n i link t found has later told = λ plan first taken now in
         → IsLinkOf x link → (pieces k : ℕ) → x.from ≡ from_end.Client n → (test : Bool) → is_later node.past link ≡ test
         → ◌≡◌ {A = ClientInNumbers} (record { packets = t.0; spent = t.1; bad = t.2 }) (client_numbers_by x (inputs.client n) (emitted_before x.pace (turns_done x node.past (done_at node (port.ClientIn n)))))
     by_start plan first taken now inputs x h may at_i is pieces k from true e =
-        let start = is.start in
+        let start = start_as x link is in
         let before : node.past + 1 < x.start = grind (arith, nat_tests) in
         let none : emitted_before x.pace (turns_done x node.past (done_at node (port.ClientIn n))) ≡ 0 =
         ap (emitted_before x.pace) (no_turns x node.past (done_at node (port.ClientIn n)) before) ∙ none_emitted x.pace in
         rw none (text_numbers x (inputs.client n) 0 t (later e ∙ none_yet x (inputs.client n)))
     by_start plan first taken now inputs x h may at_i is pieces k from false e =
-        let start = is.start in
+        let start = start_as x link is in
         let begun : x.start ≤ node.past + 1 = grind (arith, nat_tests) in
         let s = (h.ports (port.ClientIn n)).started i x link at_i has (touched_in n x from) begun in
         text_numbers x (inputs.client n) (emitted_before x.pace (turns_done x node.past (done_at node (port.ClientIn n)))) t
         (told e x (client_in_at first n) s.was (taken.client n) (turns_done x node.past (done_at node (port.ClientIn n))) (inputs.client n) s.stands (may.clients i n x link at_i has from begun))
 
-pub client_in_none : (node : NodeView) (n : ℕ) (counts : ClientInNumbers) → FirstOf (has_client_in n) node.links None → IsClientInCount node n counts
+pub client_in_none : (node : NodeView) (n : ℕ) (counts : ClientInNumbers) → FirstOf (joins (port.ClientIn n)) node.links None → IsClientInCount node n counts
 client_in_none node n counts found = λ plan first taken now inputs x h may is_of from. absurd (none_at plan node (port.ClientIn n) is_of.0 x h.plan_stands found.is (entry_of plan x is_of) (touched_in n x from))
 
 to_part : (n : ℕ) (part : GivingPart) → GivesTo (to_end.Client n) part → IsToClient part
 to_part n (giving.Line source) h = absurd h
 to_part n (giving.Client receiver) h = tt
 
-pub client_out_told : (node : NodeView) (n i : ℕ) (link : Link) (t : ℕ × ℕ) → FirstOf (has_client_out n) node.links (Some i) → HasLink node i link
+pub client_out_told : (node : NodeView) (n i : ℕ) (link : Link) (t : ℕ × ℕ) → FirstOf (joins (port.ClientOut n)) node.links (Some i) → HasLink node i link
     → (IsToClient link.pipe.giving → IsReceived link.pipe.giving t) → IsClientOutCount node n (record { frames = t.0; packets = t.1 })
 client_out_told node n i link t found has told = λ plan first taken now j x other h at_j had to.
     let p = h.plan_stands in
@@ -177,7 +174,7 @@ client_out_told node n i link t found has told = λ plan first taken now j x oth
     let gives : IsToClient other.pipe.giving = to_part n other.pipe.giving (subst (λ e. GivesTo e other.pipe.giving) to (p.links j x other at_j had).pipe.giving) in
     rw one (told (subst (λ (l : Link). IsToClient l.pipe.giving) one gives))
 
-pub client_out_none : (node : NodeView) (n : ℕ) (t : ℕ × ℕ) → FirstOf (has_client_out n) node.links None → IsClientOutCount node n (record { frames = t.0; packets = t.1 })
+pub client_out_none : (node : NodeView) (n : ℕ) (t : ℕ × ℕ) → FirstOf (joins (port.ClientOut n)) node.links None → IsClientOutCount node n (record { frames = t.0; packets = t.1 })
 client_out_none node n t found = λ plan first taken now j x other h at_j had to. absurd (none_at plan node (port.ClientOut n) j x h.plan_stands found.is at_j (touched_out n x to))
 
 -- ---- connections
@@ -214,30 +211,32 @@ both_so : (past start stop : ℕ) → start ≤ past → past ≤ stop → (nat_
 both_so past start stop low high = grind (arith, nat_tests)
 
 pub state_told : (node : NodeView) (i : ℕ) (link : Link) (state : Option FromState) → HasLink node i link → is_some state ≡ was_on node.past link
-    → (was_on node.past link ≡ true → (x : Connection) (input : OwnInput) (j filled : ℕ) (frames : List Taken) (ended : Bool) → PipeStands x input j frames ended filled link.pipe
-    → state ≡ Some (state_in x input (turns_taken j ended))) → IsLastState node i state
+    → (was_on node.past link ≡ true → OfItsTurns link (λ x input turns. state ≡ Some (state_in x input turns))) → IsLastState node i state
 state_told node i link state has some told = λ plan first taken now inputs x h may at_i.
     by_turn plan first taken now inputs x h may at_i (h.plan_stands.links i x link at_i has) (was_on node.past link) refl
   where
+    was_as : (x : Connection) → IsLinkOf x link → was_on node.past link ≡ (nat_le 1 node.past && (nat_le x.start node.past && nat_le node.past x.stop))
+    was_as x is = ap (λ (y : Connection). nat_le 1 node.past && (nat_le y.start node.past && nat_le node.past y.stop)) is.entry
+
     active_then : (x : Connection) → x.start ≤ node.past → node.past ≤ x.stop → x.stop ≢ node.past → IsActive x node.past
     active_then x low high other = record { start = omega arith; stop = omega (arith, other) }
 
     by_turn : (plan : Plan) (first : BaysView) (taken : InputBytes) (now : BaysView) (inputs : Inputs) (x : Connection) → StandsAt plan first taken node now → MayGive plan taken node inputs → slice_get plan.connections i ≡ Some x
         → IsLinkOf x link → (on : Bool) → was_on node.past link ≡ on → state ≡ state_after_turn node.past x (own_input inputs x)
     by_turn plan first taken now inputs x h may at_i is false e =
-        let off : (nat_le x.start node.past && nat_le node.past x.stop) ≡ false = rw (sym is.start, sym is.stop) (off_then node.past link.start link.stop (rw is.start is.first) e) in
+        let off : (nat_le x.start node.past && nat_le node.past x.stop) ≡ false = off_then node.past x.start x.stop is.first (sym (was_as x is) ∙ e) in
         nothing state (some ∙ e) ∙ ap (λ b. if b then Some (state_in x (own_input inputs x) (node.past - first_turn x)) else None) (sym off)
     by_turn plan first taken now inputs x h may at_i is true e =
-        let span = on_then node.past link.start link.stop e in
-        let low : x.start ≤ node.past = rw (sym is.start) span.0 in
-        let high : node.past ≤ x.stop = rw (sym is.stop) span.1 in
+        let span = on_then node.past x.start x.stop (sym (was_as x is) ∙ e) in
+        let low = span.0 in
+        let high = span.1 in
         let on : (nat_le x.start node.past && nat_le node.past x.stop) ≡ true = both_so node.past x.start x.stop low high in
         let is_so : state ≡ Some (state_in x (own_input inputs x) (own_turn x node.past)) = elim (eqb_tells x.stop node.past) [
           | inl t ↦ told e x (own_input inputs x) (own_turn x node.past) 0 [] false (h.pipes.last inputs may i x link at_i has t.1)
           | inr t ↦
               let active = active_then x low high t.1 in
-              let k = taken_pieces node link.from in
-              told e x (own_input inputs x) (own_turn x node.past) (given_pieces node link.to) (frames_by plan inputs x.from node.past k) (ended_by x.from k) (h.pipes.each inputs may i x link at_i has active)
+              let k = taken_pieces node x.from in
+              told e x (own_input inputs x) (own_turn x node.past) (given_pieces node x.to) (frames_by plan inputs x.from node.past k) (ended_by x.from k) (h.pipes.each inputs may i x link at_i has active)
               ∙ ap Some (state_taken x.from x inputs (own_turn x node.past) k)
         ] in
         is_so ∙ ap (λ b. if b then Some (state_in x (own_input inputs x) (node.past - first_turn x)) else None) (sym on)

@@ -1,6 +1,5 @@
 -- The numbers that a node tells behind its last turn are those of the run.
 use Rattle.std.proofs.Common.{◌≡◌, ◌<◌, ◌≤◌, ◌*◌, ℕ, true, List, length, arith, refl, sym, ap, ◌∙◌}
-use Rattle.std.proofs.lemmas.Bool.Decides.{nat_tests}
 use Rattle.otn_base.specs.declared.kind.PortName.TheVariants as port
 use Rattle.otn_base.specs.declared.limits.TheConstants.{LINES}
 use Rattle.otn_ports.specs.Views.{BaysView, line_out_at}
@@ -21,20 +20,17 @@ use Rattle.device_model.specs.Report.{Numbers, ClientOutNumbers}
 use Rattle.device_model.specs.Through.{Inputs, own_input}
 use Rattle.connection_laws.proofs.OneFile.{one_file}
 use Rattle.node_moments.specs.NodeView.{NodeView, HasLineIn, done_at}
-use Rattle.turn_pieces.specs.Ports.{index_of}
 use Rattle.device_model.specs.RunLeft.{OutputsLeft}
 use Rattle.node_core.specs.Settling.{ToldBy}
 use Rattle.node_moments.specs.Stands.{InputBytes, MayGive, StandsAt}
 use Rattle.node_core.proofs.NodeReads.{entry_of, is_past, client_numbers_then, last_state_then}
 use Rattle.node_core.proofs.OutputsLeft.{AllWent, all_went, outputs_left}
-use Rattle.node_moments.proofs.Parts.{known_at}
 use Rattle.device_model.proofs.ConnectionPorts.{from_client_used, to_client_used}
 use Rattle.turn_pieces.proofs.UsedPorts.{used_within}
+use Rattle.node_links.proofs.Senders.{element_at}
+use Rattle.node_moments.proofs.LinkTurns.{line_within}
 
 -- ---- lines
-
-line_in_within : (a : ℕ) → index_of (port.LineIn a) < 40 → a < 4
-line_in_within a h = grind (arith, nat_tests)
 
 -- the numbers of a line depend on how it ended by the rest alone
 same_rest : (form : LineForm) (one other : Ending) (given : List ℕ) (t pieces : ℕ) → rest_of one given ≡ rest_of other given → numbers_of form one given t pieces ≡ numbers_of form other given t pieces
@@ -50,8 +46,8 @@ line_in_numbers : (plan : Plan) (first : BaysView) (taken : InputBytes) (node : 
     → numbers.line_in a ≡ numbers_of (form_in plan a) (line_ending (place_state last (port.LineIn a)) (form_in plan a) (inputs.line a) plan.turns) (inputs.line a) plan.turns 0
 line_in_numbers plan first taken node was last inputs numbers lines h over may told rests a used =
     let p = h.plan_stands in
-    let within : a < 4 = line_in_within a (used_within plan (port.LineIn a) p.accepted used) in
-    let line = known_at node.lines_in a (omega (arith, lines)) in
+    let within : a < 4 = line_within a (used_within plan (port.LineIn a) p.accepted used) in
+    let line = element_at node.lines_in a (omega (arith, lines)) in
     let past : node.past ≡ plan.turns = (let turns = p.turns in let most = p.past in omega arith) in
     let none : line.0.pieces ≡ 0 = (h.ports (port.LineIn a) line.0 line.1 used).1 ∙ p.over over (port.LineIn a) in
     let given = inputs.line a in

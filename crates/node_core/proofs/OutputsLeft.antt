@@ -1,5 +1,5 @@
 -- What went to the outputs of a node that is past its last turn: all that was due to them.
-use Rattle.std.proofs.Common.{◌≡◌, ◌<◌, ◌≤◌, ◌+◌, ◌*◌, ◌&&◌, ℕ, nat_le, Bool, true, false, List, [], Some, length, slice_get, arith, refl, sym, ap, subst, ◌∙◌, inl, inr}
+use Rattle.std.proofs.Common.{◌≡◌, ◌<◌, ◌≤◌, ◌+◌, ◌*◌, ℕ, Bool, true, false, List, [], Some, length, slice_get, arith, refl, sym, ap, subst, ◌∙◌, inl, inr}
 use Rattle.std.specs.List.{Contains, concat}
 use Rattle.std.proofs.lemmas.Bool.Decides.{nat_tests}
 use Rattle.otn_base.specs.declared.kind.PortName.TheVariants as port
@@ -15,26 +15,28 @@ use Rattle.plan_file.specs.declared.connection.ToEnd.TheVariants as to_end
 use Rattle.plan_file.specs.declared.plan.Plan.{Plan}
 use Rattle.device_model.specs.Entries.{form_out}
 use Rattle.device_model.specs.LineFiles.{AreFramesOf, IsLineFile}
-use Rattle.device_model.specs.Moments.{uses, turns_done, client_due, is_retired}
+use Rattle.device_model.specs.Moments.{uses, turns_done, client_due}
 use Rattle.device_model.specs.Numbers.{Went, counted_packets}
 use Rattle.device_model.specs.Through.{Inputs, own_input, arrived_by}
 use Rattle.cross_matrix.specs.Parts.{OnReceiver, ClientOutStands, IsReceived}
 use Rattle.cross_matrix.specs.Receiving.{ReceiverView, ReceiverStands}
 use Rattle.cross_matrix.specs.declared.giving.GivingPart.{GivingPart}
 use Rattle.cross_matrix.specs.declared.giving.GivingPart.TheVariants as giving
-use Rattle.node_links.specs.Moves.{has_client_out}
 use Rattle.node_moments.specs.NodeView.{NodeView, HasLineOut, HasLink, done_at}
 use Rattle.turn_pieces.specs.Ports.{index_of}
 use Rattle.device_model.specs.RunLeft.{OutputLeft, LineOutLeft, ClientOutLeft, OutputsLeft}
 use Rattle.device_model.specs.RetiredPlaces.{out_after_retire}
 use Rattle.node_moments.specs.Stands.{InputBytes, MayGive, StandsAt}
+use Rattle.node_links.specs.Links.{joins}
 use Rattle.node_links.specs.declared.link.Link.{Link}
 use Rattle.node_moments.proofs.ClientLinks.{one_or_none}
-use Rattle.node_moments.proofs.LinkPorts.{joins_as, to_client, touched_out}
+use Rattle.node_links.proofs.LinkLaws.{to_client}
+use Rattle.node_moments.proofs.LinkPorts.{joins_as, touched_out}
 use Rattle.node_moments.proofs.Retired.{entry_at, at_stop}
 use Rattle.node_core.proofs.NodeReads.{entry_of, found_at, none_at, all_turns, is_past}
-use Rattle.node_moments.proofs.Parts.{one_at, known_at}
+use Rattle.node_moments.proofs.Parts.{one_at}
 use Rattle.turn_pieces.proofs.UsedPorts.{used_within}
+use Rattle.node_links.proofs.Senders.{element_at}
 
 left_of : (first : OutView) (due : List ℕ) (last : OutView) → (s : IsSent first due last) → OutputLeft first due s.went last
 left_of first due last s = record { rest = s.rest; parts = s.parts; gained = s.gained; whole = s.whole }
@@ -60,7 +62,7 @@ pub line_at_end : (plan : Plan) (first : BaysView) (taken : InputBytes) (node : 
 line_at_end plan first taken node now inputs lines h over may b used =
     let p = h.plan_stands in
     let within : b < 4 = line_within b (used_within plan (port.LineOut b) p.accepted used) in
-    let line = known_at node.lines_out b (omega (arith, lines)) in
+    let line = element_at node.lines_out b (omega (arith, lines)) in
     let past : node.past ≡ plan.turns = (let turns = p.turns in let most = p.past in omega arith) in
     let stood = h.ports (port.LineOut b) inputs may line.0 line.1 used in
     record {
@@ -181,7 +183,7 @@ client_went plan inputs i x link first now node at has c = record {
 -- of any client, if a connection goes to it
 pub some_client : (plan : Plan) (first : BaysView) (taken : InputBytes) (node : NodeView) (now : BaysView) (inputs : Inputs) → StandsAt plan first taken node now → node.turns ≤ node.past → MayGive plan taken node inputs → (n : ℕ)
     → (went : List ℕ) × ((x : Connection) → Contains plan.connections x → x.to ≡ to_end.Client n → ClientWent plan inputs x (client_out_at first n) (client_out_at now n) node went)
-some_client plan first taken node now inputs h over may n = elim (one_or_none (has_client_out n) node.links) [
+some_client plan first taken node now inputs h over may n = elim (one_or_none (joins (port.ClientOut n)) node.links) [
   | inl s ↦
       let p = h.plan_stands in
       let e = entry_at plan node s.i s.link p s.known in

@@ -1,5 +1,5 @@
 -- What is left of the input lines of a node past its last turn that was settled.
-use Rattle.std.proofs.Common.{◌≡◌, ◌≤◌, ◌∙◌, ℕ, true, sym, ap, subst}
+use Rattle.std.proofs.Common.{◌≡◌, ◌≤◌, ◌∙◌, ℕ, true, ap}
 use Rattle.otn_base.specs.declared.kind.PortName.TheVariants as port
 use Rattle.otn_base.specs.declared.limits.TheConstants.{LINES}
 use Rattle.otn_ports.specs.Views.{BaysView, line_in_at}
@@ -8,15 +8,11 @@ use Rattle.line_side.specs.Reader.{rest_of}
 use Rattle.plan_file.specs.declared.plan.Plan.{Plan}
 use Rattle.device_model.specs.Entries.{form_in}
 use Rattle.device_model.specs.Moments.{uses}
-use Rattle.device_model.specs.Numbers.{Went, AreNumbers, line_ending}
-use Rattle.device_model.specs.Outcomes.{place_state, IsOutcome}
-use Rattle.device_model.specs.Report.{Numbers}
+use Rattle.device_model.specs.Numbers.{line_ending}
+use Rattle.device_model.specs.Outcomes.{place_state}
 use Rattle.device_model.specs.Through.{Inputs}
-use Rattle.device_model.specs.declared.outcome.Outcome.{Outcome}
 use Rattle.node_core.specs.Asking.{LinesAsked}
 use Rattle.node_moments.specs.NodeView.{NodeView, HasLineIn}
-use Rattle.device_model.specs.RunLeft.{OutputsLeft, RunLeft}
-use Rattle.node_core.specs.Settling.{Settled}
 use Rattle.node_moments.specs.Stands.{InputBytes, MayGive, StandsAt}
 use Rattle.node_core.proofs.Settled.{turns_past, used_line_at}
 use Rattle.device_model.proofs.SettledLines.{rest_settled}

@@ -2,14 +2,14 @@
 use Rattle.std.proofs.Common.{◌≡◌, ◌⊎◌, inl, inr, ◌<◌, ◌≤◌, ◌-◌, ◌∙◌, ◌&&◌, ◌||◌, ℕ, suc, Bool, true, false, List, ◌++◌, length, Some, slice_get, get_or, refl, sym, ap, subst, arith}
 use Rattle.std.specs.Prelude.{not, nat_lt, min}
 use Rattle.std.specs.List.{Contains}
-use Rattle.std.proofs.lemmas.Bool.{and_parts, and_from, eq-eqb}
+use Rattle.std.proofs.lemmas.Bool.{and_parts, and_from}
 use Rattle.std.proofs.lemmas.Bool.Decides.{nat_tests}
-use Rattle.std.proofs.lemmas.Option.{slice_get_read, slice_get_within, get_or_from_slice_get}
+use Rattle.std.proofs.lemmas.Option.{slice_get_within, get_or_from_slice_get}
 use Rattle.otn_base.specs.declared.kind.PortName.{PortName}
 use Rattle.otn_base.specs.declared.kind.PortName.TheVariants as port
 use Rattle.otn_base.specs.declared.limits.TheConstants.{LINES}
 use Rattle.otn_ports.specs.Places.{input_of, output_of}
-use Rattle.otn_ports.specs.Views.{State, Empty, Live, Dead, is_dead, BaysView, line_in_at, client_in_at, no_input, no_output}
+use Rattle.otn_ports.specs.Views.{is_dead, BaysView, line_in_at, client_in_at, no_input, no_output}
 use Rattle.line_side.specs.LineStands.{LineView, LineStands}
 use Rattle.packet_text.specs.LinesStand.{ReadAsNeeded}
 use Rattle.odu_client.specs.ClientInput.{is_spent, emitted_before, input_given, packets_asked}
@@ -28,8 +28,6 @@ use Rattle.otn_ports.specs.Asked.{has_come, ByteAsked}
 use Rattle.device_model.specs.LineAsked.{is_seen}
 use Rattle.node_core.specs.Asking.{asks_line, LinesAsked}
 use Rattle.node_core.specs.Steps.Asking.{LinesAnswer, is_cut, CutAnswer, SaysSpent, OpenLink, OpensAnswer, outcome_by}
-use Rattle.node_links.specs.Links.{origin_of}
-use Rattle.node_links.specs.Moves.{is_from_client}
 use Rattle.node_moments.specs.NodeView.{NodeView, HasLineIn, HasLink, IsNode, done_at}
 use Rattle.turn_pieces.specs.Pieces.{wanted_of}
 use Rattle.turn_pieces.specs.Ports.{index_of, port_count}
@@ -38,16 +36,16 @@ use Rattle.node_core.specs.Settling.{Settled}
 use Rattle.device_model.specs.RetiredPlaces.{after_retire}
 use Rattle.node_moments.specs.Stands.{InputBytes, MayGive, PlanStands, ClientAt, GivesText, StandsAt}
 use Rattle.node_links.specs.declared.link.Link.{Link}
-use Rattle.node_links.specs.declared.link.Origin.TheVariants as origin
-use Rattle.node_moments.proofs.Parts.{known_at}
 use Rattle.turn_pieces.proofs.PortNumbers.{line_in_index}
-use Rattle.node_moments.proofs.LinkPorts.{joins_as, from_client, touched_in}
+use Rattle.node_links.proofs.LinkLaws.{from_as, from_client}
+use Rattle.node_moments.proofs.LinkPorts.{joins_as, touched_in}
 use Rattle.node_moments.proofs.Retired.{entry_at, sole_passes, at_stop}
 use Rattle.node_core.proofs.NodeReads.{entry_of, link_at, all_turns}
 use Rattle.device_model.proofs.ConnectionPorts.{from_client_used}
 use Rattle.turn_pieces.proofs.UsedPorts.{used_within, used_pieces}
 use Rattle.device_model.proofs.SettledLines.{may_at_end, EndOfLine, end_of_line, line_left}
 use Rattle.node_core.proofs.SettledClients.{goes_on, more_of, text_left, text_may, more_before, died_before, text_read}
+use Rattle.node_links.proofs.Senders.{element_at}
 
 -- ---- the plan
 
@@ -93,7 +91,7 @@ pub used_line : (plan : Plan) (first was is : BaysView) (taken : InputBytes) (no
 used_line plan first was is taken node a n over st asked used =
     let less : a < 4 = (line_in_index a (used_within plan (port.LineIn a) st.plan_stands.accepted used)).0 in
     let count = n.lines_in in
-    let line = known_at node.lines_in a (omega (arith, less, count)) in
+    let line = element_at node.lines_in a (omega (arith, less, count)) in
     record { line = line.0; has = line.1; used = used_line_at plan first was is taken node a line.0 over st asked used line.1 }
 
 -- one that is not used was not asked
@@ -106,7 +104,7 @@ line_idle plan was is node a n p asked unused = go (nat_lt a 4) refl
     go true e =
         let less : a < 4 = grind (arith, nat_tests) in
         let count = n.lines_in in
-        let line = known_at node.lines_in a (omega (arith, less, count)) in
+        let line = element_at node.lines_in a (omega (arith, less, count)) in
         ((asked.each a line.0 less line.1).quiet (ap (λ b. b && not (is_seen line.0.reader.ending)) (wanted_used plan node (port.LineIn a) p ∙ unused))).0
 
 -- a line of which a byte came is used
@@ -118,7 +116,7 @@ came_used plan was is node a n p asked less came = go (uses plan (port.LineIn a)
     go true e = refl
     go false e =
         let count = n.lines_in in
-        let line = known_at node.lines_in a (omega (arith, less, count)) in
+        let line = element_at node.lines_in a (omega (arith, less, count)) in
         let none = ((asked.each a line.0 less line.1).quiet (ap (λ b. b && not (is_seen line.0.reader.ending)) (wanted_used plan node (port.LineIn a) p ∙ e))).1 in
         sym (ap has_come none) ∙ came
 
@@ -230,7 +228,7 @@ some_open : (plan : Plan) (first was is : BaysView) (taken : InputBytes) (came :
     → StandsAt plan first taken node was → is.client_in ≡ was.client_in → MayBeInputs plan first is (takings_of taken came node first is) inputs → OpenLink node.links → HasOpen plan inputs
 some_open plan first was is taken came node inputs over st same may o =
     let e = entry_at plan node o.i o.link st.plan_stands o.known in
-    let from : e.0.from ≡ from_end.Client o.n = from_client o.n e.0.from (sym (joins_as (port.ClientIn o.n) e.0 o.link e.1.1) ∙ ap (is_from_client o.n) o.from ∙ eq-eqb o.n o.n refl) in
+    let from : e.0.from ≡ from_end.Client o.n = from_client o.n e.0.from (sym (joins_as (port.ClientIn o.n) e.0 o.link e.1.1) ∙ touched_in o.n o.link.entry o.from) in
     record {
       x = e.0;
       n = o.n;
@@ -241,11 +239,11 @@ some_open plan first was is taken came node inputs over st same may o =
 
 none_open : (plan : Plan) (first was is : BaysView) (taken : InputBytes) (came : ℕ → List ℕ) (node : NodeView) (inputs : Inputs) → node.turns ≤ node.past
     → StandsAt plan first taken node was → is.client_in ≡ was.client_in → MayBeInputs plan first is (takings_of taken came node first is) inputs
-    → ((i n : ℕ) (link : Link) → slice_get node.links i ≡ Some link → link.from ≡ origin.Client n → SaysSpent link true) → HasOpen plan inputs → ⊥
+    → ((i n : ℕ) (link : Link) → slice_get node.links i ≡ Some link → link.entry.from ≡ from_end.Client n → SaysSpent link true) → HasOpen plan inputs → ⊥
 none_open plan first was is taken came node inputs over st same may none o =
     let at = entry_of plan o.x o.is_of in
     let link = link_at plan node o.is_of.0 o.x st.plan_stands at in
-    let from : link.link.from ≡ origin.Client o.n = link.is.from ∙ ap origin_of o.from in
+    let from : link.link.entry.from ≡ from_end.Client o.n = from_as o.x link.link link.is ∙ o.from in
     let says = says_at plan first was is taken came node inputs o.is_of.0 o.n o.x link.link true over st same may at link.has o.from (none o.is_of.0 o.n link.link link.has from) in
     let un = o.unspent in
     absurd (cc)

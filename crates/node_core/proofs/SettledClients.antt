@@ -1,8 +1,6 @@
 -- What the end of a run makes of a client input: what was taken of it, and what its text may turn out to be.
-use Rattle.std.proofs.Common.{◌≡◌, ◌≢◌, ◌⊎◌, inl, inr, ◌≤◌, ◌+◌, ◌-◌, ◌∙◌, ◌&&◌, min, ℕ, Bool, true, false, List, [], ◌++◌, Some, length, slice_get, refl, sym, ap, subst, append_assoc, append-nil, arith}
-use Rattle.std.specs.Prelude.{not, nat_le, if◌then◌else◌}
-use Rattle.std.proofs.lemmas.Bool.{eq-eqb}
-use Rattle.std.proofs.lemmas.Bool.Decides.{nat_tests}
+use Rattle.std.proofs.Common.{◌≡◌, ◌≢◌, ◌⊎◌, inl, inr, ◌+◌, ◌-◌, ◌∙◌, ◌&&◌, ℕ, Bool, true, false, List, [], ◌++◌, length, refl, sym, ap, subst, append_assoc, append-nil}
+use Rattle.std.specs.Prelude.{not, if◌then◌else◌}
 use Rattle.otn_base.specs.declared.kind.PortName.TheVariants as port
 use Rattle.otn_ports.specs.Given.{Lives}
 use Rattle.otn_ports.specs.Views.{State, Empty, Live, Dead, is_dead, InView}
@@ -17,23 +15,15 @@ use Rattle.odu_client.specs.ClientInput.{ClientInput, emitted_before, input_give
 use Rattle.odu_client.specs.Framing.{MayDie}
 use Rattle.odu_client.proofs.Totals.{read_as_asked}
 use Rattle.plan_file.specs.declared.connection.Connection.{Connection}
-use Rattle.plan_file.specs.declared.connection.FromEnd.TheVariants as from_end
-use Rattle.plan_file.specs.declared.plan.Plan.{Plan}
-use Rattle.device_model.specs.Entries.{first_turn, is_from_client as comes_from}
 use Rattle.device_model.specs.Inputs.{has_died}
-use Rattle.device_model.specs.Moments.{turns_done, is_retired}
 use Rattle.device_model.specs.Through.{of_client}
-use Rattle.device_model.proofs.SoundPlans.{sound_plan}
 use Rattle.cross_matrix.specs.Parts.{ClientInStands, MayShow}
 use Rattle.cross_matrix.specs.declared.taking.TakingPart.{TakingPart}
 use Rattle.cross_matrix.specs.declared.taking.TakingPart.TheVariants as taking
-use Rattle.node_links.specs.Moves.{is_from_client}
-use Rattle.node_moments.specs.NodeView.{NodeView, HasLink}
 use Rattle.device_model.specs.LineAsked.{MayHave, InputLeft}
 use Rattle.device_model.specs.RetiredPlaces.{after_retire}
-use Rattle.node_moments.specs.Stands.{PlanStands}
 use Rattle.node_links.specs.declared.link.Link.{Link}
-use Rattle.node_moments.proofs.LinkPorts.{joins}
+use Rattle.node_links.specs.Links.{joins}
 use Rattle.node_moments.proofs.Retired.{some_passes}
 
 -- ---- where more may stand

@@ -22,9 +22,3 @@ pub record LinesAsked (n : ℕ) (pieces : PiecesView) (lines : List LineView) (w
   pub line_out : is.line_out ≡ was.line_out
   pub client_in : is.client_in ≡ was.client_in
   pub client_out : is.client_out ≡ was.client_out
-
--- ---- places
-
--- ---- clients
-
--- ---- the end

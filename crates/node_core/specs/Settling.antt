@@ -1,8 +1,9 @@
 -- API: how a node that is past its last turn is settled.
-use Rattle.std.specs.Prelude.{◌≡◌, ℕ, true, false, slice_get, Some, Option}
+use Rattle.std.specs.Prelude.{◌≡◌, ◌≤◌, ℕ, true, false, slice_get, Some, Option}
 use Rattle.std.specs.List.{Contains}
 use Rattle.otn_base.specs.declared.kind.PortName.{PortName}
 use Rattle.otn_base.specs.declared.kind.PortName.TheVariants as port
+use Rattle.otn_base.specs.declared.limits.TheConstants.{LINES}
 use Rattle.otn_ports.specs.Views.{BaysView, line_in_at, client_in_at}
 use Rattle.line_side.specs.LineNumbers.{numbers_of}
 use Rattle.line_side.specs.LineOutput.{LineOutView}
@@ -24,6 +25,7 @@ use Rattle.device_model.specs.declared.outcome.Outcome.{Outcome}
 use Rattle.node_moments.specs.NodeView.{NodeView, HasLineIn, HasLineOut, HasLink, done_at}
 use Rattle.device_model.specs.LineAsked.{InputLeft}
 use Rattle.device_model.specs.RunLeft.{Takings, MayBeInputs, ClientInLeft, SamePlace, TookOf, TookOfText}
+use Rattle.node_core.specs.Asking.{LinesAsked}
 use Rattle.node_moments.specs.Stands.{InputBytes, MayGive, StandsAt}
 use Rattle.node_links.specs.declared.link.Link.{Link}
 
@@ -51,6 +53,15 @@ pub record Settled (plan : Plan) (first : BaysView) (taken : InputBytes) (node :
   pub idle : (name : PortName) → uses plan name ≡ false → SamePlace name first last
   pub of_inputs : (inputs : Inputs) → MayBeInputs plan first last takings inputs
       → SettledOf plan first last takings taken node outcome inputs
+
+-- a node past its last turn, which stood so, was settled with this outcome, and left the bays so
+pub record WasSettled (plan : Plan) (first last : BaysView) (node : NodeView) (outcome : Outcome) : Type 0 where
+  pub was : BaysView
+  pub taken : InputBytes
+  pub stands : StandsAt plan first taken node was
+  pub over : node.turns ≤ node.past
+  pub settled : Settled plan first taken node last outcome
+  pub asked : LinesAsked LINES node.pieces node.lines_in was last
 
 -- ---- what a node is asked at the end
 

@@ -2,8 +2,7 @@
 ghost use Rattle.std.specs.Prelude.{◌≡◌, ◌<◌, ℕ, Some, None, true, false, length, slice_get, is_some};
 ghost use Rattle.otn_base.specs.declared.limits.TheConstants.{LINES};
 ghost use Rattle.node_links.specs.Steps.LinkMoves.{FirstOf};
-ghost use Rattle.node_links.specs.Links.{was_on};
-ghost use Rattle.node_links.specs.Moves.{has_client_in, has_client_out};
+ghost use Rattle.node_links.specs.Links.{joins, was_on};
 ghost use Rattle.node_moments.specs.NodeView.{HasLink};
 ghost use Rattle.node_core.specs.Settling.{IsLineCounts, IsFrameCount, IsClientInCount, IsClientOutCount, IsLastState};
 ghost use Rattle.node_links.specs.declared.link.Link.{Link};
@@ -12,6 +11,7 @@ use crate::Node;
 use device_model::FromState;
 use line_side::LineCounts;
 use node_links::Link;
+use otn_base::PortName;
 
 impl Node {
     /// The numbers of line input `n` so far.
@@ -35,7 +35,7 @@ impl Node {
     pub fn client_in(&self, n: u8) -> (u64, bool, Option<u64>)
         ensures { IsClientInCount self.now n (record { packets = result.0; spent = result.1; bad = result.2 }) }
     {
-        match link_from_client(n, &self.links) {
+        match link_at(PortName::ClientIn(n), &self.links) {
             Some(i) => self.links[i].client_in(self.past),
             None => (0, false, None),
         }
@@ -46,7 +46,7 @@ impl Node {
     pub fn client_out(&self, n: u8) -> (u64, u64)
         ensures { IsClientOutCount self.now n (record { frames = result.0; packets = result.1 }) }
     {
-        match link_to_client(n, &self.links) {
+        match link_at(PortName::ClientOut(n), &self.links) {
             Some(i) => self.links[i].pipe.client_out(),
             None => (0, 0),
         }
@@ -63,27 +63,13 @@ impl Node {
     }
 }
 
-// The first connection from client input `n`.
-fn link_from_client(n: u8, links: &[Link]) -> Option<usize>
-    ensures { FirstOf (has_client_in n) links.now result }
+// The first connection that comes from the port or goes to it.
+fn link_at(name: PortName, links: &[Link]) -> Option<usize>
+    ensures { FirstOf (joins name) links.now result }
 {
     let mut i = 0;
     for link in links {
-        if link.has_client_in(n) {
-            return Some(i);
-        }
-        i += 1;
-    }
-    None
-}
-
-// The first connection to client output `n`.
-fn link_to_client(n: u8, links: &[Link]) -> Option<usize>
-    ensures { FirstOf (has_client_out n) links.now result }
-{
-    let mut i = 0;
-    for link in links {
-        if link.has_client_out(n) {
+        if link.joins(name) {
             return Some(i);
         }
         i += 1;

@@ -16,10 +16,11 @@ ghost use Rattle.node_moments.specs.Stands.{InputBytes, StandsAt};
 use crate::Node;
 use device_model::Outcome;
 use line_side::LineIn;
-use node_links::{Link, Origin};
+use node_links::Link;
 use otn_base::PortName;
 use otn_base::limits::LINES;
 use otn_ports::{InPlaceOf, Rack, Sink, Source, ask_byte, is_dead_in, is_dead_out};
+use plan_file::FromEnd;
 use turn_pieces::{PORTS, Pieces, port_at};
 
 impl Node {
@@ -123,10 +124,10 @@ fn has_open(links: &[Link]) -> bool
 fn is_open(link: &Link) -> bool
     ensures { OpenAnswer link.now result }
 {
-    match link.from {
-        Origin::Client(_) => !link.pipe.client_in().1,
-        Origin::Line(_) => false,
-        Origin::Signal => false,
+    match &link.entry.from {
+        FromEnd::Client(_) => !link.pipe.client_in().1,
+        FromEnd::Line(..) => false,
+        FromEnd::Signal(_) => false,
     }
 }
 

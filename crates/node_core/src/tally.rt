@@ -1,13 +1,11 @@
 // The numbers of all ports of a node that is past its last turn.
-ghost use Rattle.std.specs.Prelude.{◌≡◌, ◌≤◌, ◌<◌, ℕ, None, get_or, length};
+ghost use Rattle.std.specs.Prelude.{◌≡◌, ◌<◌, ℕ, None, get_or, length};
 ghost use Rattle.otn_base.specs.declared.limits.TheConstants.{CLIENTS as CLIENT_PORTS, LINES as LINE_PORTS, MOST_CONNECTIONS as CONNECTIONS};
 ghost use Rattle.otn_ports.specs.Views.{BaysView};
 ghost use Rattle.plan_file.specs.declared.plan.Plan.{Plan};
-ghost use Rattle.node_core.specs.Asking.{LinesAsked};
 ghost use Rattle.device_model.specs.RunLeft.{Takings, RunLeft};
 ghost use Rattle.device_model.specs.RunNumbers.{client_in_numbers, client_out_numbers, no_client_in, no_client_out, no_counts, numbers_of_run};
-ghost use Rattle.node_core.specs.Settling.{IsLineCounts, IsFrameCount, IsClientInCount, IsClientOutCount, IsLastState, Settled, ToldBy};
-ghost use Rattle.node_moments.specs.Stands.{InputBytes, StandsAt};
+ghost use Rattle.node_core.specs.Settling.{IsLineCounts, IsFrameCount, IsClientInCount, IsClientOutCount, IsLastState, WasSettled, ToldBy};
 
 use crate::Node;
 use device_model::{ClientInCounts, ClientOutCounts, FromState, Outcome, RunNumbers};
@@ -22,10 +20,7 @@ impl Node {
 
         // a node past its last turn that was settled with this outcome leaves what a run of its plan leaves, with these
         // numbers
-        ensures left { (plan : Plan) (first was last : BaysView) (taken : InputBytes)
-            → StandsAt plan first taken self.now was → self.now.turns ≤ self.now.past
-            → Settled plan first taken self.now last outcome
-            → LinesAsked LINE_PORTS self.now.pieces self.now.lines_in was last
+        ensures left { (plan : Plan) (first last : BaysView) → WasSettled plan first last self.now outcome
             → (takings : Takings) × RunLeft plan first last takings (numbers_of_run result) }
     {
         prove_eq!(self.lines_in.len(), LINES);

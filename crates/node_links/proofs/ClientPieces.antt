@@ -3,12 +3,13 @@ use Rattle.std.proofs.Common.{◌≡◌, ◌≢◌, ◌+◌, ℕ, zero, suc, Boo
 use Rattle.std.proofs.lemmas.Bool.Decides.{eqb_tells}
 use Rattle.std.proofs.lemmas.List.{length-set}
 use Rattle.std.proofs.lemmas.Option.{same_Some, slice_get_within, slice_get_read}
+use Rattle.otn_base.specs.declared.kind.PortName.TheVariants as port
 use Rattle.otn_ports.specs.Views.{InView, OutView}
 use Rattle.device_model.specs.Entries.{own_turn}
 use Rattle.cross_matrix.specs.Parts.{ClientOutStands}
 use Rattle.node_links.specs.Steps.LinkMoves.{FirstOf, TookText, GaveText}
-use Rattle.node_links.specs.Links.{is_on}
-use Rattle.node_links.specs.Moves.{EachLink, TakesClient, GivesClient, takes_client, gives_client, is_from_client}
+use Rattle.node_links.specs.Links.{is_on, joins, takes_part}
+use Rattle.node_links.specs.Moves.{EachLink, TakesClient, GivesClient}
 use Rattle.node_links.specs.declared.link.Link.{Link}
 use Rattle.node_links.proofs.LinkLaws.{both_left, same_entry, both}
 use Rattle.node_links.proofs.LinkSteps.{set_here}
@@ -43,31 +44,31 @@ found_at test given links found i link same is first at =
 
 -- ---- from a client
 
-pub one_takes : (past n i : ℕ) (links : List Link) (link then : Link) (was is : InView) → FirstOf (takes_client past n) links (Some i) → slice_get links i ≡ Some link → TookText past link was then is
+pub one_takes : (past n i : ℕ) (links : List Link) (link then : Link) (was is : InView) → FirstOf (takes_part past (port.ClientIn n)) links (Some i) → slice_get links i ≡ Some link → TookText past link was then is
     → TakesClient past n was links is (set links i then)
 one_takes past n i links link then was is found known h =
-    let passes : takes_client past n link ≡ true = found.is.1 link known in
+    let passes : takes_part past (port.ClientIn n) link ≡ true = found.is.1 link known in
     record {
-      took = each_one _ links i link then known (λ l. (same_entry l, refl, λ off. refl)) (h.same, h.giving, λ off. both (takes_client past n link) passes off);
-      none = λ all. both (takes_client past n link) passes (all i link known);
+      took = each_one _ links i link then known (λ l. (same_entry l, refl, λ off. refl)) (h.same, h.giving, λ off. both (takes_part past (port.ClientIn n) link) passes off);
+      none = λ all. both (takes_part past (port.ClientIn n) link) passes (all i link known);
       one = λ j other next at_other at_next on alone x first taken.
           let same : i ≡ j = alone i link known passes in
           let here : link ≡ other = same_Some link other (sym known ∙ ap (slice_get links) same ∙ at_other) in
           let there : then ≡ next = same_Some then next (sym (set_here links i then (slice_get_within links i link known)) ∙ ap (slice_get (set links i then)) same ∙ at_next) in
           let moved : TookText past other was next is = subst (λ (o : Link). TookText past o was next is) here (subst (λ (l : Link). TookText past link was l is) there h) in
-          moved.took (both_left (is_on past other) (is_from_client n other.from) on) x first taken;
+          moved.took (both_left (is_on past other) (joins (port.ClientIn n) other) on) x first taken;
     }
 
 -- ---- to a client
 
-pub one_gives : (past n i : ℕ) (links : List Link) (link then : Link) (was is : OutView) → FirstOf (gives_client past n) links (Some i) → slice_get links i ≡ Some link → GaveText link was then is
+pub one_gives : (past n i : ℕ) (links : List Link) (link then : Link) (was is : OutView) → FirstOf (takes_part past (port.ClientOut n)) links (Some i) → slice_get links i ≡ Some link → GaveText link was then is
     → GivesClient past n was links is (set links i then)
 one_gives past n i links link then was is found known h =
-    let passes : gives_client past n link ≡ true = found.is.1 link known in
+    let passes : takes_part past (port.ClientOut n) link ≡ true = found.is.1 link known in
     record {
       gave = each_one _ links i link then known (λ l. (same_entry l, refl, (λ off. refl), (λ x input j filled frames ended s. s)))
-          (h.same, h.taking, (λ off. both (gives_client past n link) passes off), h.stands);
-      none = λ all. both (gives_client past n link) passes (all i link known);
+          (h.same, h.taking, (λ off. both (takes_part past (port.ClientOut n) link) passes off), h.stands);
+      none = λ all. both (takes_part past (port.ClientOut n) link) passes (all i link known);
       one = λ j other next at_other at_next on alone x input first filled frames ended stands out.
           let same : i ≡ j = alone i link known passes in
           let here : link ≡ other = same_Some link other (sym known ∙ ap (slice_get links) same ∙ at_other) in

@@ -5,6 +5,7 @@ use Rattle.std.proofs.lemmas.Option.{same_Some, slice_get_within}
 use Rattle.std.specs.List.{Contains}
 use borrow.Author.Count.{below_more}
 use Rattle.otn_base.specs.LineSlots.{LineSlots, slots_of}
+use Rattle.otn_base.specs.declared.kind.PortName.TheVariants as port_name
 use Rattle.otn_base.specs.declared.line_kind.LineKind.{LineKind}
 use Rattle.otn_base.specs.declared.limits.TheConstants.{LINE_COLUMNS, LINE_FRAME_BYTES}
 use Rattle.frame_geometry.specs.Places.{place_of}
@@ -26,10 +27,11 @@ use Rattle.device_model.specs.LineFiles.{IsFrameOf}
 use Rattle.device_model.specs.SoundPlans.{IsSoundPlan, IsSender}
 use Rattle.device_model.specs.Through.{Inputs, own_input, got_by}
 use Rattle.device_model.proofs.SoundPlans.{sound_plan}
-use Rattle.node_links.specs.Links.{IsLinkOf, target_of}
+use Rattle.node_links.specs.Links.{IsLinkOf, takes_part}
 use Rattle.node_links.specs.Steps.LineFrames.{PutsOwn, AllotsOwn, FromBlank}
-use Rattle.node_links.specs.Moves.{FillLine, gives_line}
+use Rattle.node_links.specs.Moves.{FillLine}
 use Rattle.node_links.specs.declared.link.Link.{Link}
+use Rattle.node_links.proofs.LinkLaws.{to_as}
 use Rattle.node_links.proofs.LinkSteps.{after_all}
 use Rattle.node_links.proofs.Senders.{either, sender_gives, giver_sends, sender_of, sends_on, element_at}
 
@@ -73,7 +75,7 @@ record Placed (plan : Plan) (inputs : Inputs) (b past n k : ℕ) (frame : List �
 
 -- a connection that sends nothing on the line leaves it so
 placed_same : (plan : Plan) (inputs : Inputs) (b past n k : ℕ) (x : Connection) (link : Link) (before now : List ℕ) → slice_get plan.connections k ≡ Some x → IsLinkOf x link
-    → gives_line past b link ≡ false → now ≡ before → Placed plan inputs b past n k before → Placed plan inputs b past n (k + 1) now
+    → takes_part past (port_name.LineOut b) link ≡ false → now ≡ before → Placed plan inputs b past n k before → Placed plan inputs b past n (k + 1) now
 placed_same plan inputs b past n k x link before now known is gives same h = subst (Placed plan inputs b past n (k + 1)) (sym same) record {
   own = below_more (λ i. (port : ℕ) (slots : LineSlots) (s : IsSender plan b past i port slots)
       → IsPut (tributary_of slots port) (got_by s.x (own_input inputs s.x) (own_turn s.x past + 1)) (own_turn s.x past) n before) k h.own
@@ -89,7 +91,7 @@ placed_same plan inputs b past n k x link before now known is gives same h = sub
 -- one that sends puts its own where the others have none of theirs
 placed_more : (plan : Plan) (inputs : Inputs) (b past n k : ℕ) (links : List Link) (x : Connection) (link : Link) (before now : List ℕ) → IsSoundPlan plan → n < slots_of (form_out plan b).kind
     → FillLine plan inputs b past n links → slice_get plan.connections k ≡ Some x → slice_get links k ≡ Some link
-    → gives_line past b link ≡ true → PutsOwn (gives_line past b link) link before now → Placed plan inputs b past n k before → Placed plan inputs b past n (k + 1) now
+    → takes_part past (port_name.LineOut b) link ≡ true → PutsOwn (takes_part past (port_name.LineOut b) link) link before now → Placed plan inputs b past n k before → Placed plan inputs b past n (k + 1) now
 placed_more plan inputs b past n k links x link before now sound less fill known here gives puts h =
     let is = fill.of_plan k x link known here in
     let sends = giver_sends x b past link is gives in
@@ -130,19 +132,19 @@ placed_more plan inputs b past n k links x link before now sound less fill known
         (subst (λ s. IsPut (tributary_of s number) (got_by x (own_input inputs x) (own_turn x past + 1)) (own_turn x past) n now) lists put))
 
 placed_next : (plan : Plan) (inputs : Inputs) (b past n : ℕ) (links : List Link) → IsSoundPlan plan → n < slots_of (form_out plan b).kind → FillLine plan inputs b past n links
-    → (k : ℕ) (link : Link) (before now : List ℕ) → slice_get links k ≡ Some link → PutsOwn (gives_line past b link) link before now
+    → (k : ℕ) (link : Link) (before now : List ℕ) → slice_get links k ≡ Some link → PutsOwn (takes_part past (port_name.LineOut b) link) link before now
     → Placed plan inputs b past n k before → Placed plan inputs b past n (k + 1) now
 placed_next plan inputs b past n links sound less fill k link before now here puts h =
     let at = element_at plan.connections k (let in_links = slice_get_within links k link here in let count = fill.count in omega arith) in
-    elim (either (gives_line past b link)) [
+    elim (either (takes_part past (port_name.LineOut b) link)) [
       | inl gives ↦ placed_more plan inputs b past n k links at.0 link before now sound less fill at.1 here gives puts h
       | inr gives ↦ placed_same plan inputs b past n k at.0 link before now at.1 (fill.of_plan k at.0 link at.1 here) gives (puts.other gives) h
     ]
 
 placed_all : (plan : Plan) (inputs : Inputs) (b past n : ℕ) (links : List Link) (frame : List ℕ) → IsSoundPlan plan → n < slots_of (form_out plan b).kind → FillLine plan inputs b past n links
-    → FromBlank (λ link. PutsOwn (gives_line past b link) link) links frame → Placed plan inputs b past n (length links) frame
+    → FromBlank (λ link. PutsOwn (takes_part past (port_name.LineOut b) link) link) links frame → Placed plan inputs b past n (length links) frame
 placed_all plan inputs b past n links frame sound less fill from =
-    after_all (λ link. PutsOwn (gives_line past b link) link) (Placed plan inputs b past n) links from.first frame (placed_next plan inputs b past n links sound less fill) from.steps
+    after_all (λ link. PutsOwn (takes_part past (port_name.LineOut b) link) link) (Placed plan inputs b past n) links from.first frame (placed_next plan inputs b past n links sound less fill) from.steps
     record {
       own = λ i lt. absurd (omega arith);
       other = λ row column r1 r4 c1 c4 none. from.blank.zero (place_of LINE_COLUMNS row column);
@@ -156,7 +158,7 @@ record Allotted (plan : Plan) (b past k : ℕ) (ports : List ℕ) : Type 0 where
   other : (slot : ℕ) → 1 ≤ slot → ((i : ℕ) → i < k → (port : ℕ) (slots : LineSlots) → IsSender plan b past i port slots → Contains slots.list slot → ⊥) → port_at ports slot ≡ 0
 
 allotted_same : (plan : Plan) (b past k : ℕ) (x : Connection) (link : Link) (before now : List ℕ) → slice_get plan.connections k ≡ Some x → IsLinkOf x link
-    → gives_line past b link ≡ false → now ≡ before → Allotted plan b past k before → Allotted plan b past (k + 1) now
+    → takes_part past (port_name.LineOut b) link ≡ false → now ≡ before → Allotted plan b past k before → Allotted plan b past (k + 1) now
 allotted_same plan b past k x link before now known is gives same h = subst (Allotted plan b past (k + 1)) (sym same) record {
   own = below_more (λ i. (port : ℕ) (slots : LineSlots) → IsSender plan b past i port slots → (slot : ℕ) → Contains slots.list slot → port_at before slot ≡ port) k h.own
       (λ port slots s slot has.
@@ -170,7 +172,7 @@ allotted_same plan b past k x link before now known is gives same h = subst (All
 
 allotted_more : (plan : Plan) (inputs : Inputs) (b past n k : ℕ) (links : List Link) (x : Connection) (link : Link) (before now : List ℕ) → IsSoundPlan plan
     → FillLine plan inputs b past n links → slice_get plan.connections k ≡ Some x → slice_get links k ≡ Some link
-    → gives_line past b link ≡ true → AllotsOwn (form_out plan b).kind (gives_line past b link) link before now → Allotted plan b past k before → Allotted plan b past (k + 1) now
+    → takes_part past (port_name.LineOut b) link ≡ true → AllotsOwn (form_out plan b).kind (takes_part past (port_name.LineOut b) link) link before now → Allotted plan b past k before → Allotted plan b past (k + 1) now
 allotted_more plan inputs b past n k links x link before now sound fill known here gives allots h =
     let is = fill.of_plan k x link known here in
     let sends = giver_sends x b past link is gives in
@@ -179,7 +181,7 @@ allotted_more plan inputs b past n k links x link before now sound fill known he
     let me : IsSender plan b past k number taken = record { x = x; known = known; to = sends.to; active = sends.active } in
     let end = end_at plan k b number x taken sound known sends.to in
     let given : IsGiven taken.list number before now =
-    allots.given gives b number taken (is.to ∙ ap target_of sends.to) end.0 end.1 (subst (λ kind. number ≤ slots_of kind) end.0 end.2) in
+    allots.given gives b number taken (to_as x link is ∙ sends.to) end.0 end.1 (subst (λ kind. number ≤ slots_of kind) end.0 end.2) in
     record {
       own = below_more (λ i. (port : ℕ) (slots : LineSlots) → IsSender plan b past i port slots → (slot : ℕ) → Contains slots.list slot → port_at now slot ≡ port) k
           (λ i lt port slots s slot has.
@@ -196,19 +198,19 @@ allotted_more plan inputs b past n k links x link before now sound fill known he
     }
 
 allotted_next : (plan : Plan) (inputs : Inputs) (b past n : ℕ) (links : List Link) → IsSoundPlan plan → FillLine plan inputs b past n links
-    → (k : ℕ) (link : Link) (before now : List ℕ) → slice_get links k ≡ Some link → AllotsOwn (form_out plan b).kind (gives_line past b link) link before now
+    → (k : ℕ) (link : Link) (before now : List ℕ) → slice_get links k ≡ Some link → AllotsOwn (form_out plan b).kind (takes_part past (port_name.LineOut b) link) link before now
     → Allotted plan b past k before → Allotted plan b past (k + 1) now
 allotted_next plan inputs b past n links sound fill k link before now here allots h =
     let at = element_at plan.connections k (let in_links = slice_get_within links k link here in let count = fill.count in omega arith) in
-    elim (either (gives_line past b link)) [
+    elim (either (takes_part past (port_name.LineOut b) link)) [
       | inl gives ↦ allotted_more plan inputs b past n k links at.0 link before now sound fill at.1 here gives allots h
       | inr gives ↦ allotted_same plan b past k at.0 link before now at.1 (fill.of_plan k at.0 link at.1 here) gives (allots.other gives) h
     ]
 
 allotted_all : (plan : Plan) (inputs : Inputs) (b past n : ℕ) (links : List Link) (ports : List ℕ) → IsSoundPlan plan → FillLine plan inputs b past n links
-    → FromBlank (λ link. AllotsOwn (form_out plan b).kind (gives_line past b link) link) links ports → Allotted plan b past (length links) ports
+    → FromBlank (λ link. AllotsOwn (form_out plan b).kind (takes_part past (port_name.LineOut b) link) link) links ports → Allotted plan b past (length links) ports
 allotted_all plan inputs b past n links ports sound fill from =
-    after_all (λ link. AllotsOwn (form_out plan b).kind (gives_line past b link) link) (Allotted plan b past) links from.first ports (allotted_next plan inputs b past n links sound fill) from.steps
+    after_all (λ link. AllotsOwn (form_out plan b).kind (takes_part past (port_name.LineOut b) link) link) (Allotted plan b past) links from.first ports (allotted_next plan inputs b past n links sound fill) from.steps
     record {
       own = λ i lt. absurd (omega arith);
       other = λ slot least none. from.blank.zero (slot - 1);
@@ -218,12 +220,12 @@ allotted_all plan inputs b past n links ports sound fill from =
 
 pub frame_due : (plan : Plan) (inputs : Inputs) (b past n : ℕ) (links : List Link) (kind : LineKind) (put : FramePut) → fault_in plan ≡ None → kind ≡ (form_out plan b).kind
     → n < slots_of kind → FillLine plan inputs b past n links → put.mfas ≡ (slots_of kind * past + n) % 256
-    → length put.ports ≡ slots_of kind → FromBlank (λ link. AllotsOwn kind (gives_line past b link) link) links put.ports
-    → length put.bytes ≡ LINE_FRAME_BYTES → FromBlank (λ link. PutsOwn (gives_line past b link) link) links put.bytes → IsFrameOf plan inputs b past n put
+    → length put.ports ≡ slots_of kind → FromBlank (λ link. AllotsOwn kind (takes_part past (port_name.LineOut b) link) link) links put.ports
+    → length put.bytes ≡ LINE_FRAME_BYTES → FromBlank (λ link. PutsOwn (takes_part past (port_name.LineOut b) link) link) links put.bytes → IsFrameOf plan inputs b past n put
 frame_due plan inputs b past n links kind put accepted kind_is less fill mfas many allots size puts =
     let sound = sound_plan plan accepted in
     let placed = placed_all plan inputs b past n links put.bytes sound (subst (λ k. n < slots_of k) kind_is less) fill puts in
-    let allotted = allotted_all plan inputs b past n links put.ports sound fill (subst (λ k. FromBlank (λ link. AllotsOwn k (gives_line past b link) link) links put.ports) kind_is allots) in
+    let allotted = allotted_all plan inputs b past n links put.ports sound fill (subst (λ k. FromBlank (λ link. AllotsOwn k (takes_part past (port_name.LineOut b) link) link) links put.ports) kind_is allots) in
     let count = fill.count in
     record {
       mfas = subst (λ k. put.mfas ≡ (slots_of k * past + n) % 256) kind_is mfas;

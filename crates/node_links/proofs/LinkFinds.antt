@@ -1,9 +1,11 @@
 -- The first of some connections that meets a test.
 use Rattle.std.proofs.Common.{◌≡◌, inl, inr, ◌<◌, ◌≤◌, ◌+◌, ◌∙◌, ◌&&◌, ℕ, Bool, true, false, List, Some, None, length, slice_get, get_or, refl, sym, ap, subst, arith}
 use Rattle.std.proofs.lemmas.Option.{same_Some, slice_get_within, slice_get-get_or}
+use Rattle.otn_base.specs.declared.kind.PortName.TheVariants as port
 use Rattle.tributary_model.specs.Places.{Taken}
+use Rattle.node_links.specs.Links.{takes_part}
 use Rattle.node_links.specs.Steps.LinkMoves.{FirstOf}
-use Rattle.node_links.specs.Moves.{EachLink, TookFrame, takes_line}
+use Rattle.node_links.specs.Moves.{EachLink, TookFrame}
 use Rattle.node_links.specs.declared.link.Link.{Link}
 use Rattle.node_links.proofs.LinkLaws.{frame_passed}
 use Rattle.node_links.proofs.LinkSteps.{below_or_here}
@@ -23,14 +25,14 @@ pub none_at_all : (test : Link → Bool) (links : List Link) (i : ℕ) → lengt
 none_at_all test links i most before = record { is = λ k link e. before k link (let within = slice_get_within links k link e in omega arith) e }
 
 -- a piece that came to no frame of a multiframe leaves every connection as it was
-pub none_took : (past a : ℕ) (has_frame : Bool) (frame : Taken) (links : List Link) → has_frame ≡ false → EachLink (λ link then. TookFrame (has_frame && takes_line past a link) frame link then) links links
+pub none_took : (past a : ℕ) (has_frame : Bool) (frame : Taken) (links : List Link) → has_frame ≡ false → EachLink (λ link then. TookFrame (has_frame && takes_part past (port.LineIn a) link) frame link then) links links
 none_took past a has_frame frame links off = record {
   count = refl;
-  each = λ i old new at_old at_new. subst (λ then. TookFrame (has_frame && takes_line past a old) frame old then) (same_Some old new (sym at_old ∙ at_new))
-      (subst (λ m. TookFrame (m && takes_line past a old) frame old old) (sym off) (frame_passed false frame old refl));
+  each = λ i old new at_old at_new. subst (λ then. TookFrame (has_frame && takes_part past (port.LineIn a) old) frame old then) (same_Some old new (sym at_old ∙ at_new))
+      (subst (λ m. TookFrame (m && takes_part past (port.LineIn a) old) frame old old) (sym off) (frame_passed false frame old refl));
 }
 
-pub all_took : (past a : ℕ) (has_frame : Bool) (frame : Taken) (links next : List Link) → has_frame ≡ true → EachLink (λ link then. TookFrame (takes_line past a link) frame link then) links next
-    → EachLink (λ link then. TookFrame (has_frame && takes_line past a link) frame link then) links next
+pub all_took : (past a : ℕ) (has_frame : Bool) (frame : Taken) (links next : List Link) → has_frame ≡ true → EachLink (λ link then. TookFrame (takes_part past (port.LineIn a) link) frame link then) links next
+    → EachLink (λ link then. TookFrame (has_frame && takes_part past (port.LineIn a) link) frame link then) links next
 all_took past a has_frame frame links next on h =
-    subst (λ (m : Bool). EachLink (λ link then. TookFrame (m && takes_line past a link) frame link then) links next) (sym on) h
+    subst (λ (m : Bool). EachLink (λ link then. TookFrame (m && takes_part past (port.LineIn a) link) frame link then) links next) (sym on) h

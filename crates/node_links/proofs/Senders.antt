@@ -1,19 +1,19 @@
 -- The connections of a node that give to an output line are those of the plan that send on it.
-use Rattle.std.proofs.Common.{◌≡◌, ◌⊎◌, inl, inr, ◌<◌, ◌+◌, ℕ, zero, suc, Bool, true, false, ◌&&◌, ◌==◌, List, [], ◌∷◌, Some, length, slice_get, nat_le, refl, sym, ap, ◌∙◌, arith}
+use Rattle.std.proofs.Common.{◌≡◌, ◌⊎◌, inl, inr, ◌<◌, ◌+◌, ℕ, zero, suc, Bool, true, false, ◌&&◌, ◌==◌, List, [], ◌∷◌, Some, length, slice_get, nat_le, refl, sym, ap, subst, ◌∙◌, arith}
 use Rattle.std.proofs.lemmas.Bool.Decides.{nat_tests}
-use Rattle.std.proofs.lemmas.Bool.{leb-true, le-leb}
+use Rattle.std.proofs.lemmas.Bool.{leb-true, le-leb, eq-eqb}
 use Rattle.std.proofs.lemmas.Option.{slice_get_within, slice_get_read, get_or_from_slice_get}
 use Rattle.otn_base.specs.LineSlots.{LineSlots}
+use Rattle.otn_base.specs.declared.kind.PortName.TheVariants as port_name
 use Rattle.plan_file.specs.declared.connection.Connection.{Connection}
 use Rattle.plan_file.specs.declared.connection.ToEnd.{ToEnd}
 use Rattle.plan_file.specs.declared.connection.ToEnd.TheVariants as to_end
 use Rattle.plan_file.specs.declared.plan.Plan.{Plan}
-use Rattle.device_model.specs.Entries.{IsActive, IsSentOn}
+use Rattle.device_model.specs.Entries.{IsActive, IsSentOn, is_to_line}
 use Rattle.device_model.specs.SoundPlans.{IsSender}
-use Rattle.node_links.specs.Links.{IsLinkOf, is_on, target_of}
-use Rattle.node_links.specs.Moves.{gives_line, is_to_line}
+use Rattle.node_links.specs.Links.{IsLinkOf, takes_part}
 use Rattle.node_links.specs.declared.link.Link.{Link}
-use Rattle.node_links.proofs.LinkLaws.{both_left, both_right, same_number}
+use Rattle.node_links.proofs.LinkLaws.{both_left, both_right}
 
 pub either : (v : Bool) → (v ≡ true) ⊎ (v ≡ false)
 either true = inl refl
@@ -27,13 +27,18 @@ one_number : (a b : ℕ) → (a == b) ≡ true → a ≡ b
 one_number a b h = grind (arith, nat_tests)
 
 -- an active connection to the line gives to it
-pub sender_gives : (x : Connection) (b past port : ℕ) (slots : LineSlots) (link : Link) → IsLinkOf x link → x.to ≡ to_end.Line b port slots → IsActive x past → gives_line past b link ≡ true
+on_line : (x : Connection) (b past : ℕ) → IsActive x past → is_to_line b x.to ≡ true → ((nat_le x.start (past + 1) && nat_le (past + 1) x.stop) && is_to_line b x.to) ≡ true
+on_line x b past active to =
+    let start = active.start in
+    let stop = active.stop in
+    both (nat_le x.start (past + 1) && nat_le (past + 1) x.stop) (is_to_line b x.to)
+    (both (nat_le x.start (past + 1)) (nat_le (past + 1) x.stop) (le-leb x.start (past + 1) start) (le-leb (past + 1) x.stop stop)) to
+
+pub sender_gives : (x : Connection) (b past port : ℕ) (slots : LineSlots) (link : Link) → IsLinkOf x link → x.to ≡ to_end.Line b port slots → IsActive x past
+    → takes_part past (port_name.LineOut b) link ≡ true
 sender_gives x b past port slots link is to active =
-    both (is_on past link) (is_to_line b link.to)
-    (both (nat_le link.start (past + 1)) (nat_le (past + 1) link.stop)
-    (le-leb link.start (past + 1) (let start = is.start in let from = active.start in omega arith))
-    (le-leb (past + 1) link.stop (let stop = is.stop in let until = active.stop in omega arith)))
-    (ap (is_to_line b) (is.to ∙ ap target_of to) ∙ same_number b)
+    subst (λ (y : Connection). ((nat_le y.start (past + 1) && nat_le (past + 1) y.stop) && is_to_line b y.to) ≡ true) (sym is.entry)
+    (on_line x b past active (ap (is_to_line b) to ∙ eq-eqb b b refl))
 
 -- and one that gives is an active connection to the line
 pub record Sending (x : Connection) (b past : ℕ) : Type 0 where
@@ -42,7 +47,7 @@ pub record Sending (x : Connection) (b past : ℕ) : Type 0 where
   pub to : x.to ≡ to_end.Line b port slots
   pub active : IsActive x past
 
-sends_to : (x : Connection) (b past : ℕ) (to : ToEnd) → x.to ≡ to → IsActive x past → is_to_line b (target_of to) ≡ true → Sending x b past
+sends_to : (x : Connection) (b past : ℕ) (to : ToEnd) → x.to ≡ to → IsActive x past → is_to_line b to ≡ true → Sending x b past
 sends_to x b past (to_end.Line line port slots) is active gives = record {
   port = port;
   slots = slots;
@@ -51,14 +56,18 @@ sends_to x b past (to_end.Line line port slots) is active gives = record {
 }
 sends_to x b past (to_end.Client n) is active gives = cc
 
-pub giver_sends : (x : Connection) (b past : ℕ) (link : Link) → IsLinkOf x link → gives_line past b link ≡ true → Sending x b past
-giver_sends x b past link is gives =
-    let on = both_left (is_on past link) (is_to_line b link.to) gives in
-    let from = leb-true link.start (past + 1) (both_left (nat_le link.start (past + 1)) (nat_le (past + 1) link.stop) on) in
-    let until = leb-true (past + 1) link.stop (both_right (nat_le link.start (past + 1)) (nat_le (past + 1) link.stop) on) in
-    let start = is.start in
-    let stop = is.stop in
-    sends_to x b past x.to refl (record { start = omega arith; stop = omega arith }) (ap (is_to_line b) (sym is.to) ∙ both_right (is_on past link) (is_to_line b link.to) gives)
+sending : (x : Connection) (b past : ℕ) → ((nat_le x.start (past + 1) && nat_le (past + 1) x.stop) && is_to_line b x.to) ≡ true → Sending x b past
+sending x b past gives =
+    let on = both_left (nat_le x.start (past + 1) && nat_le (past + 1) x.stop) (is_to_line b x.to) gives in
+    sends_to x b past x.to refl
+    (record {
+      start = leb-true x.start (past + 1) (both_left (nat_le x.start (past + 1)) (nat_le (past + 1) x.stop) on);
+      stop = leb-true (past + 1) x.stop (both_right (nat_le x.start (past + 1)) (nat_le (past + 1) x.stop) on);
+    })
+    (both_right (nat_le x.start (past + 1) && nat_le (past + 1) x.stop) (is_to_line b x.to) gives)
+
+pub giver_sends : (x : Connection) (b past : ℕ) (link : Link) → IsLinkOf x link → takes_part past (port_name.LineOut b) link ≡ true → Sending x b past
+giver_sends x b past link is gives = subst (λ y. Sending y b past) is.entry (sending link.entry b past gives)
 
 -- a connection of the plan is known by its place there
 pub sender_of : (plan : Plan) (b past : ℕ) (x : Connection) (port : ℕ) (slots : LineSlots) → (s : IsSentOn plan b past x port slots) → slice_get plan.connections s.is_of.0 ≡ Some x

@@ -1,4 +1,3 @@
-pub mod Ends
 pub mod Links
 pub mod Moves
 pub mod LinkEnds

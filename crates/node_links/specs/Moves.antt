@@ -1,6 +1,7 @@
 -- API: what a piece of a port, and the end of a turn, do to the parts of a node and to the port's place.
-use Rattle.std.specs.Prelude.{◌≡◌, ◌<◌, ◌+◌, ◌*◌, ◌%◌, ℕ, suc, Bool, true, false, ◌&&◌, ◌==◌, List, [], ◌∷◌, ◌++◌, Some, length, slice_get, is_some, Option}
+use Rattle.std.specs.Prelude.{◌≡◌, ◌<◌, ◌+◌, ◌*◌, ◌%◌, ℕ, suc, Bool, true, false, ◌&&◌, List, [], ◌∷◌, ◌++◌, Some, length, slice_get, is_some, Option}
 use Rattle.otn_base.specs.LineSlots.{LineSlots, slots_of}
+use Rattle.otn_base.specs.declared.kind.PortName.TheVariants as port
 use Rattle.otn_ports.specs.Views.{InView, OutView}
 use Rattle.line_side.specs.LineFile.{mfas_of}
 use Rattle.line_side.specs.LineForm.{size_of}
@@ -18,12 +19,8 @@ use Rattle.device_model.specs.Entries.{IsActive, own_turn}
 use Rattle.device_model.specs.Through.{Inputs, OwnInput, of_line, own_input}
 use Rattle.cross_matrix.specs.Parts.{ClientInStands, ClientOutStands}
 use Rattle.cross_matrix.specs.Pipes.{PipeStands, ClientTook}
-use Rattle.node_links.specs.Links.{IsLinkOf, SameEntry, is_on}
+use Rattle.node_links.specs.Links.{IsLinkOf, SameEntry, is_on, takes_part}
 use Rattle.node_links.specs.declared.link.Link.{Link}
-use Rattle.node_links.specs.declared.link.Origin.{Origin}
-use Rattle.node_links.specs.declared.link.Origin.TheVariants as origin
-use Rattle.node_links.specs.declared.link.Target.{Target}
-use Rattle.node_links.specs.declared.link.Target.TheVariants as target
 
 -- ---- connections one by one
 
@@ -31,45 +28,6 @@ use Rattle.node_links.specs.declared.link.Target.TheVariants as target
 pub record EachLink (Goes : Link → Link → Type 0) (olds news : List Link) : Type 0 where
   pub count : length news ≡ length olds
   pub each : (i : ℕ) (old new : Link) → slice_get olds i ≡ Some old → slice_get news i ≡ Some new → Goes old new
-
--- whether a link comes from line a or client n, or goes to line b or client n
-abbrev pub is_from_line : (a : ℕ) → Origin → Bool
-is_from_line a (origin.Line line) = line == a
-is_from_line a (origin.Client n) = false
-is_from_line a origin.Signal = false
-
-abbrev pub is_from_client : (n : ℕ) → Origin → Bool
-is_from_client n (origin.Line line) = false
-is_from_client n (origin.Client client) = client == n
-is_from_client n origin.Signal = false
-
-abbrev pub is_to_line : (b : ℕ) → Target → Bool
-is_to_line b (target.Line line number slots) = line == b
-is_to_line b (target.Client n) = false
-
-abbrev pub is_to_client : (n : ℕ) → Target → Bool
-is_to_client n (target.Line line number slots) = false
-is_to_client n (target.Client client) = client == n
-
--- it comes from client n; or goes to it, whether it is active or not
-abbrev pub has_client_in : (n : ℕ) → Link → Bool
-has_client_in n link = is_from_client n link.from
-
-abbrev pub has_client_out : (n : ℕ) → Link → Bool
-has_client_out n link = is_to_client n link.to
-
--- it is active in turn past + 1, and comes from line a, or client n; or goes to line b, or client n
-abbrev pub takes_line : (past a : ℕ) → Link → Bool
-takes_line past a link = is_on past link && is_from_line a link.from
-
-abbrev pub takes_client : (past n : ℕ) → Link → Bool
-takes_client past n link = is_on past link && is_from_client n link.from
-
-abbrev pub gives_line : (past b : ℕ) → Link → Bool
-gives_line past b link = is_on past link && is_to_line b link.to
-
-abbrev pub gives_client : (past n : ℕ) → Link → Bool
-gives_client past n link = is_on past link && is_to_client n link.to
 
 -- ---- a piece of an input line
 
@@ -91,7 +49,7 @@ pub record ReadsLine (past a : ℕ) (old : LineView) (was : InView) (links : Lis
   pub kind : new.kind ≡ old.kind
   pub expected : ℕ
   pub expects : new.has_frame ≡ true → OfMember new (λ given member. expected ≡ member.expected)
-  pub took : EachLink (λ link then. TookFrame (new.has_frame && takes_line past a link)
+  pub took : EachLink (λ link then. TookFrame (new.has_frame && takes_part past (port.LineIn a) link)
       (record { frame = new.reader.hand; expected = expected }) link then) links next
 
 -- ---- a piece of an output line
@@ -124,18 +82,20 @@ pub record WritesLine (past b n : ℕ) (old : LineOutView) (was : OutView) (link
   pub made : AsMade b was old (λ form first puts. LineMade b form first is (puts ++ put ∷ []) new)
   pub form : new.form ≡ old.form
   pub mfas : put.mfas ≡ (size_of old.form * past + n) % 256
-  pub gave : EachLink (λ link then. GaveFrame (gives_line past b link) n link then) links next
+  pub gave : EachLink (λ link then. GaveFrame (takes_part past (port.LineOut b) link) n link then) links next
 
 -- ---- a piece of a client
 
 -- the connection that takes from client n takes what turn past + 1 brings; or none does
 pub record TakesClient (past n : ℕ) (was : InView) (links : List Link) (is : InView) (next : List Link) : Type 0 where
   pub took : EachLink (λ link then. SameEntry link then × (then.pipe.giving ≡ link.pipe.giving)
-      × (takes_client past n link ≡ false → then ≡ link)) links next
-  pub none : ((i : ℕ) (link : Link) → slice_get links i ≡ Some link → takes_client past n link ≡ false) → is ≡ was
+      × (takes_part past (port.ClientIn n) link ≡ false → then ≡ link)) links next
+  pub none : ((i : ℕ) (link : Link) → slice_get links i ≡ Some link
+      → takes_part past (port.ClientIn n) link ≡ false) → is ≡ was
   pub one : (i : ℕ) (link then : Link) → slice_get links i ≡ Some link → slice_get next i ≡ Some then
-      → takes_client past n link ≡ true
-      → ((j : ℕ) (other : Link) → slice_get links j ≡ Some other → takes_client past n other ≡ true → j ≡ i)
+      → takes_part past (port.ClientIn n) link ≡ true
+      → ((j : ℕ) (other : Link) → slice_get links j ≡ Some other → takes_part past (port.ClientIn n) other ≡ true
+      → j ≡ i)
       → (x : Connection) (first : InView) (taken : List ℕ) → IsLinkOf x link
       → ClientInStands x first was taken (own_turn x past) link.pipe.taking
       → ClientTook x first is taken (own_turn x past) link.pipe then.pipe
@@ -143,14 +103,16 @@ pub record TakesClient (past n : ℕ) (was : InView) (links : List Link) (is : I
 -- the connection that gives to client n gives what turn past + 1 brings it; or none does
 pub record GivesClient (past n : ℕ) (was : OutView) (links : List Link) (is : OutView) (next : List Link) : Type 0 where
   pub gave : EachLink (λ link then. SameEntry link then × (then.pipe.taking ≡ link.pipe.taking)
-      × (gives_client past n link ≡ false → then ≡ link)
+      × (takes_part past (port.ClientOut n) link ≡ false → then ≡ link)
       × ((x : Connection) (input : OwnInput) (j filled : ℕ) (frames : List Taken) (ended : Bool)
       → PipeStands x input j frames ended filled link.pipe → PipeStands x input j frames ended filled then.pipe)) links
       next
-  pub none : ((i : ℕ) (link : Link) → slice_get links i ≡ Some link → gives_client past n link ≡ false) → is ≡ was
+  pub none : ((i : ℕ) (link : Link) → slice_get links i ≡ Some link
+      → takes_part past (port.ClientOut n) link ≡ false) → is ≡ was
   pub one : (i : ℕ) (link then : Link) → slice_get links i ≡ Some link → slice_get next i ≡ Some then
-      → gives_client past n link ≡ true
-      → ((j : ℕ) (other : Link) → slice_get links j ≡ Some other → gives_client past n other ≡ true → j ≡ i)
+      → takes_part past (port.ClientOut n) link ≡ true
+      → ((j : ℕ) (other : Link) → slice_get links j ≡ Some other → takes_part past (port.ClientOut n) other ≡ true
+      → j ≡ i)
       → (x : Connection) (input : OwnInput) (first : OutView) (filled : ℕ) (frames : List Taken) (ended : Bool)
       → PipeStands x input (own_turn x past) frames ended filled link.pipe
       → ClientOutStands x input first was (own_turn x past) link.pipe.giving

@@ -1,13 +1,16 @@
 // A piece of an input line.
 ghost use Rattle.std.specs.Prelude.{◌≡◌, ◌<◌};
 ghost use Rattle.otn_base.specs.LineSlots.{slots_of};
+ghost use Rattle.otn_base.specs.declared.kind.PortName.TheVariants.{LineIn as line-in};
 ghost use Rattle.otn_ports.specs.InPlace.{in_view};
-ghost use Rattle.node_links.specs.Moves.{EachLink, TookFrame, ReadsLine, takes_line};
+ghost use Rattle.node_links.specs.Links.{takes_part};
+ghost use Rattle.node_links.specs.Moves.{EachLink, TookFrame, ReadsLine};
 
 use crate::link::Link;
 use frame_geometry::Frame;
 use line_side::LineIn;
 use odtu_columns::{SlotFrame, SplitFrame, TakeFrame};
+use otn_base::PortName;
 use otn_base::limits::LINE_COLUMNS;
 use otn_ports::{InPlaceOf, Source};
 
@@ -40,7 +43,7 @@ fn hand_out(
     links: &mut Vec<Link>,
     slots: &mut SlotFrame,
 )
-    ensures { EachLink (λ link then. TookFrame (takes_line past a link)
+    ensures { EachLink (λ link then. TookFrame (takes_part past (line-in a) link)
         (record { frame = frame.now; expected = expected }) link then) links.old.items links.new.items }
 {
     if is_by_slots(a, past, links) {
@@ -56,7 +59,7 @@ fn hand_out(
 fn is_by_slots(a: u8, past: u32, links: &[Link]) -> bool {
     let mut count = 0u32;
     for link in links {
-        if link.takes_line(a, past) {
+        if link.takes_part(PortName::LineIn(a), past) {
             if !link.pipe.takes_one_slot() {
                 return false;
             }
@@ -68,7 +71,7 @@ fn is_by_slots(a: u8, past: u32, links: &[Link]) -> bool {
 
 // Each active connection from line input `a` takes of this frame.
 fn hand_each<F: TakeFrame>(a: u8, past: u32, frame: &F, expected: u8, links: &mut Vec<Link>)
-    ensures { EachLink (λ link then. TookFrame (takes_line past a link)
+    ensures { EachLink (λ link then. TookFrame (takes_part past (line-in a) link)
         (record { frame = F.bytes frame.now; expected = expected }) link then) links.old.items links.new.items }
 {
     for link in links.iter_mut() {

@@ -1,21 +1,23 @@
 // A piece of an output line.
 ghost use Rattle.std.specs.Prelude.{◌≡◌, ◌<◌, ◌≤◌, ◌+◌, ◌*◌, ◌%◌, ℕ, true, false, length, slice_index};
 ghost use Rattle.otn_base.specs.LineSlots.{LineSlots, slots_of};
+ghost use Rattle.otn_base.specs.declared.kind.PortName.TheVariants.{LineOut as line-out};
 ghost use Rattle.otn_base.specs.declared.limits.TheConstants.{LINE_FRAME_BYTES as FRAME_BYTES};
 ghost use Rattle.otn_ports.specs.OutPlace.{out_view};
-ghost use Rattle.node_links.specs.Links.{is_on};
+ghost use Rattle.node_links.specs.Links.{takes_part};
 ghost use Rattle.node_links.specs.LineFrames.{FrameWritten};
 ghost use Rattle.node_links.specs.Steps.LineFrames.{PutsOwn, AllotsOwn, LinkByLink, FromBlank};
-ghost use Rattle.node_links.specs.Moves.{EachLink, GaveFrame, gives_line};
+ghost use Rattle.node_links.specs.Moves.{EachLink, GaveFrame};
 
-use crate::link::{Link, Target};
+use crate::link::Link;
 use frame_geometry::Frame;
 use line_side::LineOut;
 use msi_table::SlotMap;
 use odtu_columns::{FillFrame, SlotFrame};
 use otn_base::limits::{LINE_COLUMNS, LINE_FRAME_BYTES};
-use otn_base::{LineKind, Slots};
+use otn_base::{LineKind, PortName, Slots};
 use otn_ports::{OutPlaceOf, Sink};
+use plan_file::ToEnd;
 
 /// One piece of line output `b`: frame `n`, from 0, of turn past + 1, into which each active connection to the line
 /// puts its own. What `slots` holds is of no account, before and behind the call.
@@ -44,8 +46,8 @@ pub fn write_line<K: Sink>(
 fn is_by_slots(kind: LineKind, b: u8, past: u32, links: &[Link]) -> bool {
     let mut count = 0u32;
     for link in links {
-        if link.gives_line(b, past) {
-            if !has_one_slot(&link.to) {
+        if link.takes_part(PortName::LineOut(b), past) {
+            if !has_one_slot(&link.entry.to) {
                 return false;
             }
             count = count.saturating_add(1);
@@ -54,10 +56,10 @@ fn is_by_slots(kind: LineKind, b: u8, past: u32, links: &[Link]) -> bool {
     kind == LineKind::Otu2 && count > 1
 }
 
-fn has_one_slot(to: &Target) -> bool {
+fn has_one_slot(to: &ToEnd) -> bool {
     match to {
-        Target::Line(_, _, slots) => slots.as_slice().len() == 1,
-        Target::Client(_) => false,
+        ToEnd::Line(_, _, slots) => slots.as_slice().len() == 1,
+        ToEnd::Client(_) => false,
     }
 }
 
@@ -70,10 +72,10 @@ fn fill_line(
     slots: &mut SlotFrame,
     line: &mut LineOut,
 )
-    ensures gave { (n : ℕ) → EachLink (λ link then. GaveFrame (gives_line past b link) n link then) links.old.items
-        links.new.items }
-    ensures puts { FromBlank (λ link before now. PutsOwn (gives_line past b link) link before now) links.old.items
-        line.new.frame }
+    ensures gave { (n : ℕ) → EachLink (λ link then. GaveFrame (takes_part past (line-out b) link) n link then)
+        links.old.items links.new.items }
+    ensures puts { FromBlank (λ link before now. PutsOwn (takes_part past (line-out b) link) link before now)
+        links.old.items line.new.frame }
     ensures size { length line.new.frame ≡ FRAME_BYTES }
     ensures line { line.new ≡ record line.old { frame = line.new.frame } }
 {
@@ -87,10 +89,10 @@ fn fill_line(
 // The same of a frame that is all 0.
 fn fill_blank(b: u8, past: u32, links: &mut Vec<Link>, frame: &mut Frame<LINE_COLUMNS>)
     requires blank { (place : ℕ) → slice_index frame.old place ≡ 0 }
-    ensures gave { (n : ℕ) → EachLink (λ link then. GaveFrame (gives_line past b link) n link then) links.old.items
-        links.new.items }
-    ensures puts { FromBlank (λ link before now. PutsOwn (gives_line past b link) link before now) links.old.items
-        frame.new }
+    ensures gave { (n : ℕ) → EachLink (λ link then. GaveFrame (takes_part past (line-out b) link) n link then)
+        links.old.items links.new.items }
+    ensures puts { FromBlank (λ link before now. PutsOwn (takes_part past (line-out b) link) link before now)
+        links.old.items frame.new }
     ensures size { length frame.new ≡ FRAME_BYTES }
 {
     fill_links(b, past, links, frame);
@@ -105,10 +107,10 @@ fn fill_by_slots(
     slots: &mut SlotFrame,
     frame: &mut Frame<LINE_COLUMNS>,
 )
-    ensures gave { (n : ℕ) → EachLink (λ link then. GaveFrame (gives_line past b link) n link then) links.old.items
-        links.new.items }
-    ensures puts { FromBlank (λ link before now. PutsOwn (gives_line past b link) link before now) links.old.items
-        frame.new }
+    ensures gave { (n : ℕ) → EachLink (λ link then. GaveFrame (takes_part past (line-out b) link) n link then)
+        links.old.items links.new.items }
+    ensures puts { FromBlank (λ link before now. PutsOwn (takes_part past (line-out b) link) link before now)
+        links.old.items frame.new }
     ensures size { length frame.new ≡ FRAME_BYTES }
 {
     slots.clear();
@@ -119,10 +121,10 @@ fn fill_by_slots(
 
 // Each active connection to line output `b` puts its own into a frame.
 fn fill_links<F: FillFrame>(b: u8, past: u32, links: &mut Vec<Link>, frame: &mut F)
-    ensures gave { (n : ℕ) → EachLink (λ link then. GaveFrame (gives_line past b link) n link then) links.old.items
-        links.new.items }
-    ensures puts { LinkByLink (λ link before now. PutsOwn (gives_line past b link) link before now) links.old.items
-        (F.bytes frame.old) (F.bytes frame.new) }
+    ensures gave { (n : ℕ) → EachLink (λ link then. GaveFrame (takes_part past (line-out b) link) n link then)
+        links.old.items links.new.items }
+    ensures puts { LinkByLink (λ link before now. PutsOwn (takes_part past (line-out b) link) link before now)
+        links.old.items (F.bytes frame.old) (F.bytes frame.new) }
 {
     for link in links.iter_mut() {
         link.fill_frame(b, past, frame);
@@ -132,8 +134,8 @@ fn fill_links<F: FillFrame>(b: u8, past: u32, links: &mut Vec<Link>, frame: &mut
 // The tributary ports of the slots of line output `b`, which is of this kind, in turn past + 1.
 fn slot_map(kind: LineKind, b: u8, past: u32, links: &[Link]) -> SlotMap
     ensures size { length result ≡ slots_of kind }
-    ensures allots { FromBlank (λ link before now. AllotsOwn kind (gives_line past b link) link before now) links.now
-        result }
+    ensures allots { FromBlank (λ link before now. AllotsOwn kind (takes_part past (line-out b) link) link before now)
+        links.now result }
 {
     let mut map = SlotMap::new(kind);
     for link in links {
@@ -146,27 +148,27 @@ fn slot_map(kind: LineKind, b: u8, past: u32, links: &[Link]) -> SlotMap
 fn allot_own(kind: LineKind, b: u8, past: u32, link: &Link, map: &mut SlotMap)
     requires kind { length map.old ≡ slots_of kind }
     ensures kind { length map.new ≡ slots_of kind }
-    ensures allots { AllotsOwn kind (gives_line past b link.now) link.now map.old map.new }
+    ensures allots { AllotsOwn kind (takes_part past (line-out b) link.now) link.now map.old map.new }
 {
-    if link.gives_line(b, past) {
-        allot(kind, &link.to, map);
+    if link.takes_part(PortName::LineOut(b), past) {
+        allot(kind, &link.entry.to, map);
     }
 }
 
 ghost use Rattle.msi_table.specs.Psi.{IsGiven};
-ghost use Rattle.node_links.specs.declared.link.Target.TheVariants as target;
+ghost use Rattle.plan_file.specs.declared.connection.ToEnd.TheVariants as to_end;
 
 // The slots of a line end of this kind get its tributary port, if it is one of the line's.
-fn allot(kind: LineKind, to: &Target, map: &mut SlotMap)
+fn allot(kind: LineKind, to: &ToEnd, map: &mut SlotMap)
     requires kind { length map.old ≡ slots_of kind }
     ensures kind { length map.new ≡ slots_of kind }
-    ensures given { (b number : ℕ) (slots : LineSlots) → to.now ≡ target.Line b number slots → slots.kind ≡ kind
+    ensures given { (b number : ℕ) (slots : LineSlots) → to.now ≡ to_end.Line b number slots → slots.kind ≡ kind
         → 1 ≤ number → number ≤ slots_of kind
         → IsGiven slots.list number map.old map.new }
 {
     match to {
-        Target::Line(_, number, slots) => allot_slots(kind, *number, slots, map),
-        Target::Client(_) => {}
+        ToEnd::Line(_, number, slots) => allot_slots(kind, *number, slots, map),
+        ToEnd::Client(_) => {}
     }
 }
 

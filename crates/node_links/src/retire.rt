@@ -1,14 +1,17 @@
 // Client places at the stop of their connection.
 ghost use Rattle.std.specs.Prelude.{◌≡◌, ◌<◌, ◌&&◌, ◌==◌, ◌+◌, ℕ, true, false};
+ghost use Rattle.otn_base.specs.declared.kind.PortName.TheVariants.{ClientIn as client-in, ClientOut as client-out};
 ghost use Rattle.otn_base.specs.declared.limits.TheConstants.{CLIENTS as CLIENT_PORTS};
 ghost use Rattle.otn_ports.specs.Racks.{bays_view};
-ghost use Rattle.node_links.specs.Moves.{is_from_client, is_to_client};
+ghost use Rattle.device_model.specs.Entries.{is_from_client, is_to_client};
+ghost use Rattle.node_links.specs.Links.{joins};
 ghost use Rattle.node_links.specs.Retiring.{RetiredBy, ends_here};
 ghost use Rattle.node_links.specs.Steps.Retiring.{RetiredAt};
 
-use crate::link::{Link, Origin, Target};
+use crate::link::Link;
 use otn_base::limits::CLIENTS;
 use otn_ports::{Rack, Sink, Source};
+use plan_file::{FromEnd, ToEnd};
 
 /// Empties the client places of each connection that stops in turn past + 1 and retires, where they are live.
 pub fn retire_all<P: Source, K: Sink>(links: &[Link], past: u32, bays: &mut Rack<P, K>)
@@ -21,39 +24,39 @@ pub fn retire_all<P: Source, K: Sink>(links: &[Link], past: u32, bays: &mut Rack
 
 // The client places of a connection, where it stops in turn past + 1 and retires.
 fn retire_link<P: Source, K: Sink>(link: &Link, past: u32, bays: &mut Rack<P, K>)
-    ensures { RetiredAt (λ n. ends_here past link.now && is_from_client n link.now.from)
-        (λ n. ends_here past link.now && is_to_client n link.now.to) (bays_view P.Source K.Sink bays.old)
+    ensures { RetiredAt (λ n. ends_here past link.now && joins (client-in n) link.now)
+        (λ n. ends_here past link.now && joins (client-out n) link.now) (bays_view P.Source K.Sink bays.old)
         (bays_view P.Source K.Sink bays.new) }
 {
     if link.ends_here(past) {
-        retire_ends(link.from, &link.to, bays);
+        retire_ends(&link.entry.from, &link.entry.to, bays);
     }
 }
 
-fn retire_ends<P: Source, K: Sink>(from: Origin, to: &Target, bays: &mut Rack<P, K>)
-    ensures { RetiredAt (λ n. is_from_client n from) (λ n. is_to_client n to.now) (bays_view P.Source K.Sink bays.old)
-        (bays_view P.Source K.Sink bays.new) }
+fn retire_ends<P: Source, K: Sink>(from: &FromEnd, to: &ToEnd, bays: &mut Rack<P, K>)
+    ensures { RetiredAt (λ n. is_from_client n from.now) (λ n. is_to_client n to.now)
+        (bays_view P.Source K.Sink bays.old) (bays_view P.Source K.Sink bays.new) }
 {
     retire_from(from, bays);
     retire_to(to, bays);
 }
 
-fn retire_from<P: Source, K: Sink>(from: Origin, bays: &mut Rack<P, K>)
-    ensures { RetiredAt (λ n. is_from_client n from) (λ n. false) (bays_view P.Source K.Sink bays.old)
+fn retire_from<P: Source, K: Sink>(from: &FromEnd, bays: &mut Rack<P, K>)
+    ensures { RetiredAt (λ n. is_from_client n from.now) (λ n. false) (bays_view P.Source K.Sink bays.old)
         (bays_view P.Source K.Sink bays.new) }
 {
-    if let Origin::Client(n) = from {
-        if n < CLIENTS as u8 {
-            bays.client_in_mut(n).retire();
+    if let FromEnd::Client(n) = from {
+        if *n < CLIENTS as u8 {
+            bays.client_in_mut(*n).retire();
         }
     }
 }
 
-fn retire_to<P: Source, K: Sink>(to: &Target, bays: &mut Rack<P, K>)
+fn retire_to<P: Source, K: Sink>(to: &ToEnd, bays: &mut Rack<P, K>)
     ensures { RetiredAt (λ n. false) (λ n. is_to_client n to.now) (bays_view P.Source K.Sink bays.old)
         (bays_view P.Source K.Sink bays.new) }
 {
-    if let Target::Client(n) = to {
+    if let ToEnd::Client(n) = to {
         if *n < CLIENTS as u8 {
             bays.client_out_mut(*n).retire();
         }

@@ -43,7 +43,7 @@ fn end_line(line: &mut LineIn, used: bool) -> bool
 
 /// Ends turn past + 1 of each connection: `wholes` says of each line input whether it has a multiframe in it.
 pub fn fence_all(links: &mut Vec<Link>, past: u32, wholes: &[bool])
-    ensures { EachLink (λ link then. Fences past (whole_for link.from wholes.now) link then) links.old.items
+    ensures { EachLink (λ link then. Fences past (whole_for link.entry.from wholes.now) link then) links.old.items
         links.new.items }
 {
     for link in links.iter_mut() {

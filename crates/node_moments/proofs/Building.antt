@@ -22,8 +22,8 @@ use Rattle.device_model.specs.RetiredPlaces.{after_retire, out_after_retire}
 use Rattle.node_moments.specs.Stands.{PlanStands, PipesStand, ClientStands, GivesText, GetsText, PortStands, StandsAt, no_bytes}
 use Rattle.node_links.specs.declared.link.Link.{Link}
 use Rattle.node_moments.proofs.ClientTurns.{none_done}
-use Rattle.node_links.proofs.LinkLaws.{still_link}
-use Rattle.node_moments.proofs.LinkPorts.{from_client, to_client, none_taken, none_given}
+use Rattle.node_links.proofs.LinkLaws.{still_link, start_as, from_client, to_client}
+use Rattle.node_moments.proofs.LinkPorts.{none_taken, none_given}
 use Rattle.node_moments.proofs.LinkTurns.{input_kind, at_start}
 use Rattle.node_moments.proofs.Retired.{not_retired}
 
@@ -56,7 +56,7 @@ first_plan plan node accepted new = record {
 -- an active connection has started with turn 1
 first_pipe : (inputs : Inputs) (x : Connection) (link : Link) → IsNewLink x link → x.start ≤ 1 → PipeStands x (own_input inputs x) 0 [] false 0 link.pipe
 first_pipe inputs x link new start =
-    let now : new.made.start ≡ 0 + 1 = (let e = new.is.start in let least = new.is.first in omega arith) in
+    let now : new.made.entry.start ≡ 0 + 1 = omega (arith, start_as x new.made new.is, new.is.first) in
     new.starts.stands now x (own_input inputs x) new.is (input_kind inputs x.from)
 
 -- a plan has a turn, which a new node has not done
@@ -68,7 +68,7 @@ first_pipes plan node accepted new = record {
   each = λ inputs may i x link at has active.
       let start : x.start ≤ 1 = (let a = active.start in let past = new.past in omega arith) in
       let zeroth : 0 ≡ own_turn x node.past = (let past = new.past in omega arith) in
-      at_start plan inputs x node.past (own_turn x node.past) (taken_pieces node link.from) (given_pieces node link.to) link.pipe (none_taken node (none_yet plan node new) link.from) (none_given node (none_yet plan node new) link.to)
+      at_start plan inputs x node.past (own_turn x node.past) (taken_pieces node x.from) (given_pieces node x.to) link.pipe (none_taken node (none_yet plan node new) x.from) (none_given node (none_yet plan node new) x.to)
       (subst (λ j. PipeStands x (own_input inputs x) j [] false 0 link.pipe) zeroth (first_pipe inputs x link (new.links.each i x link at has) start));
   last = λ inputs may i x link at has stop.
       let first = (new.links.each i x link at has).is.first in
@@ -85,14 +85,14 @@ no_puts plan inputs b count e = record { many = e; each = λ f put at. absurd (c
 -- ---- ports
 
 first_client : {P : Type 0} (plan : Plan) (node : NodeView) (name : PortName) (first : P) (empties : Bool → P → P) (Part : Connection → Link → P → ℕ → Type 0) → ((v : P) → empties false v ≡ v) → fault_in plan ≡ None → IsNewNode plan node
-    → ((x : Connection) (link : Link) → touches name x ≡ true → (new : IsNewLink x link) → new.made.start ≡ 0 + 1 → Part x link first 0) → ClientStands plan node name first first empties Part []
+    → ((x : Connection) (link : Link) → touches name x ≡ true → (new : IsNewLink x link) → new.made.entry.start ≡ 0 + 1 → Part x link first 0) → ClientStands plan node name first first empties Part []
 first_client plan node name first empties Part stays accepted new starts = record {
   started = λ i x link at has touched start.
       let made = new.links.each i x link at has in
       let past = new.past in
       let least = made.is.first in
       let span = ((sound_plan plan accepted).entries i x at).span in
-      let now : made.made.start ≡ 0 + 1 = (let same = made.is.start in omega arith) in
+      let now : made.made.entry.start ≡ 0 + 1 = (let same = start_as x made.made made.is in omega arith) in
       let none : 0 ≡ turns_done x node.past (done_at node name) = sym (ap (turns_done x node.past) (none_yet plan node new name) ∙ none_done x node.past (omega arith)) in
       record {
         was = first;

@@ -1,11 +1,12 @@
 -- Whether some connection passes a test; and how many of its own turns one is done with that is active, or is not.
-use Rattle.std.proofs.Common.{◌≡◌, ◌⊎◌, ◌≤◌, ◌+◌, ℕ, suc, zero, min, Bool, true, false, ◌&&◌, nat_le, List, [], ◌∷◌, Some, slice_get, arith, refl, inl, inr}
+use Rattle.std.proofs.Common.{◌≡◌, ◌⊎◌, ◌≤◌, ◌+◌, ℕ, suc, zero, min, Bool, true, false, ◌&&◌, nat_le, List, [], ◌∷◌, Some, slice_get, arith, refl, sym, ◌∙◌, inl, inr}
 use Rattle.std.proofs.lemmas.Bool.Decides.{nat_tests}
 use Rattle.plan_file.specs.declared.connection.Connection.{Connection}
 use Rattle.device_model.specs.Entries.{own_turn, IsActive}
 use Rattle.device_model.specs.Moments.{turns_done, is_retired}
 use Rattle.node_links.specs.Links.{IsLinkOf, is_on}
 use Rattle.node_links.specs.declared.link.Link.{Link}
+use Rattle.node_links.proofs.LinkLaws.{on_as}
 use Rattle.node_moments.proofs.Parts.{and_none}
 
 -- ---- some connection or none
@@ -34,10 +35,6 @@ one_or_none test (x ∷ xs) = one_more test x xs (test x) refl (one_or_none test
 
 -- ---- turns
 
-pub both_right : (a b : Bool) → (a && b) ≡ true → b ≡ true
-both_right true b h = h
-both_right false b h = cc
-
 pub left_off : (a b : Bool) → b ≡ true → (a && b) ≡ false → a ≡ false
 left_off true b on off = cc
 left_off false b on off = refl
@@ -48,8 +45,8 @@ span_of past start stop on = (grind (arith, nat_tests), grind (arith, nat_tests)
 -- a connection is active where its link is
 pub active_on : (x : Connection) (past : ℕ) (link : Link) → IsLinkOf x link → is_on past link ≡ true → IsActive x past
 active_on x past link is on =
-    let span = span_of past link.start link.stop on in
-    record { start = rw is.start at span.0; stop = rw is.stop at span.1 }
+    let span = span_of past x.start x.stop (sym (on_as x past link is) ∙ on) in
+    record { start = span.0; stop = span.1 }
 
 -- the client of an active connection is not retired
 pub active_retired : (x : Connection) (past : ℕ) → IsActive x past → is_retired x past ≡ false

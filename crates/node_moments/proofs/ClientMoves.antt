@@ -22,18 +22,18 @@ use Rattle.cross_matrix.specs.Parts.{GivingStands, ClientInStands, MayShow}
 use Rattle.cross_matrix.specs.Pipes.{PipeView, PipeStands, ClientTook}
 use Rattle.cross_matrix.specs.declared.giving.GivingPart.{GivingPart}
 use Rattle.cross_matrix.specs.declared.giving.GivingPart.TheVariants as giving
-use Rattle.node_links.specs.Links.{IsLinkOf, is_on, origin_of}
-use Rattle.node_links.specs.declared.link.Origin.TheVariants as origin
+use Rattle.node_links.specs.Links.{IsLinkOf, is_on, joins, takes_part}
 use Rattle.node_links.specs.Moves.{EachLink, TakesClient, GivesClient}
 use Rattle.node_links.specs.declared.link.Link.{Link}
 use Rattle.node_moments.specs.Stands.{InputBytes, MayGive, frames_by, ended_by, PlanStands, ClientStands, GivesText, GetsText, PortStands, StandsAt, Later}
 use Rattle.node_moments.specs.Steps.NodeMoves.{ClientInMove, ClientOutMove}
 use Rattle.node_moments.specs.NodeView.{NodeView, HasLink, is_ready, done_at, taken_pieces, given_pieces}
 use Rattle.turn_pieces.proofs.PieceCounts.{done_more}
-use Rattle.node_links.proofs.LinkLaws.{both, both_left}
-use Rattle.node_moments.proofs.ClientLinks.{HasSome, one_or_none, both_right, left_off, active_on, active_retired, active_turns, idle_turns}
-use Rattle.node_moments.proofs.LinkPorts.{is_client_port, joins, takes_part, joins_as, touched_in, from_client, to_client, sole, given_in, taken_out, LinkMoved}
-use Rattle.node_moments.proofs.Parts.{one_at, known_at, link_after, ready, ready_less}
+use Rattle.node_links.proofs.LinkLaws.{both, both_left, from_client, to_client, on_as}
+use Rattle.node_moments.proofs.ClientLinks.{HasSome, one_or_none, left_off, active_on, active_retired, active_turns, idle_turns}
+use Rattle.node_moments.proofs.LinkPorts.{is_client_port, joins_as, has_part, touched_in, sole, given_in, taken_out, LinkMoved}
+use Rattle.node_links.proofs.Senders.{element_at}
+use Rattle.node_moments.proofs.Parts.{one_at, link_after, ready, ready_less}
 use Rattle.node_moments.proofs.PieceMoves.{Step, done_but, MayAt, earlier_by, PipeAt, PipeMoves, client_kept, later_by}
 
 -- ---- no connection has a part in the piece
@@ -45,7 +45,7 @@ idle_piece : (plan : Plan) (first : BaysView) (taken more : InputBytes) (name : 
 idle_piece plan first taken more name old new was is s none i x link at had touched =
     let is_of = s.stands.plan_stands.links i x link at had in
     let off : is_on old.past link ≡ false = left_off (is_on old.past link) (joins name link) (joins_as name x link is_of ∙ touched) (none i link had) in
-    idle_turns x old.past (done_at new name) (done_at old name) (rw (is_of.start, is_of.stop) at off)
+    idle_turns x old.past (done_at new name) (done_at old name) (sym (on_as x old.past link is_of) ∙ off)
 
 -- and all is as it was
 idle_moves : (plan : Plan) (first : BaysView) (taken : InputBytes) (name : PortName) (old new : NodeView) (was is : BaysView) → (s : Step plan first taken taken name old new was is)
@@ -76,7 +76,7 @@ record Partner (plan : Plan) (name : PortName) (old new : NodeView) : Type 0 whe
 partner : (plan : Plan) (name : PortName) (old new : NodeView) → PlanStands plan old → EachLink (LinkMoved name old.past) old.links new.links → HasSome (takes_part old.past name) old.links → Partner plan name old new
 partner plan name old new p links s =
     let within : s.i < length old.links = slice_get_within old.links s.i s.link s.known in
-    let k = known_at plan.connections s.i (omega (arith, p.count)) in
+    let k = element_at plan.connections s.i (omega (arith, p.count)) in
     let a = link_after (LinkMoved name old.past) old.links new.links s.i s.link links s.known in
     let is = p.links s.i k.0 s.link k.1 s.known in
     record {
@@ -88,7 +88,7 @@ partner plan name old new p links s =
       had = s.known;
       has = a.known;
       is_of = is;
-      at_port = sym (joins_as name k.0 s.link is) ∙ both_right (is_on old.past s.link) (joins name s.link) s.passes;
+      at_port = has_part name k.0 s.link old.past is s.passes;
       active = active_on k.0 old.past s.link is (both_left (is_on old.past s.link) (joins name s.link) s.passes);
       part = s.passes;
     }
@@ -113,8 +113,8 @@ only_partner : (plan : Plan) (name : PortName) (old new : NodeView) (t : Partner
     → takes_part old.past name other ≡ true → j ≡ t.i
 only_partner plan name old new t p client j other had part =
     let within : j < length old.links = slice_get_within old.links j other had in
-    let k = known_at plan.connections j (omega (arith, p.count)) in
-    let touched = sym (joins_as name k.0 other (p.links j k.0 other k.1 had)) ∙ both_right (is_on old.past other) (joins name other) part in
+    let k = element_at plan.connections j (omega (arith, p.count)) in
+    let touched = has_part name k.0 other old.past (p.links j k.0 other k.1 had) part in
     sole plan name j t.i k.0 t.x p.accepted client k.1 t.known touched t.at_port
 
 -- its part before the piece
@@ -145,7 +145,7 @@ part_after plan name old new first is empties Part taken t stays p links client 
 }
   where
     link_back : (i : ℕ) (next : Link) → HasLink new i next → (link : Link) × HasLink old i link
-    link_back i next has = let within : i < length new.links = slice_get_within new.links i next has in known_at old.links i (omega (arith, links.count))
+    link_back i next has = let within : i < length new.links = slice_get_within new.links i next has in element_at old.links i (omega (arith, links.count))
 
 -- ---- a client input
 
@@ -206,14 +206,13 @@ takes_one plan first n taken old new was is is_so m only h some =
     let here : MayShow t.next.pipe.taking (taken.client n ++ c.more) (of_client (inputs.client n)) = rw (o.after, bytes) at (may.clients i n x a.new at a.known came (rw m.piece.past start)) in
     rw o.before (c.earlier (of_client (inputs.client n)) here)))
     (λ inputs may i x link next at had has is_of active part stood.
-    let o = one_partner plan (port.ClientIn n) old new t p refl i x link next at had has (sym (joins_as (port.ClientIn n) x link is_of) ∙ both_right (is_on old.past link) (joins (port.ClientIn n) link) part) in
+    let o = one_partner plan (port.ClientIn n) old new t p refl i x link next at had has (has_part (port.ClientIn n) x link old.past is_of part) in
     let start : t.x.start ≤ new.past + 1 = (let start = t.active.start in let past = m.piece.past in omega arith) in
     let show = may_as inputs t.x n t.next (more.client n) (taken.client n ++ c.more) from bytes (may.clients t.i n t.x t.next t.known t.has from start) in
     let it : PipeAt plan inputs old t.x t.link = rw (o.entry, o.before) at stood in
-    let came : t.link.from ≡ origin.Client n = t.is_of.from ∙ ap origin_of from in
-    rw (o.entry, o.before, o.after) (took_pipe plan inputs (own_input inputs t.x) t.x n old.past (own_turn t.x old.past) (taken_pieces old t.link.from) (taken_pieces new t.link.from) (given_pieces old t.link.to)
-    (given_pieces new t.link.to) t.x.from t.link.pipe t.next.pipe from (ap (taken_pieces old) came ∙ zero_done) (ap (taken_pieces new) came ∙ one_done)
-    (given_in (port.ClientIn n) old new refl (done_but plan first taken more (port.ClientIn n) old new was is s) t.link.to) (c.pipe (own_input inputs t.x) [] (given_pieces old t.link.to) show) it))
+    rw (o.entry, o.after) (took_pipe plan inputs (own_input inputs t.x) t.x n old.past (own_turn t.x old.past) (taken_pieces old t.x.from) (taken_pieces new t.x.from) (given_pieces old t.x.to)
+    (given_pieces new t.x.to) t.x.from t.link.pipe t.next.pipe from (ap (taken_pieces old) from ∙ zero_done) (ap (taken_pieces new) from ∙ one_done)
+    (given_in (port.ClientIn n) old new refl (done_but plan first taken more (port.ClientIn n) old new was is s) t.x.to) (c.pipe (own_input inputs t.x) [] (given_pieces old t.x.to) show) it))
     (part_after plan (port.ClientIn n) old new (client_in_at first n) (client_in_at is n) after_retire (GivesText first more n) (more.client n) t (λ v. refl) p links refl m.piece.past one_done
     (subst (λ b. ClientInStands t.x (client_in_at first n) (client_in_at is n) b (own_turn t.x old.past + 1) t.next.pipe.taking) (sym bytes)
     (subst (λ k. ClientInStands t.x (client_in_at first n) (client_in_at is n) (taken.client n ++ c.more) k t.next.pipe.taking) (omega arith) c.stands)))
@@ -257,11 +256,11 @@ pipe_any n x input j frames ended a b pipe to h = record { entry = h.entry; taki
 gives_pipes : (plan : Plan) (first : BaysView) (n : ℕ) (taken : InputBytes) (old new : NodeView) (was is : BaysView) → Step plan first taken taken (port.ClientOut n) old new was is
     → ClientOutMove n old (client_out_at was n) new (client_out_at is n) → PipeMoves plan taken (port.ClientOut n) old new
 gives_pipes plan first n taken old new was is s m inputs may i x link next at had has is_of active part stood =
-    let to = to_client n x.to (sym (joins_as (port.ClientOut n) x link is_of) ∙ both_right (is_on old.past link) (joins (port.ClientOut n) link) part) in
-    let k = taken_pieces old link.from in
-    rw (taken_out (port.ClientOut n) old new refl (done_but plan first taken taken (port.ClientOut n) old new was is s) link.from)
-    (pipe_any n x (own_input inputs x) (own_turn x old.past) (frames_by plan inputs x.from old.past k) (ended_by x.from k) (given_pieces old link.to) (given_pieces new link.to) next.pipe to
-    ((m.gives.gave.each i link next had has).3 x (own_input inputs x) (own_turn x old.past) (given_pieces old link.to) (frames_by plan inputs x.from old.past k) (ended_by x.from k) stood))
+    let to = to_client n x.to (has_part (port.ClientOut n) x link old.past is_of part) in
+    let k = taken_pieces old x.from in
+    rw (taken_out (port.ClientOut n) old new refl (done_but plan first taken taken (port.ClientOut n) old new was is s) x.from)
+    (pipe_any n x (own_input inputs x) (own_turn x old.past) (frames_by plan inputs x.from old.past k) (ended_by x.from k) (given_pieces old x.to) (given_pieces new x.to) next.pipe to
+    ((m.gives.gave.each i link next had has).3 x (own_input inputs x) (own_turn x old.past) (given_pieces old x.to) (frames_by plan inputs x.from old.past k) (ended_by x.from k) stood))
 
 gives_one : (plan : Plan) (first : BaysView) (n : ℕ) (taken : InputBytes) (old new : NodeView) (was is : BaysView) → (s : Step plan first taken taken (port.ClientOut n) old new was is)
     → ClientOutMove n old (client_out_at was n) new (client_out_at is n) → HasSome (takes_part old.past (port.ClientOut n)) old.links → Later plan first taken old new is
@@ -270,12 +269,12 @@ gives_one plan first n taken old new was is s m some =
     let zero_done : done_at old (port.ClientOut n) ≡ 0 = (let less = ready_less plan old (port.ClientOut n) p s.ready in omega arith) in
     let one_done : done_at new (port.ClientOut n) ≡ 1 = done_more (port.ClientOut n) old.pieces new.pieces m.piece.counted ∙ omega arith in
     let t = partner plan (port.ClientOut n) old new p s.links some in
-    let k = taken_pieces old t.link.from in
+    let k = taken_pieces old t.x.from in
     let earlier : (inputs : Inputs) → MayGive plan taken new inputs → MayGive plan taken old inputs = λ inputs may. earlier_by plan first taken taken (port.ClientOut n) old new was is s inputs may tt in
     let stood = part_before plan (port.ClientOut n) old new (client_out_at first n) (client_out_at was n) out_after_retire (GetsText plan first taken old n) [] t (λ v. refl) zero_done (s.stands.ports (port.ClientOut n)) in
     later_by plan first taken taken (port.ClientOut n) old new was is s earlier (gives_pipes plan first n taken old new was is s m)
     (part_after plan (port.ClientOut n) old new (client_out_at first n) (client_out_at is n) out_after_retire (GetsText plan first taken new n) [] t (λ v. refl) p s.links refl m.piece.past one_done (λ inputs may.
-    m.gives.one t.i t.link t.next t.had t.has t.part (only_partner plan (port.ClientOut n) old new t p refl) t.x (own_input inputs t.x) (client_out_at first n) (given_pieces old t.link.to)
+    m.gives.one t.i t.link t.next t.had t.has t.part (only_partner plan (port.ClientOut n) old new t p refl) t.x (own_input inputs t.x) (client_out_at first n) (given_pieces old t.x.to)
     (frames_by plan inputs t.x.from old.past k) (ended_by t.x.from k) (s.stands.pipes.each inputs (earlier inputs may) t.i t.x t.link t.known t.had t.active) (stood inputs (earlier inputs may))))
 
 gives_none : (plan : Plan) (first : BaysView) (n : ℕ) (taken : InputBytes) (old new : NodeView) (was is : BaysView) → (s : Step plan first taken taken (port.ClientOut n) old new was is)

@@ -24,7 +24,7 @@ use Rattle.device_model.specs.Through.{Inputs, of_client, own_input}
 use Rattle.device_model.proofs.SoundPlans.{sound_plan}
 use Rattle.cross_matrix.specs.Parts.{ClientInStands, ClientOutStands, MayShow}
 use Rattle.cross_matrix.specs.Pipes.{PipeStands}
-use Rattle.node_links.specs.Links.{origin_of}
+use Rattle.node_links.specs.Links.{joins}
 use Rattle.node_links.specs.Retiring.{RetiredBy, ends_here}
 use Rattle.node_moments.specs.NodeMoves.{FenceMove}
 use Rattle.node_moments.specs.NodeView.{NodeView, HasLineIn, HasLineOut, HasLink, is_ready, done_at, taken_pieces, given_pieces}
@@ -33,9 +33,11 @@ use Rattle.device_model.specs.RetiredPlaces.{after_retire, out_after_retire}
 use Rattle.node_moments.specs.Stands.{InputBytes, MayGive, PlanStands, PipesStand, LineInAt, LineOutAt, ClientAt, ClientStands, GivesText, GetsText, PortStands, StandsAt, Later}
 use Rattle.node_links.specs.declared.link.Link.{Link}
 use Rattle.node_moments.proofs.ClientTurns.{place_kept, client_starts, client_goes_on}
-use Rattle.node_moments.proofs.LinkPorts.{is_client_port, joins, from_client, to_client, none_taken, none_given}
-use Rattle.node_moments.proofs.LinkTurns.{Turned, turned, not_started, on_link, all_done, some_wanted, used_line, input_kind, at_start, at_end, pieces_from, next_pipe, own_next}
-use Rattle.node_moments.proofs.Retired.{some_passes, retires_some, retires_some_out, known_at, idle_passes, client_retires}
+use Rattle.node_links.proofs.LinkLaws.{still_link, start_as, from_client, to_client}
+use Rattle.node_moments.proofs.LinkPorts.{is_client_port, none_taken, none_given}
+use Rattle.node_moments.proofs.Parts.{on_active}
+use Rattle.node_moments.proofs.LinkTurns.{Turned, turned, not_started, all_done, some_wanted, used_line, input_kind, at_start, at_end, pieces_from, next_pipe, own_next}
+use Rattle.node_moments.proofs.Retired.{some_passes, known_at, idle_passes, client_retires}
 use Rattle.device_model.proofs.ConnectionPorts.{uses_at, from_line_used, from_client_used}
 use Rattle.device_model.proofs.RetiredPlaces.{after_or, out_after_or}
 
@@ -71,7 +73,7 @@ client_before old new plan taken inputs p m may i n x link at had from start =
     let next = known_at old.links new.links i link (sym m.links.count) had in
     let t = m.links.each i link next.0 had next.1 in
     let was = p.links i x link at had in
-    let mid : t.between.start ≡ x.start = t.fences.same.start ∙ was.start in
+    let mid : t.between.entry.start ≡ x.start = start_as x t.between (still_link x link t.between t.fences.same was) in
     let unstarted : next.0 ≡ t.between = t.starts.other (λ e. absurd (omega arith)) in
     let same : next.0.pipe.taking ≡ link.pipe.taking = ap (λ (l : Link). l.pipe.taking) unstarted ∙ t.fences.text x n was from in
     subst (λ part. MayShow part (taken.client n) (of_client (inputs.client n))) same (may.clients i n x next.0 at next.1 from (let past = m.past in omega arith))
@@ -101,7 +103,7 @@ fence_plan plan old new going p m = record {
 
 -- all pieces of the turn, of what a connection comes from
 taken_all : (plan : Plan) (old : NodeView) → ((name : PortName) → uses plan name ≡ true → done_at old name ≡ pieces_by plan name)
-    → (i : ℕ) (x : Connection) → slice_get plan.connections i ≡ Some x → (from : FromEnd) → x.from ≡ from → taken_pieces old (origin_of from) ≡ pieces_from plan from
+    → (i : ℕ) (x : Connection) → slice_get plan.connections i ≡ Some x → (from : FromEnd) → x.from ≡ from → taken_pieces old from ≡ pieces_from plan from
 taken_all plan old done i x at (from_end.Line a number slots) e = done (port.LineIn a) (from_line_used plan i a number slots x at e)
 taken_all plan old done i x at (from_end.Client n) e = done (port.ClientIn n) (from_client_used plan i n x at e)
 taken_all plan old done i x at (from_end.Signal signal) e = refl
@@ -123,11 +125,11 @@ pipe_goes_on : (plan : Plan) (first : BaysView) (taken : InputBytes) (old new : 
 pipe_goes_on plan first taken old new was inputs p m done lines pipes may i x link at t active =
     let sound = (sound_plan plan p.accepted).entries i x at in
     let stood = pipes.each inputs may i x t.before at t.had active in
-    let pieces : taken_pieces old t.before.from ≡ pieces_from plan x.from = ap (taken_pieces old) t.was.from ∙ taken_all plan old done i x at x.from refl in
-    let on = on_link old.past t.before (let e = t.was.start in let a = active.start in omega arith) (let e = t.was.stop in let a = active.stop in omega arith) in
-    next_pipe plan inputs x old.past (given_pieces old t.before.to) m.wholes t.before t.turns.between sound t.was on t.turns.fences
+    let pieces : taken_pieces old x.from ≡ pieces_from plan x.from = taken_all plan old done i x at x.from refl in
+    let on = on_active x old.past t.before t.was active in
+    next_pipe plan inputs x old.past (given_pieces old x.to) m.wholes t.before t.turns.between sound t.was on t.turns.fences
     (λ a number slots e. has_multiframe plan first taken old new was inputs p m lines may a (from_line_used plan i a number slots x at e)) x.from refl
-    (at_end plan inputs x old.past (own_turn x old.past) (given_pieces old t.before.to) (taken_pieces old t.before.from) x.from t.before.pipe refl pieces stood)
+    (at_end plan inputs x old.past (own_turn x old.past) (given_pieces old x.to) (taken_pieces old x.from) x.from t.before.pipe refl pieces stood)
 
 -- the pipe of any connection that is active in the next turn
 pipe_next : (plan : Plan) (first : BaysView) (taken : InputBytes) (old new : NodeView) (was : BaysView) (inputs : Inputs) → PlanStands plan old → (m : FenceMove old new)
@@ -136,7 +138,7 @@ pipe_next : (plan : Plan) (first : BaysView) (taken : InputBytes) (old new : Nod
     → PipeStands x (own_input inputs x) (own_turn x (old.past + 1)) [] false 0 link.pipe
 pipe_next plan first taken old new was inputs p m done lines pipes may i x link at t active = elim (eqb_tells x.start (old.past + 1 + 1)) [
   | inl e ↦
-      let now : t.turns.between.start ≡ old.past + 1 + 1 = t.mid.start ∙ e.1 in
+      let now : t.turns.between.entry.start ≡ old.past + 1 + 1 = start_as x t.turns.between t.mid ∙ e.1 in
       let zeroth : 0 ≡ own_turn x (old.past + 1) = (let s = e.1 in omega arith) in
       subst (λ j. PipeStands x (own_input inputs x) j [] false 0 link.pipe) zeroth (t.turns.starts.stands now x (own_input inputs x) t.mid (input_kind inputs x.from))
   | inr d ↦
@@ -168,7 +170,7 @@ fence_pipes plan first taken old new was p m done lines pipes = record {
       let t = turned plan old new p m i x link at has in
       let on : IsActive x (old.past + 1) = subst (IsActive x) m.past active in
       let next = pipe_next plan first taken old new was inputs p m done lines pipes (fence_earlier old new plan taken p m inputs may) i x link at t on in
-      at_start plan inputs x new.past (own_turn x new.past) (taken_pieces new link.from) (given_pieces new link.to) link.pipe (none_taken new (none_done old new m) link.from) (none_given new (none_done old new m) link.to)
+      at_start plan inputs x new.past (own_turn x new.past) (taken_pieces new x.from) (given_pieces new x.to) link.pipe (none_taken new (none_done old new m) x.from) (none_given new (none_done old new m) x.to)
       (subst (λ n. PipeStands x (own_input inputs x) (own_turn x n) [] false 0 link.pipe) (sym m.past) next);
   last = λ inputs may i x link at has stop.
       subst (λ n. PipeStands x (own_input inputs x) (own_turn x n) [] false 0 link.pipe) (sym m.past)
@@ -211,7 +213,7 @@ fence_line_out plan first taken old new was is b p m retired done h = λ inputs 
 fence_client : {P : Type 0} (plan : Plan) (name : PortName) (old new : NodeView) (first was is : P) (empties : Bool → P → P) (Part Then : Connection → Link → P → ℕ → Type 0) (taken : List ℕ) → is_client_port name ≡ true
     → ((v : P) → empties false v ≡ v) → ((a b : Bool) (v : P) → empties (a || b) v ≡ empties b (empties a v)) → PlanStands plan old → (m : FenceMove old new) → (uses plan name ≡ true → done_at old name ≡ 1)
     → is ≡ empties (some_passes (ends_here old.past) (joins name) old.links) was
-    → ((i : ℕ) (x : Connection) (link : Link) → (t : Turned old m.wholes i x link) → touches name x ≡ true → t.turns.between.start ≡ old.past + 1 + 1 → taken ≡ [] → Then x link first 0)
+    → ((i : ℕ) (x : Connection) (link : Link) → (t : Turned old m.wholes i x link) → touches name x ≡ true → t.turns.between.entry.start ≡ old.past + 1 + 1 → taken ≡ [] → Then x link first 0)
     → ((i : ℕ) (x : Connection) (link : Link) → (t : Turned old m.wholes i x link) → touches name x ≡ true → x.start ≢ old.past + 1 + 1 → (v : P) (k : ℕ) → Part x t.before v k → Then x link v k)
     → ClientStands plan old name first was empties Part taken → ClientStands plan new name first is empties Then taken
 fence_client plan name old new first was is empties Part Then taken client stays twice p m done gone starts goes_on h = record {
@@ -225,7 +227,7 @@ fence_client plan name old new first was is empties Part Then taken client stays
         | inl e ↦
             let late : old.past + 1 < x.start = (let s = e.1 in omega arith) in
             let w = h.waits i x at touched late in
-            client_starts empties (Then x link) first was is old.past x ends stays retires late (let span = sound.span in omega arith) w.0 gone (starts i x link t touched (t.mid.start ∙ e.1) w.1)
+            client_starts empties (Then x link) first was is old.past x ends stays retires late (let span = sound.span in omega arith) w.0 gone (starts i x link t touched (start_as x t.turns.between t.mid ∙ e.1) w.1)
         | inr d ↦
             client_goes_on empties (Part x t.before) (Then x link) was is old.past (done_at old name) x ends twice retires sound.start (done (uses_at plan name i x at touched)) gone (goes_on i x link t touched d.1)
             (h.started i x t.before at t.had touched (started_before x.start old.past new.past m.past start d.1))
@@ -249,13 +251,13 @@ fence_port plan first taken old new was is p m retired done (port.LineIn a) h = 
 fence_port plan first taken old new was is p m retired done (port.LineOut b) h = fence_line_out plan first taken old new was is b p m retired done h
 fence_port plan first taken old new was is p m retired done (port.ClientIn n) h =
     fence_client plan (port.ClientIn n) old new (client_in_at first n) (client_in_at was n) (client_in_at is n) after_retire (GivesText first taken n) (GivesText first taken n) (taken.client n) refl (λ v. refl) after_or p m
-    (done (port.ClientIn n)) (retired.client_in n ∙ ap (λ b. after_retire b (client_in_at was n)) (retires_some old.past n old.links))
+    (done (port.ClientIn n)) (retired.client_in n)
     (λ i x link t touched now none. subst (λ bytes. ClientInStands x (client_in_at first n) (client_in_at first n) bytes 0 link.pipe.taking) (sym none)
     (t.turns.starts.client_in now x n (client_in_at first n) t.mid (from_client n x.from touched)))
     (λ i x link t touched differ v k stood. subst (λ part. ClientInStands x (client_in_at first n) v (taken.client n) k part) (sym (same_taking old m.wholes i n x link t differ (from_client n x.from touched))) stood) h
 fence_port plan first taken old new was is p m retired done (port.ClientOut n) h =
     fence_client plan (port.ClientOut n) old new (client_out_at first n) (client_out_at was n) (client_out_at is n) out_after_retire (GetsText plan first taken old n) (GetsText plan first taken new n) [] refl (λ v. refl) out_after_or p m
-    (done (port.ClientOut n)) (retired.client_out n ∙ ap (λ b. out_after_retire b (client_out_at was n)) (retires_some_out old.past n old.links))
+    (done (port.ClientOut n)) (retired.client_out n)
     (λ i x link t touched now none. λ inputs may. t.turns.starts.client_out now x n (own_input inputs x) (client_out_at first n) t.mid (to_client n x.to touched))
     (λ i x link t touched differ v k stood. λ inputs may. subst (λ part. ClientOutStands x (own_input inputs x) (client_out_at first n) v k part) (sym (same_giving old m.wholes i n x link t differ (to_client n x.to touched)))
     (stood inputs (fence_earlier old new plan taken p m inputs may))) h
@@ -265,9 +267,9 @@ fence_idle : (plan : Plan) (old : NodeView) (was is : BaysView) → PlanStands p
 fence_idle plan old was is p retired (port.LineIn a) u = ap (λ l. Input (get_or l a no_input)) retired.line_in
 fence_idle plan old was is p retired (port.LineOut b) u = ap (λ l. Output (get_or l b no_output)) retired.line_out
 fence_idle plan old was is p retired (port.ClientIn n) u =
-    ap Input (retired.client_in n ∙ ap (λ b. after_retire b (client_in_at was n)) (retires_some old.past n old.links ∙ idle_passes (ends_here old.past) plan old (port.ClientIn n) p u))
+    ap Input (retired.client_in n ∙ ap (λ b. after_retire b (client_in_at was n)) (idle_passes (ends_here old.past) plan old (port.ClientIn n) p u))
 fence_idle plan old was is p retired (port.ClientOut n) u =
-    ap Output (retired.client_out n ∙ ap (λ b. out_after_retire b (client_out_at was n)) (retires_some_out old.past n old.links ∙ idle_passes (ends_here old.past) plan old (port.ClientOut n) p u))
+    ap Output (retired.client_out n ∙ ap (λ b. out_after_retire b (client_out_at was n)) (idle_passes (ends_here old.past) plan old (port.ClientOut n) p u))
 
 -- The end of a turn leads from any moment at which no port is ready to the first one of the next turn.
 pub fence_moves : (plan : Plan) (first : BaysView) (taken : InputBytes) (old new : NodeView) (was is : BaysView) → old.past < old.turns → ((name : PortName) → is_ready old name ≡ false) → FenceMove old new

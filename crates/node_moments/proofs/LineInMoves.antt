@@ -19,28 +19,24 @@ use Rattle.plan_file.specs.declared.connection.FromEnd.{FromEnd}
 use Rattle.plan_file.specs.declared.connection.FromEnd.TheVariants as from_end
 use Rattle.plan_file.specs.declared.plan.Plan.{Plan}
 use Rattle.tributary_model.specs.Places.{Taken}
-use Rattle.device_model.specs.Entries.{form_in, own_turn}
+use Rattle.device_model.specs.Entries.{form_in, own_turn, is_from_line}
 use Rattle.device_model.specs.Through.{Inputs, OwnInput, own_input}
 use Rattle.device_model.proofs.SoundPlans.{sound_plan}
+use Rattle.device_model.proofs.TurnFrames.{frames_none}
 use Rattle.cross_matrix.specs.Pipes.{PipeStands}
-use Rattle.node_links.specs.Links.{is_on, origin_of}
-use Rattle.node_links.specs.Moves.{EachLink, TookFrame, ReadsLine, is_from_line, takes_line}
+use Rattle.node_links.specs.Links.{takes_part}
+use Rattle.node_links.specs.Moves.{EachLink, TookFrame, ReadsLine}
 use Rattle.node_moments.specs.Steps.NodeMoves.{LineInMove}
 use Rattle.node_moments.specs.NodeView.{NodeView, is_ready, done_at, taken_pieces, given_pieces}
 use Rattle.device_model.specs.TurnFrames.{member_of, frames_in}
 use Rattle.node_moments.specs.Stands.{InputBytes, frames_by, ended_by, PlanStands, LineInAt, PortStands, StandsAt, Later}
 use Rattle.node_links.specs.declared.link.Link.{Link}
 use Rattle.turn_pieces.proofs.PieceCounts.{done_more}
-use Rattle.node_moments.proofs.ClientLinks.{both_right}
-use Rattle.node_moments.proofs.LinkPorts.{given_in, LinkMoved}
+use Rattle.node_moments.proofs.LinkPorts.{has_part, given_in, LinkMoved}
 use Rattle.node_moments.proofs.Parts.{and_none, one_at, ready, ready_used, ready_less}
 use Rattle.node_moments.proofs.PieceMoves.{Step, done_but, earlier_by, PipeMoves, later_by}
 
 -- ---- the frames that pieces came to
-
-frames_none : (size : ℕ) (given : List ℕ) (past : ℕ) → frames_in size given past 0 ≡ []
-unfolding frames_in
-frames_none size given past = refl
 
 frames_suc : (size : ℕ) (given : List ℕ) (past k : ℕ) → frames_in size given past (suc k) ≡ frames_in size given past k ++ member_of given (in_hand size (mfas_of given) (line_state size (mfas_of given) past) (suc k))
 unfolding frames_in
@@ -100,14 +96,14 @@ links_moved past a line was links next is nexts reads = record {
   count = reads.took.count;
   each = λ i old new had has.
       let t = reads.took.each i old new had has in
-      record { same = t.same; other = λ off. t.other (and_none next.has_frame (takes_line past a old) off); taking = λ e. absurd (cc); giving = λ e. t.giving };
+      record { same = t.same; other = λ off. t.other (and_none next.has_frame (takes_part past (port.LineIn a) old) off); taking = λ e. absurd (cc); giving = λ e. t.giving };
 }
 
 -- it takes the frame
 took_line : (plan : Plan) (inputs : Inputs) (input : OwnInput) (x : Connection) (a number : ℕ) (slots : LineSlots) (past k j filled : ℕ) (hand : List ℕ) (expected : ℕ) (has_frame : Bool) (old new : Link)
-    → x.from ≡ from_end.Line a number slots → takes_line past a old ≡ true → k < slots_of slots.kind
+    → x.from ≡ from_end.Line a number slots → takes_part past (port.LineIn a) old ≡ true → k < slots_of slots.kind
     → frames_in (size_of (form_in plan a)) (inputs.line a) past (k + 1) ≡ frames_in (size_of (form_in plan a)) (inputs.line a) past k ++ came_to has_frame hand expected
-    → TookFrame (has_frame && takes_line past a old) (record { frame = hand; expected = expected }) old new
+    → TookFrame (has_frame && takes_part past (port.LineIn a) old) (record { frame = hand; expected = expected }) old new
     → PipeStands x input j (frames_in (size_of (form_in plan a)) (inputs.line a) past k) false filled old.pipe
     → PipeStands x input j (frames_in (size_of (form_in plan a)) (inputs.line a) past (k + 1)) false filled new.pipe
 took_line plan inputs input x a number slots past k j filled hand expected true old new from takes less frames t h =
@@ -117,9 +113,9 @@ took_line plan inputs input x a number slots past k j filled hand expected false
     rw (frames, append-nil (frames_in (size_of (form_in plan a)) (inputs.line a) past k), t.other refl) h
 
 took_pipe : (plan : Plan) (inputs : Inputs) (input : OwnInput) (x : Connection) (a past k m j filled given : ℕ) (hand : List ℕ) (expected : ℕ) (has_frame : Bool) (link next : Link) (from : FromEnd)
-    → x.from ≡ from → is_from_line a (origin_of from) ≡ true → takes_line past a link ≡ true → ((number : ℕ) (slots : LineSlots) → from ≡ from_end.Line a number slots → k < slots_of slots.kind) → m ≡ k + 1 → given ≡ filled
+    → x.from ≡ from → is_from_line a from ≡ true → takes_part past (port.LineIn a) link ≡ true → ((number : ℕ) (slots : LineSlots) → from ≡ from_end.Line a number slots → k < slots_of slots.kind) → m ≡ k + 1 → given ≡ filled
     → frames_in (size_of (form_in plan a)) (inputs.line a) past (k + 1) ≡ frames_in (size_of (form_in plan a)) (inputs.line a) past k ++ came_to has_frame hand expected
-    → TookFrame (has_frame && takes_line past a link) (record { frame = hand; expected = expected }) link next
+    → TookFrame (has_frame && takes_part past (port.LineIn a) link) (record { frame = hand; expected = expected }) link next
     → PipeStands x input j (frames_by plan inputs from past k) (ended_by from k) filled link.pipe → PipeStands x input j (frames_by plan inputs from past m) (ended_by from m) given next.pipe
 took_pipe plan inputs input x a past k m j filled given hand expected has_frame link next (from_end.Line b number slots) from mine takes less more same frames t h =
     let is : b ≡ a = grind (arith, nat_tests) in
@@ -154,14 +150,14 @@ line_pipes plan first a taken old new was is m counted ps s inputs may i x link 
     ∙ ap (λ came. frames_in size (inputs.line a) old.past k ++ came) came in
     let less : (number : ℕ) (slots : LineSlots) → x.from ≡ from_end.Line a number slots → k < slots_of slots.kind
     = λ number slots from. omega (arith, few_of plan i a number slots x old p at from, ready_less plan old (port.LineIn a) p s.ready) in
-    let mine : is_from_line a (origin_of x.from) ≡ true = ap (is_from_line a) (sym is_of.from) ∙ both_right (is_on old.past link) (is_from_line a link.from) part in
-    let before : taken_pieces old (origin_of x.from) ≡ k = taken_of a old x.from mine in
-    let after : taken_pieces new (origin_of x.from) ≡ k + 1 = taken_of a new x.from mine ∙ done_more (port.LineIn a) old.pieces new.pieces m.piece.counted in
-    let stood_k : PipeStands x (own_input inputs x) (own_turn x old.past) (frames_by plan inputs x.from old.past k) (ended_by x.from k) (given_pieces old link.to) link.pipe = rw (is_of.from, before) at stood in
-    rw (is_of.from, after) (took_pipe plan inputs (own_input inputs x) x a old.past k (k + 1) (own_turn x old.past) (given_pieces old link.to) (given_pieces new link.to) m.next.reader.hand m.reads.expected m.next.has_frame link next
-    x.from refl mine part less refl (given_in (port.LineIn a) old new refl (done_but plan first taken (more_of a ps.came taken) (port.LineIn a) old new was is s) link.to) frames (m.reads.took.each i link next had has) stood_k)
+    let mine : is_from_line a x.from ≡ true = has_part (port.LineIn a) x link old.past is_of part in
+    let before : taken_pieces old x.from ≡ k = taken_of a old x.from mine in
+    let after : taken_pieces new x.from ≡ k + 1 = taken_of a new x.from mine ∙ done_more (port.LineIn a) old.pieces new.pieces m.piece.counted in
+    let stood_k : PipeStands x (own_input inputs x) (own_turn x old.past) (frames_by plan inputs x.from old.past k) (ended_by x.from k) (given_pieces old x.to) link.pipe = rw before at stood in
+    rw after (took_pipe plan inputs (own_input inputs x) x a old.past k (k + 1) (own_turn x old.past) (given_pieces old x.to) (given_pieces new x.to) m.next.reader.hand m.reads.expected m.next.has_frame link next
+    x.from refl mine part less refl (given_in (port.LineIn a) old new refl (done_but plan first taken (more_of a ps.came taken) (port.LineIn a) old new was is s) x.to) frames (m.reads.took.each i link next had has) stood_k)
   where
-    taken_of : (a : ℕ) (node : NodeView) (from : FromEnd) → is_from_line a (origin_of from) ≡ true → taken_pieces node (origin_of from) ≡ done_at node (port.LineIn a)
+    taken_of : (a : ℕ) (node : NodeView) (from : FromEnd) → is_from_line a from ≡ true → taken_pieces node from ≡ done_at node (port.LineIn a)
     taken_of a node (from_end.Line b number slots) mine = let is : b ≡ a = grind (arith, nat_tests) in ap (λ c. done_at node (port.LineIn c)) is
     taken_of a node (from_end.Client n) mine = absurd (cc)
     taken_of a node (from_end.Signal signal) mine = absurd (cc)

@@ -1,5 +1,5 @@
 -- A piece of an output line leads to the next moment.
-use Rattle.std.proofs.Common.{◌≡◌, ◌<◌, ◌+◌, ◌*◌, ◌/◌, ◌%◌, ◌⊎◌, ℕ, zero, suc, Bool, true, List, [], ◌∷◌, ◌++◌, Some, length, slice_get, arith, refl, sym, ap, ◌∙◌, inl, inr}
+use Rattle.std.proofs.Common.{◌≡◌, ◌<◌, ◌+◌, ◌*◌, ◌/◌, ◌%◌, ◌⊎◌, ℕ, zero, suc, Bool, true, List, [], ◌∷◌, ◌++◌, Some, length, slice_get, arith, refl, ap, subst, ◌∙◌, inl, inr}
 use Rattle.std.proofs.lemmas.Bool.Decides.{nat_tests}
 use Rattle.std.proofs.lemmas.List.{length-append}
 use Rattle.std.proofs.lemmas.Nat.{div-mul-add, mod-mul-add}
@@ -14,21 +14,19 @@ use Rattle.plan_file.specs.declared.connection.ToEnd.{ToEnd}
 use Rattle.plan_file.specs.declared.connection.ToEnd.TheVariants as to_end
 use Rattle.plan_file.specs.declared.plan.Plan.{Plan}
 use Rattle.tributary_model.specs.Places.{Taken}
-use Rattle.device_model.specs.Entries.{form_out, own_turn}
+use Rattle.device_model.specs.Entries.{form_out, own_turn, is_to_line}
 use Rattle.device_model.specs.LineFiles.{IsFrameOf, AreFramesOf}
 use Rattle.device_model.specs.Through.{Inputs, OwnInput, own_input}
 use Rattle.device_model.proofs.SoundPlans.{sound_plan}
 use Rattle.cross_matrix.specs.Pipes.{PipeStands}
-use Rattle.node_links.specs.Links.{is_on, target_of}
-use Rattle.node_links.specs.Moves.{EachLink, GaveFrame, FillLine, is_to_line, gives_line}
+use Rattle.node_links.specs.Links.{takes_part}
+use Rattle.node_links.specs.Moves.{EachLink, GaveFrame, FillLine}
 use Rattle.node_moments.specs.Steps.NodeMoves.{LineOutMove}
 use Rattle.node_moments.specs.NodeView.{NodeView, is_ready, done_at, taken_pieces, given_pieces}
 use Rattle.node_moments.specs.Stands.{InputBytes, MayGive, frames_by, ended_by, PlanStands, PipesStand, LineOutAt, PortStands, StandsAt, Later}
 use Rattle.node_links.specs.declared.link.Link.{Link}
-use Rattle.node_links.specs.declared.link.Target.TheVariants as target
 use Rattle.turn_pieces.proofs.PieceCounts.{done_more}
-use Rattle.node_moments.proofs.ClientLinks.{both_right}
-use Rattle.node_moments.proofs.LinkPorts.{taken_out, LinkMoved}
+use Rattle.node_moments.proofs.LinkPorts.{has_part, taken_out, LinkMoved}
 use Rattle.node_moments.proofs.Parts.{one_at, ready, ready_less}
 use Rattle.node_moments.proofs.PieceMoves.{Step, done_but, earlier_by, PipeMoves, later_by}
 
@@ -36,9 +34,9 @@ use Rattle.node_moments.proofs.PieceMoves.{Step, done_but, earlier_by, PipeMoves
 
 -- it has filled a frame more
 gave_pipe : (input : OwnInput) (x : Connection) (b past k j : ℕ) (frames : List Taken) (ended : Bool) (node next_node : NodeView) (link next : Link) (to : ToEnd)
-    → x.to ≡ to → is_to_line b (target_of to) ≡ true → gives_line past b link ≡ true → ((number : ℕ) (slots : LineSlots) → to ≡ to_end.Line b number slots → k < slots_of slots.kind)
-    → done_at node (port.LineOut b) ≡ k → done_at next_node (port.LineOut b) ≡ k + 1 → GaveFrame (gives_line past b link) k link next
-    → PipeStands x input j frames ended (given_pieces node (target_of to)) link.pipe → PipeStands x input j frames ended (given_pieces next_node (target_of to)) next.pipe
+    → x.to ≡ to → is_to_line b to ≡ true → takes_part past (port.LineOut b) link ≡ true → ((number : ℕ) (slots : LineSlots) → to ≡ to_end.Line b number slots → k < slots_of slots.kind)
+    → done_at node (port.LineOut b) ≡ k → done_at next_node (port.LineOut b) ≡ k + 1 → GaveFrame (takes_part past (port.LineOut b) link) k link next
+    → PipeStands x input j frames ended (given_pieces node to) link.pipe → PipeStands x input j frames ended (given_pieces next_node to) next.pipe
 gave_pipe input x b past k j frames ended node next_node link next (to_end.Line c number slots) to mine gives less before after g h =
     let is : c ≡ b = grind (arith, nat_tests) in
     let end : to_end.Line c number slots ≡ to_end.Line b number slots = ap (λ c. to_end.Line c number slots) is in
@@ -55,13 +53,13 @@ line_pipes : (plan : Plan) (first : BaysView) (b : ℕ) (taken : InputBytes) (ol
     → Step plan first taken taken (port.LineOut b) old new was is → PipeMoves plan taken (port.LineOut b) old new
 line_pipes plan first b taken old new was is m s inputs may i x link next at had has is_of active part stood =
     let p = s.stands.plan_stands in
-    let k = taken_pieces old link.from in
+    let k = taken_pieces old x.from in
     let less : (number : ℕ) (slots : LineSlots) → x.to ≡ to_end.Line b number slots → done_at old (port.LineOut b) < slots_of slots.kind
     = λ number slots to. omega (arith, many_of plan i b number slots x old p at to, ready_less plan old (port.LineOut b) p s.ready) in
-    let mine : is_to_line b (target_of x.to) ≡ true = ap (is_to_line b) (sym is_of.to) ∙ both_right (is_on old.past link) (is_to_line b link.to) part in
-    rw (taken_out (port.LineOut b) old new refl (done_but plan first taken taken (port.LineOut b) old new was is s) link.from, is_of.to)
+    let mine : is_to_line b x.to ≡ true = has_part (port.LineOut b) x link old.past is_of part in
+    rw (taken_out (port.LineOut b) old new refl (done_but plan first taken taken (port.LineOut b) old new was is s) x.from)
     (gave_pipe (own_input inputs x) x b old.past (done_at old (port.LineOut b)) (own_turn x old.past) (frames_by plan inputs x.from old.past k) (ended_by x.from k) old new link next x.to refl mine part less refl
-    (done_more (port.LineOut b) old.pieces new.pieces m.piece.counted) (m.writes.gave.each i link next had has) (rw is_of.to at stood))
+    (done_more (port.LineOut b) old.pieces new.pieces m.piece.counted) (m.writes.gave.each i link next had has) stood)
 
 -- ---- the frame
 
@@ -73,8 +71,9 @@ filled plan inputs b taken node p h may = record {
   of_plan = p.links;
   stand = λ i number slots x link at_i has to active.
       let stood = h.each inputs may i x link at_i has active in
-      let to_b : link.to ≡ target.Line b number slots = (p.links i x link at_i has).to ∙ ap target_of to in
-      (frames_by plan inputs x.from node.past (taken_pieces node link.from), (ended_by x.from (taken_pieces node link.from), rw to_b at stood));
+      let frames = frames_by plan inputs x.from node.past (taken_pieces node x.from) in
+      let ended = ended_by x.from (taken_pieces node x.from) in
+      (frames, (ended, subst (λ k. PipeStands x (own_input inputs x) (own_turn x node.past) frames ended k link.pipe) (ap (given_pieces node) to) stood));
 }
 
 -- an element of a list with one more at its end

@@ -1,5 +1,5 @@
 -- A connection, and a line, from one turn to the next.
-use Rattle.std.proofs.Common.{◌≡◌, ◌≢◌, ◌<◌, ◌≤◌, ◌+◌, ℕ, suc, Bool, true, false, nat_lt, nat_le, List, [], Some, slice_get, get_or, arith, refl, sym, ap, subst, ◌∙◌}
+use Rattle.std.proofs.Common.{◌≡◌, ◌≢◌, ◌<◌, ◌≤◌, ◌+◌, ℕ, suc, Bool, true, false, nat_lt, List, [], Some, slice_get, get_or, arith, refl, sym, ap, subst, ◌∙◌}
 use Rattle.std.specs.Prelude.{is_some}
 use Rattle.std.proofs.lemmas.Bool.Decides.{nat_tests}
 use Rattle.otn_base.specs.LineSlots.{LineSlots, slots_of}
@@ -21,7 +21,7 @@ use Rattle.device_model.specs.SoundPlans.{IsSoundEntry}
 use Rattle.device_model.specs.Through.{Inputs, of_client, of_signal, own_of, own_input}
 use Rattle.cross_matrix.specs.Parts.{IsInputOf}
 use Rattle.cross_matrix.specs.Pipes.{PipeView, PipeStands}
-use Rattle.node_links.specs.Links.{IsLinkOf, origin_of, is_on}
+use Rattle.node_links.specs.Links.{IsLinkOf, is_on}
 use Rattle.node_links.specs.Moves.{LineEnds, Fences}
 use Rattle.node_links.specs.LinkEnds.{TurnsOver, whole_for}
 use Rattle.node_moments.specs.NodeMoves.{FenceMove}
@@ -31,10 +31,10 @@ use Rattle.turn_pieces.specs.Ports.{index_of}
 use Rattle.device_model.specs.TurnFrames.{frames_in}
 use Rattle.node_moments.specs.Stands.{PlanStands, frames_by, ended_by}
 use Rattle.node_links.specs.declared.link.Link.{Link}
-use Rattle.node_links.proofs.LinkLaws.{still_link}
+use Rattle.node_links.proofs.LinkLaws.{still_link, from_as, start_as}
 use Rattle.node_moments.proofs.Later.{shut_ports}
 use Rattle.turn_pieces.proofs.PiecesLeft.{shut_all, used_wanted}
-use Rattle.node_moments.proofs.Parts.{known_at as some_at}
+use Rattle.node_links.proofs.Senders.{element_at}
 use Rattle.node_moments.proofs.Retired.{known_at}
 use Rattle.device_model.proofs.TurnFrames.{frames_none, frames_many, turn_frames}
 use Rattle.turn_pieces.proofs.UsedPorts.{used_within}
@@ -61,13 +61,7 @@ turned plan old new p m i x link at has =
 
 -- one that started in an earlier turn is not touched by the start of this one
 pub not_started : (old : NodeView) (wholes : List Bool) (i : ℕ) (x : Connection) (link : Link) (t : Turned old wholes i x link) → x.start ≢ old.past + 1 + 1 → link ≡ t.turns.between
-not_started old wholes i x link t differ = t.turns.starts.other (λ e. differ (sym t.mid.start ∙ e))
-
-pub on_link : (past : ℕ) (link : Link) → link.start ≤ past + 1 → past + 1 ≤ link.stop → is_on past link ≡ true
-on_link past link start stop =
-    let a : nat_le link.start (past + 1) ≡ true = grind (arith, nat_tests) in
-    let b : nat_le (past + 1) link.stop ≡ true = grind (arith, nat_tests) in
-    rw (a, b) refl
+not_started old wholes i x link t differ = t.turns.starts.other (λ e. differ (sym (start_as x t.turns.between t.mid) ∙ e))
 
 -- ---- pieces that are done
 
@@ -91,13 +85,13 @@ pub record UsedLine (old new : NodeView) (wholes : List Bool) (a : ℕ) : Type 0
   pub has : HasLineIn new a next
   pub ends : LineEnds line next (get_or wholes a false)
 
-line_within : (a : ℕ) → index_of (port.LineIn a) < 40 → a < 4
+pub line_within : (a : ℕ) → index_of (port.LineIn a) < 40 → a < 4
 line_within a h = grind (arith, nat_tests)
 
 pub used_line : (plan : Plan) (old new : NodeView) → PlanStands plan old → (m : FenceMove old new) → (a : ℕ) → uses plan (port.LineIn a) ≡ true → UsedLine old new m.wholes a
 used_line plan old new p m a used =
     let within : a < 4 = line_within a (used_within plan (port.LineIn a) p.accepted used) in
-    let line = some_at old.lines_in a (let four = m.lines in omega arith) in
+    let line = element_at old.lines_in a (let four = m.lines in omega arith) in
     let next = known_at old.lines_in new.lines_in a line.0 (sym m.count) line.1 in
     record { line = line.0; next = next.0; had = line.1; has = next.1; ends = m.used a line.0 next.0 (some_wanted plan old (port.LineIn a) p used) line.1 next.1 }
 
@@ -143,18 +137,18 @@ at_end plan inputs x past j filled taken from pipe e all h =
 
 -- A connection that is active hands on what the turn brought.
 pub next_pipe : (plan : Plan) (inputs : Inputs) (x : Connection) (past filled : ℕ) (wholes : List Bool) (before mid : Link) → IsSoundEntry plan x → IsLinkOf x before → is_on past before ≡ true
-    → Fences past (whole_for before.from wholes) before mid
+    → Fences past (whole_for before.entry.from wholes) before mid
     → ((a number : ℕ) (slots : LineSlots) → x.from ≡ from_end.Line a number slots → get_or wholes a false ≡ is_some (multiframe (size_of (form_in plan a)) (mfas_of (inputs.line a)) past))
     → (from : FromEnd) → x.from ≡ from
     → PipeStands x (own_of inputs from) (own_turn x past) (frames_by plan inputs from past (pieces_from plan from)) (ended_by from (pieces_from plan from)) filled before.pipe
     → PipeStands x (own_of inputs from) (suc (own_turn x past)) [] false 0 mid.pipe
 next_pipe plan inputs x past filled wholes before mid sound was on fences is_whole (from_end.Line a number slots) e h =
     let size : slots_of slots.kind ≡ size_of (form_in plan a) = ap slots_of (sound.from_line a number slots e).kind in
-    let whole : whole_for before.from wholes ≡ is_some (multiframe (size_of (form_in plan a)) (mfas_of (inputs.line a)) past) =
-    ap (λ o. whole_for o wholes) (was.from ∙ ap origin_of e) ∙ is_whole a number slots e in
+    let whole : whole_for before.entry.from wholes ≡ is_some (multiframe (size_of (form_in plan a)) (mfas_of (inputs.line a)) past) =
+    ap (λ o. whole_for o wholes) (from_as x before was ∙ e) ∙ is_whole a number slots e in
     fences.line on x a number slots (view_at (tributary_of slots number) (inputs.line a)) filled (frames_in (size_of (form_in plan a)) (inputs.line a) past (size_of (form_in plan a))) was e
-    (λ t. frames_many (size_of (form_in plan a)) (inputs.line a) past (whole_for before.from wholes) whole t ∙ sym size)
-    (turn_frames (tributary_of slots number) (size_of (form_in plan a)) (inputs.line a) past (whole_for before.from wholes) size whole)
+    (λ t. frames_many (size_of (form_in plan a)) (inputs.line a) past (whole_for before.entry.from wholes) whole t ∙ sym size)
+    (turn_frames (tributary_of slots number) (size_of (form_in plan a)) (inputs.line a) past (whole_for before.entry.from wholes) size whole)
     h
 next_pipe plan inputs x past filled wholes before mid sound was on fences is_whole (from_end.Client n) e h = fences.client on x n filled (of_client (inputs.client n)) was e h
 next_pipe plan inputs x past filled wholes before mid sound was on fences is_whole (from_end.Signal signal) e h = fences.signal on x signal filled of_signal was e h

@@ -1,5 +1,5 @@
 -- The parts of a moment whose ports and pieces are as they were.
-use Rattle.std.proofs.Common.{◌≡◌, ◌<◌, ◌≤◌, ◌+◌, ℕ, zero, suc, Bool, true, false, ◌&&◌, List, [], ◌∷◌, Some, length, slice_get, get_or, set, nat_lt, arith, refl, ap, ◌∙◌, inl, inr, nat_le}
+use Rattle.std.proofs.Common.{◌≡◌, ◌<◌, ◌≤◌, ◌+◌, ℕ, Bool, true, false, ◌&&◌, List, Some, length, slice_get, get_or, set, nat_lt, arith, refl, ap, ◌∙◌, inl, inr, nat_le}
 use Rattle.std.proofs.lemmas.Bool.Decides.{nat_tests, eqb_tells}
 use Rattle.std.proofs.lemmas.List.{get_or-set_same, get_or-set_other}
 use Rattle.std.proofs.lemmas.Option.{slice_get_within}
@@ -15,7 +15,8 @@ use Rattle.node_moments.specs.NodeView.{NodeView, is_ready, done_at}
 use Rattle.node_moments.specs.Stands.{PlanStands}
 use Rattle.node_links.specs.Moves.{EachLink}
 use Rattle.node_links.specs.declared.link.Link.{Link}
-use Rattle.node_links.proofs.LinkLaws.{still_link}
+use Rattle.node_links.proofs.Senders.{element_at}
+use Rattle.node_links.proofs.LinkLaws.{both_left, both_right, still_link, on_as}
 use Rattle.turn_pieces.proofs.PieceCounts.{opened}
 use Rattle.turn_pieces.proofs.UsedPorts.{pieces_unused, pieces_used}
 
@@ -23,11 +24,6 @@ use Rattle.turn_pieces.proofs.UsedPorts.{pieces_unused, pieces_used}
 
 pub one_at : {A : Type 0} (xs : List A) (i : ℕ) (x y : A) → slice_get xs i ≡ Some x → slice_get xs i ≡ Some y → x ≡ y
 one_at xs i x y e f = cc
-
-pub known_at : {A : Type 0} (xs : List A) (i : ℕ) → i < length xs → (x : A) × (slice_get xs i ≡ Some x)
-known_at [] i lt = absurd (omega arith)
-known_at (x ∷ xs) zero lt = (x, refl)
-known_at (x ∷ xs) (suc i) lt = known_at xs i (omega arith)
 
 pub and_none : (b c : Bool) → c ≡ false → (b && c) ≡ false
 and_none true c h = h
@@ -44,7 +40,7 @@ pub record LinkBefore (Goes : Link → Link → Type 0) (olds : List Link) (i : 
 pub link_before : (Goes : Link → Link → Type 0) (olds news : List Link) (i : ℕ) (new : Link) → EachLink Goes olds news → slice_get news i ≡ Some new → LinkBefore Goes olds i new
 link_before Goes olds news i new each is =
     let within : i < length news = slice_get_within news i new is in
-    let k = known_at olds i (omega (arith, each.count)) in
+    let k = element_at olds i (omega (arith, each.count)) in
     record { old = k.0; known = k.1; goes = each.each i k.0 new k.1 is }
 
 -- what it is after
@@ -56,7 +52,7 @@ pub record LinkAfter (Goes : Link → Link → Type 0) (news : List Link) (i : �
 pub link_after : (Goes : Link → Link → Type 0) (olds news : List Link) (i : ℕ) (old : Link) → EachLink Goes olds news → slice_get olds i ≡ Some old → LinkAfter Goes news i old
 link_after Goes olds news i old each is =
     let within : i < length olds = slice_get_within olds i old is in
-    let k = known_at news i (omega (arith, each.count)) in
+    let k = element_at news i (omega (arith, each.count)) in
     record { new = k.0; known = k.1; goes = each.each i old k.0 is k.1 }
 
 pub each_goes : (Goes Then : Link → Link → Type 0) (olds news : List Link) → ((old new : Link) → Goes old new → Then old new) → EachLink Goes olds news → EachLink Then olds news
@@ -65,16 +61,16 @@ each_goes Goes Then olds news then h = record { count = h.count; each = λ i old
 -- the link of a connection is active where the connection is
 pub on_active : (x : Connection) (past : ℕ) (link : Link) → IsLinkOf x link → IsActive x past → is_on past link ≡ true
 on_active x past link is active =
-    let start : link.start ≤ past + 1 = rw is.start active.start in
-    let stop : past + 1 ≤ link.stop = rw is.stop active.stop in
-    grind (arith, nat_tests)
+    let start = active.start in
+    let stop = active.stop in
+    let on : (nat_le x.start (past + 1) && nat_le (past + 1) x.stop) ≡ true = grind (arith, nat_tests) in
+    on_as x past link is ∙ on
 
 -- one whose last turn is done is not
 pub off_stopped : (x : Connection) (past : ℕ) (link : Link) → IsLinkOf x link → x.stop ≡ past → is_on past link ≡ false
 off_stopped x past link is stop =
-    let last : link.stop ≡ past = is.stop ∙ stop in
-    let late : nat_le (past + 1) link.stop ≡ false = grind (arith, nat_tests) in
-    and_none (nat_le link.start (past + 1)) (nat_le (past + 1) link.stop) late
+    let late : nat_le (past + 1) x.stop ≡ false = grind (arith, nat_tests) in
+    on_as x past link is ∙ and_none (nat_le x.start (past + 1)) (nat_le (past + 1) x.stop) late
 
 pub none_and : (b c : Bool) → b ≡ false → (b && c) ≡ false
 none_and true c h = cc
@@ -87,18 +83,10 @@ pub record IsReady (node : NodeView) (name : PortName) : Type 0 where
   pub within : index_of name < 40
   pub wants : done_at node name < wanted_of node.pieces name
 
-and_left : (a b : Bool) → (a && b) ≡ true → a ≡ true
-and_left true b h = refl
-and_left false b h = h
-
-and_right : (a b : Bool) → (a && b) ≡ true → b ≡ true
-and_right true b h = h
-and_right false b h = cc
-
 pub ready : (node : NodeView) (name : PortName) → is_ready node name ≡ true → IsReady node name
 ready node name h =
-    let going = and_left (nat_lt node.past node.turns) (is_open node.pieces name) h in
-    let open_is = opened node.pieces name (and_right (nat_lt node.past node.turns) (is_open node.pieces name) h) in
+    let going = both_left (nat_lt node.past node.turns) (is_open node.pieces name) h in
+    let open_is = opened node.pieces name (both_right (nat_lt node.past node.turns) (is_open node.pieces name) h) in
     record { going = grind (arith, nat_tests); within = open_is.within; wants = open_is.wants }
 
 -- so the node is not past its last turn, before a piece and after it

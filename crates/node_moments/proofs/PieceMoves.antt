@@ -16,14 +16,15 @@ use Rattle.device_model.specs.RetiredPlaces.{after_retire, out_after_retire}
 use Rattle.device_model.specs.Through.{Inputs, of_client, own_input}
 use Rattle.cross_matrix.specs.Parts.{MayShow}
 use Rattle.cross_matrix.specs.Pipes.{PipeView, PipeStands}
-use Rattle.node_links.specs.Links.{IsLinkOf, SameEntry, is_on, origin_of, target_of}
+use Rattle.node_links.specs.Links.{IsLinkOf, SameEntry, is_on, joins, takes_part}
 use Rattle.node_links.specs.Moves.{EachLink}
 use Rattle.node_links.specs.declared.link.Link.{Link}
 use Rattle.node_moments.specs.Stands.{InputBytes, MayGive, frames_by, ended_by, PipesStand, ClientStands, GivesText, GetsText, PortStands, StandsAt, Later}
 use Rattle.node_moments.specs.Steps.NodeMoves.{OnePiece}
 use Rattle.node_moments.specs.NodeView.{NodeView, HasLineIn, HasLink, done_at, taken_pieces, given_pieces}
 use Rattle.turn_pieces.proofs.PieceCounts.{done_same}
-use Rattle.node_moments.proofs.LinkPorts.{same_port, joins, takes_part, from_client, to_client, taken_other, given_other, LinkMoved, taking_kept, giving_kept}
+use Rattle.node_links.proofs.LinkLaws.{from_as, to_as, from_client, to_client}
+use Rattle.node_moments.proofs.LinkPorts.{same_port, joins_as, taken_other, given_other, LinkMoved, taking_kept, giving_kept}
 use Rattle.node_moments.proofs.Parts.{none_and, off_stopped, each_goes, link_before, link_after, on_active, IsReady, ready_used, plan_counted}
 use Rattle.node_moments.proofs.Retired.{known_at}
 
@@ -63,7 +64,7 @@ earlier_by plan first taken more name old new was is s inputs may mine = record 
     | inl e ↦ let here : MayAt plan taken old inputs (port.ClientIn n) = subst (λ p. MayAt plan taken old inputs p) (sym e) mine in here i x link at had from start
     | inr d ↦
         let a = link_after (LinkMoved name old.past) old.links new.links i link s.links had in
-        let kept = taking_kept name old.past n link a.new a.goes ((s.stands.plan_stands.links i x link at had).from ∙ ap origin_of from) d in
+        let kept = taking_kept name old.past n link a.new a.goes (from_as x link (s.stands.plan_stands.links i x link at had) ∙ from) d in
         rw (kept, s.client n d) at (may.clients i n x a.new at a.known from (rw s.piece.past start))
   ];
 }
@@ -72,13 +73,13 @@ earlier_by plan first taken more name old new was is s inputs may mine = record 
 
 -- the pipe of a connection that is active
 abbrev pub PipeAt : Plan → Inputs → NodeView → Connection → Link → Type 0
-PipeAt plan inputs node x link = PipeStands x (own_input inputs x) (own_turn x node.past) (frames_by plan inputs x.from node.past (taken_pieces node link.from)) (ended_by x.from (taken_pieces node link.from))
-    (given_pieces node link.to) link.pipe
+PipeAt plan inputs node x link = PipeStands x (own_input inputs x) (own_turn x node.past) (frames_by plan inputs x.from node.past (taken_pieces node x.from)) (ended_by x.from (taken_pieces node x.from))
+    (given_pieces node x.to) link.pipe
 
 -- after the piece, as the connection was before it
 abbrev pub PipeThen : Plan → Inputs → (old new : NodeView) → Connection → Link → PipeView → Type 0
-PipeThen plan inputs old new x link pipe = PipeStands x (own_input inputs x) (own_turn x old.past) (frames_by plan inputs x.from old.past (taken_pieces new link.from)) (ended_by x.from (taken_pieces new link.from))
-    (given_pieces new link.to) pipe
+PipeThen plan inputs old new x link pipe = PipeStands x (own_input inputs x) (own_turn x old.past) (frames_by plan inputs x.from old.past (taken_pieces new x.from)) (ended_by x.from (taken_pieces new x.from))
+    (given_pieces new x.to) pipe
 
 -- what the piece does to a pipe that has a part in it
 abbrev pub PipeMoves : Plan → InputBytes → PortName → (old new : NodeView) → Type 0
@@ -92,11 +93,11 @@ right_off false b on off = cc
 pipe_next : (plan : Plan) (inputs : Inputs) (name : PortName) (old new : NodeView) (x : Connection) (link next : Link) → ((other : PortName) → other ≢ name → done_at new other ≡ done_at old other) → new.past ≡ old.past
     → IsLinkOf x link → IsActive x old.past → LinkMoved name old.past link next → PipeAt plan inputs old x link → (part : Bool) → takes_part old.past name link ≡ part
     → (part ≡ true → PipeThen plan inputs old new x link next.pipe) → PipeAt plan inputs new x next
-pipe_next plan inputs name old new x link next same past is active m h true e one = rw (m.same.from, m.same.to, past) (one refl)
+pipe_next plan inputs name old new x link next same past is active m h true e one = rw past (one refl)
 pipe_next plan inputs name old new x link next same past is active m h false e one =
-    let off : joins name link ≡ false = right_off (is_on old.past link) (joins name link) (on_active x old.past link is active) e in
-    let takes : taken_pieces new next.from ≡ taken_pieces old link.from = ap (taken_pieces new) m.same.from ∙ taken_other name old new same link off link.from refl in
-    let gives : given_pieces new next.to ≡ given_pieces old link.to = ap (given_pieces new) m.same.to ∙ given_other name old new same link off link.to refl in
+    let off : touches name x ≡ false = sym (joins_as name x link is) ∙ right_off (is_on old.past link) (joins name link) (on_active x old.past link is active) e in
+    let takes : taken_pieces new x.from ≡ taken_pieces old x.from = taken_other name old new same x off x.from refl in
+    let gives : given_pieces new x.to ≡ given_pieces old x.to = given_other name old new same x off x.to refl in
     rw (takes, gives, past, m.other e) h
 
 pub pipes_by : (plan : Plan) (first : BaysView) (taken more : InputBytes) (name : PortName) (old new : NodeView) (was is : BaysView) → Step plan first taken more name old new was is
@@ -151,14 +152,14 @@ port_kept plan first taken more name old new was is s earlier (port.ClientIn n) 
     s.links.count s.piece.past (ap input_of (s.only.others (port.ClientIn n) differ)) (s.client n differ)
     (λ i x link at had touched. ap (turns_done x old.past) (done_but plan first taken more name old new was is s (port.ClientIn n) differ))
     (λ i x link next at had has touched v k stood.
-    let kept = taking_kept name old.past n link next (s.links.each i link next had has) ((s.stands.plan_stands.links i x link at had).from ∙ ap origin_of (from_client n x.from touched)) differ in
+    let kept = taking_kept name old.past n link next (s.links.each i link next had has) (from_as x link (s.stands.plan_stands.links i x link at had) ∙ from_client n x.from touched) differ in
     rw (s.client n differ, kept) stood) h
 port_kept plan first taken more name old new was is s earlier (port.ClientOut n) differ h =
     client_kept plan (port.ClientOut n) old new (client_out_at first n) (client_out_at was n) (client_out_at is n) out_after_retire (GetsText plan first taken old n) (GetsText plan first more new n) [] []
     s.links.count s.piece.past (ap output_of (s.only.others (port.ClientOut n) differ)) refl
     (λ i x link at had touched. ap (turns_done x old.past) (done_but plan first taken more name old new was is s (port.ClientOut n) differ))
     (λ i x link next at had has touched v k stood. λ inputs may.
-    let kept = giving_kept name old.past n link next (s.links.each i link next had has) ((s.stands.plan_stands.links i x link at had).to ∙ ap target_of (to_client n x.to touched)) differ in
+    let kept = giving_kept name old.past n link next (s.links.each i link next had has) (to_as x link (s.stands.plan_stands.links i x link at had) ∙ to_client n x.to touched) differ in
     rw kept (stood inputs (earlier inputs may))) h
 
 -- ---- the moment

@@ -3,18 +3,16 @@ use Rattle.std.proofs.Common.{◌≡◌, ◌<◌, ◌≤◌, ◌+◌, ℕ, zero,
 use Rattle.std.proofs.lemmas.Bool.Decides.{nat_tests}
 use Rattle.std.specs.List.{list_any}
 use Rattle.otn_base.specs.declared.kind.PortName.{PortName}
-use Rattle.otn_base.specs.declared.kind.PortName.TheVariants as port
 use Rattle.plan_file.specs.declared.connection.Connection.{Connection}
 use Rattle.plan_file.specs.declared.plan.Plan.{Plan}
 use Rattle.device_model.specs.Moments.{touches, uses, is_retired}
-use Rattle.node_links.specs.Links.{IsLinkOf}
-use Rattle.node_links.specs.Moves.{is_from_client, is_to_client}
-use Rattle.node_links.specs.Retiring.{ends_here, retires_in, retires_out}
+use Rattle.node_links.specs.Links.{IsLinkOf, joins}
+use Rattle.node_links.specs.Retiring.{ends_here}
 use Rattle.node_moments.specs.NodeView.{NodeView, HasLink}
 use Rattle.node_moments.specs.Stands.{PlanStands}
 use Rattle.node_links.specs.declared.link.Link.{Link}
 use Rattle.device_model.proofs.ConnectionPorts.{uses_none}
-use Rattle.node_moments.proofs.LinkPorts.{is_client_port, joins, joins_as, sole}
+use Rattle.node_moments.proofs.LinkPorts.{is_client_port, joins_as, sole}
 
 -- ---- some connection of a list, which ends and passes a test
 
@@ -60,16 +58,6 @@ one_passes ends passes (x ∷ links) (suc i) link at is alone =
     ∙ ap (λ b. b || some_passes ends passes links) (and_false (ends x))
     ∙ one_passes ends passes links i link at is (λ j other e t. let s = alone (suc j) other e t in omega arith)
 
-pub retires_some : (past n : ℕ) (links : List Link) → retires_in past n links ≡ some_passes (ends_here past) (joins (port.ClientIn n)) links
-unfolding retires_in
-retires_some past n [] = refl
-retires_some past n (link ∷ links) = ap (λ b. (ends_here past link && is_from_client n link.from) || b) (retires_some past n links)
-
-pub retires_some_out : (past n : ℕ) (links : List Link) → retires_out past n links ≡ some_passes (ends_here past) (joins (port.ClientOut n)) links
-unfolding retires_out
-retires_some_out past n [] = refl
-retires_some_out past n (link ∷ links) = ap (λ b. (ends_here past link && is_to_client n link.to) || b) (retires_some_out past n links)
-
 -- ---- the links of a plan
 
 -- where one list is as long as another it has an element at each place of the other
@@ -84,7 +72,7 @@ pub entry_at : (plan : Plan) (node : NodeView) (i : ℕ) (link : Link) → PlanS
 entry_at plan node i link p at = let x = known_at node.links plan.connections i link p.count at in (x.0, (x.1, p.links i x.0 link x.1 at))
 
 ends_as : (past : ℕ) (x : Connection) (link : Link) → IsLinkOf x link → ends_here past link ≡ (x.retire && (x.stop == past + 1))
-ends_as past x link is = ap (λ b. b && (link.stop == past + 1)) is.retire ∙ ap (λ s. x.retire && (s == past + 1)) is.stop
+ends_as past x link is = ap (λ (y : Connection). y.retire && (y.stop == past + 1)) is.entry
 
 -- what is so of some connection at a client is so of the one that the plan has there
 pub sole_passes : (ends : Link → Bool) (plan : Plan) (node : NodeView) (name : PortName) (i : ℕ) (x : Connection) (link : Link) → is_client_port name ≡ true → PlanStands plan node → slice_get plan.connections i ≡ Some x

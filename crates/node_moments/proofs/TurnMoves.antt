@@ -61,7 +61,7 @@ line_stays pieces olds news wholes len ends a none =
 
 -- ---- connections
 
-both_turns : (past : ℕ) (wholes : List Bool) (olds mids news : List Link) → EachLink (λ link next. Fences past (whole_for link.from wholes) link next) olds mids → EachLink (λ link next. Starts (past + 1) link next) mids news
+both_turns : (past : ℕ) (wholes : List Bool) (olds mids news : List Link) → EachLink (λ link next. Fences past (whole_for link.entry.from wholes) link next) olds mids → EachLink (λ link next. Starts (past + 1) link next) mids news
     → EachLink (TurnsOver past wholes) olds news
 both_turns past wholes olds mids news fences starts = record {
   count = starts.count ∙ fences.count;
@@ -74,7 +74,7 @@ both_turns past wholes olds mids news fences starts = record {
 
 pub fence_move : (old new : NodeView) (wholes : List Bool) (mids : List Link) → IsNode old → new.turns ≡ old.turns → new.past ≡ old.past + 1 → new.pieces.wants ≡ old.pieces.wants → IsFresh new.pieces
     → LinesEnd old.pieces old.lines_in new.lines_in wholes → length new.lines_in ≡ 4 → new.lines_out ≡ old.lines_out
-    → EachLink (λ link next. Fences old.past (whole_for link.from wholes) link next) old.links mids → EachLink (λ link next. Starts (old.past + 1) link next) mids new.links → FenceMove old new
+    → EachLink (λ link next. Fences old.past (whole_for link.entry.from wholes) link next) old.links mids → EachLink (λ link next. Starts (old.past + 1) link next) mids new.links → FenceMove old new
 fence_move old new wholes mids h turns past wants fresh ends four outs fences starts =
     let count : length new.lines_in ≡ length old.lines_in = four ∙ sym h.lines_in in
     record {

@@ -6,12 +6,12 @@ use Rattle.otn_base.specs.declared.kind.PortName.{PortName}
 use Rattle.otn_base.specs.declared.kind.PortName.TheVariants as port
 use Rattle.line_side.specs.LineOutput.{LineOutView}
 use Rattle.line_side.specs.LineStands.{LineView}
+use Rattle.plan_file.specs.declared.connection.FromEnd.{FromEnd}
+use Rattle.plan_file.specs.declared.connection.FromEnd.TheVariants as from_end
+use Rattle.plan_file.specs.declared.connection.ToEnd.{ToEnd}
+use Rattle.plan_file.specs.declared.connection.ToEnd.TheVariants as to_end
 use Rattle.turn_pieces.specs.Pieces.{PiecesView, is_open, done_of, wanted_of, open_count, left_now, in_a_turn}
 use Rattle.node_links.specs.declared.link.Link.{Link}
-use Rattle.node_links.specs.declared.link.Origin.{Origin}
-use Rattle.node_links.specs.declared.link.Origin.TheVariants as origin
-use Rattle.node_links.specs.declared.link.Target.{Target}
-use Rattle.node_links.specs.declared.link.Target.TheVariants as target
 
 -- how many turns there are and how many are past, the pieces of this turn, the input lines, the output lines, and the
 -- connections
@@ -42,14 +42,14 @@ abbrev pub done_at : NodeView → PortName → ℕ
 done_at node name = done_of node.pieces name
 
 -- how many pieces are done of the port that a connection comes from, 0 of a signal, and of the port that it goes to
-abbrev pub taken_pieces : NodeView → Origin → ℕ
-taken_pieces node (origin.Line a) = done_at node (port.LineIn a)
-taken_pieces node (origin.Client n) = done_at node (port.ClientIn n)
-taken_pieces node origin.Signal = 0
+abbrev pub taken_pieces : NodeView → FromEnd → ℕ
+taken_pieces node (from_end.Line a number slots) = done_at node (port.LineIn a)
+taken_pieces node (from_end.Client n) = done_at node (port.ClientIn n)
+taken_pieces node (from_end.Signal signal) = 0
 
-abbrev pub given_pieces : NodeView → Target → ℕ
-given_pieces node (target.Line b number slots) = done_at node (port.LineOut b)
-given_pieces node (target.Client n) = done_at node (port.ClientOut n)
+abbrev pub given_pieces : NodeView → ToEnd → ℕ
+given_pieces node (to_end.Line b number slots) = done_at node (port.LineOut b)
+given_pieces node (to_end.Client n) = done_at node (port.ClientOut n)
 
 -- how many ports are ready
 abbrev pub ready_number : NodeView → ℕ

@@ -75,9 +75,9 @@ pub record PipesStand (plan : Plan) (taken : InputBytes) (node : NodeView) : Typ
   pub each : (inputs : Inputs) → MayGive plan taken node inputs → (i : ℕ) (x : Connection) (link : Link)
       → slice_get plan.connections i ≡ Some x → HasLink node i link → IsActive x node.past
       → PipeStands x (own_input inputs x) (own_turn x node.past)
-      (frames_by plan inputs x.from node.past (taken_pieces node link.from))
-      (ended_by x.from (taken_pieces node link.from))
-      (given_pieces node link.to) link.pipe
+      (frames_by plan inputs x.from node.past (taken_pieces node x.from))
+      (ended_by x.from (taken_pieces node x.from))
+      (given_pieces node x.to) link.pipe
   pub last : (inputs : Inputs) → MayGive plan taken node inputs → (i : ℕ) (x : Connection) (link : Link)
       → slice_get plan.connections i ≡ Some x → HasLink node i link
       → x.stop ≡ node.past → PipeStands x (own_input inputs x) (own_turn x node.past) [] false 0 link.pipe

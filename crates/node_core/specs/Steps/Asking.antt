@@ -1,20 +1,18 @@
 -- Steps of `has_dead`, `ask_lines` and others: what private contracts alone cite, beside the definitions of `Asking`.
 use Rattle.std.specs.Prelude.{◌≡◌, ◌<◌, ℕ, Bool, true, false, ◌&&◌, not, nat_lt, List, Some, slice_get}
 use Rattle.otn_base.specs.declared.kind.PortName.{PortName}
-use Rattle.otn_ports.specs.Views.{InView, BaysView, is_dead}
+use Rattle.otn_ports.specs.Views.{BaysView, is_dead}
 use Rattle.line_side.specs.LineStands.{LineView}
-use Rattle.odu_client.specs.ClientInput.{ClientInput, is_spent, emitted_before}
-use Rattle.plan_file.specs.declared.connection.Connection.{Connection}
-use Rattle.cross_matrix.specs.Parts.{ClientInStands, MayShow}
+use Rattle.odu_client.specs.ClientInput.{is_spent}
 use Rattle.otn_ports.specs.Asked.{has_come}
 use Rattle.device_model.specs.Outcomes.{place_state}
-use Rattle.device_model.specs.Through.{of_client}
 use Rattle.device_model.specs.declared.outcome.Outcome.{Outcome}
 use Rattle.device_model.specs.declared.outcome.Outcome.TheVariants.{Done, Unfinished, Cut}
 use Rattle.turn_pieces.specs.Pieces.{PiecesView, wanted_of}
 use Rattle.turn_pieces.specs.Ports.{index_of, port_count}
+use Rattle.node_links.specs.Links.{OfItsClient}
 use Rattle.node_links.specs.declared.link.Link.{Link}
-use Rattle.node_links.specs.declared.link.Origin.TheVariants as origin
+use Rattle.plan_file.specs.declared.connection.FromEnd.TheVariants as from_end
 use Rattle.node_core.specs.Asking.{LinesAsked}
 
 -- and this says whether a byte of one of them came
@@ -35,14 +33,12 @@ pub record CutAnswer (pieces : PiecesView) (bays : BaysView) (answer : Bool) : T
 
 -- this says whether the client that a connection comes from is spent
 abbrev pub SaysSpent : Link → Bool → Type 0
-SaysSpent link says = (x : Connection) (first now : InView) (taken : List ℕ) (n : ℕ) (input : ClientInput)
-    → ClientInStands x first now taken n link.pipe.taking
-    → MayShow link.pipe.taking taken (of_client input) → says ≡ is_spent input x.fcs (emitted_before x.pace n)
+SaysSpent link says = OfItsClient link (λ x input emitted. says ≡ is_spent input x.fcs emitted)
 
 -- whether it comes from a client that is not spent
 pub record OpenAnswer (link : Link) (answer : Bool) : Type 0 where
-  pub client : (n : ℕ) → link.from ≡ origin.Client n → SaysSpent link (not answer)
-  pub from : answer ≡ true → (n : ℕ) × (link.from ≡ origin.Client n)
+  pub client : (n : ℕ) → link.entry.from ≡ from_end.Client n → SaysSpent link (not answer)
+  pub from : answer ≡ true → (n : ℕ) × (link.entry.from ≡ from_end.Client n)
 
 -- a connection that comes from a client that is not spent
 pub record OpenLink (links : List Link) : Type 0 where
@@ -50,14 +46,14 @@ pub record OpenLink (links : List Link) : Type 0 where
   pub link : Link
   pub known : slice_get links i ≡ Some link
   pub n : ℕ
-  pub from : link.from ≡ origin.Client n
+  pub from : link.entry.from ≡ from_end.Client n
   pub unspent : SaysSpent link false
 
 -- whether one of the connections does
 pub record OpensAnswer (links : List Link) (answer : Bool) : Type 0 where
   pub some : answer ≡ true → OpenLink links
-  pub none : answer ≡ false → (i n : ℕ) (link : Link) → slice_get links i ≡ Some link → link.from ≡ origin.Client n
-      → SaysSpent link true
+  pub none : answer ≡ false → (i n : ℕ) (link : Link) → slice_get links i ≡ Some link
+      → link.entry.from ≡ from_end.Client n → SaysSpent link true
 
 -- how a run ends whose places are dead or not, of which more is there or not
 abbrev pub outcome_by : (dead more : Bool) → Outcome

@@ -11,7 +11,6 @@ use Rattle.tributary_model.specs.Puts.{WasPut}
 use Rattle.device_model.specs.Through.{OwnInput, got_by}
 use Rattle.cross_matrix.specs.Pipes.{PipeStands}
 use Rattle.node_links.specs.declared.link.Link.{Link}
-use Rattle.node_links.specs.declared.link.Target.TheVariants as target
 
 -- from one list to another by one step for each connection, in their order
 abbrev pub LinkByLink : (Step : Link → List ℕ → List ℕ → Type 0) → List Link → (old new : List ℕ) → Type 0
@@ -31,7 +30,7 @@ pub record PutsOwn (gives : Bool) (link : Link) (before now : List ℕ) : Type 0
 -- else its slots, which are of such a line, get its tributary port, which is one of the line's.
 pub record AllotsOwn (kind : LineKind) (gives : Bool) (link : Link) (before now : List ℕ) : Type 0 where
   pub other : gives ≡ false → now ≡ before
-  pub given : gives ≡ true → (b number : ℕ) (slots : LineSlots) → link.to ≡ target.Line b number slots
+  pub given : gives ≡ true → (b number : ℕ) (slots : LineSlots) → link.entry.to ≡ to_end.Line b number slots
       → slots.kind ≡ kind → 1 ≤ number → number ≤ slots_of kind
       → IsGiven slots.list number before now
 

@@ -1,5 +1,7 @@
 use Rattle.std.proofs.Common.{◌≡◌, ◌∙◌, false, true, List, ℕ, sym, subst}
-use Rattle.node_links.specs.Moves.{EachLink, TookFrame, takes_line}
+use Rattle.otn_base.specs.declared.kind.PortName.TheVariants as port
+use Rattle.node_links.specs.Links.{takes_part}
+use Rattle.node_links.specs.Moves.{EachLink, TookFrame}
 use Rattle.node_links.proofs.LinkLaws.{both}
 use Rattle.node_links.proofs.LinkFinds.{none_took, all_took}
 use Rattle.node_links.proofs.lines_in.read_line.Goals as goal
@@ -21,7 +23,7 @@ pub returns : goal.returns
 returns g c =
     let line = c.piece.new.self in
     let on : line.has_frame ≡ true = sym c.piece.ensures.has_frame ∙ c.if-not-piece.false in
-    let given = subst (λ (frame : List ℕ). EachLink (λ link then. TookFrame (takes_line c.args.past c.args.a link) (record { frame = frame; expected = c.expected.result }) link then) c.args.links.now.items c.hand_out.new.links.items)
+    let given = subst (λ (frame : List ℕ). EachLink (λ link then. TookFrame (takes_part c.args.past (port.LineIn c.args.a) link) (record { frame = frame; expected = c.expected.result }) link then) c.args.links.now.items c.hand_out.new.links.items)
     c.frame.ensures.hand c.hand_out.ensures in
     record {
       stands = λ form first taken t h. c.piece.ensures.stands form first taken t h;

@@ -1,11 +1,12 @@
 use Rattle.std.proofs.Common.{subst, sym}
+use Rattle.otn_base.specs.declared.kind.PortName.TheVariants as port
+use Rattle.node_links.specs.Links.{takes_part}
 use Rattle.node_links.specs.Steps.LineFrames.{PutsOwn, LinkByLink}
-use Rattle.node_links.specs.Moves.{gives_line}
 use Rattle.node_links.proofs.lines_out.fill_by_slots.Goals as goal
 
 pub returns-clause-puts : goal.returns-clause-puts
 returns-clause-puts c = record {
   first = c.clear.new.self;
   blank = record { zero = c.clear.ensures.zero };
-  steps = subst (LinkByLink (λ link before now. PutsOwn (gives_line c.args.past c.args.b link) link before now) c.args.links.now.items c.clear.new.self) (sym c.join_into.ensures.joined) c.fill_links.ensures.puts;
+  steps = subst (LinkByLink (λ link before now. PutsOwn (takes_part c.args.past (port.LineOut c.args.b) link) link before now) c.args.links.now.items c.clear.new.self) (sym c.join_into.ensures.joined) c.fill_links.ensures.puts;
 }

@@ -1,7 +1,8 @@
 use Rattle.std.proofs.Common.{◌≡◌, ◌+◌, ◌-◌, ℕ, List, subst, arith}
 use Rattle.std.specs.Prelude.{slice_index}
+use Rattle.otn_base.specs.declared.kind.PortName.TheVariants as port
+use Rattle.node_links.specs.Links.{takes_part}
 use Rattle.node_links.specs.Steps.LineFrames.{AllotsOwn}
-use Rattle.node_links.specs.Moves.{gives_line}
 use Rattle.node_links.specs.declared.link.Link.{Link}
 use Rattle.node_links.proofs.LinkSteps.{step_more, step_none}
 use Rattle.node_links.proofs.lines_out.slot_map.Goals as goal
@@ -18,7 +19,7 @@ loop-link-init c = record {
 
 pub loop-link-preserved : goal.loop-link-preserved
 loop-link-preserved c =
-    let Step = λ (link : Link) (before now : List ℕ). AllotsOwn c.args.kind (gives_line c.args.past c.args.b link) link before now in
+    let Step = λ (link : Link) (before now : List ℕ). AllotsOwn c.args.kind (takes_part c.args.past (port.LineOut c.args.b) link) link before now in
     record {
       size = c.allot_own.ensures.kind;
       rest = λ new steps.
@@ -29,5 +30,5 @@ loop-link-preserved c =
 
 pub returns-clause-allots : goal.returns-clause-allots
 returns-clause-allots c =
-    let Step = λ (link : Link) (before now : List ℕ). AllotsOwn c.args.kind (gives_line c.args.past c.args.b link) link before now in
+    let Step = λ (link : Link) (before now : List ℕ). AllotsOwn c.args.kind (takes_part c.args.past (port.LineOut c.args.b) link) link before now in
     c.loop-link.invariant.rest c.loop-link.map (step_none Step c.args.links.now c.loop-link.link-index c.loop-link.map (let test = c.loop-link-test.false in omega arith))

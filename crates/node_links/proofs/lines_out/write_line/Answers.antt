@@ -1,10 +1,11 @@
 use Rattle.std.proofs.Common.{◌≡◌, ◌<◌, ◌+◌, ◌*◌, ◌%◌, ap, sym, ◌∙◌, subst}
+use Rattle.otn_base.specs.declared.kind.PortName.TheVariants as port
 use Rattle.otn_base.specs.LineSlots.{slots_of}
 use Rattle.line_side.specs.LineForm.{LineForm}
 use Rattle.otn_ports.specs.OutPlace.{out_view}
 use Rattle.line_side.specs.LineOutput.{FramePut, LineMade, LineOutView}
+use Rattle.node_links.specs.Links.{takes_part}
 use Rattle.node_links.specs.Steps.LineFrames.{AllotsOwn, FromBlank}
-use Rattle.node_links.specs.Moves.{gives_line}
 use Rattle.node_links.proofs.LineFrames.{frame_due, made_on}
 use Rattle.node_links.proofs.lines_out.write_line.Goals as goal
 
@@ -13,7 +14,7 @@ returns g c =
     let kind = c.kind-kind.result in
     let put : FramePut = record { mfas = c.mfas_of.result; ports = c.slot_map-map.result; bytes = c.fill_line.new.line.frame } in
     let is : kind ≡ c.args.line.now.form.kind = c.kind-kind.ensures in
-    let allots = subst (λ links. FromBlank (λ link before now. AllotsOwn kind (gives_line c.args.past c.args.b link) link before now) links put.ports) c.deref.ensures.value c.slot_map-map.ensures.allots in
+    let allots = subst (λ links. FromBlank (λ link before now. AllotsOwn kind (takes_part c.args.past (port.LineOut c.args.b) link) link before now) links put.ports) c.deref.ensures.value c.slot_map-map.ensures.allots in
     record {
       writes = record {
         put = put;

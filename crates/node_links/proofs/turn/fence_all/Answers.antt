@@ -10,7 +10,7 @@ loop-link-preserved c =
     let olds = c.args.links.now.items in
     let news = c.loop-link.link-items in
     let i = c.loop-link.link-index in
-    let Goes = λ (link then : Link). Fences c.args.past (whole_for link.from c.args.wholes.now) link then in
+    let Goes = λ (link then : Link). Fences c.args.past (whole_for link.entry.from c.args.wholes.now) link then in
     let count : length news ≡ length olds = c.loop-link.invariant.count in
     let less : i < length olds = (let test = c.loop-link-test.true in omega arith) in
     one_gone Goes i olds news c.link-item.result c.fence.new.self less c.loop-link.invariant c.fence.ensures
@@ -20,7 +20,7 @@ returns c =
     let olds = c.args.links.now.items in
     let news = c.loop-link.link-items in
     let i = c.loop-link.link-index in
-    let Goes = λ (link then : Link). Fences c.args.past (whole_for link.from c.args.wholes.now) link then in
+    let Goes = λ (link then : Link). Fences c.args.past (whole_for link.entry.from c.args.wholes.now) link then in
     let count : length news ≡ length olds = c.loop-link.invariant.count in
     let most : length olds ≤ i = (let test = c.loop-link-test.false in omega arith) in
     all_gone_back Goes i c.args.links.now.len olds news (search rules) most c.loop-link.invariant

@@ -11,7 +11,7 @@ returns-clause-told c = λ plan.
     c.lines_in_told-lines_in.ensures c.lines_out_told-lines_out.ensures c.clients_in_told-clients_in.ensures c.clients_out_told-clients_out.ensures c.states_told-from.ensures
 
 pub returns-clause-left : goal.returns-clause-left
-returns-clause-left c = λ plan first was last taken h over settled asked.
+returns-clause-left c = λ plan first last s.
     let lines : length c.args.self.now.lines_in ≡ 4 = rw (← c.self.view_is) c.self.invariant.lines_in in
     let outs : length c.args.self.now.lines_out ≡ 4 = rw (← c.self.view_is) c.self.invariant.lines_out in
-    (settled.takings, run_told plan first was last taken c.args.self.now c.args.outcome _ lines outs h over settled asked (returns-clause-told c plan) refl)
+    (s.settled.takings, run_told plan first s.was last s.taken c.args.self.now c.args.outcome _ lines outs s.stands s.over s.settled s.asked (returns-clause-told c plan) refl)

@@ -2,8 +2,7 @@ use Rattle.std.proofs.Common.{◌≡◌, ◌<◌, true, Some, set, length, slice
 use Rattle.std.proofs.lemmas.Option.{slice_get_read}
 use Rattle.otn_base.specs.declared.kind.PortName.TheVariants as port
 use Rattle.otn_ports.specs.InPlace.{in_view}
-use Rattle.line_side.specs.LineStands.{LineView}
-use Rattle.node_moments.specs.Steps.NodeMoves.{OnePiece, LineInMove}
+use Rattle.node_moments.specs.Steps.NodeMoves.{LineInMove}
 use Rattle.node_moments.specs.NodeView.{NodeView, is_ready}
 use Rattle.turn_pieces.specs.Pieces.{is_open}
 use Rattle.node_moments.proofs.Later.{ready_open}

@@ -2,9 +2,8 @@ use Rattle.std.proofs.Common.{◌≡◌, ◌<◌, true, Some, set, length, slice
 use Rattle.std.proofs.lemmas.Option.{slice_get_read}
 use Rattle.otn_base.specs.declared.kind.PortName.TheVariants as port
 use Rattle.otn_ports.specs.OutPlace.{out_view}
-use Rattle.line_side.specs.LineOutput.{LineOutView}
 use Rattle.node_links.specs.LineFrames.{FrameWritten}
-use Rattle.node_moments.specs.Steps.NodeMoves.{OnePiece, LineOutMove}
+use Rattle.node_moments.specs.Steps.NodeMoves.{LineOutMove}
 use Rattle.node_moments.specs.NodeView.{NodeView, is_ready, done_at}
 use Rattle.turn_pieces.specs.Pieces.{is_open}
 use Rattle.node_moments.proofs.Later.{ready_open}

@@ -1,20 +1,21 @@
 use Rattle.std.proofs.Common.{◌≡◌, ◌∙◌, ◌+◌, suc, refl, sym, subst}
+use Rattle.otn_base.specs.declared.kind.PortName.TheVariants as port
 use Rattle.tributary_model.specs.Places.{tributary_of}
 use Rattle.tributary_model.specs.Puts.{WasPut}
 use Rattle.device_model.specs.Through.{got_by}
 use Rattle.cross_matrix.specs.Pipes.{PipeStands}
 use Rattle.cross_matrix.proofs.NextFrames.{next_to_fill}
-use Rattle.node_links.specs.Moves.{gives_line}
-use Rattle.node_links.proofs.LinkLaws.{both, joins_on, same_entry}
+use Rattle.node_links.specs.Links.{takes_part}
+use Rattle.node_links.proofs.LinkLaws.{both, still_its, same_entry}
 use Rattle.node_links.proofs.link.Link.fill_frame.Goals as goal
 
 pub invariant_of-self : goal.invariant_of-self
-invariant_of-self g c = record { joined = joins_on c.args.self.now c.fill_frame.new.self c.fill_frame.ensures.entry }
+invariant_of-self g c = record { of_entry = still_its c.args.self.now c.fill_frame.new.self c.fill_frame.ensures.entry }
 
 pub returns-in-Some-clause-gave : goal.returns-in-Some-clause-gave
 returns-in-Some-clause-gave g c = λ n. record {
-  same = record { from = refl; to = refl; start = refl; stop = refl; retire = refl; pipe = λ x h. c.fill_frame.ensures.entry x h };
-  other = λ e. both (gives_line c.args.past c.args.b c.args.self.now) (sym c.gives_line.ensures ∙ c.if-not-gives_line.false) e;
+  same = record { entry = refl; pipe = λ x h. c.fill_frame.ensures.entry x h };
+  other = λ e. both (takes_part c.args.past (port.LineOut c.args.b) c.args.self.now) (sym c.takes_part.ensures ∙ c.if-not-takes_part.false) e;
   taking = c.fill_frame.ensures.taking;
   gave = λ on x b number slots input j frames ended e few h.
       let next = next_to_fill x b number slots input j n frames ended c.args.self.now.pipe e few h in
@@ -24,7 +25,7 @@ returns-in-Some-clause-gave g c = λ n. record {
 
 pub returns-in-Some-clause-puts : goal.returns-in-Some-clause-puts
 returns-in-Some-clause-puts g c = record {
-  other = λ e. both (gives_line c.args.past c.args.b c.args.self.now) (sym c.gives_line.ensures ∙ c.if-not-gives_line.false) e;
+  other = λ e. both (takes_part c.args.past (port.LineOut c.args.b) c.args.self.now) (sym c.takes_part.ensures ∙ c.if-not-takes_part.false) e;
   put = λ on x b number slots input j n frames ended e few h.
       let next = next_to_fill x b number slots input j n frames ended c.args.self.now.pipe e few h in
       let is : n ≡ c.in-Some.n = (let here = c.in-Some.is in let said = c.next_filled.ensures in cc) in

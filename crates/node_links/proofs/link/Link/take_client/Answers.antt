@@ -1,8 +1,8 @@
-use Rattle.node_links.proofs.LinkLaws.{joins_on, takes_from_client, has_started}
+use Rattle.node_links.proofs.LinkLaws.{still_its, takes_from_client, has_started}
 use Rattle.node_links.proofs.link.Link.take_client.Goals as goal
 
 pub invariant_of-self : goal.invariant_of-self
-invariant_of-self g c = record { joined = joins_on c.args.self.now c.take_client.new.self c.take_client.ensures.entry }
+invariant_of-self g c = record { of_entry = still_its c.args.self.now c.take_client.new.self c.take_client.ensures.entry }
 
 pub take_client-requires : goal.take_client-requires
 take_client-requires g c = record {

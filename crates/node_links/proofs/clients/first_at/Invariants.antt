@@ -1,10 +1,10 @@
 use Rattle.std.proofs.Common.{◌≡◌, ◌<◌, ℕ, false, Some, slice_get}
-use Rattle.node_links.specs.Moves.{gives_client}
+use Rattle.node_links.specs.Links.{takes_part}
 use Rattle.node_links.specs.declared.link.Link.{Link}
-use Rattle.node_links.proofs.clients.giver.Given as goal
+use Rattle.node_links.proofs.clients.first_at.Given as goal
 
 abbrev pub invariant-loop-link : goal.invariant-loop-link
 invariant-loop-link l = record {
   at : l.i ≡ l.link-index;
-  none : (k : ℕ) (link : Link) → k < l.link-index → slice_get l.links k ≡ Some link → gives_client l.past l.n link ≡ false;
+  none : (k : ℕ) (link : Link) → k < l.link-index → slice_get l.links k ≡ Some link → takes_part l.past l.name link ≡ false;
 }

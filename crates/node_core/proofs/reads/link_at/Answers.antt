@@ -1,0 +1,19 @@
+use Rattle.std.proofs.Common.{◌∙◌, Some, sym, subst, arith}
+use Rattle.node_links.specs.Steps.LinkMoves.{FirstOf}
+use Rattle.node_links.specs.Links.{joins}
+use Rattle.node_links.proofs.LinkFinds.{found_here, none_next, none_at_all}
+use Rattle.node_core.proofs.reads.link_at.Goals as goal
+
+pub loop-link-preserved : goal.loop-link-preserved
+loop-link-preserved c = record {
+  at = (let at = c.loop-link.invariant.at in omega arith);
+  none = none_next (joins c.args.name) c.args.links.now c.loop-link.link-index c.link-item.result (let test = c.loop-link-test.true in omega arith) c.link-item.is
+      (sym c.joins.ensures ∙ c.if-joins.false) c.loop-link.invariant.none;
+}
+
+pub returns-then-joins : goal.returns-then-joins
+returns-then-joins c = subst (λ i. FirstOf (joins c.args.name) c.args.links.now (Some i)) (sym c.loop-link.invariant.at)
+    (found_here (joins c.args.name) c.args.links.now c.loop-link.link-index c.link-item.result (let test = c.loop-link-test.true in omega arith) c.link-item.is (sym c.joins.ensures ∙ c.if-joins.true))
+
+pub returns : goal.returns
+returns c = none_at_all (joins c.args.name) c.args.links.now c.loop-link.link-index (let test = c.loop-link-test.false in omega arith) c.loop-link.invariant.none
