@@ -4,11 +4,12 @@ use Rattle.std.specs.Prelude.{map, option_map, string_bytes, String}
 use Rattle.std.specs.Fmt.{decimal}
 use Rattle.std.specs.declared.alloc.Global.{Global}
 use Rattle.std.proofs.lemmas.Option.{same_Some, slice_get-map}
+use Rattle.number_lists.proofs.NumberLists.{no_mark}
 use Rattle.otn_base.specs.declared.line_kind.LineKind.{LineKind}
 use Rattle.line_view.specs.ViewText.{slots_text}
 use Rattle.line_view.specs.declared.shown.Shown.{Shown}
 use Rattle.otn_view.specs.Words.{AreShown, IsAllAlong, IsGiven, kind_by, texts, word_of}
-use Rattle.otn_view.proofs.SlotTexts.{most_slots, no_mark}
+use Rattle.otn_view.proofs.SlotTexts.{most_slots}
 
 -- ---- the word of a tributary
 

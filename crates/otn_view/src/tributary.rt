@@ -1,17 +1,16 @@
 // The word of a tributary.
-ghost use Rattle.std.specs.Prelude.{◌≡◌, ◌==◌, ◌≤◌, ◌<◌, ◌++◌, ◌∷◌, ℕ, List, [], IfNone, IfSome, codes, length};
+ghost use Rattle.std.specs.Prelude.{◌≡◌, ◌≤◌, ℕ, List, IfNone, IfSome, codes};
 ghost use Rattle.std.specs.Fmt.{decimal};
-ghost use Rattle.std.specs.List.{position_or_len};
 ghost use Rattle.otn_base.specs.LineSlots.{slots_of};
 ghost use Rattle.otn_base.specs.SlotList.{IsSlotList};
-ghost use Rattle.otn_base.specs.declared.limits.TheConstants.{MOST_SLOTS, MOST_TURNS};
+ghost use Rattle.otn_base.specs.declared.limits.TheConstants.{MOST_TURNS};
 ghost use Rattle.line_view.specs.ViewText.{slots_text};
 ghost use Rattle.line_view.specs.declared.shown.Shown.{Shown};
 ghost use Rattle.otn_view.specs.Words.{IsAllAlong, word_of};
 
 use arrayvec::{ArrayString, ArrayVec};
-use itoa::Buffer;
 use line_view::Shown;
+use number_lists::{number_of, numbers_of};
 use otn_base::limits::{MOST_SLOTS, MOST_TURNS};
 use otn_base::{LineKind, Slots};
 
@@ -53,7 +52,7 @@ fn port_of(text: &[u8], kind: LineKind) -> Option<u8>
     ensures port { IfSome result (λ port. (text.now ≡ decimal port) × (1 ≤ port) × (port ≤ slots_of kind)) }
     ensures none { IfNone result ((port : ℕ) → text.now ≡ decimal port → 1 ≤ port → port ≤ slots_of kind → ⊥) }
 {
-    let port = number_of(text)?;
+    let port = number_of(text, NUMBERS)?;
     if port < 1 || port > kind.slots() {
         return None;
     }
@@ -67,51 +66,6 @@ fn slots_of(text: &[u8], kind: LineKind) -> Option<Slots>
     ensures none { IfNone result ((slots : List ℕ) → IsSlotList (slots_of kind) slots → text.now ≡ slots_text slots
         → ⊥) }
 {
-    let mut list: ArrayVec<u8, MOST_SLOTS> = ArrayVec::new();
-    let mut rest = text;
-    let mut comma = comma_in(rest);
-    while comma < rest.len() {
-        push_slot(&mut list, &rest[..comma])?;
-        let behind = &rest[comma..];
-        rest = &behind[1..];
-        comma = comma_in(rest);
-    }
-    push_slot(&mut list, rest)?;
+    let list: ArrayVec<u8, MOST_SLOTS> = numbers_of(text, NUMBERS)?;
     Slots::new(list.as_slice(), kind)
-}
-
-// How many bytes stand before the first comma; all where there is none.
-fn comma_in(text: &[u8]) -> usize
-    ensures comma { result ≡ position_or_len (λ byte. byte == 44) text.now }
-    ensures within { result ≤ length text.now }
-{
-    for at in 0..text.len() {
-        if text[at] == b',' {
-            return at;
-        }
-    }
-    text.len()
-}
-
-// Appends the number that this text is. None where it is none below 33, or there are 32 already.
-fn push_slot(list: &mut ArrayVec<u8, MOST_SLOTS>, text: &[u8]) -> Option<()>
-    ensures pushed { IfSome result (λ _. (n : ℕ) × (text.now ≡ decimal n) × (n < NUMBERS)
-        × (list.new.items ≡ list.old.items ++ n ∷ [])) }
-    ensures none { IfNone result ((n : ℕ) → text.now ≡ decimal n → n < NUMBERS → length list.old.items ≡ MOST_SLOTS) }
-{
-    list.try_push(number_of(text)?).ok()
-}
-
-// The number, 0 to 32, that this text is in decimal.
-fn number_of(text: &[u8]) -> Option<u8>
-    ensures number { IfSome result (λ n. (text.now ≡ decimal n) × (n < NUMBERS)) }
-    ensures none { IfNone result ((n : ℕ) → text.now ≡ decimal n → n < NUMBERS → ⊥) }
-{
-    let mut digits = Buffer::new();
-    for number in 0..NUMBERS {
-        if digits.format(number).as_bytes() == text {
-            return Some(number);
-        }
-    }
-    None
 }

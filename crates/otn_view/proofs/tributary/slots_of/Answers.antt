@@ -1,41 +1,26 @@
-use Rattle.std.proofs.Common.{rules, refl, ◌∙◌}
-use Rattle.otn_view.proofs.SlotTexts.{all_read, behind_comma, list_read, no_last_slot, no_slot, read_on}
+use Rattle.std.proofs.Common.{◌≡◌, ◌∙◌, List, ℕ, ap, sym, rules}
+use Rattle.number_lists.specs.NumberLists.{numbers_text}
+use Rattle.otn_base.specs.LineSlots.{slots_of}
+use Rattle.otn_base.specs.SlotList.{IsSlotList}
+use Rattle.line_view.specs.ViewText.{slots_text}
+use Rattle.otn_view.proofs.SlotTexts.{is_number_list, list_read, slots_joined}
 use Rattle.otn_view.proofs.tributary.slots_of.Goals as goal
 
-pub returns-in_err-push_slot-clause-none : goal.returns-in_err-push_slot-clause-none
-returns-in_err-push_slot-clause-none c =
-    let i = c.loop-comma.invariant in
-    let none = no_slot c.args.kind c.args.text.now c.loop-comma.list.items c.loop-comma.rest.now c.loop-comma.comma i.0 i.1 c.loop-comma-test.true c.in_err-push_slot.ensures.none in
-    search rules
-
-pub loop-comma-preserved : goal.loop-comma-preserved
-loop-comma-preserved c =
-    let i = c.loop-comma.invariant in
-    let pushed = c.in_ok-push_slot.ensures.pushed in (
-      read_on c.args.text.now c.loop-comma.list.items c.loop-comma.rest.now c.push_slot.new.list.items c.loop-comma.comma pushed.0 i.0 i.1 c.loop-comma-test.true
-          pushed.1 pushed.2 pushed.3 _ (behind_comma c.loop-comma.rest.now _ c.loop-comma.comma refl c.loop-comma-test.true),
-      c.comma_in-comma-in-loop-comma.ensures.comma,
-      c.comma_in-comma-in-loop-comma.ensures.within,
-    )
-
-pub returns-in_err-push_slot-2-clause-none : goal.returns-in_err-push_slot-2-clause-none
-returns-in_err-push_slot-2-clause-none c =
-    let i = c.loop-comma.invariant in
-    let none = no_last_slot c.args.kind c.args.text.now c.loop-comma.list.items c.loop-comma.rest.now c.loop-comma.comma i.0 i.1 c.loop-comma-test.false c.in_err-push_slot-2.ensures.none in
+pub returns-in_err-list-clause-none : goal.returns-in_err-list-clause-none
+returns-in_err-list-clause-none c =
+    let none : (slots : List ℕ) → IsSlotList (slots_of c.args.kind) slots → c.args.text.now ≡ slots_text slots → ⊥
+    = λ slots h e. c.in_err-list.ensures.none slots (is_number_list c.args.kind slots h) (e ∙ slots_joined slots) in
     search rules
 
 pub returns-clause-slots : goal.returns-clause-slots
 returns-clause-slots c =
-    let i = c.loop-comma.invariant in
-    let pushed = c.in_ok-push_slot-2.ensures.pushed in
-    let same = c.as_slice.ensures.value ∙ pushed.3 in
-    let text = all_read c.args.text.now c.loop-comma.list.items c.loop-comma.rest.now c.as_slice.result.now c.loop-comma.comma pushed.0 i.0 i.1 c.loop-comma-test.false pushed.1 same in
+    let list = c.in_ok-list.list.items in
+    let text : c.args.text.now ≡ slots_text c.as_slice.result.now
+    = c.in_ok-list.ensures.numbers.1 ∙ sym (slots_joined list) ∙ ap slots_text (sym c.as_slice.ensures.value) in
     search rules
 
 pub returns-clause-none : goal.returns-clause-none
 returns-clause-none c =
-    let i = c.loop-comma.invariant in
-    let pushed = c.in_ok-push_slot-2.ensures.pushed in
-    let same = c.as_slice.ensures.value ∙ pushed.3 in
-    let read = list_read c.args.kind c.args.text.now c.loop-comma.list.items c.loop-comma.rest.now c.as_slice.result.now c.loop-comma.comma pushed.0 i.0 i.1 c.loop-comma-test.false pushed.1 pushed.2 same in
+    let numbers = c.in_ok-list.ensures.numbers in
+    let read = list_read c.args.kind c.args.text.now c.in_ok-list.list.items c.as_slice.result.now numbers.0 numbers.1 c.as_slice.ensures.value in
     search rules
